@@ -1,0 +1,52 @@
+#!/usr/bin/env python3
+"""Times psi_oomd on a made trace against `wc -lw` on the same file, in one run.
+
+usage: bench/measure.py [EVENTS [TASKS]]     (1000000 and 16 if left out)
+
+Prints the best of five runs of each, the ratio, and the peak memory of psi_oomd. A benchmark: nothing is asserted.
+"""
+import os
+import subprocess
+import sys
+import tempfile
+import time
+
+HERE = os.path.dirname(os.path.abspath(__file__))
+PROGRAM = os.path.join(HERE, "..", "psi_oomd")
+
+
+def once(words):
+    """Seconds and the peak memory (bytes) of one run."""
+    before = time.perf_counter()
+    child = subprocess.Popen(words, stdout=subprocess.DEVNULL)
+    _, status, usage = os.wait4(child.pid, 0)
+    seconds = time.perf_counter() - before
+    if status != 0:
+        sys.exit(f"{' '.join(words)}: status {os.waitstatus_to_exitcode(status)}")
+    return seconds, usage.ru_maxrss * 1024
+
+
+def best(words):
+    runs = [once(words) for _ in range(5)]
+    return min(run[0] for run in runs), max(run[1] for run in runs)
+
+
+def main():
+    events = sys.argv[1] if len(sys.argv) > 1 else "1000000"
+    tasks = sys.argv[2] if len(sys.argv) > 2 else "16"
+    subprocess.run([PROGRAM, "--build"], check=True)
+    program = os.path.join(HERE, "..", "crates", "psi_oomd_main", "out", "psi_oomd_main")
+    with tempfile.NamedTemporaryFile(suffix=".trace") as trace:
+        subprocess.run([sys.executable, os.path.join(HERE, "make_trace.py"), events, tasks], stdout=trace, check=True)
+        trace.flush()
+        size = os.path.getsize(trace.name)
+        print(f"trace: {events} events, {tasks} tasks, {size} bytes")
+        count, _ = best(["wc", "-lw", trace.name])
+        print(f"wc -lw:  {count:.3f} s")
+        for command in COMMANDS:
+            seconds, memory = best([program, command, trace.name])
+            print(f"{command:<8} {seconds:.3f} s, {seconds / count:.2f} times wc -lw, {memory / 1e6:.0f} MB at most")
+
+
+COMMANDS = ["check", "stall"]
+main()

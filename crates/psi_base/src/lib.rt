@@ -1,0 +1,30 @@
+//! The types of a trace of scheduler events, and the traits through which a replay meets the outside.
+//!
+//! - What a trace tells ([`Event`], [`Act`]) and why a line of it is refused ([`Cause`], [`Refusal`], [`Fault`]).
+//! - The outside: [`Shelf`] (files by name), [`Sink`] (places to write to) and [`Gate`] (points at which a test may
+//!   hold a thread), with fakes in memory whose every answer is said by their clauses.
+//! - Texts: [`Path`], [`Text`], [`Parts`], [`read_number`], [`put_number`], [`put_all`] and [`put_each`].
+#![tactic(auto)]
+
+mod event;
+mod honest;
+mod memory;
+mod number;
+mod outside;
+mod parts;
+mod path;
+mod put;
+mod text;
+
+pub use event::{
+    Act, Cause, Cpu, Event, Fault, How, Level, Ns, Pid, Preference, Refusal, Res, Slot, State,
+    TriggerSpec,
+};
+pub use honest::{HonestShelf, HonestSink};
+pub use memory::{MemShelf, MemSink};
+pub use number::{put_number, read_number};
+pub use outside::{Gate, OpenGate, Shelf, ShelfFault, Sink, WriteFailed};
+pub use parts::Parts;
+pub use path::Path;
+pub use put::{put_all, put_each};
+pub use text::{NoMemory, Text};

@@ -1,0 +1,50 @@
+//! Decimal numbers, in the one spelling.
+ghost use Rattle.std.specs.Prelude.{◌≡◌, ◌^◌, ◌<◌, ℕ, IfSome, IfNone, decimal};
+ghost use Rattle.psi_base.specs.Number.{number_of, digits_of};
+ghost use Rattle.psi_base.specs.Outside.{PutsAll, HasCause};
+
+use crate::outside::{Sink, WriteFailed};
+use crate::put::put_all;
+
+// The number of these bytes behind the digits of another.
+#[tactic(auto, using(crate::proofs::NumberLaws::steps))]
+fn read_digits(bytes: &[u8]) -> Option<u64>
+    ensures { result ≡ digits_of bytes.now }
+{
+    let mut number: u64 = 0;
+    for byte in bytes {
+        if *byte < b'0' || *byte > b'9' {
+            return None;
+        }
+        let digit = u64::from(*byte - b'0');
+        if number > (u64::MAX - digit) / 10 {
+            return None;
+        }
+        number = number * 10 + digit;
+    }
+    Some(number)
+}
+
+/// The number that the bytes spell: decimal digits, up to 2^64 - 1, with no leading zero but in `0` itself. None
+/// exactly where they spell no such number.
+#[tactic(auto, unfolding(crate::specs::Number::number_of))]
+pub fn read_number(bytes: &[u8]) -> Option<u64>
+    ensures exact { result ≡ number_of bytes.now }
+    ensures found { IfSome result (λ n. bytes.now ≡ decimal n) }
+    ensures none { IfNone result ((n : ℕ) → n < 2 ^ 64 → bytes.now ≡ decimal n → ⊥) }
+{
+    if bytes.is_empty() || (bytes.len() > 1 && bytes[0] == b'0') {
+        return None;
+    }
+    read_digits(bytes)
+}
+
+/// Writes a number in its one spelling, as [`read_number`] reads it. A failure leaves a prefix of the digits in the
+/// sink.
+pub fn put_number<K: Sink>(out: &mut K, n: u64) -> Result<(), WriteFailed>
+    ensures bytes { PutsAll (K.has out.old) (K.has out.new) result (decimal n) }
+    ensures cause { HasCause (K.faults out.old) (K.faults out.new) result }
+{
+    let mut buffer = itoa::Buffer::new();
+    put_all(out, buffer.format(n).as_bytes())
+}

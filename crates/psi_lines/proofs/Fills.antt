@@ -1,0 +1,32 @@
+-- How reads keep what is left.
+use Rattle.std.proofs.Common.{◌≡◌, ℕ, ◌+◌, ◌-◌, ◌<◌, ◌≤◌, List, [], ◌∷◌, ◌++◌, length, take, drop, refl, sym, ap, ◌∙◌, append_assoc, length-drop, arith}
+use Rattle.std.proofs.lemmas.List.{take-append-drop, drop-drop, drop-take}
+use Rattle.std.proofs.Math.ListN.{drop_of_length-le}
+use Rattle.std.proofs.Math.Seq.{take-add}
+use Rattle.psi_base.specs.Outside.{ReadsBytes}
+use Rattle.psi_lines.specs.Next.{FillsBytes}
+
+-- bytes that were read at a place stand before those behind it
+read_on : (old chunk bytes : List ℕ) (at n : ℕ) → take n chunk ≡ take n (drop at bytes) → (old ++ take n chunk) ++ drop (at + n) bytes ≡ old ++ drop at bytes
+read_on old chunk bytes at n same =
+    append_assoc old (take n chunk) (drop (at + n) bytes) ∙ ap (λ xs. old ++ xs) (ap (λ xs. xs ++ drop (at + n) bytes) same ∙ ap (λ xs. take n (drop at bytes) ++ xs) (sym (drop-drop n at bytes)) ∙ take-append-drop n (drop at bytes))
+
+-- a buffer that holds these bytes at its front, and behind them those that were read
+pub fills : (bytes : List ℕ) (at held n : ℕ) (old new buffer : List ℕ) → new ≡ take (held + n) buffer → take held buffer ≡ old → held < length buffer → ReadsBytes bytes at n (drop held buffer) → FillsBytes bytes at old new n
+fills bytes at held n old new buffer grew front room reads =
+    let same : new ≡ old ++ take n (drop held buffer) = grew ∙ take-add held n buffer ∙ ap (λ xs. xs ++ take n (drop held buffer)) front in
+    record {
+      left = rw same (read_on old (drop held buffer) bytes at n reads.read);
+      end = λ none. drop_of_length-le bytes (reads.end none (omega (arith, length-drop held buffer)));
+    }
+
+-- what a buffer holds behind the bytes that were handed out
+pub skips : (buffer : List ℕ) (start end count : ℕ) → start + count ≤ end → take (end - (start + count)) (drop (start + count) buffer) ≡ drop count (take (end - start) (drop start buffer))
+skips buffer start end count inside =
+    let more : end - start ≡ count + (end - (start + count)) = omega arith in
+    rw more (rw drop-take (rw drop-drop refl))
+
+-- where bytes are held, something is left
+pub some_left : (held rest : List ℕ) → 0 < length held → held ++ rest ≡ [] → ⊥
+some_left [] rest some none = absurd (omega arith)
+some_left (byte ∷ held) rest some none = cc

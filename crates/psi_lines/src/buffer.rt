@@ -1,0 +1,130 @@
+//! The bytes that were read and not handed out.
+ghost use Rattle.std.specs.Prelude.{◌≡◌, ◌+◌, ◌-◌, ◌<◌, ◌≤◌, ◌⊎◌, [], ℕ, List, length, drop, take, IfOk, OnErr, IsErrOf, Some, None};
+ghost use Rattle.psi_base.specs.Outside.{told, Lacks, HasCauses, ReadsBytes};
+ghost use Rattle.psi_lines.specs.Next.{FillsBytes, IsReadFault};
+
+use crate::lines::LineFault;
+use psi_base::{NoMemory, Shelf, ShelfFault};
+use std::alloc::Global;
+use std::marker::Model;
+
+/// The greatest line with its newline, in bytes: more are never held when a read is due.
+pub(crate) const LINE: usize = 513;
+
+// How much one read can give at least, in bytes.
+const READ: usize = 65536;
+
+/// How much a buffer can hold, in bytes.
+pub(crate) const ROOM: usize = 66048;
+
+// Moves the bytes from `start` to `end` to the front.
+fn move_to_front(bytes: &mut [u8], start: usize, end: usize)
+    requires order { start ≤ end }
+    requires inside { end ≤ length bytes.old }
+    ensures { take (end - start) bytes.new ≡ take (end - start) (drop start bytes.old) }
+{
+    if start > 0 {
+        bytes.copy_within(start..end, 0);
+    }
+}
+
+// Reads once, behind the first bytes, which stay. No byte is the end.
+fn read_behind<S: Shelf>(
+    shelf: &mut S,
+    name: &str,
+    at: u64,
+    bytes: &mut [u8],
+    held: usize,
+) -> Result<usize, LineFault>
+    requires { held < length bytes.old }
+    ensures kept { S.holds shelf.new ≡ S.holds shelf.old }
+    ensures front { take held bytes.new ≡ take held bytes.old }
+    ensures bound { IfOk result (λ n. held + n ≤ length bytes.new) }
+    ensures bytes { (all : List ℕ) → told (S.holds shelf.old) name.now ≡ Some all → IfOk result (λ n. ReadsBytes all at n (drop held bytes.new)) }
+    ensures cause { HasCauses (S.faults shelf.old) (S.faults shelf.new) (S.absent shelf.old) (S.absent shelf.new) (IsErrOf result LineFault.ReadFault) (IsErrOf result LineFault.NoFile) }
+    ensures missed { IsErrOf result LineFault.NoFile → (told (S.holds shelf.old) name.now ≡ None) × (S.faults shelf.new ≡ S.faults shelf.old) }
+    ensures lacking { Lacks (S.holds shelf.old) name.now → IsErrOf result LineFault.NoFile ⊎ IsErrOf result LineFault.ReadFault }
+    ensures faults { IsReadFault result }
+{
+    match shelf.read_at(name, at, &mut bytes[held..]) {
+        Ok(count) => Ok(count),
+        Err(ShelfFault::NoFile) => Err(LineFault::NoFile),
+        Err(ShelfFault::Failed) => Err(LineFault::ReadFault),
+    }
+}
+
+/// Bytes that were read and not handed out, which contracts see as a list. They stand in one piece of memory that
+/// never grows, from `start` to `end`, and are moved to its front only when a read is due.
+#[derive(Drop)]
+pub(crate) struct Buffer {
+    bytes: Vec<u8>,
+    start: usize,
+    end: usize,
+}
+
+impl Model for Buffer {
+    ghost use Rattle.std.specs.Prelude.{◌≡◌, ◌-◌, ◌≤◌, ℕ, List, length, drop, take};
+
+    ghost Value = { List ℕ };
+
+    ghost view = { λ b. take (b.end - b.start) (drop b.start b.bytes.items) };
+
+    ghost invariant = { λ b. (b.start ≤ b.end) × (b.end ≤ length b.bytes.items) × (length b.bytes.items ≡ 66048) };
+}
+
+impl Buffer {
+    /// An empty buffer.
+    pub(crate) fn new(alloc: Global) -> Result<Buffer, NoMemory>
+        ensures { IfOk result (λ b. b ≡ []) }
+    {
+        Ok(Buffer {
+            bytes: vec![in alloc; 0; ROOM]?,
+            start: 0,
+            end: 0,
+        })
+    }
+
+    /// The bytes that it holds.
+    pub(crate) fn held(&self) -> &[u8]
+        ensures held { result.now ≡ self.now }
+        ensures room { length self.now ≤ ROOM }
+    {
+        &self.bytes[self.start..self.end]
+    }
+
+    /// Hands out the first bytes.
+    pub(crate) fn skip(&mut self, count: usize)
+        requires { count ≤ length self.old }
+        ensures { self.new ≡ drop count self.old }
+    {
+        self.start += count;
+    }
+
+    /// Reads once, from the place `at` on. No byte is the end. A fault leaves what it holds.
+    pub(crate) fn read_more<S: Shelf>(
+        &mut self,
+        shelf: &mut S,
+        name: &str,
+        at: u64,
+    ) -> Result<usize, LineFault>
+        requires { length self.old < LINE }
+        ensures kept { S.holds shelf.new ≡ S.holds shelf.old }
+        ensures count { IfOk result (λ n. length self.new ≡ length self.old + n) }
+        ensures room { length self.new ≤ ROOM }
+        ensures front { take (length self.old) self.new ≡ self.old }
+        ensures bytes { (bytes : List ℕ) → told (S.holds shelf.old) name.now ≡ Some bytes → IfOk result (FillsBytes bytes at self.old self.new) }
+        ensures err { OnErr result (self.new ≡ self.old) }
+        ensures cause { HasCauses (S.faults shelf.old) (S.faults shelf.new) (S.absent shelf.old) (S.absent shelf.new) (IsErrOf result LineFault.ReadFault) (IsErrOf result LineFault.NoFile) }
+        ensures missed { IsErrOf result LineFault.NoFile → (told (S.holds shelf.old) name.now ≡ None) × (S.faults shelf.new ≡ S.faults shelf.old) }
+        ensures lacking { Lacks (S.holds shelf.old) name.now → IsErrOf result LineFault.NoFile ⊎ IsErrOf result LineFault.ReadFault }
+        ensures faults { IsReadFault result }
+    {
+        let held = self.end - self.start;
+        move_to_front(&mut self.bytes, self.start, self.end);
+        self.start = 0;
+        self.end = held;
+        let count = read_behind(shelf, name, at, &mut self.bytes, held)?;
+        self.end += count;
+        Ok(count)
+    }
+}

@@ -1,0 +1,201 @@
+//! Lines of a name's bytes, however the shelf cuts them.
+ghost use Rattle.std.specs.Prelude.{◌≡◌, ◌≢◌, ◌+◌, ◌-◌, ◌*◌, ◌<◌, ◌≤◌, ◌^◌, ◌↔◌, ◌⊎◌, [], ◌++◌, ℕ, List, length, drop, take, IfOk, OnErr, IsErrOf, IsTrue, MatchOption, slice_index, Ok, Some, None, false};
+ghost use Rattle.psi_base.specs.Outside.{told, Lacks, HasCauses};
+ghost use Rattle.psi_lines.specs.Lines.{NoNewline, Reader, left};
+ghost use Rattle.psi_lines.specs.Next.{EndsAt, IsLineEnd, IsMissing, IsNumbered, IsReadFault, IsShortLine, NextOf, ReadsOn, number_after};
+
+use crate::buffer::{Buffer, LINE, ROOM};
+use memchr::memchr;
+use psi_base::{NoMemory, Shelf, Text};
+use std::alloc::{AllocError, Global};
+use std::marker::Model;
+
+/// A line.
+#[derive(Drop)]
+pub struct Line {
+    /// Its number, from 1.
+    pub number: u32,
+    /// Its bytes without the newline, at most 512.
+    pub bytes: Text,
+}
+
+/// Why a call gives no answer.
+#[derive(Clone, Copy, Debug, PartialEq, Eq)]
+pub enum LineFault {
+    /// The line with this number has more than 512 bytes before its newline.
+    TooLong(u32),
+    /// The input ends inside the line with this number, of which there are 1 to 512 bytes.
+    Cut(u32),
+    /// The shelf has no such name.
+    NoFile,
+    /// A read failed.
+    ReadFault,
+    /// There was no memory.
+    NoMemory,
+}
+
+impl From<NoMemory> for LineFault {
+    ghost use Rattle.std.specs.Prelude.{◌≡◌};
+    ghost use Rattle.psi_lines.specs.declared.lines.LineFault.TheVariants as fault;
+
+    ghost from_gives = { λ _ e. e ≡ fault.NoMemory };
+
+    fn from(_: NoMemory) -> Self {
+        LineFault::NoMemory
+    }
+}
+
+impl From<AllocError> for LineFault {
+    ghost use Rattle.std.specs.Prelude.{◌≡◌};
+    ghost use Rattle.psi_lines.specs.declared.lines.LineFault.TheVariants as fault;
+
+    ghost from_gives = { λ _ e. e ≡ fault.NoMemory };
+
+    fn from(_: AllocError) -> Self {
+        LineFault::NoMemory
+    }
+}
+
+/// A reader of a name's lines, at the start of a line. Contracts see it as a `Reader`: the name, the number of the
+/// next line, the bytes that were read and not handed out, and the place behind these.
+///
+/// A fault leaves it at the start of the same line, with all bytes that it has; a further call goes on from there.
+#[derive(Drop)]
+pub struct Lines {
+    alloc: Global,
+    name: String,
+    number: u64,
+    held: Buffer,
+    at: u64,
+}
+
+impl Model for Lines {
+    ghost use Rattle.std.specs.Prelude.{◌+◌, ◌*◌, ◌^◌, ◌≤◌, string_bytes, length};
+    ghost use Rattle.psi_lines.specs.Lines.{Reader};
+
+    ghost Value = { Reader };
+
+    ghost view = { λ l. record { name = string_bytes l.name; number = l.number; held = l.held; at = l.at } };
+
+    ghost invariant = { λ l. (l.number ≤ 2 ^ 32) × (l.at ≤ 513 * l.number + length l.held) × (length l.held ≤ 66048) };
+}
+
+// Where the first newline stands among the bytes that a line and its newline can have.
+fn newline_in(held: &[u8]) -> Option<usize>
+    ensures { MatchOption result ((k : ℕ) → k < length held.now → k < LINE → slice_index held.now k ≢ 10) (λ i. (i < length held.now) × (i < LINE) × (slice_index held.now i ≡ 10) × NoNewline held.now i) }
+{
+    memchr(b'\n', &held[..held.len().min(LINE)])
+}
+
+// Where the line at the front of the bytes ends.
+#[derive(Clone, Copy)]
+enum LineEnd {
+    Newline(usize),
+    Long,
+    Input,
+}
+
+// Reads on until it is known where the first line ends.
+fn find_end<S: Shelf>(
+    shelf: &mut S,
+    name: &str,
+    at: &mut u64,
+    held: &mut Buffer,
+) -> Result<LineEnd, LineFault>
+    requires room { at.old < 2 ^ 63 }
+    requires short { length held.old ≤ ROOM }
+    ensures kept { S.holds shelf.new ≡ S.holds shelf.old }
+    ensures on { ReadsOn held.old at.old held.new at.new }
+    ensures short { length held.new ≤ ROOM }
+    ensures left { (bytes : List ℕ) → told (S.holds shelf.old) name.now ≡ Some bytes → held.new ++ drop at.new bytes ≡ held.old ++ drop at.old bytes }
+    ensures found { IfOk result (IsLineEnd held.new) }
+    ensures end { (bytes : List ℕ) → told (S.holds shelf.old) name.now ≡ Some bytes → IfOk result (EndsAt bytes at.new) }
+    ensures faults { IsReadFault result }
+    ensures cause { HasCauses (S.faults shelf.old) (S.faults shelf.new) (S.absent shelf.old) (S.absent shelf.new) (IsErrOf result LineFault.ReadFault) (IsErrOf result LineFault.NoFile) }
+    ensures missed { IsErrOf result LineFault.NoFile → told (S.holds shelf.old) name.now ≡ None }
+    ensures missing { held.old ≡ [] → Lacks (S.holds shelf.old) name.now → (held.new ≡ []) × (at.new ≡ at.old) × IsMissing result }
+{
+    'reads: loop {
+        let line = held.held();
+        if let Some(i) = newline_in(line) {
+            return Ok(LineEnd::Newline(i));
+        }
+        if line.len() >= LINE {
+            return Ok(LineEnd::Long);
+        }
+        let count = held.read_more(shelf, name, *at)?;
+        if count == 0 {
+            return Ok(LineEnd::Input);
+        }
+        *at += count as u64;
+    }
+}
+
+impl Lines {
+    /// A reader at the first byte of the name, before line 1. Nothing is read yet.
+    pub fn new(alloc: Global, name: &str) -> Result<Lines, NoMemory>
+        ensures { IfOk result (λ l. l ≡ record { name = name.now; number = 1; held = []; at = 0 }) }
+    {
+        Ok(Lines {
+            alloc,
+            name: String::from_str(alloc, name)?,
+            number: 1,
+            held: Buffer::new(alloc)?,
+            at: 0,
+        })
+    }
+
+    /// The bytes up to the next newline, without it; the reader then stands behind it. None exactly at the end of the
+    /// input, with no byte of a further line.
+    ///
+    /// `TooLong` exactly where 513 bytes stand without a newline, `Cut` exactly where the input ends inside a line of
+    /// at most 512 bytes. `NoFile` and `ReadFault` only where the shelf counted an absent name or a fault in this call.
+    pub fn next<S: Shelf>(&mut self, shelf: &mut S) -> Result<Option<Line>, LineFault>
+        requires { self.old.number < 2 ^ 32 }
+        ensures kept { S.holds shelf.new ≡ S.holds shelf.old }
+        ensures name { self.new.name ≡ self.old.name }
+        ensures number { self.new.number ≡ number_after self.old.number result }
+        ensures line { (bytes : List ℕ) → told (S.holds shelf.old) self.old.name ≡ Some bytes → NextOf bytes self.old self.new result }
+        ensures numbered { IsNumbered self.old.number result }
+        ensures short { IsShortLine result }
+        ensures fault { OnErr result (ReadsOn self.old.held self.old.at self.new.held self.new.at) }
+        ensures cause { HasCauses (S.faults shelf.old) (S.faults shelf.new) (S.absent shelf.old) (S.absent shelf.new) (IsErrOf result LineFault.ReadFault) (IsErrOf result LineFault.NoFile) }
+        ensures missed { IsErrOf result LineFault.NoFile → told (S.holds shelf.old) self.old.name ≡ None }
+        ensures missing { self.old.held ≡ [] → Lacks (S.holds shelf.old) self.old.name → (self.new.held ≡ []) × (self.new.at ≡ self.old.at) × IsMissing result }
+    {
+        match find_end(shelf, self.name.as_str(), &mut self.at, &mut self.held)? {
+            LineEnd::Newline(i) => {
+                let bytes = Text::make(self.alloc, &self.held.held()[..i])?;
+                let number = self.number as u32;
+                self.held.skip(i + 1);
+                self.number += 1;
+                Ok(Some(Line { number, bytes }))
+            }
+            LineEnd::Long => Err(LineFault::TooLong(self.number as u32)),
+            LineEnd::Input if self.held.held().is_empty() => Ok(None),
+            LineEnd::Input => Err(LineFault::Cut(self.number as u32)),
+        }
+    }
+
+    /// Whether nothing is left behind the lines that were handed out. Where bytes are held, that is known with no
+    /// read; else it takes exactly one. No byte is handed out.
+    pub fn is_at_end<S: Shelf>(&mut self, shelf: &mut S) -> Result<bool, LineFault>
+        ensures kept { S.holds shelf.new ≡ S.holds shelf.old }
+        ensures same { (self.new.name ≡ self.old.name) × (self.new.number ≡ self.old.number) }
+        ensures held { self.old.held ≢ [] → (result ≡ Ok false) × (self.new ≡ self.old) × (shelf.new ≡ shelf.old) }
+        ensures end { IfOk result (λ b. IsTrue b ↔ (self.new.held ≡ [])) }
+        ensures left { (bytes : List ℕ) → told (S.holds shelf.old) self.old.name ≡ Some bytes → (left self.new bytes ≡ left self.old bytes) × IfOk result (λ b. IsTrue b ↔ (left self.old bytes ≡ [])) }
+        ensures on { ReadsOn self.old.held self.old.at self.new.held self.new.at }
+        ensures faults { IsReadFault result }
+        ensures cause { HasCauses (S.faults shelf.old) (S.faults shelf.new) (S.absent shelf.old) (S.absent shelf.new) (IsErrOf result LineFault.ReadFault) (IsErrOf result LineFault.NoFile) }
+        ensures missed { IsErrOf result LineFault.NoFile → (told (S.holds shelf.old) self.old.name ≡ None) × (S.faults shelf.new ≡ S.faults shelf.old) }
+        ensures missing { self.old.held ≡ [] → Lacks (S.holds shelf.old) self.old.name → (self.new.held ≡ []) × (self.new.at ≡ self.old.at) × IsMissing result }
+    {
+        if !self.held.held().is_empty() {
+            return Ok(false);
+        }
+        let count = self.held.read_more(shelf, self.name.as_str(), self.at)?;
+        self.at += count as u64;
+        Ok(count == 0)
+    }
+}

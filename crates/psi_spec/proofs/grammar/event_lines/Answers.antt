@@ -1,0 +1,15 @@
+use Rattle.psi_spec.proofs.GrammarCauses as causes
+use Rattle.psi_spec.proofs.GrammarReads as reads
+use Rattle.psi_spec.proofs.grammar.event_lines.Goals as goal
+
+pub returns-clause-reads : goal.returns-clause-reads
+returns-clause-reads c = reads.reads_spelled
+
+pub returns-clause-refuses : goal.returns-clause-refuses
+returns-clause-refuses c = causes.finds_causes
+
+pub returns-clause-in_line : goal.returns-clause-in_line
+returns-clause-in_line c = reads.spelled_in_line
+
+pub returns-clause-apart : goal.returns-clause-apart
+returns-clause-apart c = reads.spelling-injective

@@ -1,0 +1,150 @@
+-- The kinds of fields that an event line has: the values of each, and the one word that spells a value.
+use Rattle.std.specs.Prelude.{◌≡◌, ℕ, ◌≤◌, ◌<◌, ◌^◌, List, [], ◌∷◌, nat_lt, nat_le, ◌&&◌, Bool, true, if◌then◌else◌, codes, decimal, Option, None, Some, IfSome, option_map}
+use Rattle.std.specs.Str.{bytes_eq}
+use Rattle.psi_base.specs.Number.{number_of}
+use Rattle.psi_base.specs.Path.{is_path}
+use Rattle.psi_base.specs.declared.event.Pid.{Pid}
+use Rattle.psi_base.specs.declared.event.Cpu.{Cpu}
+use Rattle.psi_base.specs.declared.event.How.{How}
+use Rattle.psi_base.specs.declared.event.How.TheVariants.{Preempt, Sleep, IoWait, Exit, Idle}
+use Rattle.psi_base.specs.declared.event.Preference.{Preference}
+use Rattle.psi_base.specs.declared.event.Preference.TheVariants.{Prefer, Plain, Avoid}
+use Rattle.psi_base.specs.declared.event.Res.{Res}
+use Rattle.psi_base.specs.declared.event.Res.TheVariants.{Io, Memory, Cpu as CpuRes}
+use Rattle.psi_base.specs.declared.event.Level.{Level}
+use Rattle.psi_base.specs.declared.event.Level.TheVariants.{SomeStalled, FullStalled}
+
+-- what a field of an event line speaks of: a task, the task that runs next or none, a processor, a group by its path,
+-- how a task leaves its processor, a group's preference, a size or quantity of at most 2^60, any number of 64 bits,
+-- a resource, and whether some or all tasks stall
+pub data Kind : Type 0 where
+  pid : Kind
+  next : Kind
+  cpu : Kind
+  path : Kind
+  how : Kind
+  preference : Kind
+  amount : Kind
+  number : Kind
+  resource : Kind
+  level : Kind
+
+-- the values of a kind
+abbrev pub Value : Kind → Type 0
+Value pid = Pid
+Value next = Option Pid
+Value cpu = Cpu
+Value path = List ℕ
+Value how = How
+Value preference = Preference
+Value amount = ℕ
+Value number = ℕ
+Value resource = Res
+Value level = Level
+
+-- a task's number is from 1 to 2^32 - 1
+abbrev pub IsPid : Pid → Type 0
+IsPid task = (0 < task.0) × (task.0 < 2 ^ 32)
+
+-- a value is one that a trace may speak of
+abbrev pub InRange : (kind : Kind) → Value kind → Type 0
+InRange pid task = IsPid task
+InRange next task = IfSome task IsPid
+InRange cpu processor = processor.0 < 2 ^ 32
+InRange path bytes = is_path bytes ≡ true
+InRange how leaving = Unit {0}
+InRange preference wish = Unit {0}
+InRange amount n = n ≤ 2 ^ 60
+InRange number n = n < 2 ^ 64
+InRange resource which = Unit {0}
+InRange level which = Unit {0}
+
+-- the task that runs next, or 0
+abbrev pub next_word : Option Pid → List ℕ
+next_word None = codes "0"
+next_word (Some task) = decimal task.0
+
+-- how the running task leaves its processor
+abbrev pub how_word : How → List ℕ
+how_word Preempt = codes "preempt"
+how_word Sleep = codes "sleep"
+how_word IoWait = codes "iowait"
+how_word Exit = codes "exit"
+how_word Idle = codes "idle"
+
+-- what a group wishes of the out-of-memory killer
+abbrev pub preference_word : Preference → List ℕ
+preference_word Prefer = codes "prefer"
+preference_word Avoid = codes "avoid"
+preference_word Plain = codes "none"
+
+-- the resource that is short
+abbrev pub resource_word : Res → List ℕ
+resource_word Io = codes "io"
+resource_word Memory = codes "memory"
+resource_word CpuRes = codes "cpu"
+
+-- whether some tasks stall, or all of them
+abbrev pub level_word : Level → List ℕ
+level_word SomeStalled = codes "some"
+level_word FullStalled = codes "full"
+
+-- the one word that spells a value
+abbrev pub word : (kind : Kind) → Value kind → List ℕ
+word pid task = decimal task.0
+word next task = next_word task
+word cpu processor = decimal processor.0
+word path bytes = bytes
+word how leaving = how_word leaving
+word preference wish = preference_word wish
+word amount n = decimal n
+word number n = decimal n
+word resource which = resource_word which
+word level which = level_word which
+
+-- the first of these that is called so
+abbrev pub named : {A : Type 0} → (A → List ℕ) → List A → List ℕ → Option A
+named name [] text = None
+named name (x ∷ xs) text = if bytes_eq text (name x) then Some x else named name xs text
+
+-- a number where it is in a range
+abbrev pub kept : (ℕ → Bool) → Option ℕ → Option ℕ
+kept holds None = None
+kept holds (Some n) = if holds n then Some n else None
+
+-- the number that a word spells, where it is in a range
+abbrev pub number_in : (ℕ → Bool) → List ℕ → Option ℕ
+number_in holds text = kept holds (number_of text)
+
+-- 0 is no task
+abbrev pub task_or_none : ℕ → Option Pid
+task_or_none n = if nat_lt 0 n then Some (record { 0 = n }) else None
+
+-- the ways to leave a processor
+abbrev pub hows : List How
+hows = Preempt ∷ Sleep ∷ IoWait ∷ Exit ∷ Idle ∷ []
+
+-- the wishes of a group
+abbrev pub preferences : List Preference
+preferences = Prefer ∷ Avoid ∷ Plain ∷ []
+
+-- the resources
+abbrev pub resources : List Res
+resources = Io ∷ Memory ∷ CpuRes ∷ []
+
+-- the levels
+abbrev pub levels : List Level
+levels = SomeStalled ∷ FullStalled ∷ []
+
+-- the value that a word spells
+unfoldable pub value_of : (kind : Kind) → List ℕ → Option (Value kind)
+value_of pid text = option_map (λ n. let task : Pid = record { 0 = n } in task) (number_in (λ n. nat_lt 0 n && nat_lt n (2 ^ 32)) text)
+value_of next text = option_map task_or_none (number_in (λ n. nat_lt n (2 ^ 32)) text)
+value_of cpu text = option_map (λ n. let processor : Cpu = record { 0 = n } in processor) (number_in (λ n. nat_lt n (2 ^ 32)) text)
+value_of path text = if is_path text then Some text else None
+value_of how text = named how_word hows text
+value_of preference text = named preference_word preferences text
+value_of amount text = number_in (λ n. nat_le n (2 ^ 60)) text
+value_of number text = number_of text
+value_of resource text = named resource_word resources text
+value_of level text = named level_word levels text

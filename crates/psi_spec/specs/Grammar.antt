@@ -1,0 +1,268 @@
+-- The lines of a trace, as this profile has them: which bytes spell a header and an event, which event a line has,
+-- and for what a line is refused that spells none.
+use Rattle.std.specs.Prelude.{◌≡◌, ◌≢◌, ◌↔◌, ℕ, ◌+◌, ◌≤◌, ◌<◌, ◌^◌, List, [], ◌∷◌, ◌++◌, drop, length, slice_index, EachIndex, codes, decimal, true, Option, None, Some, Result, Ok, Err, IfSome}
+use Rattle.std.specs.List.{range_with_len, slice_get}
+use Rattle.psi_base.specs.Number.{number_of}
+use Rattle.psi_base.specs.Path.{parts_at, is_path}
+use Rattle.psi_base.specs.declared.event.Act.{Act}
+use Rattle.psi_base.specs.declared.event.Act.TheVariants as act
+use Rattle.psi_base.specs.declared.event.Event.{Event}
+use Rattle.psi_base.specs.declared.event.Cause.{Cause}
+use Rattle.psi_base.specs.declared.event.Cause.TheVariants as cause
+use Rattle.psi_spec.specs.Fields.{Kind, Value, InRange, IsPid, word, value_of, named, next_word, how_word, preference_word, resource_word, level_word}
+use Rattle.psi_spec.specs.Fields as kind
+
+-- words with one space between them
+abbrev pub joined : List (List ℕ) → List ℕ
+joined [] = []
+joined (text ∷ []) = text
+joined (text ∷ next ∷ words) = text ++ 32 ∷ joined (next ∷ words)
+
+-- the verb of an act and its fields
+abbrev pub act_words : Act → List (List ℕ)
+act_words (act.Group path) = codes "group" ∷ path ∷ []
+act_words (act.Remove path) = codes "rmgroup" ∷ path ∷ []
+act_words (act.Prefer path preference) = codes "prefer" ∷ path ∷ preference_word preference ∷ []
+act_words (act.Fork pid path cpu) = codes "fork" ∷ decimal pid.0 ∷ path ∷ decimal cpu.0 ∷ []
+act_words (act.Wake pid cpu) = codes "wake" ∷ decimal pid.0 ∷ decimal cpu.0 ∷ []
+act_words (act.Switch cpu next how) = codes "switch" ∷ decimal cpu.0 ∷ next_word next ∷ how_word how ∷ []
+act_words (act.Stall pid) = codes "stall" ∷ decimal pid.0 ∷ []
+act_words (act.Unstall pid) = codes "unstall" ∷ decimal pid.0 ∷ []
+act_words (act.Migrate pid cpu) = codes "migrate" ∷ decimal pid.0 ∷ decimal cpu.0 ∷ []
+act_words (act.Move pid path) = codes "move" ∷ decimal pid.0 ∷ path ∷ []
+act_words (act.Mem path current swap scan) = codes "mem" ∷ path ∷ decimal current ∷ decimal swap ∷ decimal scan ∷ []
+act_words (act.Host mem_total swap_total swap_free) = codes "host" ∷ decimal mem_total ∷ decimal swap_total ∷ decimal swap_free ∷ []
+act_words (act.Trigger path res level threshold_us window_us) = codes "trigger" ∷ path ∷ resource_word res ∷ level_word level ∷ decimal threshold_us ∷ decimal window_us ∷ []
+act_words act.End = codes "end" ∷ []
+
+-- the one spelling of an event
+unfoldable pub spelling : Event → List ℕ
+spelling event = joined (decimal event.at ∷ act_words event.act)
+
+-- the header line of a trace of this version, for so many processors
+unfoldable pub header : ℕ → ℕ → List ℕ
+header version cpus = codes "psitrace " ++ decimal version ++ codes " cpus=" ++ decimal cpus
+
+-- the values of an act are ones that a trace may speak of
+abbrev pub ActFits : Act → Type 0
+ActFits (act.Group path) = is_path path ≡ true
+ActFits (act.Remove path) = is_path path ≡ true
+ActFits (act.Prefer path preference) = is_path path ≡ true
+ActFits (act.Fork pid path cpu) = IsPid pid × (is_path path ≡ true) × (cpu.0 < 2 ^ 32)
+ActFits (act.Wake pid cpu) = IsPid pid × (cpu.0 < 2 ^ 32)
+ActFits (act.Switch cpu next how) = (cpu.0 < 2 ^ 32) × IfSome next IsPid
+ActFits (act.Stall pid) = IsPid pid
+ActFits (act.Unstall pid) = IsPid pid
+ActFits (act.Migrate pid cpu) = IsPid pid × (cpu.0 < 2 ^ 32)
+ActFits (act.Move pid path) = IsPid pid × (is_path path ≡ true)
+ActFits (act.Mem path current swap scan) = (is_path path ≡ true) × (current ≤ 2 ^ 60) × (swap ≤ 2 ^ 60) × (scan ≤ 2 ^ 60)
+ActFits (act.Host mem_total swap_total swap_free) = (mem_total ≤ 2 ^ 60) × (swap_total ≤ 2 ^ 60) × (swap_free ≤ 2 ^ 60)
+ActFits (act.Trigger path res level threshold_us window_us) = (is_path path ≡ true) × (threshold_us < 2 ^ 64) × (window_us < 2 ^ 64)
+ActFits act.End = Unit {0}
+
+-- an event is one that a trace may speak of
+pub record Fits (event : Event) : Type 0 where
+  pub at : event.at < 2 ^ 64
+  pub act : ActFits event.act
+
+-- one value of each kind
+abbrev pub Values : List Kind → Type 0
+Values [] = Unit {0}
+Values (k ∷ ks) = Value k × Values ks
+
+-- the verbs of event lines, each called as the act that it tells of
+pub data Verb : Type 0 where
+  Group : Verb
+  Remove : Verb
+  Prefer : Verb
+  Fork : Verb
+  Wake : Verb
+  Switch : Verb
+  Stall : Verb
+  Unstall : Verb
+  Migrate : Verb
+  Move : Verb
+  Mem : Verb
+  Host : Verb
+  Trigger : Verb
+  End : Verb
+
+-- the word of a verb, the kinds of its fields, and the act that their values make
+pub record Form : Type 0 where
+  pub word : List ℕ
+  pub kinds : List Kind
+  pub act : Values kinds → Act
+
+-- the form of these parts
+abbrev pub form : (text : List ℕ) (kinds : List Kind) → (Values kinds → Act) → Form
+form text kinds act = record { word = text; kinds = kinds; act = act }
+
+-- the table of verbs
+abbrev pub form_of : Verb → Form
+form_of Group = form (codes "group") (kind.path ∷ []) (λ v. act.Group v.0)
+form_of Remove = form (codes "rmgroup") (kind.path ∷ []) (λ v. act.Remove v.0)
+form_of Prefer = form (codes "prefer") (kind.path ∷ kind.preference ∷ []) (λ v. act.Prefer v.0 v.1.0)
+form_of Fork = form (codes "fork") (kind.pid ∷ kind.path ∷ kind.cpu ∷ []) (λ v. act.Fork v.0 v.1.0 v.1.1.0)
+form_of Wake = form (codes "wake") (kind.pid ∷ kind.cpu ∷ []) (λ v. act.Wake v.0 v.1.0)
+form_of Switch = form (codes "switch") (kind.cpu ∷ kind.next ∷ kind.how ∷ []) (λ v. act.Switch v.0 v.1.0 v.1.1.0)
+form_of Stall = form (codes "stall") (kind.pid ∷ []) (λ v. act.Stall v.0)
+form_of Unstall = form (codes "unstall") (kind.pid ∷ []) (λ v. act.Unstall v.0)
+form_of Migrate = form (codes "migrate") (kind.pid ∷ kind.cpu ∷ []) (λ v. act.Migrate v.0 v.1.0)
+form_of Move = form (codes "move") (kind.pid ∷ kind.path ∷ []) (λ v. act.Move v.0 v.1.0)
+form_of Mem = form (codes "mem") (kind.path ∷ kind.amount ∷ kind.amount ∷ kind.amount ∷ []) (λ v. act.Mem v.0 v.1.0 v.1.1.0 v.1.1.1.0)
+form_of Host = form (codes "host") (kind.amount ∷ kind.amount ∷ kind.amount ∷ []) (λ v. act.Host v.0 v.1.0 v.1.1.0)
+form_of Trigger = form (codes "trigger") (kind.path ∷ kind.resource ∷ kind.level ∷ kind.number ∷ kind.number ∷ []) (λ v. act.Trigger v.0 v.1.0 v.1.1.0 v.1.1.1.0 v.1.1.1.1.0)
+form_of End = form (codes "end") [] (λ v. act.End)
+
+-- how a verb is written
+abbrev pub verb_word : Verb → List ℕ
+verb_word verb = (form_of verb).word
+
+-- the kinds of a verb's fields, in their order
+abbrev pub kinds_of : Verb → List Kind
+kinds_of verb = (form_of verb).kinds
+
+-- all the verbs; no two are written alike, and those that a trace has most of stand first
+abbrev pub verbs : List Verb
+verbs = Switch ∷ Wake ∷ Stall ∷ Unstall ∷ Migrate ∷ Move ∷ Fork ∷ Mem ∷ Host ∷ Group ∷ Remove ∷ Prefer ∷ Trigger ∷ End ∷ []
+
+-- a step of reading after another, unless that one found a fault
+infixl 10 ◌>>=◌
+abbrev pub ◌>>=◌ : {A B : Type 0} → Result A Cause → (A → Result B Cause) → Result B Cause
+(Ok x) >>= f = f x
+(Err e) >>= f = Err e
+
+-- a value that was found, and the words behind it, or the bad field with this number
+abbrev pub or_bad : {A : Type 0} → ℕ → Option A → List (List ℕ) → Result (A × List (List ℕ)) Cause
+or_bad i None words = Err (cause.BadField i)
+or_bad i (Some x) words = Ok (x, words)
+
+-- the value of the first word, which is the field with this number, and the words behind it
+abbrev pub field : ℕ → (k : Kind) → List (List ℕ) → Result (Value k × List (List ℕ)) Cause
+field i k [] = Err (cause.BadField i)
+field i k (text ∷ words) = or_bad i (value_of k text) words
+
+-- the values of words, of which the first is the field with this number, or the leftmost bad field
+abbrev pub values_from : ℕ → (ks : List Kind) → List (List ℕ) → Result (Values ks) Cause
+values_from i [] [] = Ok tt
+values_from i [] (text ∷ words) = Err (cause.BadField i)
+values_from i (k ∷ ks) words = do
+  first ← field i k words
+  rest ← values_from (i + 1) ks first.1
+  Ok (first.0, rest)
+
+-- the act that the fields of a verb make
+unfoldable pub act_from : Verb → List (List ℕ) → Result Act Cause
+act_from verb words = do
+  values ← values_from 1 (kinds_of verb) words
+  Ok ((form_of verb).act values)
+
+-- the verb that a word is
+unfoldable pub verb_of : List ℕ → Option Verb
+verb_of text = named verb_word verbs text
+
+-- the act of a verb that was found, and its fields
+abbrev pub act_in : Option Verb → List (List ℕ) → Result Act Cause
+act_in None words = Err cause.BadVerb
+act_in (Some verb) words = act_from verb words
+
+-- the act that a verb and its fields spell
+unfoldable pub act_at : List (List ℕ) → Result Act Cause
+act_at [] = Err cause.BadVerb
+act_at (text ∷ words) = act_in (verb_of text) words
+
+-- the event at a time that was found, with the verb and its fields
+abbrev pub event_in : Option ℕ → List (List ℕ) → Result Event Cause
+event_in None words = Err cause.BadTime
+event_in (Some at) words = do
+  what ← act_at words
+  Ok (record { at = at; act = what })
+
+-- the event that the parts of a line spell
+unfoldable pub event_at : List (List ℕ) → Result Event Cause
+event_at [] = Err cause.BadTime
+event_at (time ∷ words) = event_in (number_of time) words
+
+-- the event that a line spells, or the first cause against it
+unfoldable pub event_of : List ℕ → Result Event Cause
+event_of line = event_at (parts_at 32 line)
+
+-- the number of processors of a line that is a header of version 1
+unfoldable pub header_of : List ℕ → Option ℕ
+header_of line = named (header 1) (range_with_len 1 64) line
+
+-- a word spells a value of a kind
+abbrev pub Spells : Kind → List ℕ → Type 0
+Spells k text = (value : Value k) × (InRange k value × (text ≡ word k value))
+
+-- a part stands where one is due, and spells a value of its kind
+abbrev pub IsGood : Option Kind → Option (List ℕ) → Type 0
+IsGood (Some k) (Some text) = Spells k text
+IsGood (Some k) None = ⊥
+IsGood None part = ⊥
+
+-- a part is missing, or spells no value of its kind, or is one too many
+abbrev pub IsBad : Option Kind → Option (List ℕ) → Type 0
+IsBad (Some k) (Some text) = Spells k text → ⊥
+IsBad (Some k) None = Unit {0}
+IsBad None (Some text) = Unit {0}
+IsBad None None = ⊥
+
+-- the leftmost bad part is the one at this place
+pub record IsFirstBad (ks : List Kind) (parts : List (List ℕ)) (at : ℕ) : Type 0 where
+  pub before : (i : ℕ) → i < at → IsGood (slice_get ks i) (slice_get parts i)
+  pub here : IsBad (slice_get ks at) (slice_get parts at)
+
+-- the first part of a line is a time, below 2^64 ns
+abbrev pub HasTime : List (List ℕ) → Type 0
+HasTime parts = IsGood (Some kind.number) (slice_get parts 0)
+
+-- the second part of a line is this verb
+abbrev pub HasVerb : List (List ℕ) → Verb → Type 0
+HasVerb parts verb = slice_get parts 1 ≡ Some (verb_word verb)
+
+-- the parts behind the verb are bad first at the field with this number, counted from 1
+pub record HasBadField (parts : List (List ℕ)) (number : ℕ) : Type 0 where
+  pub time : HasTime parts
+  pub verb : Verb
+  pub has_verb : HasVerb parts verb
+  pub at : ℕ
+  pub is_number : number ≡ at + 1
+  pub first : IsFirstBad (kinds_of verb) (drop 2 parts) at
+
+-- The cause against the parts of a line, for what they spell alone: a first part that is no time; else a second part
+-- that is missing or no verb; else the leftmost field that is missing, wrong or one too many. There is no other.
+abbrev pub IsCause : List (List ℕ) → Cause → Type 0
+IsCause parts cause.BadTime = HasTime parts → ⊥
+IsCause parts cause.BadVerb = HasTime parts × ((verb : Verb) → HasVerb parts verb → ⊥)
+IsCause parts (cause.BadField number) = HasBadField parts number
+IsCause parts _ = ⊥
+
+-- A line is read as an event exactly where it is the spelling of one that a trace may speak of.
+abbrev pub ReadsSpelled : Type 0
+ReadsSpelled = (line : List ℕ) (event : Event) → (event_of line ≡ Ok event) ↔ (Fits event × (line ≡ spelling event))
+
+-- A line is refused exactly for what is wrong first from the left.
+abbrev pub FindsCauses : Type 0
+FindsCauses = (line : List ℕ) (why : Cause) → (event_of line ≡ Err why) ↔ IsCause (parts_at 32 line) why
+
+-- A line is read as a header exactly where it is the header of 1 to 64 processors.
+abbrev pub HeadersSpelled : Type 0
+HeadersSpelled = (line : List ℕ) (cpus : ℕ) → (header_of line ≡ Some cpus) ↔ ((1 ≤ cpus) × (cpus ≤ 64) × (line ≡ header 1 cpus))
+
+-- bytes that may stand in a line: none is a newline, and there are at most 512
+pub record IsLine (bytes : List ℕ) : Type 0 where
+  pub one : EachIndex bytes (λ k. slice_index bytes k ≢ 10)
+  pub short : length bytes ≤ 512
+
+-- The spelling of an event is a line.
+abbrev pub SpelledInLine : Type 0
+SpelledInLine = (event : Event) → Fits event → IsLine (spelling event)
+
+-- A header is a line.
+abbrev pub HeadedByLine : Type 0
+HeadedByLine = (version cpus : ℕ) → version < 2 ^ 64 → cpus < 2 ^ 64 → IsLine (header version cpus)
+
+-- Two events that are spelled alike are the same.
+abbrev pub SpelledApart : Type 0
+SpelledApart = (first second : Event) → Fits first → Fits second → spelling first ≡ spelling second → first ≡ second

@@ -1,0 +1,8 @@
+pub mod Fields
+pub mod Grammar
+pub mod World
+pub mod Refusal
+pub mod Stall
+pub mod Trace
+pub mod Text
+pub mod Words

@@ -1,0 +1,258 @@
+-- Which events are legal in a world, and the cause against one that isn't.
+use Rattle.std.specs.Prelude.{◌≡◌, ℕ, List, [], ◌∷◌, length, nat_lt, nat_le, ◌==◌, ◌&&◌, ◌||◌, not, Bool, true, false, if◌then◌else◌, Option, None, Some, is_some, find}
+use Rattle.std.specs.List.{list_any}
+use Rattle.std.specs.FinMap as tasks_by
+use Rattle.psi_base.specs.declared.event.Pid.{Pid}
+use Rattle.psi_base.specs.declared.event.Slot.{Slot}
+use Rattle.psi_base.specs.declared.event.How.{How}
+use Rattle.psi_base.specs.declared.event.How.TheVariants.{Preempt, Sleep, IoWait, Exit, Idle}
+use Rattle.psi_base.specs.declared.event.Act.{Act}
+use Rattle.psi_base.specs.declared.event.Act.TheVariants as act
+use Rattle.psi_base.specs.declared.event.Event.{Event}
+use Rattle.psi_base.specs.declared.event.Cause.{Cause}
+use Rattle.psi_base.specs.declared.event.Cause.TheVariants as cause
+use Rattle.psi_spec.specs.declared.machine.Task.{Task}
+use Rattle.psi_spec.specs.declared.machine.GroupLife.{GroupLife}
+use Rattle.psi_spec.specs.World.{World, Limits, Tasks, task_of, test_task, running_on, task_part, is_running, is_ready, is_active, is_ready_on, is_live, is_trigger, slot_of, parent_path, is_root, after_event}
+
+-- ---- what a line names
+
+-- the path of a group that has to be live
+abbrev pub live_path : Act → Option (List ℕ)
+live_path (act.Group path) = None
+live_path (act.Remove path) = Some path
+live_path (act.Prefer path preference) = Some path
+live_path (act.Fork pid path cpu) = Some path
+live_path (act.Wake pid cpu) = None
+live_path (act.Switch cpu next how) = None
+live_path (act.Stall pid) = None
+live_path (act.Unstall pid) = None
+live_path (act.Migrate pid cpu) = None
+live_path (act.Move pid path) = Some path
+live_path (act.Mem path current swap scan) = Some path
+live_path (act.Host mem_total swap_total swap_free) = None
+live_path (act.Trigger path res level threshold_us window_us) = Some path
+live_path act.End = None
+
+-- the task that has to be live
+abbrev pub live_task : Act → Option Pid
+live_task (act.Group path) = None
+live_task (act.Remove path) = None
+live_task (act.Prefer path preference) = None
+live_task (act.Fork pid path cpu) = None
+live_task (act.Wake pid cpu) = Some pid
+live_task (act.Switch cpu next how) = next
+live_task (act.Stall pid) = Some pid
+live_task (act.Unstall pid) = Some pid
+live_task (act.Migrate pid cpu) = Some pid
+live_task (act.Move pid path) = Some pid
+live_task (act.Mem path current swap scan) = None
+live_task (act.Host mem_total swap_total swap_free) = None
+live_task (act.Trigger path res level threshold_us window_us) = None
+live_task act.End = None
+
+-- the processor that has to be there
+abbrev pub named_cpu : Act → Option ℕ
+named_cpu (act.Group path) = None
+named_cpu (act.Remove path) = None
+named_cpu (act.Prefer path preference) = None
+named_cpu (act.Fork pid path cpu) = Some cpu.0
+named_cpu (act.Wake pid cpu) = Some cpu.0
+named_cpu (act.Switch cpu next how) = Some cpu.0
+named_cpu (act.Stall pid) = None
+named_cpu (act.Unstall pid) = None
+named_cpu (act.Migrate pid cpu) = Some cpu.0
+named_cpu (act.Move pid path) = None
+named_cpu (act.Mem path current swap scan) = None
+named_cpu (act.Host mem_total swap_total swap_free) = None
+named_cpu (act.Trigger path res level threshold_us window_us) = None
+named_cpu act.End = None
+
+-- ---- single tests
+
+-- a path that has to be live isn't
+abbrev pub lacks_group : List GroupLife → Option (List ℕ) → Bool
+lacks_group groups None = false
+lacks_group groups (Some path) = not (is_some (slot_of groups path))
+
+-- a task that has to be live isn't
+abbrev pub lacks_task : Tasks → Option Pid → Bool
+lacks_task tasks None = false
+lacks_task tasks (Some pid) = not (is_some (task_of tasks pid.0))
+
+-- a processor that has to be there isn't
+abbrev pub lacks_cpu : ℕ → Option ℕ → Bool
+lacks_cpu cpus None = false
+lacks_cpu cpus (Some cpu) = nat_le cpus cpu
+
+-- a path that has to be new is that of a live group
+abbrev pub has_group : List GroupLife → Option (List ℕ) → Bool
+has_group groups None = false
+has_group groups (Some path) = is_some (slot_of groups path)
+
+-- the group above a new one isn't live
+abbrev pub lacks_parent : List GroupLife → Option (List ℕ) → Bool
+lacks_parent groups None = false
+lacks_parent groups (Some path) = not (is_some (slot_of groups (parent_path path)))
+
+-- the slot is this one
+abbrev pub is_slot : Option ℕ → Option Slot → Bool
+is_slot (Some n) (Some slot) = slot.0 == n
+is_slot _ _ = false
+
+-- a live group has a live child
+abbrev pub has_child : List GroupLife → Option ℕ → Bool
+has_child groups slot = list_any (λ group. is_live group && is_slot slot group.parent) groups
+
+-- a live group has a live task in it
+abbrev pub has_member : Tasks → Option ℕ → Bool
+has_member tasks slot = list_any (λ task. is_slot slot (Some task.slot)) (tasks_by.values tasks)
+
+-- a group that is to be removed is the root, or has a live child or a live task in it
+abbrev pub is_busy : World → Option (List ℕ) → Bool
+is_busy w None = false
+is_busy w (Some path) = is_root path || has_child w.groups (slot_of w.groups path) || has_member w.tasks (slot_of w.groups path)
+
+-- a task that has to be new is live
+abbrev pub has_task : Tasks → Option Pid → Bool
+has_task tasks None = false
+has_task tasks (Some pid) = is_some (task_of tasks pid.0)
+
+-- the path of a group that is made
+abbrev pub new_path : Act → Option (List ℕ)
+new_path (act.Group path) = Some path
+new_path _ = None
+
+-- the path of a group that is removed
+abbrev pub removed_path : Act → Option (List ℕ)
+removed_path (act.Remove path) = Some path
+removed_path _ = None
+
+-- the task that is made
+abbrev pub new_pid : Act → Option Pid
+new_pid (act.Fork pid path cpu) = Some pid
+new_pid _ = None
+
+-- no task may run where a processor is said to idle, and one must where a task is said to leave
+abbrev pub is_wrong : How → Option (ℕ × Task) → Bool
+is_wrong Idle running = is_some running
+is_wrong Preempt running = not (is_some running)
+is_wrong Sleep running = not (is_some running)
+is_wrong IoWait running = not (is_some running)
+is_wrong Exit running = not (is_some running)
+
+-- the task exits
+abbrev pub is_exit : How → Bool
+is_exit Exit = true
+is_exit _ = false
+
+-- the next task isn't ready on the processor
+abbrev pub isnt_ready : Tasks → ℕ → Option Pid → Bool
+isnt_ready tasks cpu None = false
+isnt_ready tasks cpu (Some pid) = not (test_task (task_of tasks pid.0) (is_ready_on cpu))
+
+-- a window (us) from half a second to ten, and a threshold (us) from one up to the window
+abbrev pub is_window : ℕ → ℕ → Bool
+is_window threshold window = nat_le 500000 window && nat_le window 10000000 && nat_le 1 threshold && nat_le threshold window
+
+-- a task in a stall that starts or ends must run
+abbrev pub not_running : Tasks → Act → Bool
+not_running tasks (act.Stall pid) = test_task (task_of tasks pid.0) (λ task. not (is_running task.mode))
+not_running tasks (act.Unstall pid) = test_task (task_of tasks pid.0) (λ task. not (is_running task.mode))
+not_running tasks _ = false
+
+-- a task that runs next must be ready on that processor, and one that migrates must be ready
+abbrev pub not_ready : Tasks → Act → Bool
+not_ready tasks (act.Switch cpu next how) = isnt_ready tasks cpu.0 next
+not_ready tasks (act.Migrate pid cpu) = test_task (task_of tasks pid.0) (λ task. not (is_ready task.mode))
+not_ready tasks _ = false
+
+-- a task that is woken must sleep
+abbrev pub not_blocked : Tasks → Act → Bool
+not_blocked tasks (act.Wake pid cpu) = test_task (task_of tasks pid.0) (λ task. is_active task.mode)
+not_blocked tasks _ = false
+
+-- a switch says how the running task leaves
+abbrev pub wrong_how : Tasks → Act → Bool
+wrong_how tasks (act.Switch cpu next how) = is_wrong how (running_on tasks cpu.0)
+wrong_how tasks _ = false
+
+-- a stall starts where there is none, and no task exits in one
+abbrev pub in_stall : Tasks → Act → Bool
+in_stall tasks (act.Stall pid) = test_task (task_of tasks pid.0) (λ task. task.stalled)
+in_stall tasks (act.Switch cpu next how) = is_exit how && test_task (task_part (running_on tasks cpu.0)) (λ task. task.stalled)
+in_stall tasks _ = false
+
+-- a stall ends where there is one
+abbrev pub not_in_stall : Tasks → Act → Bool
+not_in_stall tasks (act.Unstall pid) = test_task (task_of tasks pid.0) (λ task. not task.stalled)
+not_in_stall tasks _ = false
+
+-- a trigger's window is in its range
+abbrev pub bad_window : Act → Bool
+bad_window (act.Trigger path res level threshold_us window_us) = not (is_window threshold_us window_us)
+bad_window _ = false
+
+-- ---- causes
+
+-- When each cause stands against an event in a world. Causes that a line's bytes alone can have stand against no event.
+abbrev pub stands : Cause → Limits → World → Event → Bool
+stands cause.AfterEnd limits w event = w.ended
+stands cause.TimeBack limits w event = nat_lt event.at w.last
+stands cause.TimeTooLate limits w event = nat_lt limits.latest event.at
+stands cause.TooManyEvents limits w event = nat_le 4000000 w.lines
+stands cause.TooManyGroups limits w event = is_some (new_path event.act) && nat_le 1024 (length w.groups)
+stands cause.TooManyTasks limits w event = is_some (new_pid event.act) && nat_le 65536 (tasks_by.len w.tasks)
+stands cause.TooManyTriggers limits w event = is_trigger event.act && nat_le 256 w.triggers
+stands cause.UnknownGroup limits w event = lacks_group w.groups (live_path event.act)
+stands cause.GroupExists limits w event = has_group w.groups (new_path event.act)
+stands cause.NoParent limits w event = lacks_parent w.groups (new_path event.act)
+stands cause.GroupBusy limits w event = is_busy w (removed_path event.act)
+stands cause.UnknownTask limits w event = lacks_task w.tasks (live_task event.act)
+stands cause.TaskExists limits w event = has_task w.tasks (new_pid event.act)
+stands cause.BadWindow limits w event = bad_window event.act
+stands cause.BadCpu limits w event = lacks_cpu limits.cpus (named_cpu event.act)
+stands cause.NotRunning limits w event = not_running w.tasks event.act
+stands cause.NotReady limits w event = not_ready w.tasks event.act
+stands cause.NotBlocked limits w event = not_blocked w.tasks event.act
+stands cause.WrongHow limits w event = wrong_how w.tasks event.act
+stands cause.InStall limits w event = in_stall w.tasks event.act
+stands cause.NotInStall limits w event = not_in_stall w.tasks event.act
+stands cause.BadHeader limits w event = false
+stands cause.LineTooLong limits w event = false
+stands cause.BadTime limits w event = false
+stands cause.BadVerb limits w event = false
+stands (cause.BadField i) limits w event = false
+stands cause.NoEnd limits w event = false
+
+-- the order in which causes are asked for, where several stand
+abbrev pub order : List Cause
+order =
+    cause.AfterEnd ∷ cause.TimeBack ∷ cause.TimeTooLate
+    ∷ cause.TooManyEvents ∷ cause.TooManyGroups ∷ cause.TooManyTasks ∷ cause.TooManyTriggers
+    ∷ cause.UnknownGroup ∷ cause.GroupExists ∷ cause.NoParent ∷ cause.GroupBusy
+    ∷ cause.UnknownTask ∷ cause.TaskExists ∷ cause.BadWindow ∷ cause.BadCpu
+    ∷ cause.NotRunning ∷ cause.NotReady ∷ cause.NotBlocked ∷ cause.WrongHow ∷ cause.InStall ∷ cause.NotInStall ∷ []
+
+-- the first cause against an event, or none where the event is legal
+unfoldable pub cause_of : Limits → World → Event → Option Cause
+cause_of limits w event = find (λ why. stands why limits w event) order
+
+-- ---- what is built so far
+
+-- Acts that the program replays by now. The others are refused as verbs that it doesn't know.
+abbrev pub is_built : Act → Bool
+is_built (act.Fork pid path cpu) = true
+is_built (act.Wake pid cpu) = true
+is_built (act.Switch cpu next how) = true
+is_built act.End = true
+is_built _ = false
+
+-- the first cause against an event, of which only acts that are built are let through
+unfoldable pub check_cause : Limits → World → Event → Option Cause
+check_cause limits w event = if is_built event.act then cause_of limits w event else Some cause.BadVerb
+
+-- each event is legal in the world after those before it
+abbrev pub AreLegal : Limits → World → List Event → Type 0
+AreLegal limits w [] = Unit {0}
+AreLegal limits w (event ∷ events) = (check_cause limits w event ≡ None) × AreLegal limits (after_event w event) events

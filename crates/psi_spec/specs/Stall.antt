@@ -1,0 +1,120 @@
+-- When a group is in a state on a processor, and for how long.
+use Rattle.std.specs.Prelude.{◌≡◌, ℕ, zero, suc, ◌+◌, ◌-◌, ◌≤◌, List, [], ◌∷◌, ◌++◌, length, sum, map, take, filter, slice_index_or, ◌==◌, ◌&&◌, ◌||◌, not, Bool, false, if◌then◌else◌, Option, None, Some}
+use Rattle.std.specs.List.{list_any, list_all, range_with_len}
+use Rattle.std.specs.FinMap as tasks_by
+use Rattle.psi_base.specs.declared.event.Slot.{Slot}
+use Rattle.psi_base.specs.declared.event.State.{State}
+use Rattle.psi_base.specs.declared.event.State.TheVariants.{IoSome, IoFull, MemSome, MemFull, CpuSome, CpuFull, Nonidle}
+use Rattle.psi_base.specs.declared.event.Event.{Event}
+use Rattle.psi_spec.specs.declared.machine.Task.{Task}
+use Rattle.psi_spec.specs.declared.machine.GroupLife.{GroupLife}
+use Rattle.psi_spec.specs.World.{World, Tasks, is_waiting, is_ready, is_running, is_active, after}
+
+-- ---- groups below groups
+
+-- the number of a slot
+abbrev pub number_of_slot : Option Slot → Option ℕ
+number_of_slot None = None
+number_of_slot (Some slot) = Some slot.0
+
+-- the parents of all slots
+abbrev pub parents_of : List GroupLife → List (Option ℕ)
+parents_of groups = map (λ group. number_of_slot group.parent) groups
+
+-- a slot is another or has it among its ancestors, at most so many steps up
+abbrev pub climbs : ℕ → List (Option ℕ) → Option ℕ → ℕ → Bool
+climbs n parents None high = false
+climbs zero parents (Some slot) high = slot == high
+climbs (suc n) parents (Some slot) high = slot == high || climbs n parents (slice_index_or parents slot None) high
+
+-- A slot is another or has it among its ancestors. Parents are older, so the slot's own number bounds the way up.
+unfoldable pub is_under : List (Option ℕ) → ℕ → ℕ → Bool
+is_under parents low high = climbs low parents (Some low) high
+
+-- ---- states
+
+-- a task counts for a group on a processor: it is there, and in the group or below it
+abbrev pub is_in : List (Option ℕ) → ℕ → ℕ → Task → Bool
+is_in parents cpu slot task = task.cpu.0 == cpu && is_under parents task.slot.0 slot
+
+-- the tasks that count for a group on a processor
+abbrev pub tasks_in : List (Option ℕ) → ℕ → ℕ → Tasks → List Task
+tasks_in parents cpu slot tasks = filter (is_in parents cpu slot) (tasks_by.values tasks)
+
+-- the task waits for IO
+abbrev pub waits : Task → Bool
+waits task = is_waiting task.mode
+
+-- the task is ready, and waits on a run queue
+abbrev pub queues : Task → Bool
+queues task = is_ready task.mode
+
+-- the task runs
+abbrev pub runs : Task → Bool
+runs task = is_running task.mode
+
+-- the task is ready or runs
+abbrev pub is_up : Task → Bool
+is_up task = is_active task.mode
+
+-- the task is in a memory stall
+abbrev pub stalls : Task → Bool
+stalls task = task.stalled
+
+-- The states of the kernel's test_states, said of the tasks that count.
+-- IO: some task waits for IO; full where besides none is ready or running.
+-- Memory: some task is in a stall; full where besides all that are ready or running are in a stall, or the running one is.
+-- CPU: some task is ready; full where besides none runs. Nonidle: some task waits, is in a stall, is ready or runs.
+abbrev pub holds_of : State → List Task → Bool
+holds_of IoSome tasks = list_any waits tasks
+holds_of IoFull tasks = list_any waits tasks && not (list_any is_up tasks)
+holds_of MemSome tasks = list_any stalls tasks
+holds_of MemFull tasks = list_any stalls tasks && (list_all (λ task. not (is_up task) || stalls task) tasks || list_any (λ task. runs task && stalls task) tasks)
+holds_of CpuSome tasks = list_any queues tasks
+holds_of CpuFull tasks = list_any queues tasks && not (list_any runs tasks)
+holds_of Nonidle tasks = list_any (λ task. waits task || stalls task || is_up task) tasks
+
+-- the number of a state, from 0
+abbrev pub number_of : State → ℕ
+number_of IoSome = 0
+number_of IoFull = 1
+number_of MemSome = 2
+number_of MemFull = 3
+number_of CpuSome = 4
+number_of CpuFull = 5
+number_of Nonidle = 6
+
+-- the states in the order of their numbers
+abbrev pub states : List State
+states = IoSome ∷ IoFull ∷ MemSome ∷ MemFull ∷ CpuSome ∷ CpuFull ∷ Nonidle ∷ []
+
+-- a group is in a state on a processor
+unfoldable pub holds : State → ℕ → ℕ → World → Bool
+holds state cpu slot w = holds_of state (tasks_in (parents_of w.groups) cpu slot w.tasks)
+
+-- ---- stall time
+
+-- the moment of the event with a number from 1, or the moment after the last
+abbrev pub moment_of : List Event → ℕ → ℕ → ℕ
+moment_of events at i = slice_index_or (map (λ (event : Event). event.at) events) (i - 1) at
+
+-- the time (ns) from an event to the next, where the group is in the state after it
+abbrev pub stall_after : State → ℕ → ℕ → List Event → ℕ → ℕ → ℕ
+stall_after state cpu slot events at i = if holds state cpu slot (after (take i events)) then moment_of events at (i + 1) - moment_of events at i else 0
+
+-- how long (ns) a group was in a state on a processor, up to a moment: the sum over the events
+unfoldable pub stall : State → ℕ → ℕ → List Event → ℕ → ℕ
+stall state cpu slot events at = sum (map (stall_after state cpu slot events at) (range_with_len 1 (length events)))
+
+-- ---- laws
+
+-- Stall time grows by an event as a clock does: up to the event by what was before it, and from it on where the state
+-- holds after it.
+abbrev pub GrowsByEvent : Type 0
+GrowsByEvent = (state : State) (cpu slot : ℕ) (events : List Event) (event : Event) (at : ℕ) →
+    stall state cpu slot (events ++ event ∷ []) at ≡ stall state cpu slot events event.at + (if holds state cpu slot (after (events ++ event ∷ [])) then at - event.at else 0)
+
+-- Stall time grows with time alone where the state holds after the last event.
+abbrev pub GrowsWithTime : Type 0
+GrowsWithTime = (state : State) (cpu slot : ℕ) (events : List Event) (event : Event) (at later : ℕ) → event.at ≤ at → at ≤ later →
+    stall state cpu slot (events ++ event ∷ []) later ≡ stall state cpu slot (events ++ event ∷ []) at + (if holds state cpu slot (after (events ++ event ∷ [])) then later - at else 0)

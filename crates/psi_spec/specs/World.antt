@@ -1,0 +1,264 @@
+-- The tasks and groups of a machine, and what an event does to them.
+use Rattle.std.specs.Prelude.{ℕ, ◌+◌, List, [], ◌∷◌, ◌++◌, map, ◌==◌, ◌&&◌, ◌||◌, not, Bool, true, false, if◌then◌else◌, codes, Option, None, Some, is_some, find, unwrap_or}
+use Rattle.std.specs.List.{list_any}
+use Rattle.std.specs.Str.{bytes_eq}
+use Rattle.std.specs.Ordering.{nat_cmp}
+use Rattle.std.specs.FinMap as tasks_by
+use Rattle.psi_base.specs.declared.event.Pid.{Pid}
+use Rattle.psi_base.specs.declared.event.Slot.{Slot}
+use Rattle.psi_base.specs.declared.event.How.{How}
+use Rattle.psi_base.specs.declared.event.How.TheVariants.{Preempt, Sleep, IoWait, Exit, Idle}
+use Rattle.psi_base.specs.declared.event.Act.{Act}
+use Rattle.psi_base.specs.declared.event.Act.TheVariants as act
+use Rattle.psi_base.specs.declared.event.Event.{Event}
+use Rattle.psi_spec.specs.declared.machine.Mode.{Mode}
+use Rattle.psi_spec.specs.declared.machine.Mode.TheVariants.{Blocked, Waiting, Ready, Running}
+use Rattle.psi_spec.specs.declared.machine.Task.{Task}
+use Rattle.psi_spec.specs.declared.machine.GroupLife.{GroupLife}
+
+-- ---- tasks
+
+-- the task sleeps until some IO is done
+abbrev pub is_waiting : Mode → Bool
+is_waiting Waiting = true
+is_waiting Ready = false
+is_waiting Running = false
+is_waiting Blocked = false
+
+-- the task could run and doesn't
+abbrev pub is_ready : Mode → Bool
+is_ready Ready = true
+is_ready Running = false
+is_ready Waiting = false
+is_ready Blocked = false
+
+-- the task runs
+abbrev pub is_running : Mode → Bool
+is_running Running = true
+is_running Ready = false
+is_running Waiting = false
+is_running Blocked = false
+
+-- the task is on a run queue
+abbrev pub is_active : Mode → Bool
+is_active mode = is_ready mode || is_running mode
+
+-- the live tasks by their numbers: no number stands twice
+abbrev pub Tasks : Type 0
+Tasks = tasks_by.FinMap nat_cmp Task
+
+-- no task
+abbrev pub no_tasks : Tasks
+no_tasks = tasks_by.empty
+
+-- the live task with a number
+abbrev pub task_of : Tasks → ℕ → Option Task
+task_of tasks pid = tasks_by.get tasks pid
+
+-- a task under a number, new or in the place of the one that had it
+abbrev pub put : Tasks → ℕ → Task → Tasks
+put tasks pid task = tasks_by.insert tasks pid task
+
+-- the tasks without the one with a number
+abbrev pub remove : Tasks → ℕ → Tasks
+remove tasks pid = tasks_by.remove tasks pid
+
+-- a test of a task that may be missing: a missing one passes none
+abbrev pub test_task : Option Task → (Task → Bool) → Bool
+test_task None test = false
+test_task (Some task) test = test task
+
+-- the task runs on a processor
+abbrev pub is_running_on : ℕ → Task → Bool
+is_running_on cpu task = task.cpu.0 == cpu && is_running task.mode
+
+-- the task is ready on a processor
+abbrev pub is_ready_on : ℕ → Task → Bool
+is_ready_on cpu task = task.cpu.0 == cpu && is_ready task.mode
+
+-- the running task of a processor, with its number
+abbrev pub running_on : Tasks → ℕ → Option (ℕ × Task)
+running_on tasks cpu = find (λ e. is_running_on cpu e.1) (tasks_by.entries tasks)
+
+-- the task of such a pair
+abbrev pub task_part : Option (ℕ × Task) → Option Task
+task_part None = None
+task_part (Some e) = Some e.1
+
+-- ---- groups
+
+-- a group that wasn't removed
+abbrev pub is_live : GroupLife → Bool
+is_live group = not (is_some group.gone)
+
+-- the slot of the live group with a path, where slots are counted from this one on
+abbrev pub slot_from : ℕ → List GroupLife → List ℕ → Option ℕ
+slot_from slot [] path = None
+slot_from slot (group ∷ groups) path = if is_live group && bytes_eq group.path path then Some slot else slot_from (slot + 1) groups path
+
+-- the slot of the live group with a path
+abbrev pub slot_of : List GroupLife → List ℕ → Option ℕ
+slot_of groups path = slot_from 0 groups path
+
+-- the bytes before the last slash
+abbrev pub before_last_slash : List ℕ → List ℕ
+before_last_slash [] = []
+before_last_slash (byte ∷ bytes) = if list_any (λ b. b == 47) bytes then byte ∷ before_last_slash bytes else []
+
+-- the root where no byte is left
+abbrev pub or_root : List ℕ → List ℕ
+or_root [] = codes "/"
+or_root (byte ∷ bytes) = byte ∷ bytes
+
+-- the path of the group above
+abbrev pub parent_path : List ℕ → List ℕ
+parent_path path = or_root (before_last_slash path)
+
+-- the root's path
+abbrev pub is_root : List ℕ → Bool
+is_root path = bytes_eq path (codes "/")
+
+-- a number of a group as a slot
+abbrev pub as_slot : Option ℕ → Option Slot
+as_slot None = None
+as_slot (Some n) = Some (record { 0 = n })
+
+-- the group that the machine starts with
+abbrev pub root : GroupLife
+root = record { path = codes "/"; parent = None; made = 0; gone = None }
+
+-- a new group under the live one with its parent's path
+abbrev pub new_group : List GroupLife → List ℕ → ℕ → GroupLife
+new_group groups path at = record { path = path; parent = as_slot (slot_of groups (parent_path path)); made = at; gone = None }
+
+-- a group after the live one with a path was removed
+abbrev pub without : List ℕ → ℕ → GroupLife → GroupLife
+without path at group = if is_live group && bytes_eq group.path path then record group { gone = Some at } else group
+
+-- ---- the world
+
+-- what a trace can name: its version, how many processors there are, and the latest moment (ns)
+pub record Limits : Type 0 where
+  pub version : ℕ
+  pub cpus : ℕ
+  pub latest : ℕ
+
+-- the live tasks, all groups ever made in the order of their slots, and how many triggers and lines there were,
+-- the moment of the last line (ns), and whether the trace has ended
+pub record World : Type 0 where
+  pub tasks : Tasks
+  pub groups : List GroupLife
+  pub triggers : ℕ
+  pub lines : ℕ
+  pub last : ℕ
+  pub ended : Bool
+
+-- the root alone, and no task
+abbrev pub first_world : World
+first_world = record { tasks = no_tasks; groups = root ∷ []; triggers = 0; lines = 0; last = 0; ended = false }
+
+-- ---- effects
+
+-- the task with a number after a change, or no change where there is none
+abbrev pub change_to : Tasks → ℕ → (Task → Task) → Option Task → Tasks
+change_to tasks pid f None = tasks
+change_to tasks pid f (Some task) = put tasks pid (f task)
+
+-- the tasks after a change of the one with a number
+abbrev pub change : Tasks → ℕ → (Task → Task) → Tasks
+change tasks pid f = change_to tasks pid f (task_of tasks pid)
+
+-- a task that forked: ready, and in no stall
+abbrev pub new_task : List GroupLife → List ℕ → ℕ → Task
+new_task groups path cpu = record { slot = record { 0 = unwrap_or (slot_of groups path) 0 }; cpu = record { 0 = cpu }; mode = Ready; stalled = false }
+
+-- a task that was put on the run queue of a processor; its stall stays
+abbrev pub readied : ℕ → Task → Task
+readied cpu task = record task { mode = Ready; cpu = record { 0 = cpu } }
+
+-- the running task after it left its processor, or none where it exited
+abbrev pub left_by : How → Task → Option Task
+left_by Preempt task = Some (record task { mode = Ready })
+left_by Sleep task = Some (record task { mode = Blocked })
+left_by IoWait task = Some (record task { mode = Waiting })
+left_by Exit task = None
+left_by Idle task = Some task
+
+-- a task in the place of the one with a number, or none there
+abbrev pub placed : Tasks → ℕ → Option Task → Tasks
+placed tasks pid None = remove tasks pid
+placed tasks pid (Some task) = put tasks pid task
+
+-- the tasks after the running one left
+abbrev pub leave : How → Tasks → Option (ℕ × Task) → Tasks
+leave how tasks None = tasks
+leave how tasks (Some e) = placed tasks e.0 (left_by how e.1)
+
+-- the tasks after the next one started, if there is one
+abbrev pub start : Option Pid → Tasks → Tasks
+start None tasks = tasks
+start (Some pid) tasks = change tasks pid.0 (λ task. record task { mode = Running })
+
+-- what an act does to the tasks
+abbrev pub tasks_after : List GroupLife → Tasks → Act → Tasks
+tasks_after groups tasks (act.Group path) = tasks
+tasks_after groups tasks (act.Remove path) = tasks
+tasks_after groups tasks (act.Prefer path preference) = tasks
+tasks_after groups tasks (act.Fork pid path cpu) = put tasks pid.0 (new_task groups path cpu.0)
+tasks_after groups tasks (act.Wake pid cpu) = change tasks pid.0 (readied cpu.0)
+tasks_after groups tasks (act.Switch cpu next how) = start next (leave how tasks (running_on tasks cpu.0))
+tasks_after groups tasks (act.Stall pid) = change tasks pid.0 (λ task. record task { stalled = true })
+tasks_after groups tasks (act.Unstall pid) = change tasks pid.0 (λ task. record task { stalled = false })
+tasks_after groups tasks (act.Migrate pid cpu) = change tasks pid.0 (readied cpu.0)
+tasks_after groups tasks (act.Move pid path) = change tasks pid.0 (λ task. record task { slot = record { 0 = unwrap_or (slot_of groups path) 0 } })
+tasks_after groups tasks (act.Mem path current swap scan) = tasks
+tasks_after groups tasks (act.Host mem_total swap_total swap_free) = tasks
+tasks_after groups tasks (act.Trigger path res level threshold_us window_us) = tasks
+tasks_after groups tasks act.End = tasks
+
+-- what an act at a moment does to the groups
+abbrev pub groups_after : ℕ → List GroupLife → Act → List GroupLife
+groups_after at groups (act.Group path) = groups ++ new_group groups path at ∷ []
+groups_after at groups (act.Remove path) = map (without path at) groups
+groups_after at groups (act.Prefer path preference) = groups
+groups_after at groups (act.Fork pid path cpu) = groups
+groups_after at groups (act.Wake pid cpu) = groups
+groups_after at groups (act.Switch cpu next how) = groups
+groups_after at groups (act.Stall pid) = groups
+groups_after at groups (act.Unstall pid) = groups
+groups_after at groups (act.Migrate pid cpu) = groups
+groups_after at groups (act.Move pid path) = groups
+groups_after at groups (act.Mem path current swap scan) = groups
+groups_after at groups (act.Host mem_total swap_total swap_free) = groups
+groups_after at groups (act.Trigger path res level threshold_us window_us) = groups
+groups_after at groups act.End = groups
+
+-- the act makes a trigger
+abbrev pub is_trigger : Act → Bool
+is_trigger (act.Trigger path res level threshold_us window_us) = true
+is_trigger _ = false
+
+-- the act ends the trace
+abbrev pub ends : Act → Bool
+ends act.End = true
+ends _ = false
+
+-- the world after an event
+abbrev pub after_event : World → Event → World
+after_event w event = record {
+  tasks = tasks_after w.groups w.tasks event.act;
+  groups = groups_after event.at w.groups event.act;
+  triggers = w.triggers + (if is_trigger event.act then 1 else 0);
+  lines = w.lines + 1;
+  last = event.at;
+  ended = w.ended || ends event.act;
+}
+
+-- the world after events, one after the other
+abbrev pub after_from : World → List Event → World
+after_from w [] = w
+after_from w (event ∷ events) = after_from (after_event w event) events
+
+-- the world after the events of a trace
+abbrev pub after : List Event → World
+after events = after_from first_world events

@@ -1,0 +1,10 @@
+//! The definitions that the contracts of several crates cite, the types that they speak of, and laws about them.
+#![tactic(auto)]
+
+mod grammar;
+mod laws;
+mod machine;
+
+pub use grammar::{event_lines, header_lines};
+pub use laws::{stall_time, traces};
+pub use machine::{Change, Counts, GroupLife, Mode, Task, Touch};

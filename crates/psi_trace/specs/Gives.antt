@@ -1,0 +1,40 @@
+-- What a call that reads words returned, against what the definition reads from them.
+use Rattle.std.specs.Prelude.{◌≡◌, ℕ, List, [], ◌∷◌, Bool, true, false, Option, None, Some, Result, Ok, Err, ⊤}
+use Rattle.psi_base.specs.declared.event.Cause.{Cause}
+use Rattle.psi_base.specs.declared.event.Fault.{Fault}
+use Rattle.psi_base.specs.declared.event.Fault.TheVariants.{Refused, NoMemory}
+use Rattle.psi_spec.specs.Fields.{Kind, path}
+use Rattle.psi_spec.specs.Grammar.{Verb, kinds_of, verb_of}
+
+-- the call returned what the definition reads, unless memory ran out
+abbrev pub Gives : {A : Type 0} → Result A (Fault Cause) → Result A Cause → Type 0
+Gives (Ok x) read = read ≡ Ok x
+Gives (Err (Refused cause)) read = read ≡ Err cause
+Gives (Err NoMemory) read = ⊤
+
+-- the call took from the words what the definition takes, and these are left
+abbrev pub Takes : {A W : Type 0} → Result A Cause → W → Result (A × W) Cause → Type 0
+Takes (Ok x) rest read = read ≡ Ok (x, rest)
+Takes (Err cause) rest read = read ≡ Err cause
+
+-- the same, unless memory ran out
+abbrev pub TakesAny : {A W : Type 0} → Result A (Fault Cause) → W → Result (A × W) Cause → Type 0
+TakesAny (Ok x) rest read = read ≡ Ok (x, rest)
+TakesAny (Err (Refused cause)) rest read = read ≡ Err cause
+TakesAny (Err NoMemory) rest read = ⊤
+
+-- one of the kinds is a path
+abbrev pub has_path : List Kind → Bool
+has_path [] = false
+has_path (path ∷ ks) = true
+has_path (k ∷ ks) = has_path ks
+
+-- a verb that was found has a path among its fields
+abbrev pub takes_path : Option Verb → Bool
+takes_path None = false
+takes_path (Some verb) = has_path (kinds_of verb)
+
+-- the parts from the verb on, of which the verb has a path among its fields
+abbrev pub names_path : List (List ℕ) → Bool
+names_path [] = false
+names_path (text ∷ words) = takes_path (verb_of text)

@@ -1,0 +1,223 @@
+//! The fields of an event line: each the next part of the line, read as a value of its kind.
+ghost use Rattle.std.specs.Prelude.{◌≡◌, ◌^◌, ◌≢◌, [], ◌∷◌, nat_lt, true, false, MatchResult, IfOk, MatchOption};
+ghost use Rattle.psi_base.specs.Path.{is_path};
+ghost use Rattle.psi_base.specs.declared.event.Cause.TheVariants as cause;
+ghost use Rattle.psi_spec.specs.Fields as kind;
+ghost use Rattle.psi_spec.specs.Fields.{number_in, value_of};
+ghost use Rattle.psi_spec.specs.Grammar.{field};
+ghost use Rattle.psi_trace.specs.Gives.{Takes, TakesAny};
+
+use psi_base::{Cause, Cpu, Fault, How, Level, Parts, Path, Pid, Preference, Res, read_number};
+use std::alloc::Global;
+
+/// The parts of a line that are still to be read.
+pub type Words<'a> = Parts<'a, b' '>;
+
+/// The largest size (bytes) or quantity of a `mem` or `host` line, as this profile has it.
+const LARGEST_AMOUNT: u64 = 1 << 60;
+
+// The next part, which is due as the field with this number.
+fn next_word<'a>(words: &mut Words<'a>, index: u8) -> Result<&'a [u8], Cause>
+    ensures { MatchResult result (λ text. words.old ≡ text.now ∷ words.new) (λ e. (e ≡ cause.BadField index) × (words.old ≡ [])) }
+{
+    words.next_part().ok_or(Cause::BadField(index))
+}
+
+// A number below 2^32.
+fn small_number(word: &[u8]) -> Option<u32>
+    ensures { result ≡ number_in (λ n. nat_lt n (2 ^ 32)) word.now }
+{
+    match read_number(word) {
+        Some(n) if n <= u32::MAX as u64 => Some(n as u32),
+        _ => None,
+    }
+}
+
+#[tactic(auto, unfolding(psi_spec::specs::Fields::value_of))]
+fn pid_in(word: &[u8]) -> Option<Pid>
+    ensures { result ≡ value_of kind.pid word.now }
+{
+    match small_number(word) {
+        Some(n) if n > 0 => Some(Pid(n)),
+        _ => None,
+    }
+}
+
+#[tactic(auto, unfolding(psi_spec::specs::Fields::value_of))]
+fn next_in(word: &[u8]) -> Option<Option<Pid>>
+    ensures { result ≡ value_of kind.next word.now }
+{
+    match small_number(word) {
+        Some(0) => Some(None),
+        Some(n) => Some(Some(Pid(n))),
+        None => None,
+    }
+}
+
+#[tactic(auto, unfolding(psi_spec::specs::Fields::value_of))]
+fn cpu_in(word: &[u8]) -> Option<Cpu>
+    ensures { result ≡ value_of kind.cpu word.now }
+{
+    match small_number(word) {
+        Some(n) => Some(Cpu(n)),
+        None => None,
+    }
+}
+
+#[tactic(auto, unfolding(psi_spec::specs::Fields::value_of))]
+fn amount_in(word: &[u8]) -> Option<u64>
+    ensures { result ≡ value_of kind.amount word.now }
+{
+    match read_number(word) {
+        Some(n) if n <= LARGEST_AMOUNT => Some(n),
+        _ => None,
+    }
+}
+
+#[tactic(auto, unfolding(psi_spec::specs::Fields::value_of))]
+fn how_in(word: &[u8]) -> Option<How>
+    ensures { result ≡ value_of kind.how word.now }
+{
+    if word == b"preempt".as_slice() {
+        Some(How::Preempt)
+    } else if word == b"sleep".as_slice() {
+        Some(How::Sleep)
+    } else if word == b"iowait".as_slice() {
+        Some(How::IoWait)
+    } else if word == b"exit".as_slice() {
+        Some(How::Exit)
+    } else if word == b"idle".as_slice() {
+        Some(How::Idle)
+    } else {
+        None
+    }
+}
+
+#[tactic(auto, unfolding(psi_spec::specs::Fields::value_of))]
+fn preference_in(word: &[u8]) -> Option<Preference>
+    ensures { result ≡ value_of kind.preference word.now }
+{
+    if word == b"prefer".as_slice() {
+        Some(Preference::Prefer)
+    } else if word == b"avoid".as_slice() {
+        Some(Preference::Avoid)
+    } else if word == b"none".as_slice() {
+        Some(Preference::Plain)
+    } else {
+        None
+    }
+}
+
+#[tactic(auto, unfolding(psi_spec::specs::Fields::value_of))]
+fn resource_in(word: &[u8]) -> Option<Res>
+    ensures { result ≡ value_of kind.resource word.now }
+{
+    if word == b"io".as_slice() {
+        Some(Res::Io)
+    } else if word == b"memory".as_slice() {
+        Some(Res::Memory)
+    } else if word == b"cpu".as_slice() {
+        Some(Res::Cpu)
+    } else {
+        None
+    }
+}
+
+#[tactic(auto, unfolding(psi_spec::specs::Fields::value_of))]
+fn level_in(word: &[u8]) -> Option<Level>
+    ensures { result ≡ value_of kind.level word.now }
+{
+    if word == b"some".as_slice() {
+        Some(Level::SomeStalled)
+    } else if word == b"full".as_slice() {
+        Some(Level::FullStalled)
+    } else {
+        None
+    }
+}
+
+/// The field with this number, read as a task.
+pub fn pid_field(words: &mut Words, index: u8) -> Result<Pid, Cause>
+    ensures { Takes result words.new (field index kind.pid words.old) }
+{
+    pid_in(next_word(words, index)?).ok_or(Cause::BadField(index))
+}
+
+/// The field with this number, read as a task or none.
+pub fn next_field(words: &mut Words, index: u8) -> Result<Option<Pid>, Cause>
+    ensures { Takes result words.new (field index kind.next words.old) }
+{
+    next_in(next_word(words, index)?).ok_or(Cause::BadField(index))
+}
+
+/// The field with this number, read as a processor.
+pub fn cpu_field(words: &mut Words, index: u8) -> Result<Cpu, Cause>
+    ensures { Takes result words.new (field index kind.cpu words.old) }
+{
+    cpu_in(next_word(words, index)?).ok_or(Cause::BadField(index))
+}
+
+/// The field with this number, read as a size or quantity of at most 2^60.
+pub fn amount_field(words: &mut Words, index: u8) -> Result<u64, Cause>
+    ensures { Takes result words.new (field index kind.amount words.old) }
+{
+    amount_in(next_word(words, index)?).ok_or(Cause::BadField(index))
+}
+
+/// The field with this number, read as any number of 64 bits.
+#[tactic(auto, unfolding(psi_spec::specs::Fields::value_of))]
+pub fn number_field(words: &mut Words, index: u8) -> Result<u64, Cause>
+    ensures { Takes result words.new (field index kind.number words.old) }
+{
+    read_number(next_word(words, index)?).ok_or(Cause::BadField(index))
+}
+
+/// The field with this number, read as a way to leave a processor.
+pub fn how_field(words: &mut Words, index: u8) -> Result<How, Cause>
+    ensures { Takes result words.new (field index kind.how words.old) }
+{
+    how_in(next_word(words, index)?).ok_or(Cause::BadField(index))
+}
+
+/// The field with this number, read as a group's preference.
+pub fn preference_field(words: &mut Words, index: u8) -> Result<Preference, Cause>
+    ensures { Takes result words.new (field index kind.preference words.old) }
+{
+    preference_in(next_word(words, index)?).ok_or(Cause::BadField(index))
+}
+
+/// The field with this number, read as a resource.
+pub fn resource_field(words: &mut Words, index: u8) -> Result<Res, Cause>
+    ensures { Takes result words.new (field index kind.resource words.old) }
+{
+    resource_in(next_word(words, index)?).ok_or(Cause::BadField(index))
+}
+
+/// The field with this number, read as `some` or `full`.
+pub fn level_field(words: &mut Words, index: u8) -> Result<Level, Cause>
+    ensures { Takes result words.new (field index kind.level words.old) }
+{
+    level_in(next_word(words, index)?).ok_or(Cause::BadField(index))
+}
+
+/// The field with this number, read as a path of a group. Allocates the path's bytes.
+#[tactic(auto, unfolding(psi_spec::specs::Fields::value_of))]
+pub fn path_field(alloc: Global, words: &mut Words, index: u8) -> Result<Path, Fault<Cause>>
+    ensures { TakesAny result words.new (field index kind.path words.old) }
+{
+    let word = next_word(words, index)?;
+    match Path::read(alloc, word)? {
+        Some(path) => Ok(path),
+        None => Err(Fault::Refused(Cause::BadField(index))),
+    }
+}
+
+/// Nothing is left, where a further part would be the field with this number.
+pub fn end_of(words: &mut Words, index: u8) -> Result<(), Cause>
+    ensures { MatchResult result (λ _. words.old ≡ []) (λ e. (e ≡ cause.BadField index) × (words.old ≢ [])) }
+{
+    match words.next_part() {
+        Some(_) => Err(Cause::BadField(index)),
+        None => Ok(()),
+    }
+}

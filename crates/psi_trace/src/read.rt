@@ -1,0 +1,245 @@
+//! Lines to events.
+ghost use Rattle.std.specs.Prelude.{◌≡◌, ◌≢◌, IfOk, Err, drop, true};
+ghost use Rattle.psi_base.specs.Path.{parts_at};
+ghost use Rattle.psi_base.specs.declared.event.Cause.{Cause};
+ghost use Rattle.psi_base.specs.declared.event.Event.{Event};
+ghost use Rattle.psi_base.specs.declared.event.Fault.TheVariants as fault;
+ghost use Rattle.psi_spec.specs.Grammar as verb;
+ghost use Rattle.psi_spec.specs.Grammar.{Fits, IsCause, act_at, act_from, event_of, spelling};
+ghost use Rattle.psi_trace.specs.Gives.{Gives, names_path};
+
+use crate::field::{
+    Words, amount_field, cpu_field, end_of, how_field, level_field, next_field, number_field,
+    path_field, pid_field, preference_field, resource_field,
+};
+use psi_base::{Act, Cause, Event, Fault, Parts, read_number};
+use std::alloc::Global;
+
+#[tactic(auto, unfolding(psi_spec::specs::Grammar::act_from))]
+fn switch_of(mut words: Words) -> Result<Act, Cause>
+    ensures { act_from verb.Switch words.entry ≡ result }
+{
+    let cpu = cpu_field(&mut words, 1)?;
+    let next = next_field(&mut words, 2)?;
+    let how = how_field(&mut words, 3)?;
+    end_of(&mut words, 4)?;
+    Ok(Act::Switch { cpu, next, how })
+}
+
+#[tactic(auto, unfolding(psi_spec::specs::Grammar::act_from))]
+fn wake_of(mut words: Words) -> Result<Act, Cause>
+    ensures { act_from verb.Wake words.entry ≡ result }
+{
+    let pid = pid_field(&mut words, 1)?;
+    let cpu = cpu_field(&mut words, 2)?;
+    end_of(&mut words, 3)?;
+    Ok(Act::Wake { pid, cpu })
+}
+
+#[tactic(auto, unfolding(psi_spec::specs::Grammar::act_from))]
+fn stall_of(mut words: Words) -> Result<Act, Cause>
+    ensures { act_from verb.Stall words.entry ≡ result }
+{
+    let pid = pid_field(&mut words, 1)?;
+    end_of(&mut words, 2)?;
+    Ok(Act::Stall { pid })
+}
+
+#[tactic(auto, unfolding(psi_spec::specs::Grammar::act_from))]
+fn unstall_of(mut words: Words) -> Result<Act, Cause>
+    ensures { act_from verb.Unstall words.entry ≡ result }
+{
+    let pid = pid_field(&mut words, 1)?;
+    end_of(&mut words, 2)?;
+    Ok(Act::Unstall { pid })
+}
+
+#[tactic(auto, unfolding(psi_spec::specs::Grammar::act_from))]
+fn migrate_of(mut words: Words) -> Result<Act, Cause>
+    ensures { act_from verb.Migrate words.entry ≡ result }
+{
+    let pid = pid_field(&mut words, 1)?;
+    let cpu = cpu_field(&mut words, 2)?;
+    end_of(&mut words, 3)?;
+    Ok(Act::Migrate { pid, cpu })
+}
+
+#[tactic(auto, unfolding(psi_spec::specs::Grammar::act_from))]
+fn move_of(alloc: Global, mut words: Words) -> Result<Act, Fault<Cause>>
+    ensures { Gives result (act_from verb.Move words.entry) }
+{
+    let pid = pid_field(&mut words, 1)?;
+    let path = path_field(alloc, &mut words, 2)?;
+    end_of(&mut words, 3)?;
+    Ok(Act::Move { pid, path })
+}
+
+#[tactic(auto, unfolding(psi_spec::specs::Grammar::act_from))]
+fn fork_of(alloc: Global, mut words: Words) -> Result<Act, Fault<Cause>>
+    ensures { Gives result (act_from verb.Fork words.entry) }
+{
+    let pid = pid_field(&mut words, 1)?;
+    let path = path_field(alloc, &mut words, 2)?;
+    let cpu = cpu_field(&mut words, 3)?;
+    end_of(&mut words, 4)?;
+    Ok(Act::Fork { pid, path, cpu })
+}
+
+#[tactic(auto, unfolding(psi_spec::specs::Grammar::act_from))]
+fn mem_of(alloc: Global, mut words: Words) -> Result<Act, Fault<Cause>>
+    ensures { Gives result (act_from verb.Mem words.entry) }
+{
+    let path = path_field(alloc, &mut words, 1)?;
+    let current = amount_field(&mut words, 2)?;
+    let swap = amount_field(&mut words, 3)?;
+    let scan = amount_field(&mut words, 4)?;
+    end_of(&mut words, 5)?;
+    Ok(Act::Mem {
+        path,
+        current,
+        swap,
+        scan,
+    })
+}
+
+#[tactic(auto, unfolding(psi_spec::specs::Grammar::act_from))]
+fn host_of(mut words: Words) -> Result<Act, Cause>
+    ensures { act_from verb.Host words.entry ≡ result }
+{
+    let mem_total = amount_field(&mut words, 1)?;
+    let swap_total = amount_field(&mut words, 2)?;
+    let swap_free = amount_field(&mut words, 3)?;
+    end_of(&mut words, 4)?;
+    Ok(Act::Host {
+        mem_total,
+        swap_total,
+        swap_free,
+    })
+}
+
+#[tactic(auto, unfolding(psi_spec::specs::Grammar::act_from))]
+fn group_of(alloc: Global, mut words: Words) -> Result<Act, Fault<Cause>>
+    ensures { Gives result (act_from verb.Group words.entry) }
+{
+    let path = path_field(alloc, &mut words, 1)?;
+    end_of(&mut words, 2)?;
+    Ok(Act::Group { path })
+}
+
+#[tactic(auto, unfolding(psi_spec::specs::Grammar::act_from))]
+fn rmgroup_of(alloc: Global, mut words: Words) -> Result<Act, Fault<Cause>>
+    ensures { Gives result (act_from verb.Remove words.entry) }
+{
+    let path = path_field(alloc, &mut words, 1)?;
+    end_of(&mut words, 2)?;
+    Ok(Act::Remove { path })
+}
+
+#[tactic(auto, unfolding(psi_spec::specs::Grammar::act_from))]
+fn prefer_of(alloc: Global, mut words: Words) -> Result<Act, Fault<Cause>>
+    ensures { Gives result (act_from verb.Prefer words.entry) }
+{
+    let path = path_field(alloc, &mut words, 1)?;
+    let preference = preference_field(&mut words, 2)?;
+    end_of(&mut words, 3)?;
+    Ok(Act::Prefer { path, preference })
+}
+
+#[tactic(auto, unfolding(psi_spec::specs::Grammar::act_from))]
+fn trigger_of(alloc: Global, mut words: Words) -> Result<Act, Fault<Cause>>
+    ensures { Gives result (act_from verb.Trigger words.entry) }
+{
+    let path = path_field(alloc, &mut words, 1)?;
+    let res = resource_field(&mut words, 2)?;
+    let level = level_field(&mut words, 3)?;
+    let threshold_us = number_field(&mut words, 4)?;
+    let window_us = number_field(&mut words, 5)?;
+    end_of(&mut words, 6)?;
+    Ok(Act::Trigger {
+        path,
+        res,
+        level,
+        threshold_us,
+        window_us,
+    })
+}
+
+#[tactic(auto, unfolding(psi_spec::specs::Grammar::act_from))]
+fn end_act(mut words: Words) -> Result<Act, Cause>
+    ensures { act_from verb.End words.entry ≡ result }
+{
+    end_of(&mut words, 1)?;
+    Ok(Act::End)
+}
+
+// The act of the verb that is the next part, and of its fields: the verbs that a trace has most of first.
+#[tactic(auto, unfolding(psi_spec::specs::Grammar::act_at, psi_spec::specs::Grammar::verb_of))]
+fn act_in(alloc: Global, mut words: Words) -> Result<Act, Fault<Cause>>
+    ensures exact { Gives result (act_at words.entry) }
+    ensures memory { result ≡ Err fault.NoMemory → names_path words.entry ≡ true }
+{
+    let Some(verb) = words.next_part() else {
+        return Err(Fault::Refused(Cause::BadVerb));
+    };
+    if verb == b"switch".as_slice() {
+        Ok(switch_of(words)?)
+    } else if verb == b"wake".as_slice() {
+        Ok(wake_of(words)?)
+    } else if verb == b"stall".as_slice() {
+        Ok(stall_of(words)?)
+    } else if verb == b"unstall".as_slice() {
+        Ok(unstall_of(words)?)
+    } else if verb == b"migrate".as_slice() {
+        Ok(migrate_of(words)?)
+    } else if verb == b"move".as_slice() {
+        move_of(alloc, words)
+    } else if verb == b"fork".as_slice() {
+        fork_of(alloc, words)
+    } else if verb == b"mem".as_slice() {
+        mem_of(alloc, words)
+    } else if verb == b"host".as_slice() {
+        Ok(host_of(words)?)
+    } else if verb == b"group".as_slice() {
+        group_of(alloc, words)
+    } else if verb == b"rmgroup".as_slice() {
+        rmgroup_of(alloc, words)
+    } else if verb == b"prefer".as_slice() {
+        prefer_of(alloc, words)
+    } else if verb == b"trigger".as_slice() {
+        trigger_of(alloc, words)
+    } else if verb == b"end".as_slice() {
+        Ok(end_act(words)?)
+    } else {
+        Err(Fault::Refused(Cause::BadVerb))
+    }
+}
+
+// The event of a line: its time, and behind it its act.
+#[tactic(auto, unfolding(psi_spec::specs::Grammar::event_of, psi_spec::specs::Grammar::event_at))]
+fn event_in(alloc: Global, line: &[u8]) -> Result<Event, Fault<Cause>>
+    ensures exact { Gives result (event_of line.now) }
+    ensures memory { result ≡ Err fault.NoMemory → names_path (drop 1 (parts_at 32 line.now)) ≡ true }
+{
+    let mut words: Words = Parts::new(line);
+    let Some(time) = words.next_part() else {
+        return Err(Fault::Refused(Cause::BadTime));
+    };
+    let Some(at) = read_number(time) else {
+        return Err(Fault::Refused(Cause::BadTime));
+    };
+    let act = act_in(alloc, words)?;
+    Ok(Event { at, act })
+}
+
+/// The event that a line spells, given without its newline; else the first cause against the line from the left:
+/// `BadTime`, `BadVerb`, or `BadField` with the number of the leftmost field that is missing, wrong or surplus.
+/// `NoMemory` comes only for a verb that has a path among its fields, since its bytes alone are allocated.
+pub fn read_event(alloc: Global, line: &[u8]) -> Result<Event, Fault<Cause>>
+    ensures exact { Gives result (event_of line.now) }
+    ensures found { IfOk result (λ event. Fits event × (line.now ≡ spelling event)) }
+    ensures none { (why : Cause) → result ≡ Err (fault.Refused why) → (event : Event) → Fits event → line.now ≢ spelling event }
+    ensures memory { result ≡ Err fault.NoMemory → names_path (drop 1 (parts_at 32 line.now)) ≡ true }
+    ensures cause { (why : Cause) → result ≡ Err (fault.Refused why) → IsCause (parts_at 32 line.now) why }
+{
+    event_in(alloc, line)
+}

@@ -1,0 +1,4 @@
+pub mod LineLaws
+pub mod Pieces
+pub mod RunLaws
+pub mod SumLaws

@@ -1,0 +1,64 @@
+-- Texts that are written in pieces.
+use Rattle.std.proofs.Common.{◌≡◌, ℕ, List, [], ◌∷◌, ◌++◌, sym, ap, ◌∙◌, append_assoc, map}
+use Rattle.std.specs.Prelude.{codes, decimal, Option, None, Some, Result, Ok, Err}
+use Rattle.std.specs.List.{flat_map}
+use Rattle.std.specs.Io.KnownBytes.{Appends}
+use Rattle.std.proofs.lemmas.List.{append-nil}
+use Rattle.psi_base.specs.Outside.{AppendsFront, PutsAll}
+use Rattle.psi_base.proofs.Grows.{Appends-none, Appends-then, AppendsFront-of, AppendsFront-then}
+use Rattle.psi_base.specs.declared.event.Cause.{Cause}
+use Rattle.psi_spec.specs.Text.{cause_name, field_number, field_text, stall_line}
+use Rattle.psi_spec.specs.Grammar.{joined}
+use Rattle.replay_core.specs.Status.{spaced, refusal_text}
+
+-- ---- one text after another
+
+-- a front of the first text is one of both
+pub front_of_both : (old new : Option (List ℕ)) (xs ys : List ℕ) → AppendsFront old new xs → AppendsFront old new (xs ++ ys)
+front_of_both old new xs ys front = AppendsFront-then old old new [] xs ys (Appends-none old) front
+
+-- the first text, and then a front of the second, are a front of both
+pub front_then : (old mid new : Option (List ℕ)) (xs ys : List ℕ) → Appends old mid xs → AppendsFront mid new ys → AppendsFront old new (xs ++ ys)
+front_then old mid new xs ys first front =
+    let all : xs ++ (ys ++ []) ≡ xs ++ ys = ap (λ zs. xs ++ zs) (append-nil ys) in
+    rw (← all) (AppendsFront-then old mid new xs ys [] first front)
+
+-- what is put behind a text is put behind it in whole, or as a front of both
+pub puts_then : {T E : Type 0} → (old mid new : Option (List ℕ)) (result : Result T E) (xs ys : List ℕ) → Appends old mid xs → PutsAll mid new result ys → PutsAll old new result (xs ++ ys)
+puts_then old mid new (Ok value) xs ys first put = Appends-then old mid new xs ys first put
+puts_then old mid new (Err fault) xs ys first put = front_then old mid new xs ys first put
+
+-- what was put, in whole or in part, is a front of it
+pub front_of_puts : {T E : Type 0} → (old new : Option (List ℕ)) (result : Result T E) (bytes : List ℕ) → PutsAll old new result bytes → AppendsFront old new bytes
+front_of_puts old new (Ok value) bytes put = AppendsFront-of old new bytes [] bytes put (sym (append-nil bytes))
+front_of_puts old new (Err fault) bytes put = put
+
+-- ---- refusals
+
+-- a refusal without a field, in its five pieces
+pub refusal_none : (line : ℕ) (why : Cause) → field_number why ≡ None → codes "trace line " ++ (decimal line ++ (codes ": " ++ (cause_name why ++ (codes "\n" ++ [])))) ≡ refusal_text line why
+refusal_none line why none =
+    let name : cause_name why ++ codes "\n" ≡ (cause_name why ++ field_text (field_number why)) ++ codes "\n" = rw none (ap (λ n. n ++ codes "\n") (sym (append-nil (cause_name why)))) in
+    ap (λ t. codes "trace line " ++ (decimal line ++ (codes ": " ++ t))) name
+
+-- a refusal with a field, in its seven pieces
+pub refusal_some : (line field : ℕ) (why : Cause) → field_number why ≡ Some field → codes "trace line " ++ (decimal line ++ (codes ": " ++ (cause_name why ++ (codes " " ++ (decimal field ++ (codes "\n" ++ [])))))) ≡ refusal_text line why
+refusal_some line field why some =
+    let name : cause_name why ++ (codes " " ++ (decimal field ++ codes "\n")) ≡ (cause_name why ++ field_text (field_number why)) ++ codes "\n" = rw some (sym (append_assoc (cause_name why) (codes " " ++ decimal field) (codes "\n"))) in
+    ap (λ t. codes "trace line " ++ (decimal line ++ (codes ": " ++ t))) name
+
+-- ---- stall lines
+
+-- words joined by spaces are the first word, and the others each behind a space
+joined_numbers : (word : List ℕ) (ns : List ℕ) → joined (word ∷ map decimal ns) ≡ word ++ flat_map spaced ns
+joined_numbers word [] = sym (append-nil word)
+joined_numbers word (n ∷ ns) = ap (λ w. word ++ 32 ∷ w) (joined_numbers (decimal n) ns)
+
+head_line : (cpu path numbers line end : List ℕ) → line ≡ path ++ numbers → ((cpu ++ (32 ∷ (path ++ []))) ++ numbers) ++ end ≡ (cpu ++ (32 ∷ line)) ++ end
+head_line cpu path numbers line end is =
+    ap (λ t. t ++ end) (append_assoc cpu (32 ∷ (path ++ [])) numbers ∙ ap (λ t. cpu ++ (32 ∷ t)) (ap (λ p. p ++ numbers) (append-nil path) ∙ sym is))
+
+-- the line of a group: its head in four pieces, the numbers, and a newline
+pub stall_pieces : (cpu : ℕ) (path times : List ℕ) → ((codes "stall cpu=" ++ (decimal cpu ++ (codes " " ++ (path ++ [])))) ++ flat_map spaced times) ++ codes "\n" ≡ stall_line cpu path times
+stall_pieces cpu path times =
+    ap (λ t. codes "stall cpu=" ++ t) (head_line (decimal cpu) path (flat_map spaced times) (joined (path ∷ map decimal times)) (codes "\n") (joined_numbers path times))

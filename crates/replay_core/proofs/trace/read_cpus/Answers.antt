@@ -1,0 +1,33 @@
+use Rattle.replay_core.proofs.LineLaws as laws
+use Rattle.replay_core.proofs.trace.read_cpus.Goals as goal
+
+pub returns-in-Some-clause-content : goal.returns-in-Some-clause-content
+returns-in-Some-clause-content g c =
+    λ bytes tells.
+    let found = rw c.in-Ok-Some.field-0-is at c.in-Ok-Some.ensures.line bytes tells in
+    let one = rw c.bytes.ensures at c.in-Some.ensures in
+    rw one.0 (laws.header_read c.args.tick 1 _ _ _ found.0 (laws.first_one _ found.0.short one.1))
+
+pub returns-in-Ok-Some-clause-content : goal.returns-in-Ok-Some-clause-content
+returns-in-Ok-Some-clause-content g c =
+    λ bytes tells.
+    let found = rw c.in-Ok-Some.field-0-is at c.in-Ok-Some.ensures.line bytes tells in
+    rw c.refused.ensures (laws.header_refused c.args.tick _ _ _ _ found.0 (laws.first_other _ found.0.short (rw c.bytes.ensures at c.in-None.ensures)))
+
+pub returns-in-Ok-None-clause-content : goal.returns-in-Ok-None-clause-content
+returns-in-Ok-None-clause-content g c =
+    λ bytes tells.
+    let found = rw c.in-Ok-None.field-0-is at c.in-Ok-None.ensures.line bytes tells in
+    rw c.refused-in-Ok-None.ensures (laws.header_none c.args.tick _ found.0)
+
+pub returns-in-Err-Cut-clause-content : goal.returns-in-Err-Cut-clause-content
+returns-in-Err-Cut-clause-content g c =
+    λ bytes tells.
+    let found = rw c.in-Err-Cut.field-0-is at c.in-Err-Cut.ensures.line bytes tells in
+    rw c.refused-in-Err-Cut.ensures (laws.header_cut c.args.tick _ found.0)
+
+pub returns-in-Err-TooLong-clause-content : goal.returns-in-Err-TooLong-clause-content
+returns-in-Err-TooLong-clause-content g c =
+    λ bytes tells.
+    let found = rw c.in-Err-TooLong.field-0-is at c.in-Err-TooLong.ensures.line bytes tells in
+    rw c.refused-in-Err-TooLong.ensures (laws.header_long c.args.tick _ found.0)

@@ -1,0 +1,129 @@
+//! What tells of a status.
+ghost use Rattle.std.specs.Prelude.{◌≡◌, codes};
+ghost use Rattle.psi_base.specs.Outside.{PutsAll, HasCause};
+ghost use Rattle.psi_spec.specs.Text.{cause_name, cause_text, field_number};
+ghost use Rattle.replay_core.specs.Status.{seen_all, status_text, name_text, refusal_text};
+
+use crate::status::Status;
+use crate::words::Request;
+use itoa::Buffer;
+use psi_base::{Cause, Sink, WriteFailed, put_all, put_each};
+
+// The name of a cause.
+fn name_of(cause: Cause) -> &'static [u8]
+    ensures { result.now ≡ cause_name cause }
+{
+    match cause {
+        Cause::BadHeader => b"BadHeader",
+        Cause::LineTooLong => b"LineTooLong",
+        Cause::BadTime => b"BadTime",
+        Cause::BadVerb => b"BadVerb",
+        Cause::BadField(_) => b"BadField",
+        Cause::TimeBack => b"TimeBack",
+        Cause::TimeTooLate => b"TimeTooLate",
+        Cause::TooManyEvents => b"TooManyEvents",
+        Cause::UnknownGroup => b"UnknownGroup",
+        Cause::GroupExists => b"GroupExists",
+        Cause::NoParent => b"NoParent",
+        Cause::GroupBusy => b"GroupBusy",
+        Cause::TooManyGroups => b"TooManyGroups",
+        Cause::UnknownTask => b"UnknownTask",
+        Cause::TaskExists => b"TaskExists",
+        Cause::TooManyTasks => b"TooManyTasks",
+        Cause::BadCpu => b"BadCpu",
+        Cause::NotRunning => b"NotRunning",
+        Cause::NotReady => b"NotReady",
+        Cause::NotBlocked => b"NotBlocked",
+        Cause::WrongHow => b"WrongHow",
+        Cause::InStall => b"InStall",
+        Cause::NotInStall => b"NotInStall",
+        Cause::TooManyTriggers => b"TooManyTriggers",
+        Cause::BadWindow => b"BadWindow",
+        Cause::AfterEnd => b"AfterEnd",
+        Cause::NoEnd => b"NoEnd",
+    }
+}
+
+// The number of the field that a cause speaks of, if it speaks of one.
+fn field_of(cause: Cause) -> Option<u8>
+    ensures { result ≡ field_number cause }
+{
+    match cause {
+        Cause::BadField(field) => Some(field),
+        _ => None,
+    }
+}
+
+// Tells of a refused line.
+fn put_refusal<N: Sink>(note: &mut N, line: u32, cause: Cause) -> Result<(), WriteFailed>
+    ensures bytes { PutsAll (N.has note.old) (N.has note.new) result (refusal_text line cause) }
+    ensures cause { HasCause (N.faults note.old) (N.faults note.new) result }
+{
+    let mut line_digits = Buffer::new();
+    let line = line_digits.format(line).as_bytes();
+    let name = name_of(cause);
+    match field_of(cause) {
+        Some(field) => {
+            let mut field_digits = Buffer::new();
+            let field = field_digits.format(field).as_bytes();
+            put_each(
+                note,
+                &[
+                    b"trace line ".as_slice(),
+                    line,
+                    b": ".as_slice(),
+                    name,
+                    b" ".as_slice(),
+                    field,
+                    b"\n".as_slice(),
+                ],
+            )
+        }
+        None => put_each(
+            note,
+            &[
+                b"trace line ".as_slice(),
+                line,
+                b": ".as_slice(),
+                name,
+                b"\n".as_slice(),
+            ],
+        ),
+    }
+}
+
+// The name of the trace of a command.
+fn trace_of(command: Option<Request<'_>>) -> &[u8]
+    ensures { result.now ≡ name_text (seen_all command.entry) }
+{
+    match command {
+        Some(Request::Stall { trace }) | Some(Request::Check { trace }) => trace.as_bytes(),
+        None => b"",
+    }
+}
+
+/// Tells of a status in one line, and of `Done` in none. Takes no memory.
+pub(crate) fn put_status<N: Sink>(
+    note: &mut N,
+    command: Option<Request<'_>>,
+    status: Status,
+) -> Result<(), WriteFailed>
+    ensures bytes { PutsAll (N.has note.old) (N.has note.new) result (status_text (seen_all command.entry) status) }
+    ensures cause { HasCause (N.faults note.old) (N.faults note.new) result }
+{
+    match status {
+        Status::Done => put_all(note, b""),
+        Status::Usage => put_all(
+            note,
+            b"usage: psi_oomd stall or check or replay or gen or stress\n",
+        ),
+        Status::Trace { line, cause } => put_refusal(note, line, cause),
+        Status::NoFile { .. } => put_each(
+            note,
+            &[b"no file: ".as_slice(), trace_of(command), b"\n".as_slice()],
+        ),
+        Status::ReadFault => put_all(note, b"read fault\n"),
+        Status::WriteFault => put_all(note, b"write fault\n"),
+        Status::NoMemory => put_all(note, b"out of memory\n"),
+    }
+}

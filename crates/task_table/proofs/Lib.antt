@@ -1,0 +1,4 @@
+pub mod CauseLaws
+pub mod Index
+pub mod KindLaws
+pub mod Tabled

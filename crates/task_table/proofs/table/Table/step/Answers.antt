@@ -1,0 +1,18 @@
+use Rattle.std.proofs.Common.{rules, ◌≡◌, sym, refl, [], ◌∷◌}
+use Rattle.psi_spec.specs.World.{tasks_after, root}
+use Rattle.task_table.proofs.CauseLaws as causes
+use Rattle.task_table.proofs.table.Table.step.Goals as goal
+
+pub apply-requires-clause-built : goal.apply-requires-clause-built
+apply-requires-clause-built c = (causes.let_through _ _ _ (sym c.in_default.ensures.cause)).0
+
+pub apply-requires-clause-legal : goal.apply-requires-clause-legal
+apply-requires-clause-legal c =
+    let legal = (causes.let_through c.args.self.now.limits c.args.self.now.world c.args.event.now (sym c.in_default.ensures.cause)).1 in
+    rw c.deref_mut.ensures.value (rw (← c.self.view_is) at legal)
+
+pub returns-clause-world : goal.returns-clause-world
+returns-clause-world c =
+    let built = (causes.let_through c.args.self.now.limits c.args.self.now.world c.args.event.now (sym c.in_default.ensures.cause)).0 in
+    let same : c.apply.new.tasks ≡ tasks_after (root ∷ []) c.self.inside.tasks c.args.event.now.act = search rules in
+    rw (causes.after_built c.args.self.now.world c.args.event.now built, ← c.self.view_is, same, c.has_ended-self-inside.ensures) refl

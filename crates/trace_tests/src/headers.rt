@@ -1,0 +1,48 @@
+//! Header lines: the numbers of processors that they name, and which are none.
+use psi_base::Cause;
+use psi_trace::read_header;
+
+#[test]
+fn reads_the_number_of_processors(rt: HostRuntime) {
+    for (line, cpus) in [
+        ("psitrace 1 cpus=1", 1),
+        ("psitrace 1 cpus=9", 9),
+        ("psitrace 1 cpus=10", 10),
+        ("psitrace 1 cpus=64", 64),
+    ] {
+        assert_eq!(rt; read_header(line.as_bytes()), Ok(cpus), "at {line}");
+    }
+}
+
+#[test]
+fn refuses_other_headers(rt: HostRuntime) {
+    for line in [
+        "",
+        "psitrace",
+        "psitrace 1 cpus=",
+        "psitrace 1 cpus=0",
+        "psitrace 1 cpus=65",
+        "psitrace 1 cpus=08",
+        "psitrace 1 cpus=1 ",
+        "psitrace 1 cpus= 1",
+        "psitrace 1  cpus=1",
+        " psitrace 1 cpus=1",
+        "psitrace 1 cpus=1\r",
+        "psitrace 1 cpus=1\n",
+        "psitrace 1 cpus=-1",
+        "psitrace 1 cpus=4294967297",
+        "psitrace 1 cpus=18446744073709551617",
+        "psitrace 01 cpus=1",
+        "psitrace 0 cpus=1",
+        "psitrace 2 cpus=1",
+        "psitrace 3 cpus=1",
+        "Psitrace 1 cpus=1",
+        "0 end",
+    ] {
+        assert_eq!(rt;
+            read_header(line.as_bytes()),
+            Err(Cause::BadHeader),
+            "at {line}"
+        );
+    }
+}
