@@ -9,3 +9,9 @@ pub mod Reading
 pub mod Splitting
 pub mod StallLaws
 pub mod TaskLaws
+pub mod ClockLaws
+pub mod CountLaws
+pub mod MaskLaws
+pub mod AverageLaws
+pub mod ShareLaws
+pub mod SignalLaws

@@ -6,3 +6,8 @@ pub mod Stall
 pub mod Trace
 pub mod Text
 pub mod Words
+pub mod Counts
+pub mod Clock
+pub mod Share
+pub mod Average
+pub mod Signal

@@ -1,10 +1,14 @@
 //! The definitions that the contracts of several crates cite, the types that they speak of, and laws about them.
 #![tactic(auto)]
 
+mod arithmetic;
+mod clocks;
 mod grammar;
 mod laws;
 mod machine;
 
+pub use arithmetic::{averages, fixed_point, shares, signals};
+pub use clocks::{clock_times, clock_words, masks, same_clocks, states_by_counts};
 pub use grammar::{event_lines, header_lines};
 pub use laws::{stall_time, traces};
 pub use machine::{Change, Counts, GroupLife, Mode, Task, Touch};

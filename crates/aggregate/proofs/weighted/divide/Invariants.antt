@@ -1,0 +1,9 @@
+use Rattle.std.proofs.Common.{◌≡◌, ℕ, ◌/◌, ◌<◌, ◌≤◌, length, get_or}
+use Rattle.aggregate.proofs.weighted.divide.Given as goal
+
+abbrev pub invariant-each : goal.invariant-each
+invariant-each l = record {
+  six : length l.sums ≡ 6;
+  done : (k : ℕ) → k < l.i → get_or l.sums k 0 ≡ get_or l.fn.sums k 0 / l.divisor;
+  left : (k : ℕ) → l.i ≤ k → get_or l.sums k 0 ≡ get_or l.fn.sums k 0;
+}

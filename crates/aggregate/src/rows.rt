@@ -1,0 +1,81 @@
+//! The times of all groups on all processors at a tick.
+ghost use Rattle.std.specs.Prelude.{◌≡◌, ◌<◌, ◌*◌, [], IfOk, length, slice_index_or, replicate};
+ghost use Rattle.aggregate.specs.Table as table;
+ghost use Rattle.aggregate.specs.Table.{new_table, put, IsPlace, KeepsSizes, SetsOnePlace};
+
+use psi_base::{Cpu, NoMemory, Slot};
+use std::alloc::Global;
+use std::marker::Model;
+
+/// For each group, by its slot, a row of each processor's seven times (ns), in the order of the states.
+#[derive(Drop)]
+pub struct Rows {
+    cpus: u32,
+    slots: u32,
+    /// Row by row, `cpus` a row.
+    times: Vec<[u64; 7]>,
+}
+
+impl Model for Rows {
+    ghost use Rattle.std.specs.Prelude.{◌≡◌, List, ℕ, ◌*◌, length};
+    ghost use Rattle.aggregate.specs.Table.{rows_of};
+
+    ghost Value = { List (List (List ℕ)) };
+
+    ghost view = { λ r. rows_of r.cpus r.slots r.times.items };
+
+    ghost invariant = { λ r. length r.times.items ≡ r.slots * r.cpus };
+}
+
+impl Rows {
+    /// Zeros for so many processors and groups. Takes its memory in one piece.
+    pub fn make(alloc: Global, cpus: u32, slots: u32) -> Result<Rows, NoMemory>
+        ensures { IfOk result (λ rows. rows ≡ new_table cpus slots) }
+    {
+        let times = no_times(alloc, slots as usize * cpus as usize)?;
+        Ok(rows_with(cpus, slots, times))
+    }
+
+    /// Sets the times of a group on a processor.
+    pub fn set(&mut self, cpu: Cpu, slot: Slot, times: [u64; 7])
+        requires { IsPlace self.old slot.0 cpu.0 }
+        ensures { self.new ≡ put self.old slot.0 cpu.0 times }
+    {
+        let place = slot.0 as usize * self.cpus as usize + cpu.0 as usize;
+        self.times[place] = times;
+    }
+
+    /// The times of a group on each processor.
+    pub fn row(&self, slot: Slot) -> &[[u64; 7]]
+        requires { slot.0 < length self.now }
+        ensures { result.now ≡ slice_index_or self.now slot.0 [] }
+    {
+        let (_, rest) = self.times.split_at(slot.0 as usize * self.cpus as usize);
+        let (row, _) = rest.split_at(self.cpus as usize);
+        row
+    }
+}
+
+/// The rows of these times, which stand row by row.
+fn rows_with(cpus: u32, slots: u32, times: Vec<[u64; 7]>) -> Rows
+    requires { length times.items ≡ slots * cpus }
+    ensures { result ≡ table.rows_of cpus slots times.items }
+{
+    Rows { cpus, slots, times }
+}
+
+/// So many processors' times, all zeros.
+fn no_times(alloc: Global, count: usize) -> Result<Vec<[u64; 7]>, NoMemory>
+    ensures { IfOk result (λ times. times.items ≡ replicate count table.no_times) }
+{
+    match vec![in alloc; [0u64; 7]; count] {
+        Ok(times) => Ok(times),
+        Err(_) => Err(NoMemory),
+    }
+}
+
+/// Laws of tables: they keep their sizes, and what is set is found at its place and changes no other.
+pub fn tables()
+    ensures sizes { KeepsSizes }
+    ensures places { SetsOnePlace }
+{}

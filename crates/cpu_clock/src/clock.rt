@@ -1,0 +1,114 @@
+//! One clock, and its words.
+
+ghost use Rattle.std.specs.Prelude.{◌≡◌};
+ghost use Rattle.psi_spec.specs.Clock.{AreWordsOfClock, IsInTime, advanced, opened, opened_time, words_of, zero_clock};
+
+use psi_base::{Ns, State};
+use state_mask::{Mask, STATES};
+use std::marker::Model;
+
+/// How long a group was in each state on a processor. The kernel keeps the same in its `psi_group_cpu`: `times`,
+/// `state_mask` and `state_start`. Clocks with other numbers may tell the same, where a change that left the states as
+/// they were isn't in one of them, so clocks have no `==`.
+#[derive(Clone, Copy, Debug)]
+pub struct Clock {
+    /// For how long each state held up to the start, in ns, in the order of the states.
+    pub times: [u64; 7],
+    /// The states that hold from the start on.
+    pub mask: Mask,
+    /// The moment of the last change, in ns.
+    pub start: Ns,
+}
+
+impl Model for Clock {
+    ghost use Rattle.std.specs.Prelude.{◌≡◌, length};
+    ghost use Rattle.psi_spec.specs.Clock.{ClockView};
+
+    ghost Value = { ClockView };
+
+    ghost view = { λ clock. record { times = clock.times; mask = clock.mask; start = clock.start } };
+
+    ghost invariant = { λ clock. length clock.times ≡ 7 };
+
+    ghost inverse = { λ clock. record { times = clock.times; mask = clock.mask; start = clock.start } };
+}
+
+/// Where the mask stands among a clock's words, behind the times.
+const MASK_WORD: usize = 7;
+
+/// Where the start stands among a clock's words.
+const START_WORD: usize = 8;
+
+impl Clock {
+    /// A clock at the moment 0, when no state held for any time and none holds.
+    pub fn zero() -> Clock
+        ensures { result ≡ zero_clock }
+    {
+        Clock {
+            times: [0; 7],
+            mask: Mask::empty(),
+            start: 0,
+        }
+    }
+
+    /// The time of one state at a moment, in ns.
+    fn opened_time(&self, at: Ns, state: State) -> u64
+        requires { IsInTime self.now at }
+        ensures { result ≡ opened_time self.now at state }
+    {
+        let time = self.times[state as usize];
+        if self.mask.holds(state) {
+            time + (at - self.start)
+        } else {
+            time
+        }
+    }
+
+    /// The times at a moment, in ns, in the order of the states: where a state holds, the time since the start is
+    /// added. The kernel's `get_recent_times`.
+    pub fn opened(&self, at: Ns) -> [u64; 7]
+        requires { IsInTime self.now at }
+        ensures { result ≡ opened self.now at }
+    {
+        STATES.map(|state| self.opened_time(at, state))
+    }
+
+    /// Takes the clock to a moment (ns), from which on the states of the mask hold. The kernel's `record_times`.
+    pub fn advance(&mut self, at: Ns, mask: Mask)
+        requires { IsInTime self.old at }
+        ensures { self.new ≡ advanced self.old at mask }
+    {
+        *self = Clock {
+            times: self.opened(at),
+            mask,
+            start: at,
+        };
+    }
+
+    /// The clock as nine words: the times in the order of the states, the mask and the start.
+    pub fn to_words(&self) -> [u64; 9]
+        ensures words { result ≡ words_of self.now }
+        ensures of_clock { AreWordsOfClock result }
+    {
+        let mut words = [0; 9];
+        words[..MASK_WORD].copy_from_slice(&self.times);
+        words[MASK_WORD] = u64::from(self.mask.bits());
+        words[START_WORD] = self.start;
+        words
+    }
+
+    /// The clock with these words. It asks for words of a clock and tests nothing: who keeps words knows that they came
+    /// from [`Clock::to_words`], and could do nothing where they hadn't.
+    pub fn from_words(words: [u64; 9]) -> Clock
+        requires { AreWordsOfClock words }
+        ensures { words_of result ≡ words }
+    {
+        let mut times = [0; 7];
+        times.copy_from_slice(&words[..MASK_WORD]);
+        Clock {
+            times,
+            mask: Mask::from_bits(words[MASK_WORD] as u8),
+            start: words[START_WORD],
+        }
+    }
+}

@@ -1,0 +1,186 @@
+//! The averages of one group.
+ghost use Rattle.std.specs.Prelude.{◌≡◌, ◌≢◌, ◌≤◌, ◌<◌, ◌+◌, ◌^◌, ℕ, All, [], map, slice_index, slice_index_or};
+ghost use Rattle.psi_spec.specs.Share.{last_moment, zip_with};
+ghost use Rattle.psi_spec.specs.Stall.{number_of};
+ghost use Rattle.psi_spec.specs.Average as model;
+ghost use Rattle.psi_spec.specs.Average.{IsRow};
+ghost use Rattle.psi_base.specs.declared.event.State.TheVariants as state_of;
+
+use crate::fixed_point::{load, power};
+use psi_base::{Ns, State};
+use std::marker::Model;
+
+/// The time from one update to the next (ns).
+const PERIOD: Ns = 2_000_000_000;
+
+/// How many states have averages: all but nonidle.
+const STATES: usize = 6;
+
+/// By how much an average over 10, 60 and 300 seconds decays in a period.
+const FACTORS: [u64; 3] = [1677, 1981, 2034];
+
+/// The averages of a group's pressure over 10, 60 and 300 seconds, of each state but nonidle: the kernel's `avg` of a
+/// `psi_group`. Each is a fixed-point number of at most 204,800.
+#[derive(Drop)]
+pub struct Averages {
+    /// The moment of the last update (ns).
+    last: Ns,
+    /// The moment from which the next update is due (ns).
+    next: Ns,
+    /// How much of each total was sampled so far (ns).
+    sampled: [u64; STATES],
+    /// The three averages of each state.
+    averages: [[u64; 3]; STATES],
+}
+
+impl Model for Averages {
+    ghost use Rattle.psi_spec.specs.Average.{AverageState, IsAverageState};
+
+    ghost Value = { AverageState };
+
+    ghost view = { λ a. record { last = a.last; next = a.next; sampled = a.sampled; averages = a.averages } };
+
+    ghost invariant = { λ a. IsAverageState (record { last = a.last; next = a.next; sampled = a.sampled; averages = a.averages }) };
+}
+
+/// What is sampled of each total in this time (ns): what wasn't yet, and at most the time.
+fn samples_of(time: Ns, sampled: &[u64; STATES], totals: &[u64; STATES]) -> [u64; STATES]
+    ensures value { result ≡ model.samples_of time sampled.now totals.now }
+    ensures fits { (k : ℕ) → k < 6 → slice_index sampled.now k + slice_index result k < 2 ^ 64 }
+{
+    let mut samples = [0u64; STATES];
+    'each: for i in 0..STATES {
+        samples[i] = totals[i].saturating_sub(sampled[i]).min(time);
+    }
+    samples
+}
+
+/// Adds the samples to what was sampled before.
+fn add_samples(sampled: &mut [u64; STATES], samples: &[u64; STATES])
+    requires { (k : ℕ) → k < 6 → slice_index sampled.old k + slice_index samples.now k < 2 ^ 64 }
+    ensures { sampled.new ≡ zip_with (λ sampled sample. sampled + sample) sampled.old samples.now }
+{
+    'each: for i in 0..STATES {
+        sampled[i] += samples[i];
+    }
+}
+
+/// The powers of the factors for so many missed periods.
+fn decays_of(missed: u64) -> [u64; 3]
+    ensures { result ≡ map (λ factor. model.power factor missed) model.factors }
+{
+    [
+        power(FACTORS[0], missed),
+        power(FACTORS[1], missed),
+        power(FACTORS[2], missed),
+    ]
+}
+
+/// An average after an update: it decays over the missed periods, if there are any, and is loaded with the sample.
+#[tactic(auto, using(psi_spec::proofs::AverageLaws::power_most))]
+fn average_after(missed: u64, decay: u64, average: u64, factor: u64, percent: u64) -> u64
+    requires decay { decay ≡ model.power factor missed }
+    requires average { average ≤ 204800 }
+    requires factor { factor ≤ 2048 }
+    requires percent { percent ≤ 100 }
+    ensures value { result ≡ model.average_after missed percent average factor }
+    ensures most { result ≤ 204800 }
+{
+    let decayed = if missed > 0 {
+        load(average, decay, 0)
+    } else {
+        average
+    };
+    load(decayed, factor, percent * 2048)
+}
+
+/// The three averages of a state after an update.
+fn row_after(missed: u64, decays: &[u64; 3], row: &[u64; 3], percent: u64) -> [u64; 3]
+    requires decays { decays.now ≡ map (λ factor. model.power factor missed) model.factors }
+    requires row { IsRow row.now }
+    requires percent { percent ≤ 100 }
+    ensures value { result ≡ zip_with (model.average_after missed percent) row.now model.factors }
+    ensures row { IsRow result }
+{
+    let mut after = [0u64; 3];
+    'each: for j in 0..3 {
+        after[j] = average_after(missed, decays[j], row[j], FACTORS[j], percent);
+    }
+    after
+}
+
+/// Updates the averages of all states with their samples over this time (ns).
+fn update_rows(rows: &mut [[u64; 3]; STATES], missed: u64, time: Ns, samples: &[u64; STATES])
+    requires time { 0 < time }
+    requires short { time ≤ 4000000000 }
+    requires samples { All (λ sample. sample ≤ time) samples.now }
+    requires rows { All (λ row. IsRow row) rows.old }
+    ensures value { rows.new ≡ zip_with (model.row_after missed time) rows.old samples.now }
+    ensures rows { All (λ row. IsRow row) rows.new }
+{
+    let decays = decays_of(missed);
+    'each: for i in 0..STATES {
+        rows[i] = row_after(missed, &decays, &rows[i], samples[i] * 100 / time);
+    }
+}
+
+/// The place of a state in the lists of averages.
+fn place_of(state: State) -> usize
+    requires { state ≢ state_of.Nonidle }
+    ensures value { result ≡ number_of state }
+    ensures within { result < 6 }
+{
+    match state {
+        State::IoSome => 0,
+        State::IoFull => 1,
+        State::MemSome => 2,
+        State::MemFull => 3,
+        State::CpuSome => 4,
+        State::CpuFull => 5,
+        State::Nonidle => unreachable!(),
+    }
+}
+
+impl Averages {
+    /// The averages of a group that is made at this moment (ns): all 0, with the first update two seconds later.
+    pub fn new(at: Ns) -> Averages
+        requires { at ≤ last_moment }
+        ensures { result ≡ model.new_averages at }
+    {
+        Averages {
+            last: at,
+            next: at + PERIOD,
+            sampled: [0; STATES],
+            averages: [[0; 3]; STATES],
+        }
+    }
+
+    /// A tick at this moment (ns), with the group's totals (ns) of all states but nonidle, in the order of the
+    /// states. Where two seconds have gone by since the last update, each average decays over the periods that were
+    /// missed and is loaded with what is new of its total, of which no more is taken than time went by: the kernel's
+    /// `update_averages`. Before that, nothing changes.
+    pub fn update(&mut self, now: Ns, totals: [u64; 6])
+        requires { now ≤ last_moment }
+        ensures { self.new ≡ model.average_step self.old now totals }
+    {
+        if now < self.next {
+            return;
+        }
+        let missed = (now - self.next) / PERIOD;
+        let time = now - (self.last + missed * PERIOD);
+        let samples = samples_of(time, &self.sampled, &totals);
+        add_samples(&mut self.sampled, &samples);
+        update_rows(&mut self.averages, missed, time, &samples);
+        self.next += (1 + missed) * PERIOD;
+        self.last = now;
+    }
+
+    /// The averages over 10, 60 and 300 seconds of a state other than nonidle, in fixed point.
+    pub fn get(&self, state: State) -> [u64; 3]
+        requires { state ≢ state_of.Nonidle }
+        ensures value { result ≡ slice_index_or self.now.averages (number_of state) [] }
+        ensures most { All (λ average. average ≤ 204800) result }
+    {
+        self.averages[place_of(state)]
+    }
+}

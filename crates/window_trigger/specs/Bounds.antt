@@ -1,0 +1,10 @@
+-- What is true of each trigger.
+use Rattle.std.specs.Prelude.{ℕ, ◌≤◌, Option, IfSome}
+use Rattle.psi_spec.specs.Share.{last_moment}
+
+-- The window (ns) is from half a second to ten. The growth before it and the moment of the last signal are those of a trace.
+pub record IsTrigger (size growth : ℕ) (last_event : Option ℕ) : Type 0 where
+  pub long : 500000000 ≤ size
+  pub short : size ≤ 10000000000
+  pub previous : growth ≤ last_moment
+  pub last : IfSome last_event (λ last. last ≤ last_moment)
