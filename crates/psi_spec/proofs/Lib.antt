@@ -15,3 +15,6 @@ pub mod MaskLaws
 pub mod AverageLaws
 pub mod ShareLaws
 pub mod SignalLaws
+pub mod TouchCounts
+pub mod TouchLaws
+pub mod TouchWithin

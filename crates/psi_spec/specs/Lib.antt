@@ -11,3 +11,4 @@ pub mod Clock
 pub mod Share
 pub mod Average
 pub mod Signal
+pub mod Touch

@@ -6,9 +6,13 @@ mod clocks;
 mod grammar;
 mod laws;
 mod machine;
+mod touches;
 
 pub use arithmetic::{averages, fixed_point, shares, signals};
 pub use clocks::{clock_times, clock_words, masks, same_clocks, states_by_counts};
 pub use grammar::{event_lines, header_lines};
 pub use laws::{stall_time, traces};
 pub use machine::{Change, Counts, GroupLife, Mode, Task, Touch};
+pub use touches::{
+    change_tells, changes_are_within, counts_follow, current_tells, runs_once, touched, within,
+};

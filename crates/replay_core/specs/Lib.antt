@@ -1,3 +1,4 @@
 pub mod Reads
 pub mod Run
 pub mod Status
+pub mod Sums

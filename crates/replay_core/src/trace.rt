@@ -84,7 +84,7 @@ fn take_line(alloc: Global, table: &mut Table, line: &[u8]) -> Result<Event, Fau
 {
     let event = read_event(alloc, line)?;
     match table.step(&event) {
-        Ok(()) => Ok(event),
+        Ok(_) => Ok(event),
         Err(fault) => Err(fault),
     }
 }

@@ -1,6 +1,6 @@
 //! Running words over one trace in memory.
 
-use psi_base::{HonestShelf, HonestSink, OpenGate, Text};
+use psi_base::{HonestShelf, MemSink, OpenGate, Text};
 use replay_core::{Status, run};
 use std::test::Fail;
 use std::thread::Threads;
@@ -23,7 +23,7 @@ pub fn words_of<R: AllocGlobal>(rt: &R, line: &str) -> Result<Vec<String>, Fail>
     Ok(words)
 }
 
-/// Runs a command line over a shelf with the one file `t`, which gives at most so many bytes a call.
+/// Runs a command line over a shelf with the one file `t`. The shelf and both sinks move at most so many bytes a call.
 pub fn run_on<R: Threads + AllocGlobal + Sync>(
     rt: &R,
     line: &str,
@@ -36,8 +36,8 @@ pub fn run_on<R: Threads + AllocGlobal + Sync>(
     let text = Text::make(alloc, trace)?;
     let files = vec![in alloc; (name, text)]?;
     let mut shelf = HonestShelf::new(files, most.max(1));
-    let mut out = HonestSink::new(alloc, 4096)?;
-    let mut note = HonestSink::new(alloc, 4096)?;
+    let mut out = MemSink::new(alloc, 4096, most.max(1), Vec::new(alloc))?;
+    let mut note = MemSink::new(alloc, 4096, most.max(1), Vec::new(alloc))?;
     let status = run(
         rt, alloc, &words, &mut shelf, &mut out, &mut note, &OpenGate,
     );

@@ -4,6 +4,7 @@
 #[cfg(test)]
 mod tests {
     use psi_base::{Act, Cause, Cpu, Event, Fault, How, NoMemory, Ns, Path, Pid, Slot, State};
+    use psi_spec::{Change, Counts, Touch};
     use std::alloc::Global;
     use std::test::Fail;
     use task_table::Table;
@@ -107,11 +108,12 @@ mod tests {
         for (at, line, want) in lines {
             let event = event(rt.alloc(), at, line)?;
             assert_eq!(rt; table.check(&event), want, "at {at}");
-            let done = match want {
-                None => Ok(()),
-                Some(cause) => Err(Fault::Refused(cause)),
+            let refused = match table.step(&event) {
+                Ok(_) => None,
+                Err(Fault::Refused(cause)) => Some(cause),
+                Err(Fault::NoMemory) => return Err(NoMemory.into()),
             };
-            assert_eq!(rt; table.step(&event), done, "at {at}");
+            assert_eq!(rt; refused, want, "at {at}");
         }
         assert!(rt; table.is_ended());
         assert_eq!(rt; table.last(), 1000);
@@ -156,13 +158,124 @@ mod tests {
         ];
         for (at, line, want) in lines {
             let event = event(rt.alloc(), at, line)?;
-            assert_eq!(rt; table.step(&event), Ok(()), "at {at}");
+            assert!(rt; table.step(&event).is_ok(), "at {at}");
             assert_eq!(rt; table.states(Cpu(0), Slot(0)), want, "at {at}");
         }
         assert!(rt; table.holds(State::CpuFull, Cpu(1), Slot(0)));
         assert!(rt; !table.holds(State::MemSome, Cpu(1), Slot(0)));
         assert!(rt; !table.holds(State::Nonidle, Cpu(1), Slot(1)));
         assert!(rt; !table.holds(State::Nonidle, Cpu(64), Slot(0)));
+        Ok(())
+    }
+
+    /// Counts of the root: one task that is of no kind, that waits for IO, or that is ready or runs.
+    const NONE: Option<(Slot, Counts)> = None;
+
+    const ASLEEP: Option<(Slot, Counts)> = Some((
+        Slot(0),
+        Counts {
+            io: 0,
+            stalled: 0,
+            running: 0,
+            stalled_running: 0,
+        },
+    ));
+
+    const WAITS: Option<(Slot, Counts)> = Some((
+        Slot(0),
+        Counts {
+            io: 1,
+            stalled: 0,
+            running: 0,
+            stalled_running: 0,
+        },
+    ));
+
+    const IS_UP: Option<(Slot, Counts)> = Some((
+        Slot(0),
+        Counts {
+            io: 0,
+            stalled: 0,
+            running: 1,
+            stalled_running: 0,
+        },
+    ));
+
+    /// A processor with its change, in which a task of the root runs afterwards, or none.
+    fn change(
+        at: Ns,
+        cpu: u32,
+        minus: Option<(Slot, Counts)>,
+        plus: Option<(Slot, Counts)>,
+        runs: bool,
+    ) -> Option<(Cpu, Change)> {
+        let current = if runs { Some((Slot(0), false)) } else { None };
+        Some((
+            Cpu(cpu),
+            Change {
+                at,
+                minus,
+                plus,
+                current,
+            },
+        ))
+    }
+
+    // What each line changes on the processors that it touches. A wake on another processor changes both.
+    #[test]
+    fn touches_of_each_line(rt: HostRuntime) -> Result<(), Fail> {
+        let mut table = Table::new(rt.alloc(), 2, 1000)?;
+        let lines = [
+            (1, Line::Fork(1, 0), change(1, 0, NONE, IS_UP, false), None),
+            (
+                2,
+                Line::Switch(0, 1, How::Idle),
+                change(2, 0, NONE, NONE, true),
+                None,
+            ),
+            (3, Line::Fork(2, 0), change(3, 0, NONE, IS_UP, true), None),
+            (
+                4,
+                Line::Switch(0, 2, How::IoWait),
+                change(4, 0, IS_UP, WAITS, true),
+                None,
+            ),
+            (
+                5,
+                Line::Wake(1, 1),
+                change(5, 1, NONE, IS_UP, false),
+                change(5, 0, WAITS, NONE, true),
+            ),
+            (
+                6,
+                Line::Free(0, How::Sleep),
+                change(6, 0, IS_UP, ASLEEP, false),
+                None,
+            ),
+            (
+                7,
+                Line::Wake(2, 0),
+                change(7, 0, ASLEEP, IS_UP, false),
+                None,
+            ),
+            (
+                8,
+                Line::Switch(1, 1, How::Idle),
+                change(8, 1, NONE, NONE, true),
+                None,
+            ),
+            (
+                9,
+                Line::Free(1, How::Exit),
+                change(9, 1, IS_UP, NONE, false),
+                None,
+            ),
+            (10, Line::End, None, None),
+        ];
+        for (at, line, first, second) in lines {
+            let event = event(rt.alloc(), at, line)?;
+            assert_eq!(rt; table.step(&event), Ok(Touch { first, second }), "at {at}");
+        }
         Ok(())
     }
 }

@@ -6,6 +6,7 @@ use Rattle.psi_spec.specs.declared.machine.GroupLife.{GroupLife}
 use Rattle.psi_spec.specs.contracts.machine.GroupLife as group_row
 use Rattle.psi_spec.specs.contracts.machine.Task as task_row
 use Rattle.psi_spec.specs.World.{World, Limits, Tasks, task_of, test_task, is_running_on}
+use Rattle.psi_spec.specs.Touch.{AreWithin}
 
 -- the value of a table
 pub record TableView : Type 0 where
@@ -25,11 +26,12 @@ is_pid pid None = false
 pub record IsIndex (running : List (Option ℕ)) (tasks : Tasks) : Type 0 where
   pub each : (pid cpu : ℕ) → runs_on tasks pid cpu ≡ is_pid pid (slice_index_or running cpu None)
 
--- what is true of each table: few lines, the list of running tasks, and few processors
+-- what is true of each table: few lines, the list of running tasks, few processors, and tasks on these and in the root alone
 pub record IsTable (lines : ℕ) (running : List (Option ℕ)) (tasks : Tasks) : Type 0 where
   pub few : lines ≤ 4000000
   pub index : IsIndex running tasks
   pub cpus : length running ≤ 64
+  pub within : AreWithin (length running) 1 tasks
 
 -- a world as nested pairs, by which proofs tell values apart
 abbrev pub world_code : Coded World

@@ -27,7 +27,7 @@ pub(crate) fn has_ended(before: bool, act: &Act) -> bool
 }
 
 /// A task that forked.
-fn forked(path: &Path, cpu: Cpu) -> Task
+pub(crate) fn forked(path: &Path, cpu: Cpu) -> Task
     ensures { result ≡ new_task (root ∷ []) path.now cpu.0 }
 {
     Task {
@@ -39,7 +39,7 @@ fn forked(path: &Path, cpu: Cpu) -> Task
 }
 
 /// A task on the run queue of a processor. Its stall stays.
-fn readied(task: Task, cpu: Cpu) -> Task
+pub(crate) fn readied(task: Task, cpu: Cpu) -> Task
     ensures { result ≡ readied cpu.0 task }
 {
     Task {
@@ -50,7 +50,7 @@ fn readied(task: Task, cpu: Cpu) -> Task
 }
 
 /// A running task after it left its processor, or none where it is gone.
-fn left(how: How, task: Task) -> Option<Task>
+pub(crate) fn left(how: How, task: Task) -> Option<Task>
     ensures task { result ≡ left_by how task }
     ensures off { how ≢ Idle → IfSome result (λ t. is_running t.mode ≡ false) }
 {

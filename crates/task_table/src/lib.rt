@@ -7,5 +7,6 @@ mod kinds;
 mod running;
 mod table;
 mod task_map;
+mod touch;
 
 pub use table::Table;

@@ -1,15 +1,18 @@
 //! The table of tasks.
-ghost use Rattle.std.specs.Prelude.{◌≡◌, ◌<◌, ◌≤◌, IfNone, None, IfOk, OnErr, OnOk, MatchResult, map, false, slice_index_or};
+ghost use Rattle.std.specs.Prelude.{◌≡◌, ◌<◌, ◌≤◌, IfNone, None, IfOk, OnErr, OnOk, MatchResult, map, false, slice_index_or, length};
 ghost use Rattle.psi_spec.specs.World.{after_event, first_world};
 ghost use Rattle.psi_spec.specs.Stall.{holds, number_of, states};
 ghost use Rattle.psi_base.specs.declared.event.State.{State};
+ghost use Rattle.psi_spec.specs.Touch.{IsTouch, AllTouched, HasSlotsBelow, IsOfOne};
 ghost use Rattle.psi_spec.specs.Refusal.{check_cause};
 ghost use Rattle.task_table.specs.Causes.{IsFault};
 
 use crate::causes::{act_refused, is_built};
 use crate::effects::{apply, has_ended};
 use crate::task_map::TaskMap;
+use crate::touch::{task_after, task_before, touch_of};
 use psi_base::{Cause, Cpu, Event, Fault, NoMemory, Ns, Slot, State};
+use psi_spec::Touch;
 use std::alloc::Global;
 use std::marker::Model;
 
@@ -109,9 +112,10 @@ impl Table {
         act_refused(&self.tasks, &self.running, &event.act)
     }
 
-    /// The world after the event. Where it is refused, or there is no memory for a new task, nothing changes: `Refused`
-    /// with the first cause, and `NoMemory` for a legal fork alone.
-    pub fn step(&mut self, event: &Event) -> Result<(), Fault<Cause>>
+    /// The world after the event, and what the event changes on each processor that it touches. Where it is refused, or
+    /// there is no memory for a new task, nothing changes: `Refused` with the first cause, and `NoMemory` for a legal
+    /// fork alone.
+    pub fn step(&mut self, event: &Event) -> Result<Touch, Fault<Cause>>
         ensures limits { self.new.limits ≡ self.old.limits }
         ensures legal { OnOk result (check_cause self.old.limits self.old.world event.now ≡ None) }
         ensures world { OnOk result (self.new.world ≡ after_event self.old.world event.now) }
@@ -120,17 +124,24 @@ impl Table {
         ensures forward { OnOk result (self.old.world.last ≤ self.new.world.last) }
         ensures fault { MatchResult result (λ _. Unit {0}) (IsFault (check_cause self.old.limits self.old.world event.now) event.now.act) }
         ensures err { OnErr result (self.new ≡ self.old) }
+        ensures touch { IfOk result (λ touch. IsTouch self.old.world event.now touch) }
+        ensures cpus { IfOk result (λ touch. AllTouched (λ cpu change. cpu < self.old.limits.cpus) touch) }
+        ensures slots { IfOk result (λ touch. AllTouched (λ cpu change. HasSlotsBelow (length self.old.world.groups) change) touch) }
+        ensures ones { IfOk result (λ touch. AllTouched (λ cpu change. IsOfOne change) touch) }
+        ensures moment { IfOk result (λ touch. AllTouched (λ cpu change. change.at ≡ event.now.at) touch) }
     {
         if let Some(cause) = self.check(event) {
             return Err(Fault::Refused(cause));
         }
+        let old = task_before(&self.tasks, &self.running, &event.act);
+        let new = task_after(&event.act, old);
         if apply(&mut self.tasks, &mut self.running, &event.act).is_err() {
             return Err(Fault::NoMemory);
         }
         self.lines += 1;
         self.last = event.at;
         self.ended = has_ended(self.ended, &event.act);
-        Ok(())
+        Ok(touch_of(event.at, &event.act, old, new, &self.tasks, &self.running))
     }
 
     /// Whether a group is in each of the seven states on a processor, in the order of the states' numbers, as

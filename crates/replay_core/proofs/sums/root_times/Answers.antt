@@ -1,26 +1,28 @@
 use Rattle.std.proofs.Common.{arith, ◌∙◌, ap, refl, length}
+use Rattle.psi_spec.specs.World.{Limits}
 use Rattle.psi_spec.specs.Trace.{limits_of}
+use Rattle.replay_core.proofs.ClockSums as clocks
 use Rattle.replay_core.proofs.SumLaws as laws
 use Rattle.replay_core.proofs.sums.root_times.Goals as goal
 
 pub loop-event-init : goal.loop-event-init
 loop-event-init c = record {
   limits = rw c.in_ok-table.ensures refl;
-  seven = refl;
-  sums = rw c.in_ok-table.ensures laws.none_so_far;
+  sums = rw (c.in_ok-table.ensures, c.empty-mask.ensures, c.zero-clock.ensures) clocks.none_so_far;
 }
 
-pub overflow_sub-event : goal.overflow_sub-event
-overflow_sub-event c =
+pub turn-requires : goal.turn-requires
+turn-requires c =
     let i = c.loop-event.invariant in
     let legal = laws.legal_here (limits_of c.args.tick c.args.trace.now.cpus) c.loop-event.table.limits c.loop-event.table.world c.args.trace.now.events.items _ c.loop-event.event-index c.event-item.result c.deref-event-items.ensures.value c.loop-event-test.true c.requires.legal.legal i.limits i.sums.world c.event-item.is in
-    omega (arith, c.last.ensures, laws.goes_forward _ _ _ legal)
+    let touches = clocks.touches c.loop-event.table.limits c.loop-event.table.world c.event-item.result c.in-Ok.touch legal (ap (λ (l : Limits). l.cpus) i.limits ∙ c.requires.legal.built) c.in-Ok.ensures.touch c.in-Ok.ensures.cpus c.in-Ok.ensures.slots c.in-Ok.ensures.ones in
+    clocks.may_turn _ c.loop-event.table.limits c.loop-event.table.world c.event-item.result c.in-Ok.touch c.loop-event.counts c.loop-event.mask c.loop-event.clock i.sums touches
 
-pub pass-requires : goal.pass-requires
-pass-requires c =
+pub advance-requires : goal.advance-requires
+advance-requires c =
     let i = c.loop-event.invariant in
     let legal = laws.legal_here (limits_of c.args.tick c.args.trace.now.cpus) c.loop-event.table.limits c.loop-event.table.world c.args.trace.now.events.items _ c.loop-event.event-index c.event-item.result c.deref-event-items.ensures.value c.loop-event-test.true c.requires.legal.legal i.limits i.sums.world c.event-item.is in
-    λ k. laws.fits _ _ _ c.loop-event.table.limits c.args.tick c.args.trace.now.cpus c.event-item.result.at c.last.result k i.sums i.limits c.requires.tick c.last.ensures (laws.goes_forward _ _ _ legal) (laws.is_early _ _ _ legal)
+    clocks.is_in_time _ _ _ _ c.loop-event.clock c.event-item.result.at i.sums (laws.goes_forward _ _ _ legal) (clocks.moment_fits c.loop-event.table.limits _ _ _ i.limits c.requires.tick (laws.is_early _ _ _ legal))
 
 pub unreachable-requires : goal.unreachable-requires
 unreachable-requires c =
@@ -33,15 +35,22 @@ pub loop-event-preserved : goal.loop-event-preserved
 loop-event-preserved c =
     let i = c.loop-event.invariant in
     let legal = laws.legal_here (limits_of c.args.tick c.args.trace.now.cpus) c.loop-event.table.limits c.loop-event.table.world c.args.trace.now.events.items _ c.loop-event.event-index c.event-item.result c.deref-event-items.ensures.value c.loop-event-test.true c.requires.legal.legal i.limits i.sums.world c.event-item.is in
+    let touches = clocks.touches c.loop-event.table.limits c.loop-event.table.world c.event-item.result c.in-Ok.touch legal (ap (λ (l : Limits). l.cpus) i.limits ∙ c.requires.legal.built) c.in-Ok.ensures.touch c.in-Ok.ensures.cpus c.in-Ok.ensures.slots c.in-Ok.ensures.ones in
     record {
       limits = c.in-Ok.ensures.limits ∙ i.limits;
-      seven = c.type_inv.times;
-      sums = laws.turn _ _ c.event-item.result c.loop-event.table.world _ c.loop-event.times _ c.states.result i.sums
+      sums = clocks.turn _ _ c.loop-event.table.limits c.loop-event.table.world _ c.event-item.result c.in-Ok.touch c.loop-event.counts _ c.loop-event.mask _ c.loop-event.clock _ i.sums touches
           (laws.turned c.args.trace.now.events.items _ c.loop-event.event-index c.event-item.result c.deref-event-items.ensures.value c.loop-event-test.true c.event-item.is)
-          (laws.goes_forward _ _ _ legal) c.in-Ok.ensures.world c.states.ensures.each (rw c.last.ensures at c.pass.ensures);
+          (laws.goes_forward _ _ _ legal) c.in-Ok.ensures.world c.in-Ok.ensures.lines
+          (clocks.moment_fits c.loop-event.table.limits _ _ _ i.limits c.requires.tick (laws.is_early _ _ _ legal))
+          c.turn.ensures c.advance.ensures;
     }
+
+pub opened-requires : goal.opened-requires
+opened-requires c =
+    let i = c.loop-event.invariant in
+    clocks.is_in_time _ c.loop-event.table.world _ _ c.loop-event.clock c.last.result i.sums (omega (arith, c.last.ensures)) (omega (arith, c.last.ensures, i.sums.early))
 
 pub returns : goal.returns
 returns c =
     let i = c.loop-event.invariant in
-    laws.whole_sums c.args.trace.now.events.items c.loop-event.event-index c.loop-event.table.world c.loop-event.times i.seven (omega (arith, c.loop-event-test.false, ap length c.deref-event-items.ensures.value)) i.sums
+    clocks.whole_sums c.args.trace.now.events.items c.loop-event.event-index c.loop-event.table.world _ _ c.loop-event.clock c.opened.result (omega (arith, c.loop-event-test.false, ap length c.deref-event-items.ensures.value)) i.sums (rw c.last.ensures at c.opened.ensures)
