@@ -83,8 +83,8 @@ fn take_line(alloc: Global, table: &mut Table, line: &[u8]) -> Result<Event, Fau
     ensures few { OnOk result (table.new.world.lines ≤ 4000000) }
 {
     let event = read_event(alloc, line)?;
-    match table.step(&event) {
-        Ok(_) => Ok(event),
+    match table.play(&event) {
+        Ok(()) => Ok(event),
         Err(fault) => Err(fault),
     }
 }

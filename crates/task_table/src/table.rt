@@ -112,9 +112,32 @@ impl Table {
         act_refused(&self.tasks, &self.running, &event.act)
     }
 
-    /// The world after the event, and what the event changes on each processor that it touches. Where it is refused, or
-    /// there is no memory for a new task, nothing changes: `Refused` with the first cause, and `NoMemory` for a legal
-    /// fork alone.
+    /// The world after the event. Where it is refused, or there is no memory for a new task, nothing changes: `Refused`
+    /// with the first cause, and `NoMemory` for a legal fork alone.
+    pub fn play(&mut self, event: &Event) -> Result<(), Fault<Cause>>
+        ensures limits { self.new.limits ≡ self.old.limits }
+        ensures legal { OnOk result (check_cause self.old.limits self.old.world event.now ≡ None) }
+        ensures world { OnOk result (self.new.world ≡ after_event self.old.world event.now) }
+        ensures lines { OnOk result (self.new.world.lines ≤ 4000000) }
+        ensures early { OnOk result (self.new.world.last ≤ self.new.limits.latest) }
+        ensures forward { OnOk result (self.old.world.last ≤ self.new.world.last) }
+        ensures fault { MatchResult result (λ _. Unit {0}) (IsFault (check_cause self.old.limits self.old.world event.now) event.now.act) }
+        ensures err { OnErr result (self.new ≡ self.old) }
+    {
+        if let Some(cause) = self.check(event) {
+            return Err(Fault::Refused(cause));
+        }
+        if apply(&mut self.tasks, &mut self.running, &event.act).is_err() {
+            return Err(Fault::NoMemory);
+        }
+        self.lines += 1;
+        self.last = event.at;
+        self.ended = has_ended(self.ended, &event.act);
+        Ok(())
+    }
+
+    /// The world after the event as [`Table::play`] makes it, and what the event changes on each processor that it
+    /// touches.
     pub fn step(&mut self, event: &Event) -> Result<Touch, Fault<Cause>>
         ensures limits { self.new.limits ≡ self.old.limits }
         ensures legal { OnOk result (check_cause self.old.limits self.old.world event.now ≡ None) }
@@ -130,17 +153,9 @@ impl Table {
         ensures ones { IfOk result (λ touch. AllTouched (λ cpu change. IsOfOne change) touch) }
         ensures moment { IfOk result (λ touch. AllTouched (λ cpu change. change.at ≡ event.now.at) touch) }
     {
-        if let Some(cause) = self.check(event) {
-            return Err(Fault::Refused(cause));
-        }
         let old = task_before(&self.tasks, &self.running, &event.act);
         let new = task_after(&event.act, old);
-        if apply(&mut self.tasks, &mut self.running, &event.act).is_err() {
-            return Err(Fault::NoMemory);
-        }
-        self.lines += 1;
-        self.last = event.at;
-        self.ended = has_ended(self.ended, &event.act);
+        self.play(event)?;
         Ok(touch_of(event.at, &event.act, old, new, &self.tasks, &self.running))
     }
 

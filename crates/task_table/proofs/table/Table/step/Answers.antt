@@ -1,50 +1,25 @@
-use Rattle.std.proofs.Common.{rules, ◌≡◌, sym, refl, [], ◌∷◌, ◌++◌, length, take, drop}
-use Rattle.std.proofs.Math.Seq.{take-append_seam}
-use Rattle.psi_spec.specs.World.{tasks_after, root}
-use Rattle.task_table.proofs.CauseLaws as causes
+use Rattle.std.proofs.Common.{◌≡◌, sym, refl, [], ◌∷◌, ap, ◌∙◌}
+use Rattle.psi_spec.specs.World.{World, after_event, tasks_after, root}
+use Rattle.task_table.specs.Stands.{TableView}
 use Rattle.task_table.proofs.Touching as touching
 use Rattle.task_table.proofs.table.Table.step.Goals as goal
 
-pub apply-requires-clause-built : goal.apply-requires-clause-built
-apply-requires-clause-built c = (causes.let_through _ _ _ (sym c.in_default.ensures.cause)).0
-
-pub apply-requires-clause-legal : goal.apply-requires-clause-legal
-apply-requires-clause-legal c =
-    let legal = (causes.let_through c.args.self.now.limits c.args.self.now.world c.args.event.now (sym c.in_default.ensures.cause)).1 in
-    rw c.deref_mut.ensures.value (rw (← c.self.view_is) at legal)
-
-pub returns-clause-world : goal.returns-clause-world
-returns-clause-world c =
-    let built = (causes.let_through c.args.self.now.limits c.args.self.now.world c.args.event.now (sym c.in_default.ensures.cause)).0 in
-    let same : c.apply.new.tasks ≡ tasks_after (root ∷ []) c.self.inside.tasks c.args.event.now.act = search rules in
-    rw (causes.after_built c.args.self.now.world c.args.event.now built, ← c.self.view_is, same, c.has_ended-self-inside.ensures) refl
-
-pub invariant_of-self-2 : goal.invariant_of-self-2
-invariant_of-self-2 c =
-    let same : c.apply.new.tasks ≡ tasks_after (root ∷ []) c.self.inside.tasks c.args.event.now.act = search rules in
-    let kept : take c.self.inside.running.len (c.apply.new.running ++ drop (length c.apply.new.running) c.self.inside.running.items) ≡ c.apply.new.running = rw (let size : c.self.inside.running.len ≡ length c.apply.new.running = search rules in size) (take-append_seam _ _) in
-    let count : length (take c.self.inside.running.len (c.apply.new.running ++ drop (length c.apply.new.running) c.self.inside.running.items)) ≡ length c.self.inside.running.items = search rules in
-    let legal = rw (← c.self.view_is) at (sym c.in_default.ensures.cause) in
-    record {
-      few = search rules;
-      index = rw kept c.apply.ensures.index;
-      cpus = rw count c.self.invariant.cpus;
-      within = touching.tasks_within _ _ c.args.event.now refl legal _ count c.self.invariant.within c.apply.new.tasks same;
-    }
-
 pub returns-clause-touch : goal.returns-clause-touch
 returns-clause-touch c =
-    let same : c.apply.new.tasks ≡ tasks_after (root ∷ []) c.self.inside.tasks c.args.event.now.act = search rules in
-    rw (← c.self.view_is) (touching.touch_is _ c.args.event.now refl c.apply.new.tasks c.task_before-old.result c.task_after-new.result c.touch_of.result c.task_before-old.ensures (c.task_after-new.ensures _ c.task_before-old.ensures) same c.touch_of.ensures.told c.touch_of.ensures.beside)
+    let same : c.self-2.inside.tasks ≡ tasks_after (root ∷ []) c.self.inside.tasks c.args.event.now.act =
+    ap (λ (v : TableView). v.world.tasks) c.self-2.view_is
+    ∙ ap (λ (w : World). w.tasks) c.in_ok-play.ensures.world
+    ∙ ap (λ (v : TableView). (after_event v.world c.args.event.now).tasks) (sym c.self.view_is) in
+    rw (← c.self.view_is) (touching.touch_is _ c.args.event.now refl c.self-2.inside.tasks c.task_before-old.result c.task_after-new.result c.touch_of.result c.task_before-old.ensures (c.task_after-new.ensures _ c.task_before-old.ensures) same c.touch_of.ensures.told c.touch_of.ensures.beside)
 
 pub returns-clause-cpus : goal.returns-clause-cpus
-returns-clause-cpus c = (touching.touch_within c.args.self.now.limits c.args.self.now.world c.args.event.now c.touch_of.result (sym c.in_default.ensures.cause) (rw (← c.self.view_is) c.self.invariant.within) (returns-clause-touch c)).cpus
+returns-clause-cpus c = (touching.touch_within c.args.self.now.limits c.args.self.now.world c.args.event.now c.touch_of.result c.in_ok-play.ensures.legal (rw (← c.self.view_is) c.self.invariant.within) (returns-clause-touch c)).cpus
 
 pub returns-clause-slots : goal.returns-clause-slots
-returns-clause-slots c = (touching.touch_within c.args.self.now.limits c.args.self.now.world c.args.event.now c.touch_of.result (sym c.in_default.ensures.cause) (rw (← c.self.view_is) c.self.invariant.within) (returns-clause-touch c)).slots
+returns-clause-slots c = (touching.touch_within c.args.self.now.limits c.args.self.now.world c.args.event.now c.touch_of.result c.in_ok-play.ensures.legal (rw (← c.self.view_is) c.self.invariant.within) (returns-clause-touch c)).slots
 
 pub returns-clause-ones : goal.returns-clause-ones
-returns-clause-ones c = (touching.touch_within c.args.self.now.limits c.args.self.now.world c.args.event.now c.touch_of.result (sym c.in_default.ensures.cause) (rw (← c.self.view_is) c.self.invariant.within) (returns-clause-touch c)).ones
+returns-clause-ones c = (touching.touch_within c.args.self.now.limits c.args.self.now.world c.args.event.now c.touch_of.result c.in_ok-play.ensures.legal (rw (← c.self.view_is) c.self.invariant.within) (returns-clause-touch c)).ones
 
 pub returns-clause-moment : goal.returns-clause-moment
-returns-clause-moment c = (touching.touch_within c.args.self.now.limits c.args.self.now.world c.args.event.now c.touch_of.result (sym c.in_default.ensures.cause) (rw (← c.self.view_is) c.self.invariant.within) (returns-clause-touch c)).moments
+returns-clause-moment c = (touching.touch_within c.args.self.now.limits c.args.self.now.world c.args.event.now c.touch_of.result c.in_ok-play.ensures.legal (rw (← c.self.view_is) c.self.invariant.within) (returns-clause-touch c)).moments
