@@ -14,7 +14,7 @@ use std::marker::Model;
 const PERIOD: Ns = 2_000_000_000;
 
 /// How many states have averages: all but nonidle.
-const STATES: usize = 6;
+const PRESSURE_STATES: usize = 6;
 
 /// By how much an average over 10, 60 and 300 seconds decays in a period.
 const FACTORS: [u64; 3] = [1677, 1981, 2034];
@@ -28,9 +28,9 @@ pub struct Averages {
     /// The moment from which the next update is due (ns).
     next: Ns,
     /// How much of each total was sampled so far (ns).
-    sampled: [u64; STATES],
+    sampled: [u64; PRESSURE_STATES],
     /// The three averages of each state.
-    averages: [[u64; 3]; STATES],
+    averages: [[u64; 3]; PRESSURE_STATES],
 }
 
 impl Model for Averages {
@@ -44,23 +44,27 @@ impl Model for Averages {
 }
 
 /// What is sampled of each total in this time (ns): what wasn't yet, and at most the time.
-fn samples_of(time: Ns, sampled: &[u64; STATES], totals: &[u64; STATES]) -> [u64; STATES]
+fn samples_of(
+    time: Ns,
+    sampled: &[u64; PRESSURE_STATES],
+    totals: &[u64; PRESSURE_STATES],
+) -> [u64; PRESSURE_STATES]
     ensures value { result ≡ model.samples_of time sampled.now totals.now }
     ensures fits { (k : ℕ) → k < 6 → slice_index sampled.now k + slice_index result k < 2 ^ 64 }
 {
-    let mut samples = [0u64; STATES];
-    'each: for i in 0..STATES {
+    let mut samples = [0u64; PRESSURE_STATES];
+    'each: for i in 0..PRESSURE_STATES {
         samples[i] = totals[i].saturating_sub(sampled[i]).min(time);
     }
     samples
 }
 
 /// Adds the samples to what was sampled before.
-fn add_samples(sampled: &mut [u64; STATES], samples: &[u64; STATES])
+fn add_samples(sampled: &mut [u64; PRESSURE_STATES], samples: &[u64; PRESSURE_STATES])
     requires { (k : ℕ) → k < 6 → slice_index sampled.old k + slice_index samples.now k < 2 ^ 64 }
     ensures { sampled.new ≡ zip_with (λ sampled sample. sampled + sample) sampled.old samples.now }
 {
-    'each: for i in 0..STATES {
+    'each: for i in 0..PRESSURE_STATES {
         sampled[i] += samples[i];
     }
 }
@@ -110,7 +114,12 @@ fn row_after(missed: u64, decays: &[u64; 3], row: &[u64; 3], percent: u64) -> [u
 }
 
 /// Updates the averages of all states with their samples over this time (ns).
-fn update_rows(rows: &mut [[u64; 3]; STATES], missed: u64, time: Ns, samples: &[u64; STATES])
+fn update_rows(
+    rows: &mut [[u64; 3]; PRESSURE_STATES],
+    missed: u64,
+    time: Ns,
+    samples: &[u64; PRESSURE_STATES],
+)
     requires time { 0 < time }
     requires short { time ≤ 4000000000 }
     requires samples { All (λ sample. sample ≤ time) samples.now }
@@ -119,25 +128,8 @@ fn update_rows(rows: &mut [[u64; 3]; STATES], missed: u64, time: Ns, samples: &[
     ensures rows { All (λ row. IsRow row) rows.new }
 {
     let decays = decays_of(missed);
-    'each: for i in 0..STATES {
+    'each: for i in 0..PRESSURE_STATES {
         rows[i] = row_after(missed, &decays, &rows[i], samples[i] * 100 / time);
-    }
-}
-
-/// The place of a state in the lists of averages.
-fn place_of(state: State) -> usize
-    requires { state ≢ state_of.Nonidle }
-    ensures value { result ≡ number_of state }
-    ensures within { result < 6 }
-{
-    match state {
-        State::IoSome => 0,
-        State::IoFull => 1,
-        State::MemSome => 2,
-        State::MemFull => 3,
-        State::CpuSome => 4,
-        State::CpuFull => 5,
-        State::Nonidle => unreachable!(),
     }
 }
 
@@ -150,8 +142,8 @@ impl Averages {
         Averages {
             last: at,
             next: at + PERIOD,
-            sampled: [0; STATES],
-            averages: [[0; 3]; STATES],
+            sampled: [0; PRESSURE_STATES],
+            averages: [[0; 3]; PRESSURE_STATES],
         }
     }
 
@@ -181,6 +173,6 @@ impl Averages {
         ensures value { result ≡ slice_index_or self.now.averages (number_of state) [] }
         ensures most { All (λ average. average ≤ 204800) result }
     {
-        self.averages[place_of(state)]
+        self.averages[state as usize]
     }
 }

@@ -1,8 +1,13 @@
 -- Tasks by their numbers: what is found after a change, and that what is found tells all.
-use Rattle.std.proofs.Common.{◌≡◌, ℕ, ap, ◌∙◌, cond, None, Some, ◌==◌}
+use Rattle.std.proofs.Common.{◌≡◌, ℕ, List, [], ◌∷◌, ap, ◌∙◌, sym, arith, cond, Bool, true, false, Option, None, Some, ◌==◌}
+use Rattle.std.specs.Prelude.{T, ◌&&◌}
+use Rattle.std.specs.Ordering.{nat_cmp, is_lt}
 use Rattle.std.specs.Cmp.{nat_cmp_total, unsigned_tied}
+use Rattle.std.specs.List.{AllByRecursion}
+use Rattle.std.proofs.lemmas.Bool.Decides.{nat_tests}
+use Rattle.std.proofs.lemmas.List.{nil_from_length}
 use Rattle.std.specs.FinMap as tasks_by
-use Rattle.psi_spec.specs.World.{Tasks, task_of, put, remove}
+use Rattle.psi_spec.specs.World.{Tasks, no_tasks, placed, task_of, put, remove}
 use Rattle.psi_spec.specs.declared.machine.Task.{Task}
 
 -- after a task was put, it is found under its number, and the others as before
@@ -16,3 +21,60 @@ get_remove tasks k q = tasks_by.get-remove nat_cmp_total tasks k q ∙ ap (λ b.
 -- tasks among which the same is found under each number are the same
 pub same_tasks : (a b : Tasks) → ((q : ℕ) → task_of a q ≡ task_of b q) → a ≡ b
 same_tasks a b h = tasks_by.same_map nat_cmp_total tasks_by.nat_cmp-IsAntisymmetric a b h
+
+-- ---- another task, or none, under a number
+
+-- what is found after a task was put or removed
+pub task_placed : (tasks : Tasks) (p : ℕ) (x : Option Task) (q : ℕ) → task_of (placed tasks p x) q ≡ cond (q == p) x (task_of tasks q)
+task_placed tasks p None q = get_remove tasks p q
+task_placed tasks p (Some t) q = get_put tasks p t q
+
+-- no task has no entry
+pub no_entries : tasks_by.entries no_tasks ≡ []
+no_entries = nil_from_length (tasks_by.entries no_tasks) (sym (tasks_by.len-entries no_tasks) ∙ tasks_by.len-empty nat_cmp Task)
+
+-- ---- entries stand in order
+
+-- a number is equal to itself
+pub itself : (k : ℕ) → (k == k) ≡ true
+itself k = grind (arith, nat_tests)
+
+-- the first of two tests that hold
+pub firstT : (a b : Bool) → T (a && b) → T a
+firstT true b p = tt
+firstT false b p = p
+
+-- the second of two tests that hold
+pub secondT : (a b : Bool) → T (a && b) → T b
+secondT true b p = p
+secondT false b p = absurd p
+
+-- std's test, which has no name outside
+abbrev pub lower : ℕ → List (ℕ × Task) → Bool
+lower x [] = true
+lower x (e ∷ es) = is_lt (nat_cmp x e.0) && lower x es
+
+-- a later number is not the first
+over : (x e : ℕ) → T (is_lt (nat_cmp x e)) → (e == x) ≡ false
+over x e h = grind (arith, nat_tests)
+
+-- what the tail gives, the whole gives too
+found_after : (x : ℕ × Task) (es fs : List (ℕ × Task)) → T (lower x.0 fs) → AllByRecursion (λ e. tasks_by.find nat_cmp e.0 es ≡ Some e.1) fs → AllByRecursion (λ e. tasks_by.find nat_cmp e.0 (x ∷ es) ≡ Some e.1) fs
+found_after x es [] b h = tt
+found_after x es (f ∷ fs) b h =
+    (ap (λ t. cond t (Some x.1) (tasks_by.find nat_cmp f.0 es)) (unsigned_tied f.0 x.0 ∙ over x.0 f.0 (firstT (is_lt (nat_cmp x.0 f.0)) (lower x.0 fs) b)) ∙ h.0, found_after x es fs (secondT (is_lt (nat_cmp x.0 f.0)) (lower x.0 fs) b) h.1)
+
+-- entries in order give each entry's task under its number
+found_all : (es : List (ℕ × Task)) → T (tasks_by.is_sorted nat_cmp es) → AllByRecursion (λ e. tasks_by.find nat_cmp e.0 es ≡ Some e.1) es
+found_all [] s = tt
+found_all (e ∷ es) s =
+    (ap (λ t. cond t (Some e.1) (tasks_by.find nat_cmp e.0 es)) (unsigned_tied e.0 e.0 ∙ itself e.0), found_after e es es (firstT (lower e.0 es) (tasks_by.is_sorted nat_cmp es) s) (found_all es (secondT (lower e.0 es) (tasks_by.is_sorted nat_cmp es) s)))
+
+-- so do the tasks
+gets_all : (tasks : Tasks) (es : List (ℕ × Task)) → AllByRecursion (λ e. tasks_by.find nat_cmp e.0 (tasks_by.entries tasks) ≡ Some e.1) es → AllByRecursion (λ e. task_of tasks e.0 ≡ Some e.1) es
+gets_all tasks [] h = tt
+gets_all tasks (e ∷ es) h = (tasks_by.get-entries tasks e.0 ∙ h.0, gets_all tasks es h.1)
+
+-- tasks give each of their entries under its number
+pub found : (tasks : Tasks) → AllByRecursion (λ e. task_of tasks e.0 ≡ Some e.1) (tasks_by.entries tasks)
+found tasks = gets_all tasks (tasks_by.entries tasks) (found_all (tasks_by.entries tasks) (tasks_by.entries_sorted tasks))

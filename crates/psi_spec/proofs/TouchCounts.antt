@@ -14,7 +14,7 @@ use Rattle.psi_spec.specs.World.{Tasks, task_of, put, remove, test_task, task_pa
 use Rattle.psi_spec.specs.Counts.{how_many}
 use Rattle.psi_spec.specs.Touch.{changed, left_if}
 use Rattle.psi_spec.proofs.CountLaws.{one, how_many-cons}
-use Rattle.psi_spec.proofs.TaskLaws.{get_put, get_remove, same_tasks}
+use Rattle.psi_spec.proofs.TaskLaws.{firstT, found, get_put, get_remove, itself, lower, same_tasks, secondT}
 
 -- ---- counts as sums
 
@@ -42,30 +42,11 @@ tallied_both within test (task ∷ tasks) =
       | false ↦ omega (arith, rest)
     ]
 
--- ---- entries in order
-
--- the first of two tests that hold
-firstT : (a b : Bool) → T (a && b) → T a
-firstT true b p = tt
-firstT false b p = p
-
--- the second of two tests that hold
-secondT : (a b : Bool) → T (a && b) → T b
-secondT true b p = p
-secondT false b p = absurd p
-
--- std's test, which has no name outside
-abbrev lower : ℕ → List (ℕ × Task) → Bool
-lower x [] = true
-lower x (e ∷ es) = is_lt (nat_cmp x e.0) && lower x es
+-- ---- an entry put among those in order
 
 -- a number below the first is not a later one
 above : (k x y : ℕ) → nat_cmp k x ≡ Less → T (is_lt (nat_cmp x y)) → (k == y) ≡ false
 above k x y h t = grind (arith, nat_tests)
-
--- a later number is not the first
-over : (x e : ℕ) → T (is_lt (nat_cmp x e)) → (e == x) ≡ false
-over x e h = grind (arith, nat_tests)
 
 -- no entry has a number below the first
 none_above : (k x : ℕ) (es : List (ℕ × Task)) → nat_cmp k x ≡ Less → T (lower x es) → fin.find nat_cmp k es ≡ None
@@ -104,10 +85,6 @@ pub counted_put : (p : Task → Bool) (tasks : Tasks) (k : ℕ) (t : Task) → c
 counted_put p tasks k t =
     rw (fin.entries-insert nat_cmp_total tasks k t, fin.get-entries tasks k) (count_put p k t (fin.entries tasks) (fin.entries_sorted tasks))
 
--- a number is equal to itself
-itself : (k : ℕ) → (k == k) ≡ true
-itself k = grind (arith, nat_tests)
-
 -- a task that is removed and put back is found as before
 put_back : (tasks : Tasks) (k : ℕ) (t : Task) → task_of tasks k ≡ Some t → (q : ℕ) → task_of (put (remove tasks k) k t) q ≡ task_of tasks q
 put_back tasks k t is q =
@@ -136,29 +113,12 @@ pub counted_placed : (p : Task → Bool) (tasks : Tasks) (k : ℕ) (x : Option T
 counted_placed p tasks k None = let less = counted_remove p tasks k in omega (arith, less)
 counted_placed p tasks k (Some t) = counted_put p tasks k t
 
--- what is found after a task was put or removed
-pub task_placed : (tasks : Tasks) (p : ℕ) (x : Option Task) (q : ℕ) → task_of (placed tasks p x) q ≡ cond (q == p) x (task_of tasks q)
-task_placed tasks p None q = get_remove tasks p q
-task_placed tasks p (Some t) q = get_put tasks p t q
-
 -- the task with a number changes, if there is one
 pub counted_changed : (p : Task → Bool) (tasks : Tasks) (pid : ℕ) (f : Task → Task) (o : Option Task) → task_of tasks pid ≡ o → counted p (change_to tasks pid f o) + one (test_task o p) ≡ counted p tasks + one (test_task (changed f o) p)
 counted_changed p tasks pid f None is = refl
 counted_changed p tasks pid f (Some t) is = rw is at (counted_put p tasks pid (f t))
 
--- ---- what a search finds stands under its number
-
--- what the tail gives, the whole gives too
-found_after : (x : ℕ × Task) (es fs : List (ℕ × Task)) → T (lower x.0 fs) → AllByRecursion (λ e. fin.find nat_cmp e.0 es ≡ Some e.1) fs → AllByRecursion (λ e. fin.find nat_cmp e.0 (x ∷ es) ≡ Some e.1) fs
-found_after x es [] b h = tt
-found_after x es (f ∷ fs) b h =
-    (ap (λ t. cond t (Some x.1) (fin.find nat_cmp f.0 es)) (unsigned_tied f.0 x.0 ∙ over x.0 f.0 (firstT (is_lt (nat_cmp x.0 f.0)) (lower x.0 fs) b)) ∙ h.0, found_after x es fs (secondT (is_lt (nat_cmp x.0 f.0)) (lower x.0 fs) b) h.1)
-
--- entries in order give each entry's task under its number
-found_all : (es : List (ℕ × Task)) → T (fin.is_sorted nat_cmp es) → AllByRecursion (λ e. fin.find nat_cmp e.0 es ≡ Some e.1) es
-found_all [] s = tt
-found_all (e ∷ es) s =
-    (ap (λ t. cond t (Some e.1) (fin.find nat_cmp e.0 es)) (unsigned_tied e.0 e.0 ∙ itself e.0), found_after e es es (firstT (lower e.0 es) (fin.is_sorted nat_cmp es) s) (found_all es (secondT (lower e.0 es) (fin.is_sorted nat_cmp es) s)))
+-- ---- the running task
 
 -- what a search finds passes its test, and is as all are
 find_has : (P : ℕ × Task → Type 0) (test : ℕ × Task → Bool) (es : List (ℕ × Task)) (e : ℕ × Task) → AllByRecursion P es → find test es ≡ Some e → P e × (test e ≡ true)
@@ -171,9 +131,7 @@ find_has P test (x ∷ es) e h is =
 
 -- the running task of a processor is there, and runs there
 pub running_found : (tasks : Tasks) (cpu : ℕ) (e : ℕ × Task) → running_on tasks cpu ≡ Some e → (task_of tasks e.0 ≡ Some e.1) × (is_running_on cpu e.1 ≡ true)
-running_found tasks cpu e is =
-    let h = find_has (λ e. fin.find nat_cmp e.0 (fin.entries tasks) ≡ Some e.1) (λ e. is_running_on cpu e.1) (fin.entries tasks) e (found_all (fin.entries tasks) (fin.entries_sorted tasks)) is in
-    (fin.get-entries tasks e.0 ∙ h.0, h.1)
+running_found tasks cpu e is = find_has (λ e. task_of tasks e.0 ≡ Some e.1) (λ e. is_running_on cpu e.1) (fin.entries tasks) e (found tasks) is
 
 -- the running task leaves, if there is one
 pub counted_leave : (p : Task → Bool) (tasks : Tasks) (cpu : ℕ) (how : How) (o : Option (ℕ × Task)) → running_on tasks cpu ≡ o → counted p (leave how tasks o) + one (test_task (task_part o) p) ≡ counted p tasks + one (test_task (left_if how (task_part o)) p)

@@ -1,9 +1,8 @@
 -- What a legal event does to counts of tasks, on the processors that it touches and on the others.
-use Rattle.std.proofs.Common.{◌≡◌, ℕ, ◌+◌, ◌≤◌, List, [], ◌∷◌, refl, ap, ◌∙◌, sym, Bool, true, false, arith, cond, Option, None, Some, nat_lt, ◌==◌, length, ⊎_elim}
+use Rattle.std.proofs.Common.{◌≡◌, ℕ, ◌+◌, ◌≤◌, List, [], ◌∷◌, refl, ap, ◌∙◌, sym, Bool, true, false, arith, cond, Option, None, Some, nat_lt, ◌==◌, ⊎_elim}
 use Rattle.std.specs.Prelude.{map, find, ◌&&◌, ◌||◌, not, if◌then◌else◌, is_some}
 use Rattle.std.specs.List.{AllByRecursion, list_any}
 use Rattle.std.specs.FinMap as fin
-use Rattle.std.specs.Ordering.{nat_cmp}
 use Rattle.std.proofs.lemmas.Bool.Decides.{nat_tests, eqb_tells}
 use Rattle.psi_base.specs.declared.event.How.{How}
 use Rattle.psi_base.specs.declared.event.How.TheVariants.{Preempt, Sleep, IoWait, Exit, Idle}
@@ -18,13 +17,14 @@ use Rattle.psi_spec.specs.declared.machine.Change.{Change}
 use Rattle.psi_spec.specs.declared.machine.Counts.{Counts}
 use Rattle.psi_spec.specs.declared.machine.Mode.{Mode}
 use Rattle.psi_spec.specs.declared.machine.Mode.TheVariants.{Blocked, Waiting, Ready, Running}
-use Rattle.psi_spec.specs.World.{World, Limits, Tasks, no_tasks, task_of, test_task, task_part, change_to, leave, left_by, start, running_on, is_running_on, is_ready_on, is_running, is_ready, is_waiting, is_active, tasks_after, after_event, new_task, readied}
+use Rattle.psi_spec.specs.World.{World, Limits, Tasks, task_of, test_task, task_part, change_to, leave, left_by, start, running_on, is_running_on, is_ready_on, is_running, is_ready, is_waiting, is_active, tasks_after, after_event, new_task, readied}
 use Rattle.psi_spec.specs.Refusal.{cause_of, check_cause, is_built, stands, order, is_wrong, isnt_ready}
 use Rattle.psi_spec.specs.Stall.{is_under, is_in, tasks_in, waits, stalls, is_up, runs}
 use Rattle.psi_spec.specs.Counts.{how_many, counts_among, is_up_stalled, runs_stalled}
 use Rattle.psi_spec.specs.Touch.{changed, before, after_of, is_at, touched, part, shown, change_on, change_of, no_counts, on_chain, RunsOnce, is_current_in, is_current_stalled, CountsFollow, RunsOnceFirst, RunsOnceKept, CurrentTells, StaysUntouched}
 use Rattle.psi_spec.proofs.CountLaws.{one, how_many-cons, any_counted}
-use Rattle.psi_spec.proofs.TouchCounts.{tally, tallied, tallied_both, counted, counted_put, counted_changed, counted_leave, running_found, task_placed}
+use Rattle.psi_spec.proofs.TaskLaws.{no_entries, task_placed}
+use Rattle.psi_spec.proofs.TouchCounts.{tally, tallied, tallied_both, counted, counted_put, counted_changed, counted_leave, running_found}
 
 -- ---- what the absence of a cause says
 
@@ -76,7 +76,7 @@ is_none None h = refl
 is_none (Some x) h = cc h
 
 -- the first of two tests that hold
-first_true : (a b : Bool) → (a && b) ≡ true → a ≡ true
+pub first_true : (a b : Bool) → (a && b) ≡ true → a ≡ true
 first_true true b h = refl
 first_true false b h = h
 
@@ -105,7 +105,7 @@ not_both None cpu r s = cc r
 not_both (Some t) cpu r s = ready_off t.mode (second_true (t.cpu.0 == cpu) (is_ready t.mode) r) (second_true (t.cpu.0 == cpu) (is_running t.mode) s)
 
 -- a ready task stays as it is when the running one leaves
-ready_left : (tasks : Tasks) (cpu : ℕ) (how : How) (q : ℕ) → test_task (task_of tasks q) (is_ready_on cpu) ≡ true → (o : Option (ℕ × Task)) → running_on tasks cpu ≡ o → task_of (leave how tasks o) q ≡ task_of tasks q
+pub ready_left : (tasks : Tasks) (cpu : ℕ) (how : How) (q : ℕ) → test_task (task_of tasks q) (is_ready_on cpu) ≡ true → (o : Option (ℕ × Task)) → running_on tasks cpu ≡ o → task_of (leave how tasks o) q ≡ task_of tasks q
 ready_left tasks cpu how q ready None is = refl
 ready_left tasks cpu how q ready (Some e) is =
     let f = running_found tasks cpu e is in
@@ -478,15 +478,6 @@ once_act limits w at (act.Mem path current swap scan) legal once c = once c
 once_act limits w at (act.Host mem_total swap_total swap_free) legal once c = once c
 once_act limits w at (act.Trigger path res level threshold_us window_us) legal once c = once c
 once_act limits w at act.End legal once c = once c
-
--- a list of no length
-no_length : (es : List (ℕ × Task)) → length es ≡ 0 → es ≡ []
-no_length [] h = refl
-no_length (e ∷ es) h = absurd (omega (arith, h))
-
--- no task has no entry
-no_entries : fin.entries no_tasks ≡ []
-no_entries = no_length (fin.entries no_tasks) (sym (fin.len-entries no_tasks) ∙ fin.len-empty nat_cmp Task)
 
 -- no task runs at first
 pub runs_once_first : RunsOnceFirst

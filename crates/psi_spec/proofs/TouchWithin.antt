@@ -23,10 +23,11 @@ use Rattle.psi_spec.specs.World.{World, Limits, Tasks, task_of, test_task, task_
 use Rattle.psi_spec.specs.Refusal.{cause_of, named_cpu}
 use Rattle.psi_spec.specs.Stall.{tasks_in, waits, stalls, is_up}
 use Rattle.psi_spec.specs.Counts.{how_many, counts_among, is_up_stalled, IsRunningTold}
-use Rattle.psi_spec.specs.Touch.{changed, left_if, before, after_of, is_at, touched, part, shown, change_on, change_of, told_first, IsBeside, IsTouch, AllTouched, HasSlotsBelow, AreAtMostOne, IsOfOne, AreWithin, WithinFirst, WithinKept, ChangesAreWithin, on_chain, Follows, is_current_in, is_current_stalled, ChangeTells, TouchesItsOwn}
+use Rattle.psi_spec.specs.Touch.{changed, left_if, before, after_of, is_at, touched, part, shown, change_on, change_of, told_first, IsBeside, IsTouch, AllTouched, HasSlotsBelow, AreAtMost, IsOfOne, AreWithin, WithinFirst, WithinKept, ChangesAreWithin, on_chain, Follows, is_current_in, is_current_stalled, ChangeTells, TouchesItsOwn}
 use Rattle.psi_spec.proofs.CountLaws.{one, how_many-cons}
-use Rattle.psi_spec.proofs.TouchCounts.{running_found, task_placed}
-use Rattle.psi_spec.proofs.TouchLaws.{none_stands, counts_follow, current_tells, runs_once_kept}
+use Rattle.psi_spec.proofs.TaskLaws.{itself, task_placed}
+use Rattle.psi_spec.proofs.TouchCounts.{running_found}
+use Rattle.psi_spec.proofs.TouchLaws.{first_true, none_stands, counts_follow, current_tells, runs_once_kept}
 
 -- a task, if there is one, is on one of so many processors and in one of so many slots
 abbrev Fits : ℕ → ℕ → Option Task → Type 0
@@ -224,13 +225,13 @@ one_at_most kind t =
     rw (how_many-cons kind t []) (elim (kind t) as (λ b. one b + 0 ≤ 1) [ true ↦ omega arith | false ↦ omega arith ])
 
 -- so it is in all four counts
-one_task : (t : Task) → AreAtMostOne (counts_among (t ∷ []))
+one_task : (t : Task) → AreAtMost 1 (counts_among (t ∷ []))
 one_task t = record { io = one_at_most waits t; stalled = one_at_most stalls t; running = one_at_most is_up t; stalled_running = one_at_most is_up_stalled t }
 
 -- so it is of a part
-part_one : (cpu : ℕ) (o : Option Task) → IfSome (part cpu o) (λ p. AreAtMostOne p.1)
+part_one : (cpu : ℕ) (o : Option Task) → IfSome (part cpu o) (λ p. AreAtMost 1 p.1)
 part_one cpu None = tt
-part_one cpu (Some t) = elim (is_at cpu t) as (λ b. IfSome {T = Slot × Counts} (if b then Some (t.slot, counts_among (t ∷ [])) else None) (λ p. AreAtMostOne p.1)) [ true ↦ one_task t | false ↦ tt ]
+part_one cpu (Some t) = elim (is_at cpu t) as (λ b. IfSome {T = Slot × Counts} (if b then Some (t.slot, counts_among (t ∷ [])) else None) (λ p. AreAtMost 1 p.1)) [ true ↦ one_task t | false ↦ tt ]
 
 -- what a test lets through
 is_then : (b : Bool) (change other : Change) → (if b then Some change else None) ≡ Some other → (b ≡ true) × (change ≡ other)
@@ -255,10 +256,6 @@ changes_are_within limits w event legal within cpu change is =
     (touched_room limits w event.at event.act legal within cpu both.0, subst (HasSlotsBelow (length w.groups)) both.1 slots, subst IsOfOne both.1 ones, ap (λ (c : Change). c.at) (sym both.1))
 
 -- ---- what is so of each change of a processor is so of each in a touch
-
--- a number is equal to itself
-itself : (n : ℕ) → (n == n) ≡ true
-itself n = grind (arith, nat_tests)
 
 -- other processors have other numbers
 others_differ : (first second : Cpu) → first ≢ second → (first.0 == second.0) ≡ false
@@ -312,11 +309,6 @@ or_first a b is = rw is refl
 or_second : (a b : Bool) → b ≡ true → (a || b) ≡ true
 or_second true b is = refl
 or_second false b is = is
-
--- both of two tests hold, so the first
-first_true : (a b : Bool) → (a && b) ≡ true → a ≡ true
-first_true true b is = refl
-first_true false b is = is
 
 -- the processor that an act names
 touches_named : (w : World) (a : Act) (cpu : ℕ) → named_cpu a ≡ Some cpu → touched a (before w.tasks a) cpu ≡ true

@@ -144,17 +144,17 @@ pub record HasSlotsBelow (slots : ℕ) (change : Change) : Type 0 where
   pub plus : IfSome change.plus (λ part. part.0.0 < slots)
   pub current : IfSome change.current (λ current. current.0.0 < slots)
 
--- no count is more than 1
-pub record AreAtMostOne (counts : Counts) : Type 0 where
-  pub io : counts.io ≤ 1
-  pub stalled : counts.stalled ≤ 1
-  pub running : counts.running ≤ 1
-  pub stalled_running : counts.stalled_running ≤ 1
+-- each count is at most so much
+pub record AreAtMost (most : ℕ) (counts : Counts) : Type 0 where
+  pub io : counts.io ≤ most
+  pub stalled : counts.stalled ≤ most
+  pub running : counts.running ≤ most
+  pub stalled_running : counts.stalled_running ≤ most
 
 -- a change takes and adds the counts of one task each
 pub record IsOfOne (change : Change) : Type 0 where
-  pub minus : IfSome change.minus (λ part. AreAtMostOne part.1)
-  pub plus : IfSome change.plus (λ part. AreAtMostOne part.1)
+  pub minus : IfSome change.minus (λ part. AreAtMost 1 part.1)
+  pub plus : IfSome change.plus (λ part. AreAtMost 1 part.1)
 
 -- ---- how counts follow
 

@@ -19,12 +19,13 @@ use Rattle.psi_spec.specs.Trace.{limits_of}
 use Rattle.psi_spec.specs.Counts.{counts_among, mask_holds}
 use Rattle.psi_spec.specs.Clock.{AreChangesOf, ClockView, IsInTime, MaskChange, advanced, change_mask, clock_from, opened, opened_time, zero_clock}
 use Rattle.psi_spec.specs.Share.{last_moment}
-use Rattle.psi_spec.specs.Touch.{AllTouched, AreAtMostOne, Follows, HasSlotsBelow, IsOfOne, IsTouch, no_counts}
+use Rattle.psi_spec.specs.Touch.{AllTouched, RunsOnce, AreAtMost, Follows, HasSlotsBelow, IsOfOne, IsTouch, no_counts}
 use Rattle.psi_spec.proofs.ClockLaws.{clock_tells_stall, map_states, no_longer_than_clock, opened_at}
+use Rattle.psi_spec.proofs.TouchLaws.{legal_of}
 use Rattle.replay_core.specs.Sums.{CanFollow, Turns, counts_in}
 use Rattle.replay_core.proofs.LineLaws.{after_from-push}
-use Rattle.replay_core.proofs.SumLaws.{legal_act, one_kept}
-use Rattle.replay_core.proofs.RootLaws.{IsRoot, first_root, root_follows, root_tasks, touch_told, turns_root}
+use Rattle.replay_core.proofs.SumLaws.{one_kept}
+use Rattle.replay_core.proofs.RootLaws.{IsRoot, first_root, root_follows, root_tasks, root_tasks_after, touch_told, turns_root}
 
 -- ---- changes, with one more
 
@@ -84,16 +85,9 @@ changes_with changes cpu slot events event mask are told = record {
 
 -- ---- counts stay small
 
--- each count is at most so much
-pub record AreAtMost (most : ℕ) (counts : Counts) : Type 0 where
-  pub io : counts.io ≤ most
-  pub stalled : counts.stalled ≤ most
-  pub running : counts.running ≤ most
-  pub stalled_running : counts.stalled_running ≤ most
-
-side_small : (side : Option (Slot × Counts)) → IfSome side (λ p. AreAtMostOne p.1) → AreAtMost 1 (counts_in side)
+side_small : (side : Option (Slot × Counts)) → IfSome side (λ p. AreAtMost 1 p.1) → AreAtMost 1 (counts_in side)
 side_small None one = record { io = omega arith; stalled = omega arith; running = omega arith; stalled_running = omega arith }
-side_small (Some p) one = record { io = one.io; stalled = one.stalled; running = one.running; stalled_running = one.stalled_running }
+side_small (Some p) one = one
 
 grown : (old minus plus new most next : ℕ) → new + minus ≡ old + plus → old ≤ most → plus ≤ 1 → next ≡ most + 1 → new ≤ next
 grown old minus plus new most next is low one more = omega (arith, is, low, one, more)
@@ -136,25 +130,50 @@ pub record Sums (events : List Event) (w : World) (counts : Counts) (mask : ℕ)
   pub start : clock.start ≡ w.last
   pub bound : (state : State) → slice_index clock.times (number_of state) ≤ w.last
 
--- what a legal event's touch says of the one processor
-pub record Touches (limits : Limits) (w : World) (event : Event) (touch : Touch) : Type 0 where
+-- what a step says of a machine of one processor
+pub record Stepped (limits : Limits) (w w_after : World) (event : Event) (touch : Touch) : Type 0 where
   pub legal : cause_of limits w event ≡ None
   pub kept : (after_event w event).groups ≡ w.groups
-  pub told : IsTouch w event touch
+  pub next : w_after ≡ after_event w event
+  pub few : w_after.lines ≤ 4000000
+  pub later : w.last ≤ event.at
+  pub early : event.at ≤ last_moment
   pub one : limits.cpus ≡ 1
-  pub processors : AllTouched (λ cpu change. cpu < limits.cpus) touch
+  pub told : IsTouch w event touch
+  pub cpus : AllTouched (λ cpu change. cpu < limits.cpus) touch
   pub slots : AllTouched (λ cpu change. HasSlotsBelow (length w.groups) change) touch
-  pub counts : AllTouched (λ cpu change. IsOfOne change) touch
+  pub ones : AllTouched (λ cpu change. IsOfOne change) touch
+
+-- that is what the clauses of a step tell
+pub stepped : (limits limits_after : Limits) (w w_after : World) (event : Event) (touch : Touch) (tick cpus : ℕ) → limits ≡ limits_of tick cpus → tick ≤ 60000000000 → cpus ≡ 1
+    → limits_after ≡ limits → check_cause limits w event ≡ None → w_after ≡ after_event w event → w_after.lines ≤ 4000000 → w_after.last ≤ limits_after.latest → w.last ≤ w_after.last → IsTouch w event touch
+    → AllTouched (λ cpu change. cpu < limits.cpus) touch → AllTouched (λ cpu change. HasSlotsBelow (length w.groups) change) touch → AllTouched (λ cpu change. IsOfOne change) touch → Stepped limits w w_after event touch
+stepped limits limits_after w w_after event touch tick cpus limits_are short one same legal next few early later told within slots ones =
+    let moment : w_after.last ≡ event.at = ap (λ (v : World). v.last) next in
+    let latest : limits_after.latest ≡ 1000000 * tick = ap (λ (l : Limits). l.latest) (same ∙ limits_are) in
+    record {
+      legal = legal_of limits w event legal;
+      kept = one_kept limits w event legal;
+      next = next;
+      few = few;
+      later = omega (arith, later, moment);
+      early = omega (arith, early, moment, latest, short);
+      one = ap (λ (l : Limits). l.cpus) limits_are ∙ one;
+      told = told;
+      cpus = within;
+      slots = slots;
+      ones = ones;
+    }
 
 within_root : (first : Option (Cpu × Change)) (cpus slots : ℕ) → cpus ≡ 1 → slots ≡ 1 → IfSome first (λ f. f.0.0 < cpus) → IfSome first (λ f. HasSlotsBelow slots f.1) → IfSome first (λ f. (f.0.0 < 1) × HasSlotsBelow 1 f.1)
 within_root None cpus slots one alone below names = tt
 within_root (Some f) cpus slots one alone below names = (subst (λ n. f.0.0 < n) one below, subst (λ n. HasSlotsBelow n f.1) alone names)
 
 -- the first change, by what it takes and adds for the root
-first_follows : (limits : Limits) (w : World) (event : Event) (touch : Touch) (first : Option (Cpu × Change)) → Touches limits w event touch → touch.first ≡ first → IfSome first (λ f. (f.0.0 < 1) × HasSlotsBelow 1 f.1)
-    → IfSome first (λ f. Follows (counts_among (root_tasks w)) (counts_in f.1.minus) (counts_in f.1.plus) (counts_among (root_tasks (after_event w event))))
-first_follows limits w event touch None so is within = tt
-first_follows limits w event touch (Some f) so is within = root_follows limits w event f.1 so.legal so.kept (touch_told w event touch f.0 f.1 so.told is within.0) within.1
+first_follows : (limits : Limits) (w w_after : World) (event : Event) (touch : Touch) (first : Option (Cpu × Change)) → Stepped limits w w_after event touch → RunsOnce w.tasks → touch.first ≡ first → IfSome first (λ f. (f.0.0 < 1) × HasSlotsBelow 1 f.1)
+    → IfSome first (λ f. Follows (counts_among (root_tasks w)) (counts_in f.1.minus) (counts_in f.1.plus) (counts_among (root_tasks_after w event)))
+first_follows limits w w_after event touch None so once is within = tt
+first_follows limits w w_after event touch (Some f) so once is within = root_follows limits w event f.1 so.legal once (touch_told w event touch f.0 f.1 so.told is within.0) within.1
 
 can_turn : (first : Option (Cpu × Change)) (old counts new : Counts) (most : ℕ) → counts ≡ old → IfSome first (λ f. Follows old (counts_in f.1.minus) (counts_in f.1.plus) new) → IfSome first (λ f. IsOfOne f.1) → AreAtMost most counts → most ≤ 4000000
     → IfSome first (λ f. CanFollow counts (counts_in f.1.minus) (counts_in f.1.plus))
@@ -167,12 +186,14 @@ low_after None counts after mask mask_after most next turned one low more = subs
 low_after (Some f) counts after mask mask_after most next turned one low more =
     stays_small counts (counts_in f.1.minus) (counts_in f.1.plus) after most next turned.counts_follow low (side_small f.1.plus one.plus) more
 
-pub may_turn : (events : List Event) (limits : Limits) (w : World) (event : Event) (touch : Touch) (counts : Counts) (mask : ℕ) (clock : ClockView) → Sums events w counts mask clock → Touches limits w event touch
+-- the root's counts can follow a step
+pub may_turn : (events : List Event) (limits : Limits) (w w_after : World) (event : Event) (touch : Touch) (counts : Counts) (mask : ℕ) (clock : ClockView) → Sums events w counts mask clock → Stepped limits w w_after event touch
     → IfSome touch.first (λ f. CanFollow counts (counts_in f.1.minus) (counts_in f.1.plus))
-may_turn events limits w event touch counts mask clock sums so =
-    let within = within_root touch.first limits.cpus (length w.groups) so.one (ap length sums.groups) so.processors.0 so.slots.0 in
-    can_turn touch.first (counts_among (root_tasks w)) counts _ w.lines sums.root.counts_are (first_follows limits w event touch touch.first so refl within) so.counts.0 sums.low sums.few
+may_turn events limits w w_after event touch counts mask clock sums so =
+    let within = within_root touch.first limits.cpus (length w.groups) so.one (ap length sums.groups) so.cpus.0 so.slots.0 in
+    can_turn touch.first (counts_among (root_tasks w)) counts _ w.lines sums.root.counts_are (first_follows limits w w_after event touch touch.first so sums.root.once refl within) so.ones.0 sums.low sums.few
 
+-- the root's clock may be taken to a moment
 pub is_in_time : (events : List Event) (w : World) (counts : Counts) (mask : ℕ) (clock : ClockView) (at : ℕ) → Sums events w counts mask clock → w.last ≤ at → at ≤ last_moment → IsInTime clock at
 is_in_time events w counts mask clock at sums later early = record {
   started = omega (arith, sums.start, later);
@@ -180,49 +201,31 @@ is_in_time events w counts mask clock at sums later early = record {
   times = λ state. omega (arith, sums.bound state, later, early);
 }
 
--- a legal event's touch, by what the table says of it
-pub touches : (limits : Limits) (w : World) (event : Event) (touch : Touch) → check_cause limits w event ≡ None → limits.cpus ≡ 1 → IsTouch w event touch
-    → AllTouched (λ cpu change. cpu < limits.cpus) touch → AllTouched (λ cpu change. HasSlotsBelow (length w.groups) change) touch → AllTouched (λ cpu change. IsOfOne change) touch → Touches limits w event touch
-touches limits w event touch legal one told processors slots counts = record {
-  legal = legal_act limits w event legal;
-  kept = one_kept limits w event legal;
-  told = told;
-  one = one;
-  processors = processors;
-  slots = slots;
-  counts = counts;
-}
-
--- no legal moment is behind the longest trace
-pub moment_fits : (limits : Limits) (tick cpus at : ℕ) → limits ≡ limits_of tick cpus → tick ≤ 60000000000 → at ≤ limits.latest → at ≤ last_moment
-moment_fits limits tick cpus at is short early =
-    let latest : limits.latest ≡ 1000000 * tick = ap (λ (l : Limits). l.latest) is in
-    omega (arith, latest, short, early)
-
+-- the sums after one event more
 pub turn : (events more : List Event) (limits : Limits) (w w_after : World) (event : Event) (touch : Touch) (counts after_counts : Counts) (mask mask_after : ℕ) (clock clock_after : ClockView)
-    → Sums events w counts mask clock → Touches limits w event touch → more ≡ events ++ event ∷ [] → w.last ≤ event.at → w_after ≡ after_event w event → w_after.lines ≤ 4000000 → event.at ≤ last_moment
+    → Sums events w counts mask clock → Stepped limits w w_after event touch → more ≡ events ++ event ∷ []
     → Turns counts mask touch.first after_counts mask_after → clock_after ≡ advanced clock event.at mask_after → Sums more w_after after_counts mask_after clock_after
-turn events more limits w w_after event touch counts after_counts mask mask_after clock clock_after sums so items later next few early turned clocked =
-    let within = within_root touch.first limits.cpus (length w.groups) so.one (ap length sums.groups) so.processors.0 so.slots.0 in
-    let root_after : IsRoot w_after after_counts mask_after = subst (λ v. IsRoot v after_counts mask_after) (sym next)
+turn events more limits w w_after event touch counts after_counts mask mask_after clock clock_after sums so items turned clocked =
+    let within = within_root touch.first limits.cpus (length w.groups) so.one (ap length sums.groups) so.cpus.0 so.slots.0 in
+    let root_after : IsRoot w_after after_counts mask_after = subst (λ v. IsRoot v after_counts mask_after) (sym so.next)
     (turns_root limits w event touch touch.first counts after_counts mask mask_after so.legal so.kept so.told refl within sums.root turned) in
-    let world : w_after ≡ after (events ++ event ∷ []) = next ∙ ap (λ v. after_event v event) sums.world ∙ sym (after_from-push first_world events event) in
-    let moment : w_after.last ≡ event.at = ap (λ (v : World). v.last) next in
-    let lines : w_after.lines ≡ w.lines + 1 = ap (λ (v : World). v.lines) next in
+    let world : w_after ≡ after (events ++ event ∷ []) = so.next ∙ ap (λ v. after_event v event) sums.world ∙ sym (after_from-push first_world events event) in
+    let moment : w_after.last ≡ event.at = ap (λ (v : World). v.last) so.next in
+    let lines : w_after.lines ≡ w.lines + 1 = ap (λ (v : World). v.lines) so.next in
     let are = changes_with sums.changes 0 0 events event mask_after sums.are (λ state. root_after.states_are state ∙ ap (holds state 0 0) world) in
     record {
       world = world ∙ ap after (sym items);
-      few = few;
-      early = omega (arith, moment, early);
-      groups = ap (λ (v : World). v.groups) next ∙ so.kept ∙ sums.groups;
+      few = so.few;
+      early = omega (arith, moment, so.early);
+      groups = ap (λ (v : World). v.groups) so.next ∙ so.kept ∙ sums.groups;
       root = root_after;
-      low = low_after touch.first counts after_counts mask mask_after w.lines w_after.lines turned so.counts.0 sums.low lines;
+      low = low_after touch.first counts after_counts mask mask_after w.lines w_after.lines turned so.ones.0 sums.low lines;
       changes = with_change sums.changes event.at mask_after;
       clock_is = clocked ∙ ap (λ c. advanced c event.at mask_after) sums.clock_is ∙ sym (clock_with zero_clock sums.changes event.at mask_after);
       are = subst (AreChangesOf (with_change sums.changes event.at mask_after) 0 0) (sym items) are;
       start = ap (λ (c : ClockView). c.start) clocked ∙ sym moment;
       bound = λ state. rw (clocked, moment, opened_at clock event.at state)
-          (no_longer_than_clock clock event.at state (omega (arith, sums.start, later)) (omega (arith, sums.bound state, sums.start)));
+          (no_longer_than_clock clock event.at state (omega (arith, sums.start, so.later)) (omega (arith, sums.bound state, sums.start)));
     }
 
 -- ---- the first world, and the last

@@ -10,15 +10,17 @@ use Rattle.psi_spec.specs.declared.machine.Counts.{Counts}
 use Rattle.psi_spec.specs.declared.machine.Change.{Change}
 use Rattle.psi_spec.specs.declared.machine.Task.{Task}
 use Rattle.psi_spec.specs.declared.machine.Touch.{Touch}
-use Rattle.psi_spec.specs.World.{World, Limits, after_event, first_world, root, running_on, tasks_after}
+use Rattle.psi_spec.specs.World.{World, Limits, after_event, first_world, root, running_on}
 use Rattle.psi_spec.specs.Refusal.{cause_of}
 use Rattle.psi_spec.specs.Stall.{holds, holds_of, is_in, is_under, parents_of, tasks_in}
-use Rattle.psi_spec.specs.Counts.{IsRunningTold, counts_among, mask_holds, tells}
-use Rattle.psi_spec.specs.Touch.{Follows, HasSlotsBelow, IsBeside, IsTouch, RunsOnce, after_of, before, change_of, change_on, is_current_in, is_current_stalled, no_counts, on_chain, part, shown, told_first, touched}
+use Rattle.psi_spec.specs.Counts.{counts_among, mask_holds, tells}
+use Rattle.psi_spec.specs.Touch.{Follows, HasSlotsBelow, IsBeside, IsTouch, RunsOnce, change_of, is_current_in, is_current_stalled, no_counts, on_chain, shown, told_first}
 use Rattle.psi_spec.proofs.MaskLaws.{counts_tell}
 use Rattle.replay_core.specs.Sums.{Turned, Turns, counts_in}
-use Rattle.replay_core.proofs.SumLaws.{no_entries, none_holds}
-use Rattle.psi_spec.proofs.TouchLaws.{counts_follow, runs_once_first, runs_once_kept, current_tells, stays_untouched}
+use Rattle.replay_core.proofs.SumLaws.{none_holds}
+use Rattle.psi_spec.proofs.TaskLaws.{no_entries}
+use Rattle.psi_spec.proofs.TouchLaws.{current_tells, runs_once_first, runs_once_kept, stays_untouched}
+use Rattle.psi_spec.proofs.TouchWithin.{change_tells}
 
 -- the tasks that count for the root
 abbrev pub root_tasks : World → List Task
@@ -71,26 +73,14 @@ current_is : (parents : List (Option ℕ)) (current : Option (Slot × Bool)) →
 current_is parents None below = refl
 current_is parents (Some c) below = current_here parents c.0.0 (first_slot c.0.0 below)
 
--- ---- the change of the processor
-
-found_change : (test : Bool) (change other : Change) → (if test then Some change else None) ≡ Some other → change ≡ other
-found_change true change other is = cc is
-found_change false change other is = absurd (cc is)
-
--- the change that an event makes on the processor
-abbrev made : World → Event → Change
-made w event = change_on event.at (before w.tasks event.act) (after_of w.groups w.tasks event.act) (tasks_after w.groups w.tasks event.act) 0
-
-change_is : (w : World) (event : Event) (change : Change) → change_of w event 0 ≡ Some change → made w event ≡ change
-unfolding change_of
-change_is w event change is = found_change (touched event.act (before w.tasks event.act) 0) (made w event) change is
+-- ---- the change of the processor, by a touch
 
 told_here : (n : ℕ) (change : Change) (rest : Option Change) → n ≡ 0 → (if n == 0 then Some change else rest) ≡ Some change
 told_here n change rest is = rw is refl
 
-pub touch_told : (w : World) (event : Event) (touch : Touch) (cpu : Cpu) (change : Change) → IsTouch w event touch → touch.first ≡ Some (cpu, change) → cpu.0 < 1 → made w event ≡ change
+pub touch_told : (w : World) (event : Event) (touch : Touch) (cpu : Cpu) (change : Change) → IsTouch w event touch → touch.first ≡ Some (cpu, change) → cpu.0 < 1 → change_of w event 0 ≡ Some change
 touch_told w event touch cpu change is first below =
-    change_is w event change (sym (is.told 0) ∙ ap (λ f. told_first 0 f (told_first 0 touch.second None)) first ∙ told_here cpu.0 change (told_first 0 touch.second None) (first_slot cpu.0 below))
+    sym (is.told 0) ∙ ap (λ f. told_first 0 f (told_first 0 touch.second None)) first ∙ told_here cpu.0 change (told_first 0 touch.second None) (first_slot cpu.0 below)
 
 no_second : (first second : Option (Cpu × Change)) → first ≡ None → IsBeside first second → second ≡ None
 no_second None None is beside = refl
@@ -117,63 +107,64 @@ follow_once old minus plus one other is so =
     (cancel old.running minus.running plus.running one.running other.running is.running so.running)
     (cancel old.stalled_running minus.stalled_running plus.stalled_running one.stalled_running other.stalled_running is.stalled_running so.stalled_running)
 
+-- the tasks that count for the root after an event
+abbrev pub root_tasks_after : World → Event → List Task
+root_tasks_after w event = tasks_in (parents_of w.groups) 0 0 (after_event w event).tasks
+
 -- what the change takes and adds for the root, of a legal event
-pub root_follows : (limits : Limits) (w : World) (event : Event) (change : Change) → cause_of limits w event ≡ None → (after_event w event).groups ≡ w.groups → made w event ≡ change → HasSlotsBelow 1 change
-    → Follows (counts_among (root_tasks w)) (counts_in change.minus) (counts_in change.plus) (counts_among (root_tasks (after_event w event)))
-root_follows limits w event change legal groups is slots =
+pub root_follows : (limits : Limits) (w : World) (event : Event) (change : Change) → cause_of limits w event ≡ None → RunsOnce w.tasks → change_of w event 0 ≡ Some change → HasSlotsBelow 1 change
+    → Follows (counts_among (root_tasks w)) (counts_in change.minus) (counts_in change.plus) (counts_among (root_tasks_after w event))
+root_follows limits w event change legal once is slots =
     let parents : List (Option ℕ) = parents_of w.groups in
-    let minus : part 0 (before w.tasks event.act) ≡ change.minus = ap (λ (c : Change). c.minus) is in
-    let plus : part 0 (after_of w.groups w.tasks event.act) ≡ change.plus = ap (λ (c : Change). c.plus) is in
-    let chain_minus : on_chain parents 0 (part 0 (before w.tasks event.act)) ≡ counts_in change.minus = ap (on_chain parents 0) minus ∙ chain_is parents change.minus slots.minus in
-    let chain_plus : on_chain parents 0 (part 0 (after_of w.groups w.tasks event.act)) ≡ counts_in change.plus = ap (on_chain parents 0) plus ∙ chain_is parents change.plus slots.plus in
-    let all = counts_follow limits w event legal parents 0 0 in
-    let new : counts_among (tasks_in parents 0 0 (after_event w event).tasks) ≡ counts_among (root_tasks (after_event w event)) = ap (λ gs. counts_among (tasks_in (parents_of gs) 0 0 (after_event w event).tasks)) (sym groups) in
-    subst (λ m. Follows (counts_among (root_tasks w)) m (counts_in change.plus) (counts_among (root_tasks (after_event w event)))) chain_minus
-    (subst (λ p. Follows (counts_among (root_tasks w)) (on_chain parents 0 (part 0 (before w.tasks event.act))) p (counts_among (root_tasks (after_event w event)))) chain_plus
-    (subst (Follows (counts_among (root_tasks w)) (on_chain parents 0 (part 0 (before w.tasks event.act))) (on_chain parents 0 (part 0 (after_of w.groups w.tasks event.act)))) new all))
+    let tells = (change_tells limits w event legal once 0 change is parents 0).0 in
+    subst (λ minus. Follows (counts_among (root_tasks w)) minus (counts_in change.plus) (counts_among (root_tasks_after w event))) (chain_is parents change.minus slots.minus)
+    (subst (λ plus. Follows (counts_among (root_tasks w)) (on_chain parents 0 change.minus) plus (counts_among (root_tasks_after w event))) (chain_is parents change.plus slots.plus) tells)
 
--- ---- states by counts
+-- ---- one event
 
--- the states of the root, by its counts and the task that runs
-told_states : (w : World) (current : Option (Slot × Bool)) → RunsOnce w.tasks → shown (running_on w.tasks 0) ≡ current → IfSome current (λ c. c.0.0 < 1) → (state : State) → holds state 0 0 w ≡ tells state (counts_among (root_tasks w)) (is_some current) (is_current_stalled current)
+-- the root after an event that keeps the groups
+kept_root : (limits : Limits) (w : World) (event : Event) (counts : Counts) (mask : ℕ) → cause_of limits w event ≡ None → (after_event w event).groups ≡ w.groups → RunsOnce w.tasks
+    → counts ≡ counts_among (root_tasks_after w event) → ((state : State) → mask_holds mask state ≡ holds_of state (root_tasks_after w event)) → IsRoot (after_event w event) counts mask
 unfolding holds
-told_states w current once is below state =
-    let parents : List (Option ℕ) = parents_of w.groups in
-    let running : IsRunningTold (root_tasks w) (is_current_in parents 0 current) (is_current_stalled current) = subst (λ c. IsRunningTold (root_tasks w) (is_current_in parents 0 c) (is_current_stalled c)) is (current_tells w.tasks once parents 0 0) in
-    counts_tell (root_tasks w) (is_current_in parents 0 current) (is_current_stalled current) running state
-    ∙ ap (λ on. tells state (counts_among (root_tasks w)) on (is_current_stalled current)) (current_is parents current below)
+kept_root limits w event counts mask legal groups once counted told =
+    let same : root_tasks_after w event ≡ root_tasks (after_event w event) = ap (λ gs. tasks_in (parents_of gs) 0 0 (after_event w event).tasks) (sym groups) in
+    record {
+      once = runs_once_kept limits w event legal once;
+      counts_are = counted ∙ ap counts_among same;
+      states_are = λ state. told state ∙ ap (holds_of state) same;
+    }
 
 -- the root after an event that changes the processor
-turned_root : (limits : Limits) (w : World) (event : Event) (change : Change) (counts after : Counts) (mask mask_after : ℕ) → cause_of limits w event ≡ None → (after_event w event).groups ≡ w.groups → made w event ≡ change → HasSlotsBelow 1 change
+turned_root : (limits : Limits) (w : World) (event : Event) (change : Change) (counts after : Counts) (mask mask_after : ℕ) → cause_of limits w event ≡ None → (after_event w event).groups ≡ w.groups → change_of w event 0 ≡ Some change → HasSlotsBelow 1 change
     → IsRoot w counts mask → Turned counts change after mask_after → IsRoot (after_event w event) after mask_after
 turned_root limits w event change counts after mask mask_after legal groups is slots so turned =
-    let once = runs_once_kept limits w event legal so.once in
-    let follows = root_follows limits w event change legal groups is slots in
+    let parents : List (Option ℕ) = parents_of w.groups in
+    let follows = root_follows limits w event change legal so.once is slots in
     let found : Follows (counts_among (root_tasks w)) (counts_in change.minus) (counts_in change.plus) after = subst (λ n. Follows n (counts_in change.minus) (counts_in change.plus) after) so.counts_are turned.counts_follow in
-    let same : after ≡ counts_among (root_tasks (after_event w event)) = follow_once _ _ _ after (counts_among (root_tasks (after_event w event))) found follows in
-    let current : shown (running_on (after_event w event).tasks 0) ≡ change.current = ap (λ (c : Change). c.current) is in
-    record {
-      once = once;
-      counts_are = same;
-      states_are = λ state. turned.states_told state ∙ ap (λ n. tells state n (is_some change.current) (is_current_stalled change.current)) same ∙ sym (told_states (after_event w event) change.current once current slots.current state);
-    }
+    let same : after ≡ counts_among (root_tasks_after w event) = follow_once _ _ _ after (counts_among (root_tasks_after w event)) found follows in
+    let running = (change_tells limits w event legal so.once 0 change is parents 0).1 in
+    kept_root limits w event after mask_after legal groups so.once same
+    (λ state.
+    turned.states_told state
+    ∙ ap (λ n. tells state n (is_some change.current) (is_current_stalled change.current)) same
+    ∙ ap (λ on. tells state (counts_among (root_tasks_after w event)) on (is_current_stalled change.current)) (sym (current_is parents change.current slots.current))
+    ∙ sym (counts_tell (root_tasks_after w event) (is_current_in parents 0 change.current) (is_current_stalled change.current) running state))
 
 -- the root after an event that changes nothing
 untouched_root : (limits : Limits) (w : World) (event : Event) (counts : Counts) (mask : ℕ) → cause_of limits w event ≡ None → (after_event w event).groups ≡ w.groups → change_of w event 0 ≡ None → IsRoot w counts mask → IsRoot (after_event w event) counts mask
 unfolding holds
 untouched_root limits w event counts mask legal groups none so =
     let parents : List (Option ℕ) = parents_of w.groups in
+    let on : Bool = is_current_in parents 0 (shown (running_on w.tasks 0)) in
+    let stalled : Bool = is_current_stalled (shown (running_on w.tasks 0)) in
     let stays = stays_untouched limits w event legal 0 none parents 0 in
-    let here = current_tells w.tasks so.once parents 0 0 in
-    let there = stays.1 _ _ here in
-    let old : (state : State) → holds_of state (root_tasks w) ≡ tells state (counts_among (root_tasks w)) _ _ = counts_tell (root_tasks w) _ _ here in
-    let new : (state : State) → holds_of state (tasks_in parents 0 0 (after_event w event).tasks) ≡ tells state (counts_among (tasks_in parents 0 0 (after_event w event).tasks)) _ _ = counts_tell (tasks_in parents 0 0 (after_event w event).tasks) _ _ there in
-    let same : tasks_in parents 0 0 (after_event w event).tasks ≡ root_tasks (after_event w event) = ap (λ gs. tasks_in (parents_of gs) 0 0 (after_event w event).tasks) (sym groups) in
-    record {
-      once = runs_once_kept limits w event legal so.once;
-      counts_are = so.counts_are ∙ sym stays.0 ∙ ap counts_among same;
-      states_are = λ state. so.states_are state ∙ old state ∙ ap (λ n. tells state n (is_current_in parents 0 (shown (running_on w.tasks 0))) (is_current_stalled (shown (running_on w.tasks 0)))) (sym stays.0) ∙ sym (new state) ∙ ap (holds_of state) same;
-    }
+    let running = current_tells w.tasks so.once parents 0 0 in
+    kept_root limits w event counts mask legal groups so.once (so.counts_are ∙ sym stays.0)
+    (λ state.
+    so.states_are state
+    ∙ counts_tell (root_tasks w) on stalled running state
+    ∙ ap (λ n. tells state n on stalled) (sym stays.0)
+    ∙ sym (counts_tell (root_tasks_after w event) on stalled (stays.1 on stalled running) state))
 
 -- the root after any legal event
 pub turns_root : (limits : Limits) (w : World) (event : Event) (touch : Touch) (first : Option (Cpu × Change)) (counts after : Counts) (mask mask_after : ℕ) → cause_of limits w event ≡ None → (after_event w event).groups ≡ w.groups

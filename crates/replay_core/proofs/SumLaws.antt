@@ -1,30 +1,21 @@
 -- The stall sums of a trace, event by event.
-use Rattle.std.proofs.Common.{◌≡◌, ℕ, ◌+◌, ◌-◌, ◌<◌, ◌≤◌, List, [], ◌∷◌, ◌++◌, length, map, filter, take, get_or, zero, suc, refl, sym, ap, ◌∙◌, arith, subst, true, false, Bool, Option, None, Some}
-use Rattle.std.specs.Prelude.{if◌then◌else◌, codes, nat_lt, ◌==◌}
-use Rattle.std.specs.FinMap as tasks_by
+use Rattle.std.proofs.Common.{◌≡◌, ℕ, ◌+◌, ◌-◌, ◌<◌, List, [], ◌∷◌, ◌++◌, length, map, filter, take, get_or, zero, suc, refl, sym, ap, ◌∙◌, arith, subst, true, false, Bool, Option, None, Some}
+use Rattle.std.specs.Prelude.{if◌then◌else◌, codes, ◌==◌}
 use Rattle.std.proofs.lemmas.List.{append-nil, take_more}
-use Rattle.psi_base.specs.declared.event.Act.{Act}
-use Rattle.psi_base.specs.declared.event.Act.TheVariants as act
 use Rattle.psi_base.specs.declared.event.Event.{Event}
 use Rattle.psi_base.specs.declared.event.Cause.{Cause}
 use Rattle.psi_base.specs.declared.event.Cause.TheVariants as cause
 use Rattle.psi_base.specs.declared.event.State.{State}
 use Rattle.psi_base.specs.declared.event.State.TheVariants.{IoSome, IoFull, MemSome, MemFull, CpuSome, CpuFull, Nonidle}
-use Rattle.psi_spec.specs.declared.machine.GroupLife.{GroupLife}
 use Rattle.psi_spec.specs.declared.machine.Task.{Task}
-use Rattle.std.specs.Ordering.{nat_cmp}
-use Rattle.psi_spec.specs.World.{World, Limits, after, after_event, after_from, first_world, groups_after, no_tasks, root}
-use Rattle.psi_spec.specs.Refusal.{AreLegal, cause_of, check_cause, is_built}
+use Rattle.psi_spec.specs.World.{World, Limits, after, after_event, after_from, first_world, root}
+use Rattle.psi_spec.specs.Refusal.{AreLegal, check_cause, is_built}
 use Rattle.psi_spec.specs.Stall.{holds, holds_of, is_in, parents_of}
 use Rattle.psi_spec.specs.Text.{end_of, stall_line, stall_text, stall_times}
-use Rattle.psi_spec.proofs.Reading.{built_none}
+use Rattle.psi_spec.proofs.TaskLaws.{no_entries}
+use Rattle.task_table.proofs.CauseLaws.{groups_kept as acts_keep}
 
 -- ---- the groups of a trace of acts that are built
-
-kept_by : (at : ℕ) (groups : List GroupLife) (what : Act) → is_built what ≡ true → groups_after at groups what ≡ groups
-kept_by at groups (act.Group path) built = absurd (cc built)
-kept_by at groups (act.Remove path) built = absurd (cc built)
-kept_by at groups _ built = refl
 
 built_of : (b : Bool) (why : Option Cause) → (if b then why else Some cause.BadVerb) ≡ None → b ≡ true
 built_of true why is = refl
@@ -34,44 +25,18 @@ is_built_act : (limits : Limits) (w : World) (event : Event) → check_cause lim
 unfolding check_cause
 is_built_act limits w event legal = built_of (is_built event.act) _ legal
 
--- a legal event's own cause is none
-pub legal_act : (limits : Limits) (w : World) (event : Event) → check_cause limits w event ≡ None → cause_of limits w event ≡ None
-unfolding check_cause
-legal_act limits w event legal = built_none (is_built event.act) _ legal
-
 -- a legal event keeps the groups
 pub one_kept : (limits : Limits) (w : World) (event : Event) → check_cause limits w event ≡ None → (after_event w event).groups ≡ w.groups
-one_kept limits w event legal = kept_by event.at w.groups event.act (is_built_act limits w event legal)
+one_kept limits w event legal = acts_keep event.at w.groups event.act (is_built_act limits w event legal)
 
 pub groups_kept : (limits : Limits) (w : World) (events : List Event) → AreLegal limits w events → (after_from w events).groups ≡ w.groups
 groups_kept limits w [] legal = refl
 groups_kept limits w (event ∷ events) legal =
     groups_kept limits (after_event w event) events legal.1 ∙ one_kept limits w event legal.0
 
--- ---- time goes forward
-
-forward : (ended late : Bool) (others : Option Cause) → (if ended then Some cause.AfterEnd else if late then Some cause.TimeBack else others) ≡ None → late ≡ false
-forward true late others none = absurd (cc none)
-forward false true others none = absurd (cc none)
-forward false false others none = refl
-
-not_before : (at last : ℕ) → nat_lt at last ≡ false → last ≤ at
-not_before at last is = grind (arith, is)
-
-pub goes_forward : (limits : Limits) (w : World) (event : Event) → check_cause limits w event ≡ None → w.last ≤ event.at
-unfolding check_cause cause_of
-goes_forward limits w event legal = not_before event.at w.last (forward w.ended (nat_lt event.at w.last) _ (built_none (is_built event.act) _ legal))
-
 -- ---- the first world
 
 -- no state holds where there is no task
-no_length : {A : Type 0} (xs : List A) → length xs ≡ 0 → xs ≡ []
-no_length [] none = refl
-no_length (x ∷ xs) none = absurd (omega (arith, none))
-
-pub no_entries : tasks_by.entries no_tasks ≡ []
-no_entries = no_length (tasks_by.entries no_tasks) (sym (tasks_by.len-entries no_tasks) ∙ tasks_by.len-empty nat_cmp Task)
-
 no_state : (state : State) → holds_of state [] ≡ false
 no_state IoSome = refl
 no_state IoFull = refl
@@ -92,16 +57,6 @@ pub legal_at : (limits : Limits) (w : World) (events : List Event) (i : ℕ) (d 
 legal_at limits w [] i d inside legal = absurd (omega (arith, inside))
 legal_at limits w (event ∷ events) zero d inside legal = legal.0
 legal_at limits w (event ∷ events) (suc i) d inside legal = legal_at limits (after_event w event) events i d (omega (arith, inside)) legal.1
-
-in_time : (ended late early : Bool) (others : Option Cause) → (if ended then Some cause.AfterEnd else if late then Some cause.TimeBack else if early then Some cause.TimeTooLate else others) ≡ None → early ≡ false
-in_time true late early others none = absurd (cc none)
-in_time false true early others none = absurd (cc none)
-in_time false false true others none = absurd (cc none)
-in_time false false false others none = refl
-
-pub is_early : (limits : Limits) (w : World) (event : Event) → check_cause limits w event ≡ None → event.at ≤ limits.latest
-unfolding check_cause cause_of
-is_early limits w event legal = not_before limits.latest event.at (in_time w.ended (nat_lt event.at w.last) (nat_lt limits.latest event.at) _ (built_none (is_built event.act) _ legal))
 
 -- ---- the text of a trace of one processor and the root alone
 

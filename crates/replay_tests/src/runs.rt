@@ -1,6 +1,6 @@
 //! Running words over one trace in memory.
 
-use psi_base::{HonestShelf, MemSink, OpenGate, Text};
+use psi_base::{MemShelf, MemSink, OpenGate, Text};
 use replay_core::{Status, run};
 use std::test::Fail;
 use std::thread::Threads;
@@ -23,21 +23,33 @@ pub fn words_of<R: AllocGlobal>(rt: &R, line: &str) -> Result<Vec<String>, Fail>
     Ok(words)
 }
 
-/// Runs a command line over a shelf with the one file `t`. The shelf and both sinks move at most so many bytes a call.
-pub fn run_on<R: Threads + AllocGlobal + Sync>(
+/// Which call of the shelf, the output and the note fails, counted from 0. One far off fails none.
+#[derive(Clone, Copy)]
+pub struct Failing {
+    pub read: u64,
+    pub write: u64,
+    pub note: u64,
+}
+
+/// A call that isn't made.
+pub const NONE: u64 = 1_000_000;
+
+/// Runs a command line over a shelf with the one file `t`, where some calls fail. The shelf and both sinks move at most
+/// so many bytes a call.
+pub fn run_failing<R: Threads + AllocGlobal + Sync>(
     rt: &R,
     line: &str,
     trace: &[u8],
     most: usize,
+    failing: Failing,
 ) -> Result<Ran, Fail> {
     let alloc = rt.alloc();
     let words = words_of(rt, line)?;
-    let name = Text::make(alloc, b"t")?;
-    let text = Text::make(alloc, trace)?;
-    let files = vec![in alloc; (name, text)]?;
-    let mut shelf = HonestShelf::new(files, most.max(1));
-    let mut out = MemSink::new(alloc, 4096, most.max(1), Vec::new(alloc))?;
-    let mut note = MemSink::new(alloc, 4096, most.max(1), Vec::new(alloc))?;
+    let files = vec![in alloc; (Text::make(alloc, b"t")?, Text::make(alloc, trace)?)]?;
+    let most = most.max(1);
+    let mut shelf = MemShelf::new(files, most, vec![in alloc; failing.read]?);
+    let mut out = MemSink::new(alloc, 4096, most, vec![in alloc; failing.write]?)?;
+    let mut note = MemSink::new(alloc, 4096, most, vec![in alloc; failing.note]?)?;
     let status = run(
         rt, alloc, &words, &mut shelf, &mut out, &mut note, &OpenGate,
     );
@@ -46,4 +58,19 @@ pub fn run_on<R: Threads + AllocGlobal + Sync>(
         output: out.bytes,
         note: note.bytes,
     })
+}
+
+/// The same where no call fails.
+pub fn run_on<R: Threads + AllocGlobal + Sync>(
+    rt: &R,
+    line: &str,
+    trace: &[u8],
+    most: usize,
+) -> Result<Ran, Fail> {
+    let failing = Failing {
+        read: NONE,
+        write: NONE,
+        note: NONE,
+    };
+    run_failing(rt, line, trace, most, failing)
 }

@@ -1,13 +1,13 @@
 -- What the index of running tasks says, and that changes keep it.
 use Rattle.std.proofs.Common.{◌≡◌, ℕ, ◌<◌, List, [], ◌∷◌, refl, ap, ◌∙◌, sym, subst, Bool, true, false, arith, cond, Option, None, Some, ◌==◌, length, slice_set, ⊎_elim}
-use Rattle.std.specs.Prelude.{slice_index_or, T, find, ◌&&◌, not, IfSome}
-use Rattle.std.specs.Ordering.{nat_cmp, is_lt}
+use Rattle.std.specs.Prelude.{slice_index_or, find, ◌&&◌, IfSome}
+use Rattle.std.specs.Ordering.{nat_cmp}
 use Rattle.std.specs.Cmp.{unsigned_tied}
 use Rattle.std.specs.FinMap as map
 use Rattle.std.specs.List.{AllByRecursion}
 use Rattle.std.proofs.lemmas.List.{get_or-set_same, get_or-set_other}
 use Rattle.std.proofs.lemmas.Bool.Decides.{nat_tests, eqb_tells}
-use Rattle.psi_spec.specs.World.{Tasks, no_tasks, task_of, put, remove, running_on, is_running_on, test_task, is_running, is_ready, is_active, placed, leave, left_by}
+use Rattle.psi_spec.specs.World.{Tasks, no_tasks, task_of, put, remove, running_on, is_ready_on, is_running_on, test_task, is_running, is_ready, is_active, leave}
 use Rattle.psi_spec.specs.Refusal.{is_wrong, isnt_ready}
 use Rattle.psi_base.specs.declared.event.Pid.{Pid}
 use Rattle.psi_spec.specs.declared.machine.Task.{Task}
@@ -15,61 +15,9 @@ use Rattle.psi_spec.specs.declared.machine.Mode.{Mode}
 use Rattle.psi_spec.specs.declared.machine.Mode.TheVariants.{Blocked, Waiting, Ready, Running}
 use Rattle.psi_base.specs.declared.event.How.{How}
 use Rattle.psi_base.specs.declared.event.How.TheVariants.{Idle}
-use Rattle.psi_spec.proofs.TaskLaws.{get_put, get_remove}
+use Rattle.psi_spec.proofs.TaskLaws.{found, get_put, get_remove, itself}
+use Rattle.psi_spec.proofs.TouchLaws.{not_false, ready_left}
 use Rattle.task_table.specs.Stands.{IsIndex, runs_on, is_pid}
-
--- ---- entries in order are found by their numbers
-pub self_same : (x : ℕ) → (x == x) ≡ true
-self_same x = grind (arith, nat_tests)
-
--- a number that stands below another is not it
-below : (x e : ℕ) → T (is_lt (nat_cmp x e)) → (e == x) ≡ false
-below x e h = grind (arith, nat_tests)
-
--- the entries give an entry's task under its number
-abbrev Found : List (ℕ × Task) → ℕ × Task → Type 0
-Found es e = map.find nat_cmp e.0 es ≡ Some e.1
-
--- the first of two tests that hold
-firstT : (a b : Bool) → T (a && b) → T a
-firstT true b p = tt
-firstT false b p = p
-
--- the second of two tests that hold
-secondT : (a b : Bool) → T (a && b) → T b
-secondT true b p = p
-secondT false b p = absurd p
-
--- std's test, which has no name outside
-abbrev lower : ℕ → List (ℕ × Task) → Bool
-lower x [] = true
-lower x (e ∷ es) = is_lt (nat_cmp x e.0) && lower x es
-
--- entries in order: the first number is below the rest, and the rest is in order
-rises : (e : ℕ × Task) (es : List (ℕ × Task)) → T (map.is_sorted nat_cmp (e ∷ es)) → T (lower e.0 es) × T (map.is_sorted nat_cmp es)
-rises e es h = (firstT (lower e.0 es) (map.is_sorted nat_cmp es) h, secondT (lower e.0 es) (map.is_sorted nat_cmp es) h)
-
--- what the tail gives, the whole gives too, since the first number is lower
-lift : (x : ℕ × Task) (es fs : List (ℕ × Task)) → T (lower x.0 fs) → AllByRecursion (Found es) fs → AllByRecursion (Found (x ∷ es)) fs
-lift x es [] b h = tt
-lift x es (f ∷ fs) b h =
-    (ap (λ t. cond t (Some x.1) (map.find nat_cmp f.0 es)) (unsigned_tied f.0 x.0 ∙ below x.0 f.0 (firstT (is_lt (nat_cmp x.0 f.0)) (lower x.0 fs) b)) ∙ h.0, lift x es fs (secondT (is_lt (nat_cmp x.0 f.0)) (lower x.0 fs) b) h.1)
-
--- entries in order give each entry's task under its number
-found_all : (es : List (ℕ × Task)) → T (map.is_sorted nat_cmp es) → AllByRecursion (Found es) es
-found_all [] s = tt
-found_all (e ∷ es) s =
-    let r = rises e es s in
-    (ap (λ t. cond t (Some e.1) (map.find nat_cmp e.0 es)) (unsigned_tied e.0 e.0 ∙ self_same e.0), lift e es es r.0 (found_all es r.1))
-
--- so do the tasks
-gets_all : (tasks : Tasks) (fs : List (ℕ × Task)) → AllByRecursion (Found (map.entries tasks)) fs → AllByRecursion (λ e. task_of tasks e.0 ≡ Some e.1) fs
-gets_all tasks [] h = tt
-gets_all tasks (f ∷ fs) h = (map.get-entries tasks f.0 ∙ h.0, gets_all tasks fs h.1)
-
--- tasks give each of their entries under its number
-pub found : (tasks : Tasks) → AllByRecursion (λ e. task_of tasks e.0 ≡ Some e.1) (map.entries tasks)
-found tasks = gets_all tasks (map.entries tasks) (found_all (map.entries tasks) (map.entries_sorted tasks))
 
 -- ---- a search for the entry with a number
 abbrev with_number : ℕ → Option Task → Option (ℕ × Task)
@@ -213,7 +161,7 @@ index_on running tasks after index cpu pid room at off starts = record {
 -- the task of a number that the index tells is there
 pub told_there : (running : List (Option ℕ)) (tasks : Tasks) → IsIndex running tasks → (cpu pid : ℕ) → slice_index_or running cpu None ≡ Some pid → task_of tasks pid ≡ None → ⊥
 told_there running tasks index cpu pid at none =
-    let no : false ≡ true = sym (ap (λ o. test_task o (is_running_on cpu)) none) ∙ index.each pid cpu ∙ ap (is_pid pid) at ∙ self_same pid in
+    let no : false ≡ true = sym (ap (λ o. test_task o (is_running_on cpu)) none) ∙ index.each pid cpu ∙ ap (is_pid pid) at ∙ itself pid in
     cc no
 
 -- a running task never leaves by idling
@@ -240,50 +188,18 @@ pub starts_at : (tasks : Tasks) (pid : ℕ) (t : Task) (cpu : ℕ) → t.cpu.0 �
 starts_at tasks pid t cpu same on = subst (λ k. Starts tasks (put tasks pid t) pid k) same (starts_put tasks pid t on)
 
 -- ---- the next task is still ready when the running one left
-task_placed : (tasks : Tasks) (p : ℕ) (x : Option Task) (q : ℕ) → task_of (placed tasks p x) q ≡ cond (q == p) x (task_of tasks q)
-task_placed tasks p None q = get_remove tasks p q
-task_placed tasks p (Some t) q = get_put tasks p t q
 
 -- what a task that is ready on a processor is
-ready_there : (o : Option Task) (cpu : ℕ) → test_task o (λ t. t.cpu.0 == cpu && is_ready t.mode) ≡ true → IfSome o (λ t. (t.cpu.0 ≡ cpu) × (is_ready t.mode ≡ true))
+ready_there : (o : Option Task) (cpu : ℕ) → test_task o (is_ready_on cpu) ≡ true → IfSome o (λ t. (t.cpu.0 ≡ cpu) × (is_ready t.mode ≡ true))
 ready_there None cpu h = tt
 ready_there (Some t) cpu h = (grind (arith, nat_tests), grind (arith, nat_tests))
 
--- no mode is both ready and running
-ready_runs : (m : Mode) (a b : Bool) → (a && is_ready m) ≡ true → (b && is_running m) ≡ true → ⊥
-ready_runs Ready a b r s = cc (and_false b false refl, s)
-ready_runs Running a b r s = cc (and_false a false refl, r)
-ready_runs Blocked a b r s = cc (and_false a false refl, r)
-ready_runs Waiting a b r s = cc (and_false a false refl, r)
-
--- no task is both ready and running on a processor
-not_both : (o : Option Task) (cpu : ℕ) → test_task o (λ t. t.cpu.0 == cpu && is_ready t.mode) ≡ true → test_task o (is_running_on cpu) ≡ true → ⊥
-not_both None cpu r s = cc r
-not_both (Some t) cpu r s = ready_runs t.mode (t.cpu.0 == cpu) (t.cpu.0 == cpu) r s
-
--- a task that is ready on a processor stays as it is while the running one leaves
-still_left : (running : List (Option ℕ)) (tasks : Tasks) → IsIndex running tasks → (cpu : ℕ) (how : How) (q : ℕ) → test_task (task_of tasks q) (λ t. t.cpu.0 == cpu && is_ready t.mode) ≡ true → (at : Option ℕ) → slice_index_or running cpu None ≡ at → task_of (leave how tasks (told tasks at)) q ≡ task_of tasks q
-still_left running tasks index cpu how q ready None is = refl
-still_left running tasks index cpu how q ready (Some p) is =
-    elim (task_of tasks p) as (λ o. task_of (leave how tasks (with_number p o)) q ≡ task_of tasks q) [
-      | None ↦ refl
-      | Some t ↦ task_placed tasks p (left_by how t) q ∙ elim (q == p) as (λ b. (q == p) ≡ b → cond b (left_by how t) (task_of tasks q) ≡ task_of tasks q) [
-        | true ↦ λ same. absurd (not_both (task_of tasks q) cpu ready (index.each q cpu ∙ ap (is_pid q) is ∙ flipped q p same))
-        | false ↦ λ other. refl
-      ] refl
-    ]
-
--- a negation that fails
-not_false : (b : Bool) → not b ≡ false → b ≡ true
-not_false true h = refl
-not_false false h = cc h
-
 -- a next task that was ready is ready when the running one left
-pub still_ready : (running : List (Option ℕ)) (tasks : Tasks) → IsIndex running tasks → (cpu : ℕ) (how : How) (next : Option Pid) → isnt_ready tasks cpu next ≡ false → IfSome next (λ pid. IfSome (task_of (leave how tasks (running_on tasks cpu)) pid.0) (λ t. (t.cpu.0 ≡ cpu) × (is_ready t.mode ≡ true)))
-still_ready running tasks index cpu how None h = tt
-still_ready running tasks index cpu how (Some pid) h =
-    let ready : test_task (task_of tasks pid.0) (λ t. t.cpu.0 == cpu && is_ready t.mode) ≡ true = not_false _ h in
-    rw (running_told running tasks index cpu, still_left running tasks index cpu how pid.0 ready (slice_index_or running cpu None) refl) (ready_there (task_of tasks pid.0) cpu ready)
+pub still_ready : (tasks : Tasks) (cpu : ℕ) (how : How) (next : Option Pid) → isnt_ready tasks cpu next ≡ false → IfSome next (λ pid. IfSome (task_of (leave how tasks (running_on tasks cpu)) pid.0) (λ t. (t.cpu.0 ≡ cpu) × (is_ready t.mode ≡ true)))
+still_ready tasks cpu how None h = tt
+still_ready tasks cpu how (Some pid) h =
+    let ready : test_task (task_of tasks pid.0) (is_ready_on cpu) ≡ true = not_false _ h in
+    rw (ready_left tasks cpu how pid.0 ready (running_on tasks cpu) refl) (ready_there (task_of tasks pid.0) cpu ready)
 
 -- a mode that is neither ready nor running doesn't run
 inactive : (m : Mode) → is_active m ≡ false → is_running m ≡ false

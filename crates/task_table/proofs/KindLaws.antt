@@ -1,5 +1,6 @@
 -- Kinds of tasks in any order, and the states that they tell.
-use Rattle.std.proofs.Common.{◌≡◌, ℕ, zero, suc, List, [], ◌∷◌, refl, ap, ◌∙◌, sym, Bool, true, false, arith, cond, None, Some, nat_eq, ◌==◌, length}
+use Rattle.std.proofs.lemmas.List.{nil_from_length}
+use Rattle.std.proofs.Common.{◌≡◌, ℕ, zero, suc, List, [], ◌∷◌, refl, ap, ◌∙◌, sym, Bool, true, false, cond, None, Some, nat_eq, ◌==◌}
 use Rattle.std.specs.Prelude.{◌&&◌, ◌||◌, not, filter, map, slice_index_or}
 use Rattle.std.specs.List.{list_any, list_all, IsDistinct}
 use Rattle.std.specs.Ordering.{nat_cmp, is_eq}
@@ -96,14 +97,9 @@ any_put test k v (e ∷ es) new =
       | Greater ↦ λ h. ap (λ b. test e.1 || b) (any_put test k v es h) ∙ swap (test e.1) (test v) (list_any test (values_of es))
     ] new
 
--- a list of length 0 is empty
-no_entries : (es : List (ℕ × Task)) → length es ≡ 0 → es ≡ []
-no_entries [] none = refl
-no_entries (e ∷ es) none = absurd (omega (arith, none))
-
 -- a table's values pass a test as its entries do, in any order
 pub any_tabled : (test : Task → Bool) (es : List (ℕ × Task)) → IsDistinct nat_eq (keys_of es) → list_any test (fin.values (tabled es)) ≡ list_any test (values_of es)
-any_tabled test [] d = ap (λ es. list_any test (values_of es)) (no_entries (fin.entries (tabled [])) (sym (fin.len-entries (tabled [])) ∙ fin.len-empty nat_cmp Task))
+any_tabled test [] d = ap (λ es. list_any test (values_of es)) (nil_from_length (fin.entries (tabled [])) (sym (fin.len-entries (tabled [])) ∙ fin.len-empty nat_cmp Task))
 any_tabled test (e ∷ es) d =
     let new : fin.find nat_cmp e.0 (fin.entries (tabled es)) ≡ None = sym (fin.get-entries (tabled es) e.0) ∙ get_tabled es e.0 ∙ absent e.0 es (IsDistinct-head nat_eq e.0 (keys_of es) d) in
     ap (λ es. list_any test (values_of es)) (fin.entries-insert nat_cmp_total (tabled es) e.0 e.1)

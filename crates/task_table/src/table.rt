@@ -173,22 +173,6 @@ impl Table {
     pub fn holds(&self, state: State, cpu: Cpu, slot: Slot) -> bool
         ensures { result ≡ holds state cpu.0 slot.0 self.now.world }
     {
-        self.states(cpu, slot)[number(state)]
-    }
-}
-
-/// The number of a state.
-fn number(state: State) -> usize
-    ensures number { result ≡ number_of state }
-    ensures below { result < 7 }
-{
-    match state {
-        State::IoSome => 0,
-        State::IoFull => 1,
-        State::MemSome => 2,
-        State::MemFull => 3,
-        State::CpuSome => 4,
-        State::CpuFull => 5,
-        State::Nonidle => 6,
+        self.states(cpu, slot)[state as usize]
     }
 }

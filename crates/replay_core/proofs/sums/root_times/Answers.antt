@@ -1,5 +1,4 @@
 use Rattle.std.proofs.Common.{arith, ◌∙◌, ap, refl, length}
-use Rattle.psi_spec.specs.World.{Limits}
 use Rattle.psi_spec.specs.Trace.{limits_of}
 use Rattle.replay_core.proofs.ClockSums as clocks
 use Rattle.replay_core.proofs.SumLaws as laws
@@ -14,15 +13,14 @@ loop-event-init c = record {
 pub turn-requires : goal.turn-requires
 turn-requires c =
     let i = c.loop-event.invariant in
-    let legal = laws.legal_here (limits_of c.args.tick c.args.trace.now.cpus) c.loop-event.table.limits c.loop-event.table.world c.args.trace.now.events.items _ c.loop-event.event-index c.event-item.result c.deref-event-items.ensures.value c.loop-event-test.true c.requires.legal.legal i.limits i.sums.world c.event-item.is in
-    let touches = clocks.touches c.loop-event.table.limits c.loop-event.table.world c.event-item.result c.in-Ok.touch legal (ap (λ (l : Limits). l.cpus) i.limits ∙ c.requires.legal.built) c.in-Ok.ensures.touch c.in-Ok.ensures.cpus c.in-Ok.ensures.slots c.in-Ok.ensures.ones in
-    clocks.may_turn _ c.loop-event.table.limits c.loop-event.table.world c.event-item.result c.in-Ok.touch c.loop-event.counts c.loop-event.mask c.loop-event.clock i.sums touches
+    let step = clocks.stepped c.loop-event.table.limits _ c.loop-event.table.world _ c.event-item.result c.in-Ok.touch c.args.tick c.args.trace.now.cpus i.limits c.requires.tick c.requires.legal.built c.in-Ok.ensures.limits c.in-Ok.ensures.legal c.in-Ok.ensures.world c.in-Ok.ensures.lines c.in-Ok.ensures.early c.in-Ok.ensures.forward c.in-Ok.ensures.touch c.in-Ok.ensures.cpus c.in-Ok.ensures.slots c.in-Ok.ensures.ones in
+    clocks.may_turn _ c.loop-event.table.limits c.loop-event.table.world _ c.event-item.result c.in-Ok.touch c.loop-event.counts c.loop-event.mask c.loop-event.clock i.sums step
 
 pub advance-requires : goal.advance-requires
 advance-requires c =
     let i = c.loop-event.invariant in
-    let legal = laws.legal_here (limits_of c.args.tick c.args.trace.now.cpus) c.loop-event.table.limits c.loop-event.table.world c.args.trace.now.events.items _ c.loop-event.event-index c.event-item.result c.deref-event-items.ensures.value c.loop-event-test.true c.requires.legal.legal i.limits i.sums.world c.event-item.is in
-    clocks.is_in_time _ _ _ _ c.loop-event.clock c.event-item.result.at i.sums (laws.goes_forward _ _ _ legal) (clocks.moment_fits c.loop-event.table.limits _ _ _ i.limits c.requires.tick (laws.is_early _ _ _ legal))
+    let step = clocks.stepped c.loop-event.table.limits _ c.loop-event.table.world _ c.event-item.result c.in-Ok.touch c.args.tick c.args.trace.now.cpus i.limits c.requires.tick c.requires.legal.built c.in-Ok.ensures.limits c.in-Ok.ensures.legal c.in-Ok.ensures.world c.in-Ok.ensures.lines c.in-Ok.ensures.early c.in-Ok.ensures.forward c.in-Ok.ensures.touch c.in-Ok.ensures.cpus c.in-Ok.ensures.slots c.in-Ok.ensures.ones in
+    clocks.is_in_time _ _ _ _ c.loop-event.clock c.event-item.result.at i.sums step.later step.early
 
 pub unreachable-requires : goal.unreachable-requires
 unreachable-requires c =
@@ -34,14 +32,11 @@ unreachable-requires c =
 pub loop-event-preserved : goal.loop-event-preserved
 loop-event-preserved c =
     let i = c.loop-event.invariant in
-    let legal = laws.legal_here (limits_of c.args.tick c.args.trace.now.cpus) c.loop-event.table.limits c.loop-event.table.world c.args.trace.now.events.items _ c.loop-event.event-index c.event-item.result c.deref-event-items.ensures.value c.loop-event-test.true c.requires.legal.legal i.limits i.sums.world c.event-item.is in
-    let touches = clocks.touches c.loop-event.table.limits c.loop-event.table.world c.event-item.result c.in-Ok.touch legal (ap (λ (l : Limits). l.cpus) i.limits ∙ c.requires.legal.built) c.in-Ok.ensures.touch c.in-Ok.ensures.cpus c.in-Ok.ensures.slots c.in-Ok.ensures.ones in
+    let step = clocks.stepped c.loop-event.table.limits _ c.loop-event.table.world _ c.event-item.result c.in-Ok.touch c.args.tick c.args.trace.now.cpus i.limits c.requires.tick c.requires.legal.built c.in-Ok.ensures.limits c.in-Ok.ensures.legal c.in-Ok.ensures.world c.in-Ok.ensures.lines c.in-Ok.ensures.early c.in-Ok.ensures.forward c.in-Ok.ensures.touch c.in-Ok.ensures.cpus c.in-Ok.ensures.slots c.in-Ok.ensures.ones in
     record {
       limits = c.in-Ok.ensures.limits ∙ i.limits;
-      sums = clocks.turn _ _ c.loop-event.table.limits c.loop-event.table.world _ c.event-item.result c.in-Ok.touch c.loop-event.counts _ c.loop-event.mask _ c.loop-event.clock _ i.sums touches
+      sums = clocks.turn _ _ c.loop-event.table.limits c.loop-event.table.world _ c.event-item.result c.in-Ok.touch c.loop-event.counts _ c.loop-event.mask _ c.loop-event.clock _ i.sums step
           (laws.turned c.args.trace.now.events.items _ c.loop-event.event-index c.event-item.result c.deref-event-items.ensures.value c.loop-event-test.true c.event-item.is)
-          (laws.goes_forward _ _ _ legal) c.in-Ok.ensures.world c.in-Ok.ensures.lines
-          (clocks.moment_fits c.loop-event.table.limits _ _ _ i.limits c.requires.tick (laws.is_early _ _ _ legal))
           c.turn.ensures c.advance.ensures;
     }
 

@@ -8,7 +8,7 @@ use Rattle.task_table.proofs.effects.apply.Goals as goal
 pub put_on-requires-clause-ready : goal.put_on-requires-clause-ready
 put_on-requires-clause-ready c =
     let next = (causes.may_switch (length c.args.running.now) c.args.tasks.now c.in-Switch.cpu.0 c.in-Switch.next c.in-Switch.how (rw c.in-Switch.is at c.requires.legal)).ready in
-    rw c.take_off.ensures.tasks (index.still_ready c.args.running.now c.args.tasks.now c.requires.index c.in-Switch.cpu.0 c.in-Switch.how c.in-Switch.next next)
+    rw c.take_off.ensures.tasks (index.still_ready c.args.tasks.now c.in-Switch.cpu.0 c.in-Switch.how c.in-Switch.next next)
 
 pub returns-in-Some-clause-index : goal.returns-in-Some-clause-index
 returns-in-Some-clause-index c =
