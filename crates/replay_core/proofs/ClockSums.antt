@@ -1,6 +1,6 @@
 -- The root's clock, event by event.
-use Rattle.std.proofs.Common.{◌≡◌, ℕ, ◌+◌, ◌-◌, ◌*◌, ◌≤◌, ◌<◌, ◌^◌, List, [], ◌∷◌, ◌++◌, length, map, take, refl, sym, ap, ◌∙◌, arith, subst, ◌⊎◌, ⊎_elim, Option, None, Some}
-use Rattle.std.specs.Prelude.{IfSome, slice_index}
+use Rattle.std.proofs.Common.{◌≡◌, ℕ, ◌+◌, ◌-◌, ◌≤◌, ◌<◌, ◌^◌, List, [], ◌∷◌, ◌++◌, length, map, refl, sym, ap, ◌∙◌, arith, subst, ◌⊎◌, ⊎_elim, Option, None, Some}
+use Rattle.std.specs.Prelude.{IfSome, slice_index, Err}
 use Rattle.std.proofs.lemmas.List.{get_or_append_left, length-map, map-append, take-append-le, take_all}
 use Rattle.std.proofs.Math.Seq.{get_or-append_seam}
 use Rattle.psi_base.specs.declared.event.Cpu.{Cpu}
@@ -11,21 +11,25 @@ use Rattle.psi_base.specs.declared.event.State.TheVariants.{IoSome, IoFull, MemS
 use Rattle.psi_spec.specs.declared.machine.Counts.{Counts}
 use Rattle.psi_spec.specs.declared.machine.Change.{Change}
 use Rattle.psi_spec.specs.declared.machine.Touch.{Touch}
-use Rattle.psi_spec.specs.World.{World, Limits, after, after_event, first_world, root}
+use Rattle.psi_spec.specs.World.{World, Limits, after, after_event, first_world}
 use Rattle.psi_spec.specs.Refusal.{cause_of, check_cause}
 use Rattle.psi_spec.specs.Stall.{holds, number_of, stall}
 use Rattle.psi_spec.specs.Text.{end_of, stall_times}
-use Rattle.psi_spec.specs.Trace.{limits_of}
 use Rattle.psi_spec.specs.Counts.{counts_among, mask_holds}
 use Rattle.psi_spec.specs.Clock.{AreChangesOf, ClockView, IsInTime, MaskChange, advanced, change_mask, clock_from, opened, opened_time, zero_clock}
 use Rattle.psi_spec.specs.Share.{last_moment}
 use Rattle.psi_spec.specs.Touch.{AllTouched, RunsOnce, AreAtMost, Follows, HasSlotsBelow, IsOfOne, IsTouch, no_counts}
 use Rattle.psi_spec.proofs.ClockLaws.{clock_tells_stall, map_states, no_longer_than_clock, opened_at}
 use Rattle.psi_spec.proofs.TouchLaws.{legal_of}
-use Rattle.replay_core.specs.Sums.{CanFollow, Turns, counts_in}
+use Rattle.replay_core.specs.Sums.{AreSums, CanFollow, IsRoot, Turns, counts_in, root_tasks}
 use Rattle.replay_core.proofs.LineLaws.{after_from-push}
-use Rattle.replay_core.proofs.SumLaws.{one_kept}
-use Rattle.replay_core.proofs.RootLaws.{IsRoot, first_root, root_follows, root_tasks, root_tasks_after, touch_told, turns_root}
+use Rattle.psi_base.specs.declared.event.Cause.{Cause}
+use Rattle.psi_base.specs.declared.event.Fault.{Fault}
+use Rattle.psi_base.specs.declared.event.Fault.TheVariants as fault
+use Rattle.task_table.specs.Causes.{IsFault}
+use Rattle.replay_core.specs.Reads.{Takes}
+use Rattle.replay_core.proofs.SumLaws.{lines_of, one_kept}
+use Rattle.replay_core.proofs.RootLaws.{first_root, root_follows, root_tasks_after, touch_told, turns_root}
 
 -- ---- changes, with one more
 
@@ -116,20 +120,6 @@ can_follow old minus plus new most is low few one = record {
 
 -- ---- one turn
 
--- the root's counts, states and clock after some events
-pub record Sums (events : List Event) (w : World) (counts : Counts) (mask : ℕ) (clock : ClockView) : Type 0 where
-  pub world : w ≡ after events
-  pub few : w.lines ≤ 4000000
-  pub early : w.last ≤ last_moment
-  pub groups : w.groups ≡ root ∷ []
-  pub root : IsRoot w counts mask
-  pub low : AreAtMost w.lines counts
-  pub changes : List MaskChange
-  pub clock_is : clock ≡ clock_from zero_clock changes
-  pub are : AreChangesOf changes 0 0 events
-  pub start : clock.start ≡ w.last
-  pub bound : (state : State) → slice_index clock.times (number_of state) ≤ w.last
-
 -- what a step says of a machine of one processor
 pub record Stepped (limits : Limits) (w w_after : World) (event : Event) (touch : Touch) : Type 0 where
   pub legal : cause_of limits w event ≡ None
@@ -145,20 +135,20 @@ pub record Stepped (limits : Limits) (w w_after : World) (event : Event) (touch 
   pub ones : AllTouched (λ cpu change. IsOfOne change) touch
 
 -- that is what the clauses of a step tell
-pub stepped : (limits limits_after : Limits) (w w_after : World) (event : Event) (touch : Touch) (tick cpus : ℕ) → limits ≡ limits_of tick cpus → tick ≤ 60000000000 → cpus ≡ 1
-    → limits_after ≡ limits → check_cause limits w event ≡ None → w_after ≡ after_event w event → w_after.lines ≤ 4000000 → w_after.last ≤ limits_after.latest → w.last ≤ w_after.last → IsTouch w event touch
-    → AllTouched (λ cpu change. cpu < limits.cpus) touch → AllTouched (λ cpu change. HasSlotsBelow (length w.groups) change) touch → AllTouched (λ cpu change. IsOfOne change) touch → Stepped limits w w_after event touch
-stepped limits limits_after w w_after event touch tick cpus limits_are short one same legal next few early later told within slots ones =
+pub stepped : (events : List Event) (limits_now limits_after limits : Limits) (w w_after : World) (event : Event) (touch : Touch) (counts : Counts) (mask : ℕ) (clock : ClockView) → AreSums limits_now w counts mask clock limits events
+    → limits_after ≡ limits_now → check_cause limits_now w event ≡ None → w_after ≡ after_event w event → w_after.lines ≤ 4000000 → w_after.last ≤ limits_after.latest → w.last ≤ w_after.last → IsTouch w event touch
+    → AllTouched (λ cpu change. cpu < limits_now.cpus) touch → AllTouched (λ cpu change. HasSlotsBelow (length w.groups) change) touch → AllTouched (λ cpu change. IsOfOne change) touch → Stepped limits_now w w_after event touch
+stepped events limits_now limits_after limits w w_after event touch counts mask clock sums same legal next few early later told within slots ones =
     let moment : w_after.last ≡ event.at = ap (λ (v : World). v.last) next in
-    let latest : limits_after.latest ≡ 1000000 * tick = ap (λ (l : Limits). l.latest) (same ∙ limits_are) in
+    let latest : limits_after.latest ≡ limits.latest = ap (λ (l : Limits). l.latest) (same ∙ sums.limits_are) in
     record {
-      legal = legal_of limits w event legal;
-      kept = one_kept limits w event legal;
+      legal = legal_of limits_now w event legal;
+      kept = one_kept limits_now w event legal;
       next = next;
       few = few;
       later = omega (arith, later, moment);
-      early = omega (arith, early, moment, latest, short);
-      one = ap (λ (l : Limits). l.cpus) limits_are ∙ one;
+      early = omega (arith, early, moment, latest, sums.short);
+      one = ap (λ (l : Limits). l.cpus) sums.limits_are ∙ sums.one;
       told = told;
       cpus = within;
       slots = slots;
@@ -187,34 +177,36 @@ low_after (Some f) counts after mask mask_after most next turned one low more =
     stays_small counts (counts_in f.1.minus) (counts_in f.1.plus) after most next turned.counts_follow low (side_small f.1.plus one.plus) more
 
 -- the root's counts can follow a step
-pub may_turn : (events : List Event) (limits : Limits) (w w_after : World) (event : Event) (touch : Touch) (counts : Counts) (mask : ℕ) (clock : ClockView) → Sums events w counts mask clock → Stepped limits w w_after event touch
+pub may_turn : (events : List Event) (limits_now limits : Limits) (w w_after : World) (event : Event) (touch : Touch) (counts : Counts) (mask : ℕ) (clock : ClockView) → AreSums limits_now w counts mask clock limits events → Stepped limits_now w w_after event touch
     → IfSome touch.first (λ f. CanFollow counts (counts_in f.1.minus) (counts_in f.1.plus))
-may_turn events limits w w_after event touch counts mask clock sums so =
-    let within = within_root touch.first limits.cpus (length w.groups) so.one (ap length sums.groups) so.cpus.0 so.slots.0 in
-    can_turn touch.first (counts_among (root_tasks w)) counts _ w.lines sums.root.counts_are (first_follows limits w w_after event touch touch.first so sums.root.once refl within) so.ones.0 sums.low sums.few
+may_turn events limits_now limits w w_after event touch counts mask clock sums so =
+    let within = within_root touch.first limits_now.cpus (length w.groups) so.one (ap length sums.groups) so.cpus.0 so.slots.0 in
+    can_turn touch.first (counts_among (root_tasks w)) counts _ w.lines sums.root.counts_are (first_follows limits_now w w_after event touch touch.first so sums.root.once refl within) so.ones.0 sums.low sums.few
 
 -- the root's clock may be taken to a moment
-pub is_in_time : (events : List Event) (w : World) (counts : Counts) (mask : ℕ) (clock : ClockView) (at : ℕ) → Sums events w counts mask clock → w.last ≤ at → at ≤ last_moment → IsInTime clock at
-is_in_time events w counts mask clock at sums later early = record {
+pub is_in_time : (events : List Event) (limits_now limits : Limits) (w : World) (counts : Counts) (mask : ℕ) (clock : ClockView) (at : ℕ) → AreSums limits_now w counts mask clock limits events → w.last ≤ at → at ≤ last_moment → IsInTime clock at
+is_in_time events limits_now limits w counts mask clock at sums later early = record {
   started = omega (arith, sums.start, later);
   moment = early;
   times = λ state. omega (arith, sums.bound state, later, early);
 }
 
 -- the sums after one event more
-pub turn : (events more : List Event) (limits : Limits) (w w_after : World) (event : Event) (touch : Touch) (counts after_counts : Counts) (mask mask_after : ℕ) (clock clock_after : ClockView)
-    → Sums events w counts mask clock → Stepped limits w w_after event touch → more ≡ events ++ event ∷ []
-    → Turns counts mask touch.first after_counts mask_after → clock_after ≡ advanced clock event.at mask_after → Sums more w_after after_counts mask_after clock_after
-turn events more limits w w_after event touch counts after_counts mask mask_after clock clock_after sums so items turned clocked =
-    let within = within_root touch.first limits.cpus (length w.groups) so.one (ap length sums.groups) so.cpus.0 so.slots.0 in
+pub turn : (events : List Event) (limits_now limits_after limits : Limits) (w w_after : World) (event : Event) (touch : Touch) (counts after_counts : Counts) (mask mask_after : ℕ) (clock clock_after : ClockView)
+    → AreSums limits_now w counts mask clock limits events → Stepped limits_now w w_after event touch → limits_after ≡ limits_now
+    → Turns counts mask touch.first after_counts mask_after → clock_after ≡ advanced clock event.at mask_after → AreSums limits_after w_after after_counts mask_after clock_after limits (events ++ event ∷ [])
+turn events limits_now limits_after limits w w_after event touch counts after_counts mask mask_after clock clock_after sums so same turned clocked =
+    let within = within_root touch.first limits_now.cpus (length w.groups) so.one (ap length sums.groups) so.cpus.0 so.slots.0 in
     let root_after : IsRoot w_after after_counts mask_after = subst (λ v. IsRoot v after_counts mask_after) (sym so.next)
-    (turns_root limits w event touch touch.first counts after_counts mask mask_after so.legal so.kept so.told refl within sums.root turned) in
+    (turns_root limits_now w event touch touch.first counts after_counts mask mask_after so.legal so.kept so.told refl within sums.root turned) in
     let world : w_after ≡ after (events ++ event ∷ []) = so.next ∙ ap (λ v. after_event v event) sums.world ∙ sym (after_from-push first_world events event) in
     let moment : w_after.last ≡ event.at = ap (λ (v : World). v.last) so.next in
     let lines : w_after.lines ≡ w.lines + 1 = ap (λ (v : World). v.lines) so.next in
-    let are = changes_with sums.changes 0 0 events event mask_after sums.are (λ state. root_after.states_are state ∙ ap (holds state 0 0) world) in
     record {
-      world = world ∙ ap after (sym items);
+      limits_are = same ∙ sums.limits_are;
+      one = sums.one;
+      short = sums.short;
+      world = world;
       few = so.few;
       early = omega (arith, moment, so.early);
       groups = ap (λ (v : World). v.groups) so.next ∙ so.kept ∙ sums.groups;
@@ -222,7 +214,7 @@ turn events more limits w w_after event touch counts after_counts mask mask_afte
       low = low_after touch.first counts after_counts mask mask_after w.lines w_after.lines turned so.ones.0 sums.low lines;
       changes = with_change sums.changes event.at mask_after;
       clock_is = clocked ∙ ap (λ c. advanced c event.at mask_after) sums.clock_is ∙ sym (clock_with zero_clock sums.changes event.at mask_after);
-      are = subst (AreChangesOf (with_change sums.changes event.at mask_after) 0 0) (sym items) are;
+      are = changes_with sums.changes 0 0 events event mask_after sums.are (λ state. root_after.states_are state ∙ ap (holds state 0 0) world);
       start = ap (λ (c : ClockView). c.start) clocked ∙ sym moment;
       bound = λ state. rw (clocked, moment, opened_at clock event.at state)
           (no_longer_than_clock clock event.at state (omega (arith, sums.start, so.later)) (omega (arith, sums.bound state, sums.start)));
@@ -242,8 +234,11 @@ no_time CpuSome = refl
 no_time CpuFull = refl
 no_time Nonidle = refl
 
-pub none_so_far : Sums [] first_world no_counts 0 zero_clock
-none_so_far = record {
+pub none_so_far : (limits_now limits : Limits) → limits_now ≡ limits → limits.cpus ≡ 1 → limits.latest ≤ last_moment → AreSums limits_now first_world no_counts 0 zero_clock limits []
+none_so_far limits_now limits same one short = record {
+  limits_are = same;
+  one = one;
+  short = short;
   world = refl;
   few = omega arith;
   early = omega arith;
@@ -257,11 +252,30 @@ none_so_far = record {
   bound = λ state. omega (arith, no_time state);
 }
 
-pub whole_sums : (events : List Event) (i : ℕ) (w : World) (counts : Counts) (mask : ℕ) (clock : ClockView) (times : List ℕ) → length events ≤ i → Sums (take i events) w counts mask clock → times ≡ opened clock w.last → times ≡ stall_times 0 0 events
-whole_sums events i w counts mask clock times all sums is =
-    let same : take i events ≡ events = take_all i events all in
-    let whole : Sums events w counts mask clock = subst (λ es. Sums es w counts mask clock) same sums in
-    let last : w.last ≡ end_of events = ap (λ (v : World). v.last) whole.world in
+-- the clock tells the root's stall times
+pub whole_sums : (events : List Event) (limits_now limits : Limits) (w : World) (counts : Counts) (mask : ℕ) (clock : ClockView) (times : List ℕ) → AreSums limits_now w counts mask clock limits events → times ≡ opened clock w.last → times ≡ stall_times 0 0 events
+whole_sums events limits_now limits w counts mask clock times sums is =
+    let last : w.last ≡ end_of events = ap (λ (v : World). v.last) sums.world in
     let each : (state : State) → opened_time clock w.last state ≡ stall state 0 0 events (end_of events) = λ state.
-    ap (λ c. opened_time c w.last state) whole.clock_is ∙ clock_tells_stall whole.changes 0 0 events w.last state whole.are ∙ ap (stall state 0 0 events) last in
+    ap (λ c. opened_time c w.last state) sums.clock_is ∙ clock_tells_stall sums.changes 0 0 events w.last state sums.are ∙ ap (stall state 0 0 events) last in
     is ∙ map_states (opened_time clock w.last) (λ state. stall state 0 0 events (end_of events)) each
+
+-- ---- the root's sums as a player
+
+-- what a step that is refused tells
+pub sums_refused : (limits_now limits_after : Limits) (w w_after : World) (counts after_counts : Counts) (mask mask_after : ℕ) (clock clock_after : ClockView) (event : Event) (why : Fault Cause) → IsFault (check_cause limits_now w event) event.act why
+    → Takes (AreSums limits_now w counts mask clock) (AreSums limits_after w_after after_counts mask_after clock_after) event (Err why)
+sums_refused limits_now limits_after w w_after counts after_counts mask mask_after clock clock_after event (fault.Refused why) is = λ limits events sums.
+    subst (λ v. check_cause limits v event ≡ Some why) sums.world (subst (λ l. check_cause l w event ≡ Some why) sums.limits_are is)
+sums_refused limits_now limits_after w w_after counts after_counts mask mask_after clock clock_after event fault.NoMemory is = tt
+
+-- what a step that was done tells, with the sums after it
+pub sums_taken : (limits_now limits_after limits : Limits) (w w_after : World) (counts after_counts : Counts) (mask mask_after : ℕ) (clock clock_after : ClockView) (event : Event) (events : List Event)
+    → AreSums limits_now w counts mask clock limits events → check_cause limits_now w event ≡ None → AreSums limits_after w_after after_counts mask_after clock_after limits (events ++ event ∷ [])
+    → (check_cause limits (after events) event ≡ None) × AreSums limits_after w_after after_counts mask_after clock_after limits (events ++ event ∷ []) × (length events < 4000000)
+sums_taken limits_now limits_after limits w w_after counts after_counts mask mask_after clock clock_after event events sums legal next =
+    let lines : w_after.lines ≡ length (events ++ event ∷ []) = ap (λ (v : World). v.lines) next.world ∙ lines_of (events ++ event ∷ []) in (
+      subst (λ v. check_cause limits v event ≡ None) sums.world (subst (λ l. check_cause l w event ≡ None) sums.limits_are legal),
+      next,
+      omega (arith, next.few, lines, length_with events event),
+    )

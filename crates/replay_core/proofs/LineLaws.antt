@@ -1,7 +1,7 @@
 -- Reading a trace line by line, against the definition over its bytes.
-use Rattle.std.proofs.Common.{◌≡◌, ◌≢◌, ℕ, ◌+◌, ◌<◌, ◌≤◌, List, [], ◌∷◌, ◌++◌, length, get_or, refl, sym, ap, ◌∙◌, arith, subst, ◌⊎◌, ⊎_elim, true, false, Bool}
-use Rattle.std.specs.Prelude.{Result, Ok, Err, IfOk, MatchResult, Option, None, Some, nat_lt, ◌==◌, if◌then◌else◌}
-use Rattle.std.proofs.lemmas.List.{append-nil}
+use Rattle.std.proofs.Common.{◌≡◌, ◌≢◌, ℕ, ◌+◌, ◌<◌, ◌≤◌, List, [], ◌∷◌, ◌++◌, length, get_or, refl, sym, ap, ◌∙◌, arith, ◌⊎◌, ⊎_elim, true, false, Bool}
+use Rattle.std.specs.Prelude.{Result, Ok, Err, Option, None, Some, nat_lt, ◌==◌, if◌then◌else◌}
+use Rattle.std.proofs.lemmas.List.{append-nil, length-append}
 use Rattle.std.proofs.Math.Seq.{get_or-append_seam}
 use Rattle.psi_base.specs.Path.{parts_at}
 use Rattle.psi_base.specs.declared.event.Event.{Event}
@@ -11,29 +11,29 @@ use Rattle.psi_base.specs.declared.event.Refusal.{Refusal}
 use Rattle.psi_base.specs.declared.event.Fault.{Fault}
 use Rattle.psi_base.specs.declared.event.Fault.TheVariants as fault
 use Rattle.psi_lines.specs.Lines.{BeginsWithLine, IsTooLong, IsCut}
-use Rattle.psi_spec.specs.World.{World, Limits, after_event, after_from, first_world}
-use Rattle.psi_spec.specs.Refusal.{AreLegal, check_cause}
-use Rattle.psi_spec.specs.Grammar.{header_of}
+use Rattle.psi_spec.specs.World.{World, Limits, after, after_event, after_from, first_world}
+use Rattle.psi_spec.specs.Refusal.{check_cause}
+use Rattle.psi_spec.specs.Grammar.{event_of, header_of}
 use Rattle.std.proofs.lemmas.Bool.Decides.{eqb_tells}
-use Rattle.psi_spec.specs.Trace.{Trace, if_built, or_bad_header, line_event, rest_cause, at_end, or_refused, followed, refused, first_line, first_rest, headed, with_events, trace_of, limits_of}
+use Rattle.psi_spec.specs.Trace.{Trace, if_built, or_bad_header, line_event, rest_cause, then_legal, at_end, or_refused, followed, refused, first_line, first_rest, headed, with_events, trace_of, limits_of}
 use Rattle.psi_spec.proofs.Splitting.{Cut, cut}
 use Rattle.psi_spec.proofs.Reading.{Events, rest_from-line, rest_from-rest, nothing_left, followed-followed}
 use Rattle.psi_spec.proofs.Accepting.{trace_of-line, trace_of-rest}
 use Rattle.psi_trace.specs.Gives.{Gives}
-use Rattle.replay_core.specs.Reads.{rest_from, FaultOf, IsFaultAt, TailGives}
+use Rattle.replay_core.specs.Reads.{rest_from, FaultOf, IsFaultAt, NextGives, Plays, RestGives, TailGives, Takes, TakesLine, TracePlayed}
 use Rattle.replay_core.specs.declared.trace.TraceFault.{TraceFault}
 use Rattle.replay_core.specs.declared.trace.TraceFault.TheVariants.{Refused, NoFile, ReadFault, NoMemory}
 
 -- ---- events so far, and those behind them
 
--- a legal event behind legal events
-pub AreLegal-push : (limits : Limits) (w : World) (events : List Event) (event : Event) → AreLegal limits w events → check_cause limits (after_from w events) event ≡ None → AreLegal limits w (events ++ event ∷ [])
-AreLegal-push limits w [] event legal next = (next, tt)
-AreLegal-push limits w (first ∷ events) event legal next = (legal.0, AreLegal-push limits (after_event w first) events event legal.1 next)
-
+-- the world after one event more
 pub after_from-push : (w : World) (events : List Event) (event : Event) → after_from w (events ++ event ∷ []) ≡ after_event (after_from w events) event
 after_from-push w [] event = refl
 after_from-push w (first ∷ events) event = after_from-push (after_event w first) events event
+
+followed-none : (rest : Events) → followed [] rest ≡ rest
+followed-none (Ok events) = refl
+followed-none (Err refusal) = refl
 
 -- one more event of the whole
 pub push_read : (front : List Event) (event : Event) (rest more whole : Events) → followed front rest ≡ whole → rest ≡ followed (event ∷ []) more → followed (front ++ event ∷ []) more ≡ whole
@@ -50,6 +50,9 @@ whole_fault front rest whole _ is found = tt
 
 -- ---- a line
 
+not_long : (n : ℕ) → n ≤ 512 → nat_lt 512 n ≡ false
+not_long n short = grind (arith, short)
+
 pub line_taken : (limits : Limits) (w : World) (line : ℕ) (bytes part behind : List ℕ) (event : Event) → BeginsWithLine bytes part behind → line_event limits w part ≡ Ok event → rest_from limits w line bytes ≡ followed (event ∷ []) (rest_from limits (after_event w event) (line + 1) behind)
 line_taken limits w line bytes part behind event begins is =
     ap (rest_from limits w line) begins.whole ∙ rest_from-line limits w line part behind begins.one ∙ ap (λ r. or_refused line r (λ e. followed (e ∷ []) (rest_from limits (after_event w e) (line + 1) behind))) is
@@ -58,10 +61,52 @@ pub line_refused : (limits : Limits) (w : World) (line : ℕ) (bytes part behind
 line_refused limits w line bytes part behind why begins is =
     ap (rest_from limits w line) begins.whole ∙ rest_from-line limits w line part behind begins.one ∙ ap (λ r. or_refused line r (λ e. followed (e ∷ []) (rest_from limits (after_event w e) (line + 1) behind))) is
 
+-- ---- a line that is played
+
+legal_line : (ended long : Bool) (read : Result Event Cause) (limits : Limits) (w : World) (event : Event) → ended ≡ false → long ≡ false → read ≡ Ok event → check_cause limits w event ≡ None → (if ended then Err cause.AfterEnd else if long then Err cause.LineTooLong else then_legal limits w read) ≡ Ok event
+legal_line ended long read limits w event running short is legal = rw (running, short, is, legal) refl
+
+refused_line : (ended long : Bool) (read : Result Event Cause) (limits : Limits) (w : World) (event : Event) (why : Cause) → ended ≡ false → long ≡ false → read ≡ Ok event → check_cause limits w event ≡ Some why → (if ended then Err cause.AfterEnd else if long then Err cause.LineTooLong else then_legal limits w read) ≡ Err why
+refused_line ended long read limits w event why running short is refused = rw (running, short, is, refused) refl
+
+unread_line : (ended long : Bool) (read : Result Event Cause) (limits : Limits) (w : World) (why : Cause) → ended ≡ false → long ≡ false → read ≡ Err why → (if ended then Err cause.AfterEnd else if long then Err cause.LineTooLong else then_legal limits w read) ≡ Err why
+unread_line ended long read limits w why running short is = rw (running, short, is) refl
+
+pub takes_event : (Before After : Plays) (line : List ℕ) (event : Event) (result : Result (Unit {0}) (Fault Cause)) → length line ≤ 512 → event_of line ≡ Ok event → Takes Before After event result → TakesLine Before After line result
+unfolding line_event
+takes_event Before After line event (Ok x) short is takes = λ limits events before running.
+    let taken = takes limits events before in
+    (event, legal_line (after events).ended (nat_lt 512 (length line)) (event_of line) limits (after events) event running (not_long (length line) short) is taken.0, taken.1, taken.2)
+takes_event Before After line event (Err (fault.Refused why)) short is takes = λ limits events before running.
+    refused_line (after events).ended (nat_lt 512 (length line)) (event_of line) limits (after events) event why running (not_long (length line) short) is (takes limits events before)
+takes_event Before After line event (Err fault.NoMemory) short is takes = tt
+
+pub takes_none : (Before After : Plays) (line : List ℕ) (why : Fault Cause) → length line ≤ 512 → Gives {A = Event} (Err why) (event_of line) → TakesLine Before After line (Err why)
+unfolding line_event
+takes_none Before After line (fault.Refused why) short is = λ limits events before running.
+    unread_line (after events).ended (nat_lt 512 (length line)) (event_of line) limits (after events) why running (not_long (length line) short) is
+takes_none Before After line fault.NoMemory short is = tt
+
+-- the line's event was played, and the rest of the input is behind it
+pub line_played : (Before After : Plays) (line : ℕ) (part : List ℕ) (before behind : List ℕ → List ℕ) (known : Option (List ℕ)) (x : Unit {0}) → TakesLine Before After part (Ok x) → ((bytes : List ℕ) → known ≡ Some bytes → BeginsWithLine (before bytes) part (behind bytes))
+    → NextGives Before After line before behind known (Ok x)
+line_played Before After line part before behind known x takes begins = λ limits events played running.
+    let taken = takes limits events played running in
+    record {
+      event = taken.0;
+      played = taken.2;
+      few = taken.3;
+      read = λ bytes tells.
+          line_taken limits (after events) line (before bytes) part (behind bytes) taken.0 (begins bytes tells) taken.1
+          ∙ ap (λ w. followed (taken.0 ∷ []) (rest_from limits w (line + 1) (behind bytes))) (sym (after_from-push first_world events taken.0));
+    }
+
 -- the fault of a line is that of the rest
-pub line_fault : (limits : Limits) (w : World) (line : ℕ) (bytes part behind : List ℕ) (why : Fault Cause) (found : TraceFault) → IsFaultAt line why found → Gives {A = Event} (Err why) (line_event limits w part) → BeginsWithLine bytes part behind → FaultOf found (rest_from limits w line bytes)
-line_fault limits w line bytes part behind (fault.Refused why) found at gives begins = rw at (line_refused limits w line bytes part behind why begins gives)
-line_fault limits w line bytes part behind fault.NoMemory found at gives begins = rw at tt
+pub line_faulted : (Before After : Plays) (line : ℕ) (part : List ℕ) (before behind : List ℕ → List ℕ) (known : Option (List ℕ)) (why : Fault Cause) (found : TraceFault) → IsFaultAt line why found → TakesLine Before After part (Err why) → ((bytes : List ℕ) → known ≡ Some bytes → BeginsWithLine (before bytes) part (behind bytes))
+    → NextGives Before After line before behind known (Err found)
+line_faulted Before After line part before behind known (fault.Refused why) found at takes begins = λ limits events played running bytes tells.
+    rw at (line_refused limits (after events) line (before bytes) part (behind bytes) why (begins bytes tells) (takes limits events played running))
+line_faulted Before After line part before behind known fault.NoMemory found at takes begins = λ limits events played running bytes tells. rw at tt
 
 -- ---- the end of the input before the end of the trace
 
@@ -165,9 +210,6 @@ header_long tick bytes is = ⊎_elim
 short_first : (long : Bool) (read : Result ℕ Cause) → long ≡ false → (if long then Err cause.LineTooLong else read) ≡ read
 short_first long read is = rw is refl
 
-not_long : (n : ℕ) → n ≤ 512 → nat_lt 512 n ≡ false
-not_long n short = grind (arith, short)
-
 pub first_one : (line : List ℕ) → length line ≤ 512 → header_of line ≡ Some 1 → first_line line ≡ Ok 1
 unfolding first_line
 first_one line short is = short_first (nat_lt 512 (length line)) _ (not_long (length line) short) ∙ rw is refl
@@ -182,40 +224,94 @@ pub first_other : (line : List ℕ) → length line ≤ 512 → (header_of line 
 unfolding first_line
 first_other line short other = short_first (nat_lt 512 (length line)) _ (not_long (length line) short) ∙ bad_unless (header_of line) other
 
--- behind the end: all events were read, or the fault there is the whole's
-pub closes : {A : Type 0} (items : A → List Event) (front : List Event) (limits : Limits) (w : World) (line : ℕ) (bytes : List ℕ) (whole : Events) (result : Result A TraceFault) → followed front (rest_from limits w line bytes) ≡ whole → w.ended ≡ true → TailGives line bytes result → IfOk result (λ x. items x ≡ front) → MatchResult result (λ x. whole ≡ Ok (items x)) (λ fault. FaultOf fault whole)
-closes items front limits w line bytes whole (Ok x) is ended tail same =
-    all_read front limits w line bytes whole is tail ended ∙ ap (λ es. let r : Events = Ok es in r) (sym same)
-closes items front limits w line bytes whole (Err (Refused refusal)) is ended tail same =
-    whole_refused front (rest_from limits w line bytes) whole refusal is (after_end limits w line bytes tail.0 ended ∙ ap (λ x. let r : Events = Err x in r) (sym tail.1))
-closes items front limits w line bytes whole (Err NoFile) is ended tail same = tt
-closes items front limits w line bytes whole (Err ReadFault) is ended tail same = tt
-closes items front limits w line bytes whole (Err NoMemory) is ended tail same = tt
+-- ---- all lines
 
--- what holds of the events holds of those that are handed out
-pub closes_legal : {A : Type 0} (items : A → List Event) (front : List Event) (limits : Limits) (w : World) (result : Result A TraceFault) → AreLegal limits w front → IfOk result (λ x. items x ≡ front) → IfOk result (λ x. AreLegal limits w (items x))
-closes_legal items front limits w (Ok x) legal same = subst (AreLegal limits w) (sym same) legal
-closes_legal items front limits w (Err fault) legal same = tt
+-- behind the end: all events were played, or the fault there is the whole's
+pub closes : (Played : Plays) (limits : Limits) (events : List Event) (line : ℕ) (before behind : List ℕ → List ℕ) (known : Option (List ℕ)) (result : Result (Unit {0}) TraceFault) → Played limits events → (after events).ended ≡ true
+    → ((bytes : List ℕ) → known ≡ Some bytes → followed events (rest_from limits (after events) line (behind bytes)) ≡ rest_from limits first_world 2 (before bytes))
+    → ((bytes : List ℕ) → known ≡ Some bytes → TailGives line (behind bytes) result) → RestGives Played limits before known result
+closes Played limits events line before behind known (Ok x) played ended read tail = record {
+  events = events;
+  played = played;
+  read = λ bytes tells. all_read events limits (after events) line (behind bytes) (rest_from limits first_world 2 (before bytes)) (read bytes tells) (tail bytes tells) ended;
+}
+closes Played limits events line before behind known (Err (Refused refusal)) played ended read tail = λ bytes tells.
+    let found = tail bytes tells in
+    whole_refused events (rest_from limits (after events) line (behind bytes)) (rest_from limits first_world 2 (before bytes)) refusal (read bytes tells)
+    (after_end limits (after events) line (behind bytes) found.0 ended ∙ ap (λ r. let e : Events = Err r in e) (sym found.1))
+closes Played limits events line before behind known (Err NoFile) played ended read tail = λ bytes tells. tt
+closes Played limits events line before behind known (Err ReadFault) played ended read tail = λ bytes tells. tt
+closes Played limits events line before behind known (Err NoMemory) played ended read tail = λ bytes tells. tt
 
--- the events so far, with the next one
-pub record Pushed (limits : Limits) (w : World) (events more : List Event) (event : Event) (before after : World) : Type 0 where
-  pub world : after ≡ after_from w more
-  pub legal : AreLegal limits w more
+-- a player so far: the events that it has played, of which the end isn't one, and what they leave of the input
+pub record SoFar (Played : Plays) (limits : Limits) (count : ℕ) (before behind : List ℕ → List ℕ) (known : Option (List ℕ)) : Type 0 where
+  pub events : List Event
+  pub played : Played limits events
+  pub counted : length events ≡ count
+  pub running : (after events).ended ≡ false
+  pub read : (bytes : List ℕ) → known ≡ Some bytes → followed events (rest_from limits (after events) (count + 2) (behind bytes)) ≡ rest_from limits first_world 2 (before bytes)
 
-pub pushed : (limits limits_now : Limits) (w : World) (events more : List Event) (event : Event) (before after : World) → limits_now ≡ limits → before ≡ after_from w events → AreLegal limits w events → more ≡ events ++ event ∷ [] → after ≡ after_event before event → check_cause limits_now before event ≡ None → Pushed limits w events more event before after
-pushed limits limits_now w events more event before after same world legal items next is =
-    let here : check_cause limits (after_from w events) event ≡ None = subst (λ v. check_cause limits v event ≡ None) world (subst (λ l. check_cause l before event ≡ None) same is) in
+-- before the first line behind the header
+pub none_so_far : (Played : Plays) (limits : Limits) (before : List ℕ → List ℕ) (known : Option (List ℕ)) → Played limits [] → SoFar Played limits 0 before before known
+none_so_far Played limits before known played = record {
+  events = [];
+  played = played;
+  counted = refl;
+  running = refl;
+  read = λ bytes tells. followed-none (rest_from limits first_world 2 (before bytes));
+}
+
+-- one event more
+pub record OneMore (Played : Plays) (limits : Limits) (count : ℕ) (before behind : List ℕ → List ℕ) (known : Option (List ℕ)) : Type 0 where
+  pub events : List Event
+  pub played : Played limits events
+  pub counted : length events ≡ count + 1
+  pub few : count < 4000000
+  pub read : (bytes : List ℕ) → known ≡ Some bytes → followed events (rest_from limits (after events) (count + 3) (behind bytes)) ≡ rest_from limits first_world 2 (before bytes)
+
+pub one_more : (Before After : Plays) (limits : Limits) (count : ℕ) (before behind later : List ℕ → List ℕ) (known : Option (List ℕ)) (x : Unit {0}) → SoFar Before limits count before behind known → NextGives Before After (count + 2) behind later known (Ok x) → OneMore After limits count before later known
+one_more Before After limits count before behind later known x so next =
+    let p = next limits so.events so.played so.running in
     record {
-      world = next ∙ ap (λ v. after_event v event) world ∙ sym (after_from-push w events event) ∙ ap (after_from w) (sym items);
-      legal = subst (AreLegal limits w) (sym items) (AreLegal-push limits w events event legal here);
+      events = so.events ++ p.event ∷ [];
+      played = p.played;
+      counted = omega (arith, length-append so.events (p.event ∷ []), so.counted);
+      few = omega (arith, p.few, so.counted);
+      read = λ bytes tells.
+          let line : count + 3 ≡ count + 2 + 1 = omega arith in
+          rw line (push_read so.events p.event (rest_from limits (after so.events) (count + 2) (behind bytes)) (rest_from limits (after (so.events ++ p.event ∷ [])) (count + 2 + 1) (later bytes)) (rest_from limits first_world 2 (before bytes)) (so.read bytes tells) (p.read bytes tells));
     }
 
--- one more event was read: the events so far, and those behind them, are still the whole
-pub read_on : (limits limits_now : Limits) (before after : World) (line next : ℕ) (front more : List Event) (event : Event) (bytes behind : List ℕ) (whole : Events)
-    → limits_now ≡ limits → followed front (rest_from limits before line bytes) ≡ whole
-    → rest_from limits_now before line bytes ≡ followed (event ∷ []) (rest_from limits_now (after_event before event) (line + 1) behind)
-    → more ≡ front ++ event ∷ [] → after ≡ after_event before event → next ≡ line + 1
-    → followed more (rest_from limits after next behind) ≡ whole
-read_on limits limits_now before after line next front more event bytes behind whole same is found items world count =
-    let here : rest_from limits before line bytes ≡ followed (event ∷ []) (rest_from limits (after_event before event) (line + 1) behind) = subst (λ l. rest_from l before line bytes ≡ followed (event ∷ []) (rest_from l (after_event before event) (line + 1) behind)) same found in
-    rw (items, world, count) (push_read front event _ _ whole is here)
+-- that the end isn't among them
+pub goes_on : (Played : Plays) (limits : Limits) (count next : ℕ) (before behind : List ℕ → List ℕ) (known : Option (List ℕ)) (ended : Bool) → next ≡ count + 1 → OneMore Played limits count before behind known
+    → ((limits : Limits) (events : List Event) → Played limits events → ended ≡ (after events).ended) → ended ≡ false → SoFar Played limits next before behind known
+goes_on Played limits count next before behind known ended is one told running = record {
+  events = one.events;
+  played = one.played;
+  counted = one.counted ∙ sym is;
+  running = sym (told limits one.events one.played) ∙ running;
+  read = λ bytes tells. let line : next + 2 ≡ count + 3 = omega (arith, is) in rw line (one.read bytes tells);
+}
+
+pub ends_here : (Played : Plays) (limits : Limits) (count : ℕ) (before behind : List ℕ → List ℕ) (known : Option (List ℕ)) (ended : Bool) (result : Result (Unit {0}) TraceFault) → OneMore Played limits count before behind known
+    → ((limits : Limits) (events : List Event) → Played limits events → ended ≡ (after events).ended) → ended ≡ true
+    → ((bytes : List ℕ) → known ≡ Some bytes → TailGives (count + 3) (behind bytes) result) → RestGives Played limits before known result
+ends_here Played limits count before behind known ended result one told over tail =
+    closes Played limits one.events (count + 3) before behind known result one.played (sym (told limits one.events one.played) ∙ over) one.read tail
+
+-- a fault of the next line is the whole's
+pub faults_here : (Before After Whole : Plays) (limits : Limits) (count : ℕ) (before behind later : List ℕ → List ℕ) (known : Option (List ℕ)) (found : TraceFault) → SoFar Before limits count before behind known → NextGives Before After (count + 2) behind later known (Err found) → RestGives Whole limits before known (Err found)
+faults_here Before After Whole limits count before behind later known found so next = λ bytes tells.
+    whole_fault so.events (rest_from limits (after so.events) (count + 2) (behind bytes)) (rest_from limits first_world 2 (before bytes)) found (so.read bytes tells) (next limits so.events so.played so.running bytes tells)
+
+-- ---- the trace
+
+pub trace_played : (Played : Plays) (tick cpus : ℕ) (named behind : List ℕ → List ℕ) (known : Option (List ℕ)) (x : Unit {0})
+    → ((bytes : List ℕ) → known ≡ Some bytes → trace_of tick bytes ≡ with_events cpus (rest_from (limits_of tick cpus) first_world 2 (behind bytes)))
+    → RestGives Played (limits_of tick cpus) behind known (Ok x) → TracePlayed Played tick known
+trace_played Played tick cpus named behind known x headed rest = record {
+  cpus = cpus;
+  events = rest.events;
+  played = rest.played;
+  read = λ bytes tells. headed bytes tells ∙ ap (with_events cpus) (rest.read bytes tells);
+}

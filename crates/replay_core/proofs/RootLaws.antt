@@ -16,21 +16,11 @@ use Rattle.psi_spec.specs.Stall.{holds, holds_of, is_in, is_under, parents_of, t
 use Rattle.psi_spec.specs.Counts.{counts_among, mask_holds, tells}
 use Rattle.psi_spec.specs.Touch.{Follows, HasSlotsBelow, IsBeside, IsTouch, RunsOnce, change_of, is_current_in, is_current_stalled, no_counts, on_chain, shown, told_first}
 use Rattle.psi_spec.proofs.MaskLaws.{counts_tell}
-use Rattle.replay_core.specs.Sums.{Turned, Turns, counts_in}
+use Rattle.replay_core.specs.Sums.{IsRoot, Turned, Turns, counts_in, root_tasks}
 use Rattle.replay_core.proofs.SumLaws.{none_holds}
 use Rattle.psi_spec.proofs.TaskLaws.{no_entries}
 use Rattle.psi_spec.proofs.TouchLaws.{current_tells, runs_once_first, runs_once_kept, stays_untouched}
 use Rattle.psi_spec.proofs.TouchWithin.{change_tells}
-
--- the tasks that count for the root
-abbrev pub root_tasks : World → List Task
-root_tasks w = tasks_in (parents_of w.groups) 0 0 w.tasks
-
--- counts and a mask are those of the root in a world
-pub record IsRoot (w : World) (counts : Counts) (mask : ℕ) : Type 0 where
-  pub once : RunsOnce w.tasks
-  pub counts_are : counts ≡ counts_among (root_tasks w)
-  pub states_are : (state : State) → mask_holds mask state ≡ holds state 0 0 w
 
 -- ---- the first root
 

@@ -1,19 +1,24 @@
 -- The stall sums of a trace, event by event.
-use Rattle.std.proofs.Common.{◌≡◌, ℕ, ◌+◌, ◌-◌, ◌<◌, List, [], ◌∷◌, ◌++◌, length, map, filter, take, get_or, zero, suc, refl, sym, ap, ◌∙◌, arith, subst, true, false, Bool, Option, None, Some}
-use Rattle.std.specs.Prelude.{if◌then◌else◌, codes, ◌==◌}
-use Rattle.std.proofs.lemmas.List.{append-nil, take_more}
+use Rattle.std.proofs.Common.{◌≡◌, ℕ, ◌+◌, List, [], ◌∷◌, ◌++◌, length, map, filter, refl, sym, ap, ◌∙◌, arith, subst, true, false, Bool, Option, None, Some}
+use Rattle.std.specs.Prelude.{◌≤◌, if◌then◌else◌, codes, Result, Ok, Err, OnOk, MatchResult}
+use Rattle.std.proofs.lemmas.List.{append-nil}
 use Rattle.psi_base.specs.declared.event.Event.{Event}
 use Rattle.psi_base.specs.declared.event.Cause.{Cause}
 use Rattle.psi_base.specs.declared.event.Cause.TheVariants as cause
+use Rattle.psi_base.specs.declared.event.Fault.{Fault}
+use Rattle.psi_base.specs.declared.event.Fault.TheVariants as fault
 use Rattle.psi_base.specs.declared.event.State.{State}
 use Rattle.psi_base.specs.declared.event.State.TheVariants.{IoSome, IoFull, MemSome, MemFull, CpuSome, CpuFull, Nonidle}
 use Rattle.psi_spec.specs.declared.machine.Task.{Task}
 use Rattle.psi_spec.specs.World.{World, Limits, after, after_event, after_from, first_world, root}
-use Rattle.psi_spec.specs.Refusal.{AreLegal, check_cause, is_built}
+use Rattle.psi_spec.specs.Refusal.{check_cause, is_built}
 use Rattle.psi_spec.specs.Stall.{holds, holds_of, is_in, parents_of}
-use Rattle.psi_spec.specs.Text.{end_of, stall_line, stall_text, stall_times}
+use Rattle.psi_spec.specs.Text.{stall_line, stall_text, stall_times}
 use Rattle.psi_spec.proofs.TaskLaws.{no_entries}
+use Rattle.task_table.specs.Causes.{IsFault}
 use Rattle.task_table.proofs.CauseLaws.{groups_kept as acts_keep}
+use Rattle.replay_core.specs.Reads.{IsPlayed, Takes}
+use Rattle.replay_core.proofs.LineLaws.{after_from-push}
 
 -- ---- the groups of a trace of acts that are built
 
@@ -28,11 +33,6 @@ is_built_act limits w event legal = built_of (is_built event.act) _ legal
 -- a legal event keeps the groups
 pub one_kept : (limits : Limits) (w : World) (event : Event) → check_cause limits w event ≡ None → (after_event w event).groups ≡ w.groups
 one_kept limits w event legal = acts_keep event.at w.groups event.act (is_built_act limits w event legal)
-
-pub groups_kept : (limits : Limits) (w : World) (events : List Event) → AreLegal limits w events → (after_from w events).groups ≡ w.groups
-groups_kept limits w [] legal = refl
-groups_kept limits w (event ∷ events) legal =
-    groups_kept limits (after_event w event) events legal.1 ∙ one_kept limits w event legal.0
 
 -- ---- the first world
 
@@ -51,41 +51,34 @@ unfolding holds
 none_holds state cpu slot =
     ap (λ es. holds_of state (filter (is_in (parents_of (root ∷ [])) cpu slot) (map (λ (e : ℕ × Task). e.1) es))) no_entries ∙ no_state state
 
--- ---- legal events, one by one
-
-pub legal_at : (limits : Limits) (w : World) (events : List Event) (i : ℕ) (d : Event) → i < length events → AreLegal limits w events → check_cause limits (after_from w (take i events)) (get_or events i d) ≡ None
-legal_at limits w [] i d inside legal = absurd (omega (arith, inside))
-legal_at limits w (event ∷ events) zero d inside legal = legal.0
-legal_at limits w (event ∷ events) (suc i) d inside legal = legal_at limits (after_event w event) events i d (omega (arith, inside)) legal.1
-
 -- ---- the text of a trace of one processor and the root alone
 
 pub stall_text_is : (cpus : ℕ) (events : List Event) (times : List ℕ) → cpus ≡ 1 → (after events).groups ≡ root ∷ [] → times ≡ stall_times 0 0 events → stall_line 0 (codes "/") times ≡ stall_text (record { version = 1; cpus = cpus; events = events })
 unfolding stall_text
 stall_text_is cpus events times one alone is = rw (one, alone, is) (sym (append-nil _ ∙ append-nil _))
 
--- ---- one turn
+-- ---- how many events there are
 
--- the event of a turn is legal
-pub legal_here : (limits limits_now : Limits) (w : World) (events given : List Event) (i : ℕ) (event : Event) → given ≡ events → i < length given → AreLegal limits first_world events → limits_now ≡ limits → w ≡ after (take i events) → event ≡ get_or given i event → check_cause limits_now w event ≡ None
-legal_here limits limits_now w events given i event same inside legal now world is =
-    let here : check_cause limits (after (take i given)) (get_or given i event) ≡ None = legal_at limits first_world given i event inside (subst (AreLegal limits first_world) (sym same) legal) in
-    rw (now, world, ← same) (subst (λ e. check_cause limits (after (take i given)) e ≡ None) (sym is) here)
+lines_from : (w : World) (events : List Event) → (after_from w events).lines ≡ w.lines + length events
+lines_from w [] = omega arith
+lines_from w (event ∷ events) = omega (arith, lines_from (after_event w event) events)
 
--- the events so far, with that of a turn
-pub turned : (events given : List Event) (i : ℕ) (event : Event) → given ≡ events → i < length given → event ≡ get_or given i event → take (i + 1) events ≡ take i events ++ event ∷ []
-turned events given i event same inside is =
-    ap (take (i + 1)) (sym same) ∙ take_more given i event inside ∙ ap (λ e. take i given ++ e ∷ []) (sym is) ∙ ap (λ es. take i es ++ event ∷ []) same
+pub lines_of : (events : List Event) → (after events).lines ≡ length events
+lines_of events = omega (arith, lines_from first_world events)
 
--- ---- the moment of the last event
+-- ---- the table as a player
 
-last_from : (w : World) (events : List Event) (i : ℕ) (d : Event) → i + 1 ≡ length events → (after_from w events).last ≡ (get_or events i d).at
-last_from w [] i d is = absurd (omega (arith, is))
-last_from w (event ∷ []) zero d is = refl
-last_from w (event ∷ []) (suc i) d is = absurd (omega (arith, is))
-last_from w (event ∷ next ∷ events) zero d is = absurd (omega (arith, is))
-last_from w (event ∷ next ∷ events) (suc i) d is = last_from (after_event w event) (next ∷ events) i d (omega (arith, is))
-
-pub last_of : (events : List Event) (d : Event) → false ≡ (length events == 0) → (get_or events (length events - 1) d).at ≡ end_of events
-last_of [] d some = absurd (cc some)
-last_of (event ∷ events) d some = sym (last_from first_world (event ∷ events) (length (event ∷ events) - 1) d (omega arith))
+-- what the table's clauses tell is what a player owes
+pub table_takes : (limits_now limits_after : Limits) (w w_after : World) (event : Event) (result : Result (Unit {0}) (Fault Cause)) → limits_after ≡ limits_now → OnOk result (check_cause limits_now w event ≡ None) → OnOk result (w_after ≡ after_event w event) → OnOk result (w_after.lines ≤ 4000000)
+    → MatchResult result (λ _. Unit {0}) (IsFault (check_cause limits_now w event) event.act) → Takes (IsPlayed limits_now w) (IsPlayed limits_after w_after) event result
+table_takes limits_now limits_after w w_after event (Ok x) same legal next few fault = λ limits events played.
+    let world : w_after ≡ after (events ++ event ∷ []) = next ∙ ap (λ v. after_event v event) played.world ∙ sym (after_from-push first_world events event) in
+    let lines : w_after.lines ≡ w.lines + 1 = ap (λ (v : World). v.lines) next in
+    let before : w.lines ≡ length events = ap (λ (v : World). v.lines) played.world ∙ lines_of events in (
+      subst (λ v. check_cause limits v event ≡ None) played.world (subst (λ l. check_cause l w event ≡ None) played.limits_are legal),
+      record { limits_are = same ∙ played.limits_are; world = world },
+      omega (arith, few, lines, before),
+    )
+table_takes limits_now limits_after w w_after event (Err (fault.Refused why)) same legal next few fault = λ limits events played.
+    subst (λ v. check_cause limits v event ≡ Some why) played.world (subst (λ l. check_cause l w event ≡ Some why) played.limits_are fault)
+table_takes limits_now limits_after w w_after event (Err fault.NoMemory) same legal next few fault = tt

@@ -1,5 +1,5 @@
 -- What reading a trace gives, where its bytes are told.
-use Rattle.std.specs.Prelude.{◌≡◌, ◌≢◌, ℕ, ◌+◌, List, [], ◌∷◌, Result, Ok, Err, ⊤}
+use Rattle.std.specs.Prelude.{◌≡◌, ◌≢◌, ℕ, ◌+◌, ◌<◌, List, [], ◌∷◌, ◌++◌, length, Option, None, Some, Result, Ok, Err, ⊤, false}
 use Rattle.psi_base.specs.Path.{parts_at}
 use Rattle.psi_base.specs.declared.event.Event.{Event}
 use Rattle.psi_base.specs.declared.event.Refusal.{Refusal}
@@ -7,11 +7,42 @@ use Rattle.psi_base.specs.declared.event.Cause.{Cause}
 use Rattle.psi_base.specs.declared.event.Cause.TheVariants as cause
 use Rattle.psi_base.specs.declared.event.Fault.{Fault}
 use Rattle.psi_base.specs.declared.event.Fault.TheVariants as fault
-use Rattle.psi_spec.specs.World.{World, Limits, after, after_event, first_world, root}
-use Rattle.psi_spec.specs.Refusal.{AreLegal}
-use Rattle.psi_spec.specs.Trace.{events_from, followed, limits_of, refused, trace_of, with_events, IsBuilt}
+use Rattle.psi_spec.specs.World.{World, Limits, after, first_world}
+use Rattle.psi_spec.specs.Refusal.{check_cause}
+use Rattle.psi_spec.specs.Trace.{events_from, followed, limits_of, line_event, refused, trace_of, with_events}
 use Rattle.replay_core.specs.declared.trace.TraceFault.{TraceFault}
 use Rattle.replay_core.specs.declared.trace.TraceFault.TheVariants.{Refused, NoFile, ReadFault, NoMemory}
+
+-- ---- players
+
+-- which traces a player has played: limits and events
+abbrev pub Plays : Type 1
+Plays = Limits → List Event → Type 0
+
+-- a table's limits and world are those of a trace
+pub record IsPlayed (limits_now : Limits) (w : World) (limits : Limits) (events : List Event) : Type 0 where
+  pub limits_are : limits_now ≡ limits
+  pub world : w ≡ after events
+
+-- a player has played some trace
+abbrev pub IsPlaying : Plays → Type 0
+IsPlaying Played = (limits : Limits) × (events : List Event) × Played limits events
+
+-- What an event does to a player that has played any events: it is legal and played behind them, and there were fewer
+-- than 4,000,000; or it is refused with the first cause. Of want of memory nothing is said.
+abbrev pub Takes : Plays → Plays → Event → Result (Unit {0}) (Fault Cause) → Type 0
+Takes Before After event (Ok x) = (limits : Limits) (events : List Event) → Before limits events → (check_cause limits (after events) event ≡ None) × After limits (events ++ event ∷ []) × (length events < 4000000)
+Takes Before After event (Err (fault.Refused why)) = (limits : Limits) (events : List Event) → Before limits events → check_cause limits (after events) event ≡ Some why
+Takes Before After event (Err fault.NoMemory) = ⊤
+
+-- ---- one line
+
+-- What a line does to a player that has played any events and whose trace hasn't ended: its event is played behind them,
+-- and there were fewer than 4,000,000 before it; or the line is refused.
+abbrev pub TakesLine : Plays → Plays → List ℕ → Result (Unit {0}) (Fault Cause) → Type 0
+TakesLine Before After line (Ok x) = (limits : Limits) (events : List Event) → Before limits events → (after events).ended ≡ false → (event : Event) × (line_event limits (after events) line ≡ Ok event) × After limits (events ++ event ∷ []) × (length events < 4000000)
+TakesLine Before After line (Err (fault.Refused why)) = (limits : Limits) (events : List Event) → Before limits events → (after events).ended ≡ false → line_event limits (after events) line ≡ Err why
+TakesLine Before After line (Err fault.NoMemory) = ⊤
 
 -- the events of what is left of the input, in a world, from the line with a number on
 abbrev pub rest_from : Limits → World → ℕ → List ℕ → Result (List Event) Refusal
@@ -29,10 +60,17 @@ abbrev pub IsFaultAt : ℕ → Fault Cause → TraceFault → Type 0
 IsFaultAt line (fault.Refused why) result = result ≡ Refused (refused line why)
 IsFaultAt line fault.NoMemory result = result ≡ NoMemory
 
--- an event was read from the bytes before, and those after are left
-abbrev pub NextGives : Limits → World → ℕ → List ℕ → List ℕ → Result Event TraceFault → Type 0
-NextGives limits w line before after (Ok event) = rest_from limits w line before ≡ followed (event ∷ []) (rest_from limits (after_event w event) (line + 1) after)
-NextGives limits w line before after (Err fault) = FaultOf fault (rest_from limits w line before)
+-- an event was played behind those before; where the bytes that were left are told, it is theirs, and others are left
+pub record NextPlayed (After : Plays) (limits : Limits) (events : List Event) (line : ℕ) (before after_bytes : List ℕ → List ℕ) (known : Option (List ℕ)) : Type 0 where
+  pub event : Event
+  pub played : After limits (events ++ event ∷ [])
+  pub few : length events < 4000000
+  pub read : (bytes : List ℕ) → known ≡ Some bytes → rest_from limits (after events) line (before bytes) ≡ followed (event ∷ []) (rest_from limits (after (events ++ event ∷ [])) (line + 1) (after_bytes bytes))
+
+-- what the next line gives
+abbrev pub NextGives : Plays → Plays → ℕ → (List ℕ → List ℕ) → (List ℕ → List ℕ) → Option (List ℕ) → Result (Unit {0}) TraceFault → Type 0
+NextGives Before After line before after_bytes known (Ok x) = (limits : Limits) (events : List Event) → Before limits events → (after events).ended ≡ false → NextPlayed After limits events line before after_bytes known
+NextGives Before After line before after_bytes known (Err fault) = (limits : Limits) (events : List Event) → Before limits events → (after events).ended ≡ false → (bytes : List ℕ) → known ≡ Some bytes → FaultOf fault (rest_from limits (after events) line (before bytes))
 
 -- nothing stands behind the end, or its line is refused
 abbrev pub TailGives : {A : Type 0} → ℕ → List ℕ → Result A TraceFault → Type 0
@@ -42,10 +80,34 @@ TailGives line bytes (Err NoFile) = ⊤
 TailGives line bytes (Err ReadFault) = ⊤
 TailGives line bytes (Err NoMemory) = ⊤
 
+-- ---- all lines
+
+-- a player has played all events of what was left of the input behind the header
+pub record RestPlayed (Played : Plays) (limits : Limits) (before : List ℕ → List ℕ) (known : Option (List ℕ)) : Type 0 where
+  pub events : List Event
+  pub played : Played limits events
+  pub read : (bytes : List ℕ) → known ≡ Some bytes → rest_from limits first_world 2 (before bytes) ≡ Ok events
+
+-- what the lines behind the header give
+abbrev pub RestGives : Plays → Limits → (List ℕ → List ℕ) → Option (List ℕ) → Result (Unit {0}) TraceFault → Type 0
+RestGives Played limits before known (Ok x) = RestPlayed Played limits before known
+RestGives Played limits before known (Err fault) = (bytes : List ℕ) → known ≡ Some bytes → FaultOf fault (rest_from limits first_world 2 (before bytes))
+
 -- the header was read from the bytes before, and those after are left
 abbrev pub HeadGives : ℕ → List ℕ → List ℕ → Result ℕ TraceFault → Type 0
 HeadGives tick before after (Ok cpus) = trace_of tick before ≡ with_events cpus (rest_from (limits_of tick cpus) first_world 2 after)
 HeadGives tick before after (Err fault) = FaultOf fault (trace_of tick before)
+
+-- a player has played all events of an accepted trace
+pub record TracePlayed (Played : Plays) (tick : ℕ) (known : Option (List ℕ)) : Type 0 where
+  pub cpus : ℕ
+  pub events : List Event
+  pub played : Played (limits_of tick cpus) events
+  pub read : (bytes : List ℕ) → known ≡ Some bytes → trace_of tick bytes ≡ Ok (record { version = 1; cpus = cpus; events = events })
+
+-- a trace that can't be read has its first refusal
+abbrev pub TraceRefused : TraceFault → ℕ → Option (List ℕ) → Type 0
+TraceRefused fault tick known = (bytes : List ℕ) → known ≡ Some bytes → FaultOf fault (trace_of tick bytes)
 
 -- nothing is said of any bytes
 abbrev pub TellsNothing : {A : Type 0} → Result A TraceFault → Type 0
@@ -54,13 +116,3 @@ TellsNothing (Err (Refused refusal)) = ⊥
 TellsNothing (Err NoFile) = ⊤
 TellsNothing (Err ReadFault) = ⊤
 TellsNothing (Err NoMemory) = ⊤
-
--- a trace that can be replayed: its events are legal in their turn, whatever the shelf tells
-pub record IsLegalTrace (tick cpus : ℕ) (events : List Event) : Type 0 where
-  pub built : IsBuilt cpus
-  pub legal : AreLegal (limits_of tick cpus) first_world events
-
--- a trace has one processor, and the root is its one group at the end
-pub record IsRootAlone (cpus : ℕ) (events : List Event) : Type 0 where
-  pub one : cpus ≡ 1
-  pub groups : (after events).groups ≡ root ∷ []

@@ -1,12 +1,18 @@
 -- How the counts and states of the root go by the changes of the one processor.
-use Rattle.std.specs.Prelude.{◌≡◌, ℕ, ◌+◌, ◌≤◌, ◌<◌, ◌^◌, Option, None, Some, is_some}
+use Rattle.std.specs.Prelude.{◌≡◌, ℕ, ◌+◌, ◌≤◌, ◌<◌, ◌^◌, List, [], ◌∷◌, Option, None, Some, is_some, slice_index}
 use Rattle.psi_base.specs.declared.event.Cpu.{Cpu}
 use Rattle.psi_base.specs.declared.event.Slot.{Slot}
 use Rattle.psi_base.specs.declared.event.State.{State}
 use Rattle.psi_spec.specs.declared.machine.Counts.{Counts}
 use Rattle.psi_spec.specs.declared.machine.Change.{Change}
-use Rattle.psi_spec.specs.Counts.{mask_holds, tells}
-use Rattle.psi_spec.specs.Touch.{Follows, is_current_stalled, no_counts}
+use Rattle.psi_base.specs.declared.event.Event.{Event}
+use Rattle.psi_spec.specs.declared.machine.Task.{Task}
+use Rattle.psi_spec.specs.World.{World, Limits, after, root}
+use Rattle.psi_spec.specs.Stall.{holds, number_of, parents_of, tasks_in}
+use Rattle.psi_spec.specs.Counts.{counts_among, mask_holds, tells}
+use Rattle.psi_spec.specs.Clock.{AreChangesOf, ClockView, MaskChange, clock_from, zero_clock}
+use Rattle.psi_spec.specs.Share.{last_moment}
+use Rattle.psi_spec.specs.Touch.{AreAtMost, Follows, RunsOnce, is_current_stalled, no_counts}
 
 -- the counts of one side of a change, where all groups are the root
 abbrev pub counts_in : Option (Slot × Counts) → Counts
@@ -29,3 +35,30 @@ pub record Turned (counts : Counts) (change : Change) (after : Counts) (mask : �
 abbrev pub Turns : Counts → ℕ → Option (Cpu × Change) → Counts → ℕ → Type 0
 Turns counts mask None after mask_after = (after ≡ counts) × (mask_after ≡ mask)
 Turns counts mask (Some first) after mask_after = Turned counts first.1 after mask_after
+
+-- the tasks that count for the root
+abbrev pub root_tasks : World → List Task
+root_tasks w = tasks_in (parents_of w.groups) 0 0 w.tasks
+
+-- counts and a mask are those of the root in a world
+pub record IsRoot (w : World) (counts : Counts) (mask : ℕ) : Type 0 where
+  pub once : RunsOnce w.tasks
+  pub counts_are : counts ≡ counts_among (root_tasks w)
+  pub states_are : (state : State) → mask_holds mask state ≡ holds state 0 0 w
+
+-- the root's counts, states and clock after some events of a trace
+pub record AreSums (limits_now : Limits) (w : World) (counts : Counts) (mask : ℕ) (clock : ClockView) (limits : Limits) (events : List Event) : Type 0 where
+  pub limits_are : limits_now ≡ limits
+  pub one : limits.cpus ≡ 1
+  pub short : limits.latest ≤ last_moment
+  pub world : w ≡ after events
+  pub few : w.lines ≤ 4000000
+  pub early : w.last ≤ last_moment
+  pub groups : w.groups ≡ root ∷ []
+  pub root : IsRoot w counts mask
+  pub low : AreAtMost w.lines counts
+  pub changes : List MaskChange
+  pub clock_is : clock ≡ clock_from zero_clock changes
+  pub are : AreChangesOf changes 0 0 events
+  pub start : clock.start ≡ w.last
+  pub bound : (state : State) → slice_index clock.times (number_of state) ≤ w.last

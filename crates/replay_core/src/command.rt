@@ -6,34 +6,34 @@ ghost use Rattle.psi_base.specs.declared.event.Cause.{Cause};
 ghost use Rattle.psi_spec.specs.Text.{check_text, stall_text};
 ghost use Rattle.psi_spec.specs.Trace.{Trace, refused, trace_of};
 ghost use Rattle.psi_spec.specs.Words.{Command, check, command_of, stall, tick_of, trace_name};
-ghost use Rattle.replay_core.specs.Reads.{IsLegalTrace, IsRootAlone};
+ghost use Rattle.psi_base.specs.declared.event.Event.{Event};
+ghost use Rattle.psi_spec.specs.World.{Limits};
+ghost use Rattle.replay_core.specs.Reads.{IsPlayed, IsPlaying};
+ghost use Rattle.replay_core.specs.Sums.{AreSums};
 ghost use Rattle.replay_core.specs.Run.{IsMissing, IsStatusOf, LeavesWords, Means, Runs, RunsWords, WritesText};
 ghost use Rattle.replay_core.specs.Status.{seen_all, status_text};
 
 use crate::note::put_status;
 use crate::status::{Status, Which};
-use crate::sums::{put_check, put_stall, root_times};
-use crate::trace::{AcceptedTrace, TraceFault, read_trace};
+use crate::sums::{RootSums, put_check, put_stall};
+use crate::trace::{TraceFault, play_trace};
 use crate::words::{Request, read_words};
-use psi_base::{Gate, NoMemory, Ns, Shelf, Sink, WriteFailed};
+use psi_base::{Gate, Ns, Shelf, Sink, WriteFailed};
 use std::alloc::Global;
 use std::thread::Threads;
+use task_table::Table;
 
 /// The tick length (ns): a trace's latest moment is a million ticks.
 const TICK: Ns = 2_000_000_000;
 
 // Writes the sums of a trace.
-fn write_sums<K: Sink>(alloc: Global, trace: &AcceptedTrace, out: &mut K) -> Status
-    requires legal { IsLegalTrace TICK trace.now.cpus trace.now.events.items }
-    requires alone { IsRootAlone trace.now.cpus trace.now.events.items }
-    ensures { WritesText (stall_text (record { version = 1; cpus = trace.now.cpus; events = trace.now.events.items })) (K.faults out.old) (K.faults out.new) (K.has out.old) (K.has out.new) result }
+fn write_sums<K: Sink>(sums: &RootSums, out: &mut K) -> Status
+    requires { IsPlaying (AreSums sums.now.table.limits sums.now.table.world sums.now.counts sums.now.mask sums.now.clock) }
+    ensures { (limits : Limits) (events : List Event) → AreSums sums.now.table.limits sums.now.table.world sums.now.counts sums.now.mask sums.now.clock limits events → WritesText (stall_text (record { version = 1; cpus = limits.cpus; events = events })) (K.faults out.old) (K.faults out.new) (K.has out.old) (K.has out.new) result }
 {
-    match root_times(alloc, trace, TICK) {
-        Ok(times) => match put_stall(trace, times, out) {
-            Ok(()) => Status::Done,
-            Err(WriteFailed) => Status::WriteFault,
-        },
-        Err(NoMemory) => Status::NoMemory,
+    match put_stall(sums, out) {
+        Ok(()) => Status::Done,
+        Err(WriteFailed) => Status::WriteFault,
     }
 }
 
@@ -59,17 +59,17 @@ fn run_stall<S: Shelf, K: Sink>(alloc: Global, name: &str, shelf: &mut S, out: &
     ensures kept { S.holds shelf.new ≡ S.holds shelf.old }
     ensures runs { Runs (stall name.now) (S.holds shelf.old) (S.faults shelf.old) (S.faults shelf.new) (S.absent shelf.old) (S.absent shelf.new) (K.faults out.old) (K.faults out.new) (K.has out.old) (K.has out.new) result }
 {
-    match read_trace(alloc, name, shelf, TICK) {
-        Ok(trace) => write_sums(alloc, &trace, out),
+    match play_trace::<S, RootSums>(alloc, name, shelf, TICK) {
+        Ok(sums) => write_sums(&sums, out),
         Err(fault) => fault_status(fault),
     }
 }
 
 // Writes the line of an accepted trace.
-fn write_line<K: Sink>(trace: &AcceptedTrace, out: &mut K) -> Status
-    ensures { WritesText (check_text (record { version = 1; cpus = trace.now.cpus; events = trace.now.events.items })) (K.faults out.old) (K.faults out.new) (K.has out.old) (K.has out.new) result }
+fn write_line<K: Sink>(table: &Table, out: &mut K) -> Status
+    ensures { (limits : Limits) (events : List Event) → IsPlayed table.now.limits table.now.world limits events → WritesText (check_text (record { version = 1; cpus = limits.cpus; events = events })) (K.faults out.old) (K.faults out.new) (K.has out.old) (K.has out.new) result }
 {
-    match put_check(trace, out) {
+    match put_check(table, out) {
         Ok(()) => Status::Done,
         Err(WriteFailed) => Status::WriteFault,
     }
@@ -80,8 +80,8 @@ fn run_check<S: Shelf, K: Sink>(alloc: Global, name: &str, shelf: &mut S, out: &
     ensures kept { S.holds shelf.new ≡ S.holds shelf.old }
     ensures runs { Runs (check name.now) (S.holds shelf.old) (S.faults shelf.old) (S.faults shelf.new) (S.absent shelf.old) (S.absent shelf.new) (K.faults out.old) (K.faults out.new) (K.has out.old) (K.has out.new) result }
 {
-    match read_trace(alloc, name, shelf, TICK) {
-        Ok(trace) => write_line(&trace, out),
+    match play_trace::<S, Table>(alloc, name, shelf, TICK) {
+        Ok(table) => write_line(&table, out),
         Err(fault) => fault_status(fault),
     }
 }

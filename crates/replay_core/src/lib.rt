@@ -3,6 +3,7 @@
 
 mod command;
 mod note;
+mod player;
 mod status;
 mod sums;
 mod text;

@@ -1,15 +1,17 @@
 //! The stall sums of a trace: the root's clock goes by the changes of the one processor.
-ghost use Rattle.std.specs.Prelude.{◌≡◌, ◌+◌, ◌<◌, ◌≤◌, ◌^◌, IfOk, IfSome};
+ghost use Rattle.std.specs.Prelude.{◌≡◌, ◌+◌, ◌<◌, ◌≤◌, ◌^◌, List, IfSome};
 ghost use Rattle.psi_base.specs.Outside.{PutsAll, HasCause};
-ghost use Rattle.psi_spec.specs.Text.{check_text, end_of, stall_text, stall_times};
+ghost use Rattle.psi_base.specs.declared.event.Event.{Event};
+ghost use Rattle.psi_spec.specs.World.{Limits};
+ghost use Rattle.psi_spec.specs.Text.{check_text, stall_text};
 ghost use Rattle.psi_spec.specs.Touch.{Follows, is_current_stalled};
-ghost use Rattle.replay_core.specs.Reads.{IsLegalTrace, IsRootAlone};
-ghost use Rattle.replay_core.specs.Sums.{CanFollow, Turns, counts_in};
+ghost use Rattle.replay_core.specs.Reads.{IsPlayed, IsPlaying};
+ghost use Rattle.replay_core.specs.Sums.{AreSums, CanFollow, Turns, counts_in};
 
+use crate::player::Player;
 use crate::text::{write_check, write_stall};
-use crate::trace::AcceptedTrace;
 use cpu_clock::Clock;
-use psi_base::{Cpu, Event, Fault, NoMemory, Ns, Sink, Slot, WriteFailed};
+use psi_base::{Cause, Cpu, Event, Fault, NoMemory, Ns, Sink, Slot, WriteFailed};
 use psi_spec::{Change, Touch};
 use state_mask::{Counts, Mask, mask_of};
 use std::alloc::Global;
@@ -93,59 +95,54 @@ fn turn(counts: &Counts, mask: Mask, touch: &Touch) -> (Counts, Mask)
     }
 }
 
-/// The times (ns) that the root was in each state on the one processor, up to the end of the trace.
-pub(crate) fn root_times(
-    alloc: Global,
-    trace: &AcceptedTrace,
-    tick: Ns,
-) -> Result<[u64; 7], NoMemory>
-    requires tick { tick ≤ 60000000000 }
-    requires legal { IsLegalTrace tick trace.now.cpus trace.now.events.items }
-    ensures { IfOk result (λ times. times ≡ stall_times 0 0 trace.now.events.items) }
-{
-    let mut table = Table::new(alloc, trace.cpus, 1_000_000 * tick)?;
-    let mut counts = NO_COUNTS;
-    let mut mask = Mask::empty();
-    let mut clock = Clock::zero();
-    for event in &trace.events {
-        match table.step(event) {
-            Ok(touch) => (counts, mask) = turn(&counts, mask, &touch),
-            Err(Fault::NoMemory) => return Err(NoMemory),
-            Err(Fault::Refused(_)) => unreachable!(),
-        }
-        clock.advance(event.at, mask);
+/// The root's counts and clock on the one processor, kept beside the table.
+#[derive(Drop)]
+pub(crate) struct RootSums {
+    table: Table,
+    counts: Counts,
+    mask: Mask,
+    clock: Clock,
+}
+
+impl Player for RootSums {
+    ghost use Rattle.replay_core.specs.Sums.{AreSums};
+
+    ghost Played = { λ sums limits events. AreSums sums.table.limits sums.table.world sums.counts sums.mask sums.clock limits events };
+
+    fn start(alloc: Global, cpus: u32, latest: Ns) -> Result<Self, NoMemory> {
+        Ok(RootSums {
+            table: Table::new(alloc, cpus, latest)?,
+            counts: NO_COUNTS,
+            mask: Mask::empty(),
+            clock: Clock::zero(),
+        })
     }
-    Ok(clock.opened(table.last()))
+
+    fn take(&mut self, event: &Event) -> Result<(), Fault<Cause>> {
+        let touch = self.table.step(event)?;
+        (self.counts, self.mask) = turn(&self.counts, self.mask, &touch);
+        self.clock.advance(event.at, self.mask);
+        Ok(())
+    }
+
+    fn is_ended(&self) -> bool {
+        self.table.is_ended()
+    }
 }
 
 /// Writes the stall sums of a trace of one processor in which the root is the one group.
-pub(crate) fn put_stall<K: Sink>(
-    trace: &AcceptedTrace,
-    times: [u64; 7],
-    out: &mut K,
-) -> Result<(), WriteFailed>
-    requires alone { IsRootAlone trace.now.cpus trace.now.events.items }
-    requires times { times ≡ stall_times 0 0 trace.now.events.items }
-    ensures bytes { PutsAll (K.has out.old) (K.has out.new) result (stall_text (record { version = 1; cpus = trace.now.cpus; events = trace.now.events.items })) }
+pub(crate) fn put_stall<K: Sink>(sums: &RootSums, out: &mut K) -> Result<(), WriteFailed>
+    requires played { IsPlaying (AreSums sums.now.table.limits sums.now.table.world sums.now.counts sums.now.mask sums.now.clock) }
+    ensures bytes { (limits : Limits) (events : List Event) → AreSums sums.now.table.limits sums.now.table.world sums.now.counts sums.now.mask sums.now.clock limits events → PutsAll (K.has out.old) (K.has out.new) result (stall_text (record { version = 1; cpus = limits.cpus; events = events })) }
     ensures cause { HasCause (K.faults out.old) (K.faults out.new) result }
 {
-    write_stall(out, CPU, b"/", times)
-}
-
-// The moment of the last event (ns), 0 where there is none.
-fn end_moment(events: &[Event]) -> Ns
-    ensures { result ≡ end_of events.now }
-{
-    if events.is_empty() {
-        return 0;
-    }
-    events[events.len() - 1].at
+    write_stall(out, CPU, b"/", sums.clock.opened(sums.table.last()))
 }
 
 /// Writes the line of an accepted trace.
-pub(crate) fn put_check<K: Sink>(trace: &AcceptedTrace, out: &mut K) -> Result<(), WriteFailed>
-    ensures bytes { PutsAll (K.has out.old) (K.has out.new) result (check_text (record { version = 1; cpus = trace.now.cpus; events = trace.now.events.items })) }
+pub(crate) fn put_check<K: Sink>(table: &Table, out: &mut K) -> Result<(), WriteFailed>
+    ensures bytes { (limits : Limits) (events : List Event) → IsPlayed table.now.limits table.now.world limits events → PutsAll (K.has out.old) (K.has out.new) result (check_text (record { version = 1; cpus = limits.cpus; events = events })) }
     ensures cause { HasCause (K.faults out.old) (K.faults out.new) result }
 {
-    write_check(out, trace.events.len() as u64, end_moment(&trace.events))
+    write_check(out, u64::from(table.lines()), table.last())
 }

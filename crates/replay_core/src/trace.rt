@@ -4,17 +4,14 @@ ghost use Rattle.psi_base.specs.Outside.{told, Lacks, HasCauses};
 ghost use Rattle.psi_base.specs.declared.event.Cause.TheVariants as cause;
 ghost use Rattle.psi_lines.specs.Lines.{left};
 ghost use Rattle.psi_spec.specs.Grammar.{header_of};
-ghost use Rattle.psi_spec.specs.World.{after_event, first_world};
-ghost use Rattle.psi_spec.specs.Refusal.{AreLegal, check_cause};
-ghost use Rattle.psi_spec.specs.Trace.{line_event, limits_of, refused, trace_of};
-ghost use Rattle.psi_trace.specs.Gives.{Gives};
-ghost use Rattle.replay_core.specs.Reads.{FaultOf, HeadGives, IsFaultAt, IsLegalTrace, IsRootAlone, NextGives, TailGives, TellsNothing, rest_from};
+ghost use Rattle.psi_spec.specs.Trace.{limits_of, refused};
+ghost use Rattle.replay_core.specs.Reads.{HeadGives, IsFaultAt, IsPlaying, NextGives, RestGives, TailGives, TakesLine, TellsNothing, TracePlayed, TraceRefused};
 
-use psi_base::{Cause, Event, Fault, NoMemory, Ns, Refusal, Shelf};
+use crate::player::Player;
+use psi_base::{Cause, Fault, NoMemory, Ns, Refusal, Shelf};
 use psi_lines::{LineFault, Lines};
 use psi_trace::{read_event, read_header};
 use std::alloc::{AllocFailed, Global};
-use task_table::Table;
 
 /// Why there is no trace.
 #[derive(Clone, Copy, Debug, PartialEq, Eq)]
@@ -47,13 +44,6 @@ impl<T: Drop> From<AllocFailed<T>> for TraceFault {
     }
 }
 
-/// An accepted trace.
-#[derive(Drop)]
-pub(crate) struct AcceptedTrace {
-    pub cpus: u32,
-    pub events: Vec<Event>,
-}
-
 // A refused line.
 fn refused(line: u32, cause: Cause) -> TraceFault
     ensures { result ≡ TraceFault.Refused (refused line cause) }
@@ -71,48 +61,37 @@ fn fault_at(line: u32, fault: Fault<Cause>) -> TraceFault
     }
 }
 
-// Takes a line of at most 512 bytes into a world that hasn't ended.
+// Plays a line of at most 512 bytes, where the trace hasn't ended.
 #[tactic(auto, unfolding(psi_spec::specs::Trace::line_event))]
-fn take_line(alloc: Global, table: &mut Table, line: &[u8]) -> Result<Event, Fault<Cause>>
+fn take_line<P: Player>(alloc: Global, player: &mut P, line: &[u8]) -> Result<(), Fault<Cause>>
     requires short { length line.now ≤ 512 }
-    requires running { table.old.world.ended ≡ false }
-    ensures event { Gives result (line_event table.old.limits table.old.world line.now) }
-    ensures limits { table.new.limits ≡ table.old.limits }
-    ensures world { IfOk result (λ event. table.new.world ≡ after_event table.old.world event) }
-    ensures legal { IfOk result (λ event. check_cause table.old.limits table.old.world event ≡ None) }
-    ensures few { OnOk result (table.new.world.lines ≤ 4000000) }
+    requires playing { IsPlaying (P.Played player.old) }
+    ensures { TakesLine (P.Played player.old) (P.Played player.new) line.now result }
 {
     let event = read_event(alloc, line)?;
-    match table.play(&event) {
-        Ok(()) => Ok(event),
-        Err(fault) => Err(fault),
-    }
+    player.take(&event)
 }
 
-// Reads the next event line into a world that hasn't ended.
-fn next_event<S: Shelf>(
+// Reads and plays the next event line, where the trace hasn't ended.
+fn next_event<S: Shelf, P: Player>(
     alloc: Global,
     lines: &mut Lines,
     shelf: &mut S,
-    table: &mut Table,
+    player: &mut P,
     line: u32,
-) -> Result<Event, TraceFault>
+) -> Result<(), TraceFault>
     requires number { lines.old.number ≡ line }
-    requires running { table.old.world.ended ≡ false }
+    requires playing { IsPlaying (P.Played player.old) }
     ensures kept { S.holds shelf.new ≡ S.holds shelf.old }
     ensures name { lines.new.name ≡ lines.old.name }
     ensures number { OnOk result (lines.new.number ≡ line + 1) }
-    ensures limits { table.new.limits ≡ table.old.limits }
-    ensures world { IfOk result (λ event. table.new.world ≡ after_event table.old.world event) }
-    ensures legal { IfOk result (λ event. check_cause table.old.limits table.old.world event ≡ None) }
-    ensures few { OnOk result (table.new.world.lines ≤ 4000000) }
-    ensures content { (bytes : List ℕ) → told (S.holds shelf.old) lines.old.name ≡ Some bytes → NextGives table.old.limits table.old.world line (left lines.old bytes) (left lines.new bytes) result }
+    ensures content { NextGives (P.Played player.old) (P.Played player.new) line (left lines.old) (left lines.new) (told (S.holds shelf.old) lines.old.name) result }
     ensures missed { IsErrOf result TraceFault.NoFile → told (S.holds shelf.old) lines.old.name ≡ None }
     ensures cause { HasCauses (S.faults shelf.old) (S.faults shelf.new) (S.absent shelf.old) (S.absent shelf.new) (IsErrOf result TraceFault.ReadFault) (IsErrOf result TraceFault.NoFile) }
 {
     match lines.next(shelf) {
-        Ok(Some(found)) => match take_line(alloc, table, found.bytes.bytes()) {
-            Ok(event) => Ok(event),
+        Ok(Some(found)) => match take_line(alloc, player, found.bytes.bytes()) {
+            Ok(()) => Ok(()),
             Err(fault) => Err(fault_at(line, fault)),
         },
         Ok(None) => Err(refused(line, Cause::NoEnd)),
@@ -125,20 +104,14 @@ fn next_event<S: Shelf>(
 }
 
 // Looks behind the end, where nothing may stand, with at most one read.
-fn close<S: Shelf>(
-    events: Vec<Event>,
-    lines: &mut Lines,
-    shelf: &mut S,
-    line: u32,
-) -> Result<Vec<Event>, TraceFault>
+fn close<S: Shelf>(lines: &mut Lines, shelf: &mut S, line: u32) -> Result<(), TraceFault>
     ensures kept { S.holds shelf.new ≡ S.holds shelf.old }
-    ensures same { IfOk result (λ given. given.items ≡ events.items) }
     ensures content { (bytes : List ℕ) → told (S.holds shelf.old) lines.old.name ≡ Some bytes → TailGives line (left lines.old bytes) result }
     ensures missed { IsErrOf result TraceFault.NoFile → told (S.holds shelf.old) lines.old.name ≡ None }
     ensures cause { HasCauses (S.faults shelf.old) (S.faults shelf.new) (S.absent shelf.old) (S.absent shelf.new) (IsErrOf result TraceFault.ReadFault) (IsErrOf result TraceFault.NoFile) }
 {
     match lines.is_at_end(shelf) {
-        Ok(true) => Ok(events),
+        Ok(true) => Ok(()),
         Ok(false) => Err(refused(line, Cause::AfterEnd)),
         Err(LineFault::NoFile) => Err(TraceFault::NoFile),
         Err(LineFault::ReadFault) => Err(TraceFault::ReadFault),
@@ -147,33 +120,29 @@ fn close<S: Shelf>(
     }
 }
 
-// Reads the event lines of a trace of so many processors, up to a moment (ns).
-fn read_events<S: Shelf>(
+// Reads and plays the event lines of a trace with these limits.
+fn play_events<S: Shelf, P: Player>(
     alloc: Global,
     lines: &mut Lines,
     shelf: &mut S,
-    cpus: u32,
+    player: &mut P,
     tick: Ns,
-) -> Result<Vec<Event>, TraceFault>
+    cpus: u32,
+) -> Result<(), TraceFault>
     requires number { lines.old.number ≡ 2 }
-    requires some { 1 ≤ cpus }
-    requires few { cpus ≤ 64 }
-    requires tick { tick ≤ 60000000000 }
+    requires fresh { P.Played player.old (limits_of tick cpus) [] }
     ensures kept { S.holds shelf.new ≡ S.holds shelf.old }
-    ensures legal { IfOk result (λ events. AreLegal (limits_of tick cpus) first_world events.items) }
-    ensures content { (bytes : List ℕ) → told (S.holds shelf.old) lines.old.name ≡ Some bytes → MatchResult result (λ events. rest_from (limits_of tick cpus) first_world 2 (left lines.old bytes) ≡ Ok events.items) (λ fault. FaultOf fault (rest_from (limits_of tick cpus) first_world 2 (left lines.old bytes))) }
+    ensures content { RestGives (P.Played player.new) (limits_of tick cpus) (left lines.old) (told (S.holds shelf.old) lines.old.name) result }
     ensures missed { IsErrOf result TraceFault.NoFile → told (S.holds shelf.old) lines.old.name ≡ None }
     ensures cause { HasCauses (S.faults shelf.old) (S.faults shelf.new) (S.absent shelf.old) (S.absent shelf.new) (IsErrOf result TraceFault.ReadFault) (IsErrOf result TraceFault.NoFile) }
 {
-    let mut table = Table::new(alloc, cpus, 1_000_000 * tick)?;
-    let mut events = Vec::new(alloc);
     'lines: for count in 0..4_000_001u32 {
-        match next_event(alloc, lines, shelf, &mut table, count + 2) {
-            Ok(event) => events.push(event)?,
+        match next_event(alloc, lines, shelf, player, count + 2) {
+            Ok(()) => {}
             Err(fault) => return Err(fault),
         }
-        if table.is_ended() {
-            return close(events, lines, shelf, count + 3);
+        if player.is_ended() {
+            return close(lines, shelf, count + 3);
         }
     }
     unreachable!()
@@ -215,28 +184,28 @@ fn read_cpus<S: Shelf>(lines: &mut Lines, shelf: &mut S, tick: Ns) -> Result<u32
     }
 }
 
-/// Reads a trace whole, at a tick length (ns), and stops at its first refused line.
-pub(crate) fn read_trace<S: Shelf>(
+/// Reads a trace, and plays its events on a new player. No event is later than a million ticks (ns).
+pub(crate) fn play_trace<S: Shelf, P: Player + Drop>(
     alloc: Global,
     name: &str,
     shelf: &mut S,
     tick: Ns,
-) -> Result<AcceptedTrace, TraceFault>
+) -> Result<P, TraceFault>
     requires { tick ≤ 60000000000 }
     ensures kept { S.holds shelf.new ≡ S.holds shelf.old }
-    ensures legal { IfOk result (λ trace. IsLegalTrace tick trace.cpus trace.events.items) }
-    ensures alone { IfOk result (λ trace. IsRootAlone trace.cpus trace.events.items) }
-    ensures content { (bytes : List ℕ) → told (S.holds shelf.old) name.now ≡ Some bytes → MatchResult result (λ trace. trace_of tick bytes ≡ Ok (record { version = 1; cpus = trace.cpus; events = trace.events.items })) (λ fault. FaultOf fault (trace_of tick bytes)) }
+    ensures content { MatchResult result (λ player. TracePlayed (P.Played player) tick (told (S.holds shelf.old) name.now)) (λ fault. TraceRefused fault tick (told (S.holds shelf.old) name.now)) }
     ensures missing { Lacks (S.holds shelf.old) name.now → TellsNothing result }
     ensures missed { IsErrOf result TraceFault.NoFile → told (S.holds shelf.old) name.now ≡ None }
     ensures cause { HasCauses (S.faults shelf.old) (S.faults shelf.new) (S.absent shelf.old) (S.absent shelf.new) (IsErrOf result TraceFault.ReadFault) (IsErrOf result TraceFault.NoFile) }
 {
     let mut lines = Lines::new(alloc, name)?;
-    match read_cpus(&mut lines, shelf, tick) {
-        Ok(cpus) => match read_events(alloc, &mut lines, shelf, cpus, tick) {
-            Ok(events) => Ok(AcceptedTrace { cpus, events }),
-            Err(fault) => Err(fault),
-        },
+    let cpus = match read_cpus(&mut lines, shelf, tick) {
+        Ok(cpus) => cpus,
+        Err(fault) => return Err(fault),
+    };
+    let mut player = P::start(alloc, cpus, 1_000_000 * tick)?;
+    match play_events(alloc, &mut lines, shelf, &mut player, tick, cpus) {
+        Ok(()) => Ok(player),
         Err(fault) => Err(fault),
     }
 }

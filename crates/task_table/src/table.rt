@@ -71,6 +71,13 @@ impl Table {
         })
     }
 
+    /// How many events there were.
+    pub fn lines(&self) -> u32
+        ensures { result ≡ self.now.world.lines }
+    {
+        self.lines
+    }
+
     /// The moment of the last event (ns), 0 before the first.
     pub fn last(&self) -> Ns
         ensures { result ≡ self.now.world.last }

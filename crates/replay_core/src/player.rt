@@ -1,0 +1,51 @@
+//! What the events of a trace are played on, one after the other, as their lines are read.
+ghost use Rattle.std.specs.Prelude.{◌≡◌, ◌≤◌, List, [], IfOk};
+ghost use Rattle.psi_base.specs.declared.event.Event.{Event};
+ghost use Rattle.psi_spec.specs.World.{Limits, after};
+ghost use Rattle.psi_spec.specs.Share.{last_moment};
+ghost use Rattle.psi_spec.specs.Trace.{IsBuilt};
+ghost use Rattle.replay_core.specs.Reads.{IsPlaying, Takes};
+
+use psi_base::{Cause, Event, Fault, NoMemory, Ns};
+use std::alloc::Global;
+use task_table::Table;
+
+/// A machine that plays a trace. Where an event is refused, the player isn't used again.
+pub(crate) trait Player: Sized {
+    /// It has played these events of a trace with these limits.
+    ghost Played: { Self → Limits → List Event → Type 0 };
+
+    /// The machine before a trace of version 1 with so many processors, in which no event is later than `latest` (ns).
+    fn start(alloc: Global, cpus: u32, latest: Ns) -> Result<Self, NoMemory>
+        requires built { IsBuilt cpus }
+        requires short { latest ≤ last_moment }
+        ensures { IfOk result (λ player. Self.Played player (record { version = 1; cpus = cpus; latest = latest }) []) };
+
+    /// Plays one event more: `Refused` with the first cause against it, where it isn't legal.
+    fn take(&mut self, event: &Event) -> Result<(), Fault<Cause>>
+        requires { IsPlaying (Self.Played self.old) }
+        ensures { Takes (Self.Played self.old) (Self.Played self.new) event.now result };
+
+    /// The trace has ended.
+    fn is_ended(&self) -> bool
+        ensures { (limits : Limits) (events : List Event) → Self.Played self.now limits events → result ≡ (after events).ended };
+}
+
+/// To check a trace it is enough to play it on the table of tasks.
+impl Player for Table {
+    ghost use Rattle.replay_core.specs.Reads.{IsPlayed};
+
+    ghost Played = { λ table limits events. IsPlayed table.limits table.world limits events };
+
+    fn start(alloc: Global, cpus: u32, latest: Ns) -> Result<Self, NoMemory> {
+        Table::new(alloc, cpus, latest)
+    }
+
+    fn take(&mut self, event: &Event) -> Result<(), Fault<Cause>> {
+        self.play(event)
+    }
+
+    fn is_ended(&self) -> bool {
+        Table::is_ended(self)
+    }
+}
