@@ -1,59 +1,122 @@
 #!/usr/bin/env python3
-"""Prints a legal trace of one processor and the root group.
+"""Prints a legal trace.
 
-usage: make_trace.py EVENTS TASKS [SEED]
+usage: make_trace.py EVENTS TASKS [CPUS [GROUPS [DEPTH [SEED]]]]     (1, 0, 1 and 1 if left out)
 
-EVENTS is the number of lines behind the header, the `end` line included; TASKS of them fork a task each. The others
-let a random task run, wait for IO, sleep or wake, with up to 2 us from line to line, as a busy machine does.
+EVENTS is the number of lines behind the header, the `end` line included. GROUPS groups are made, in chains of DEPTH below
+the root, and TASKS tasks are forked in the lowest ones (in the root where there is none). In the other lines a random task
+of a random processor runs, waits for IO, sleeps or wakes, at times on another processor; the running one is in a memory
+stall for a while; a ready one migrates; one moves to another group; a group's memory is sampled. There are up to 2 us from
+line to line, as on a busy machine.
 """
 import random
 import sys
 
 
-def lines(events, tasks, seed):
-    draw = random.Random(seed)
-    ready = list(range(1, tasks + 1))
-    asleep = []
-    running = None
-    at = 0
-    yield "psitrace 1 cpus=1"
-    for pid in ready:
-        yield f"0 fork {pid} / 0"
-    for _ in range(events - tasks - 1):
-        at += draw.randrange(2000)
-        if asleep and (not ready or draw.randrange(2)):
-            place = draw.randrange(len(asleep))
-            asleep[place], asleep[-1] = asleep[-1], asleep[place]
-            pid = asleep.pop()
-            ready.append(pid)
-            yield f"{at} wake {pid} 0"
-            continue
-        how = "idle" if running is None else draw.choice(["preempt", "sleep", "iowait", "iowait"])
-        if ready and (running is None or draw.randrange(4)):
-            place = draw.randrange(len(ready))
-            ready[place], ready[-1] = ready[-1], ready[place]
-            following = ready.pop()
-        elif running is None:
-            yield f"{at} switch 0 0 idle"
-            continue
-        else:
-            following = None
+def group_paths(groups, depth):
+    """The paths, parents first, and the lowest of each chain."""
+    paths, lowest = [], []
+    while len(paths) < groups:
+        path = f"/g{len(lowest)}"
+        for level in range(min(depth, groups - len(paths))):
+            path = path if level == 0 else path + "/s"
+            paths.append(path)
+        lowest.append(path)
+    return paths, lowest or ["/"]
+
+
+class Machine:
+    def __init__(self, draw, cpus, tasks, homes):
+        self.draw = draw
+        self.cpus = cpus
+        self.homes = homes
+        self.ready = [[] for _ in range(cpus)]
+        self.running = [None] * cpus
+        self.asleep = []
+        self.cpu_of = [0] * (tasks + 1)
+        self.stalled = [False] * (tasks + 1)
+
+    def fork(self, pid):
+        cpu = (pid - 1) % self.cpus
+        self.cpu_of[pid] = cpu
+        self.ready[cpu].append(pid)
+        return f"fork {pid} {self.homes[(pid - 1) % len(self.homes)]} {cpu}"
+
+    def take(self, pids):
+        place = self.draw.randrange(len(pids))
+        pids[place], pids[-1] = pids[-1], pids[place]
+        return pids.pop()
+
+    def wake(self):
+        pid = self.take(self.asleep)
+        if self.draw.randrange(4) == 0:
+            self.cpu_of[pid] = self.draw.randrange(self.cpus)
+        self.ready[self.cpu_of[pid]].append(pid)
+        return f"wake {pid} {self.cpu_of[pid]}"
+
+    def migrate(self, cpu):
+        pid = self.take(self.ready[cpu])
+        self.cpu_of[pid] = self.draw.randrange(self.cpus)
+        self.ready[self.cpu_of[pid]].append(pid)
+        return f"migrate {pid} {self.cpu_of[pid]}"
+
+    def stall(self, pid):
+        self.stalled[pid] = not self.stalled[pid]
+        return f"stall {pid}" if self.stalled[pid] else f"unstall {pid}"
+
+    def switch(self, cpu):
+        running, ready = self.running[cpu], self.ready[cpu]
+        how = "idle" if running is None else self.draw.choice(["preempt", "sleep", "iowait", "iowait"])
+        following = self.take(ready) if ready and (running is None or self.draw.randrange(4)) else None
         if running is not None:
-            (ready if how == "preempt" else asleep).append(running)
-        running = following
-        yield f"{at} switch 0 {following or 0} {how}"
+            (ready if how == "preempt" else self.asleep).append(running)
+        self.running[cpu] = following
+        return f"switch {cpu} {following or 0} {how}"
+
+    def rare(self, cpu, tasks):
+        """One of the rarer lines, or None where it can't be."""
+        kind = self.draw.randrange(8)
+        if kind < 4 and self.running[cpu] is not None:
+            return self.stall(self.running[cpu])
+        if kind < 6 and self.cpus > 1 and self.ready[cpu]:
+            return self.migrate(cpu)
+        if kind == 6 and self.homes != ["/"]:
+            return f"move {self.draw.randrange(tasks) + 1} {self.draw.choice(self.homes)}"
+        if kind == 7:
+            return f"mem {self.draw.choice(self.homes)} {self.draw.randrange(1 << 30)} 0 {self.draw.randrange(1 << 20)}"
+        return None
+
+
+def lines(events, tasks, cpus, groups, depth, seed):
+    draw = random.Random(seed)
+    paths, homes = group_paths(groups, depth)
+    machine = Machine(draw, cpus, tasks, homes)
+    yield f"psitrace 1 cpus={cpus}"
+    for path in paths:
+        yield f"0 group {path}"
+    for pid in range(1, tasks + 1):
+        yield f"0 {machine.fork(pid)}"
+    at = 0
+    for _ in range(events - tasks - len(paths) - 1):
+        at += draw.randrange(2000)
+        cpu = draw.randrange(cpus)
+        line = machine.rare(cpu, tasks) if draw.randrange(8) == 0 else None
+        if line is None:
+            sleeps = machine.asleep and (not machine.ready[cpu] or draw.randrange(2))
+            line = machine.wake() if sleeps else machine.switch(cpu)
+        yield f"{at} {line}"
     yield f"{at} end"
 
 
 def main():
-    events, tasks = int(sys.argv[1]), int(sys.argv[2])
-    seed = int(sys.argv[3]) if len(sys.argv) > 3 else 1
+    numbers = [int(word) for word in sys.argv[1:]]
+    numbers += [1, 0, 1, 1][len(numbers) - 2 :]
     out = []
-    for line in lines(events, tasks, seed):
+    for line in lines(*numbers):
         out.append(line)
         if len(out) == 65536:
             sys.stdout.write("\n".join(out) + "\n")
-            out = []
+            out.clear()
     sys.stdout.write("\n".join(out) + "\n")
 
 

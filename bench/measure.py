@@ -1,7 +1,7 @@
 #!/usr/bin/env python3
 """Times psi_oomd on a made trace against `wc -lw` on the same file, in one run.
 
-usage: bench/measure.py [EVENTS [TASKS]]     (1000000 and 16 if left out)
+usage: bench/measure.py [EVENTS [TASKS [CPUS [GROUPS [DEPTH]]]]]     (1000000, 16, 1, 0 and 1 if left out)
 
 Prints the best of five runs of each, the ratio, and the peak memory of psi_oomd. A benchmark: nothing is asserted.
 """
@@ -32,15 +32,15 @@ def best(words):
 
 
 def main():
-    events = sys.argv[1] if len(sys.argv) > 1 else "1000000"
-    tasks = sys.argv[2] if len(sys.argv) > 2 else "16"
+    numbers = sys.argv[1:] + ["1000000", "16", "1", "0", "1"][len(sys.argv) - 1 :]
     subprocess.run([PROGRAM, "--build"], check=True)
     program = os.path.join(HERE, "..", "crates", "psi_oomd_main", "out", "psi_oomd_main")
     with tempfile.NamedTemporaryFile(suffix=".trace") as trace:
-        subprocess.run([sys.executable, os.path.join(HERE, "make_trace.py"), events, tasks], stdout=trace, check=True)
+        subprocess.run([sys.executable, os.path.join(HERE, "make_trace.py"), *numbers], stdout=trace, check=True)
         trace.flush()
         size = os.path.getsize(trace.name)
-        print(f"trace: {events} events, {tasks} tasks, {size} bytes")
+        events, tasks, cpus, groups, depth = numbers
+        print(f"trace: {events} events, {tasks} tasks, {cpus} processors, {groups} groups in chains of {depth}, {size} bytes")
         count, _ = best(["wc", "-lw", trace.name])
         print(f"wc -lw:  {count:.3f} s")
         for command in COMMANDS:

@@ -7,6 +7,7 @@ ghost use Rattle.std.specs.Ordering.{nat_cmp, as_partial_cmp};
 ghost use Rattle.std.specs.Cmp.Lexicographic.{pointwise, slice_cmp};
 ghost use Rattle.std.specs.Prelude.{false, ◌&&◌, ◌<◌, nat_le, length, MatchOption};
 ghost use Rattle.std.specs.List.{list_all};
+ghost use Rattle.std.specs.Str.{IsAscii};
 ghost use Rattle.psi_base.specs.Path.{is_path, is_path_byte, is_component, parts_at};
 
 use crate::parts::Parts;
@@ -108,6 +109,27 @@ impl Path {
         Ok(Some(Path {
             bytes: Vec::from_slice(alloc, bytes)?,
         }))
+    }
+
+    /// Its text, which is ASCII.
+    #[tactic(auto, using(crate::proofs::PathLaws::texts))]
+    pub fn text(&self) -> &str
+        ensures text { result.now ≡ self.now }
+        ensures ascii { IsAscii result.now }
+    {
+        match str::from_utf8(&self.bytes) {
+            Ok(text) => text,
+            Err(_) => unreachable!(),
+        }
+    }
+
+    /// The same path.
+    pub fn copy(&self, alloc: Global) -> Result<Path, NoMemory>
+        ensures { IfOk result (λ path. path ≡ self.now) }
+    {
+        Ok(Path {
+            bytes: Vec::from_slice(alloc, &self.bytes)?,
+        })
     }
 
     /// Its bytes.

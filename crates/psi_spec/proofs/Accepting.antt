@@ -1,8 +1,7 @@
 -- A whole trace: its header and its events.
 use Rattle.std.proofs.Common.{◌≡◌, ℕ, ◌+◌, List, [], ◌∷◌, ◌++◌, length, refl, sym, ap, ◌∙◌, arith, append_assoc, subst, ◌⊎◌, inl, inr, ⊎_elim, Bool, true, false}
-use Rattle.std.specs.Prelude.{Option, None, Some, Result, Ok, Err, nat_lt, ◌==◌, ◌||◌, if◌then◌else◌}
+use Rattle.std.specs.Prelude.{Option, None, Some, Result, Ok, Err, nat_lt, ◌||◌, if◌then◌else◌}
 use Rattle.std.proofs.lemmas.List.{append-nil}
-use Rattle.std.proofs.lemmas.Fmt.{decimal_digit}
 use Rattle.psi_base.specs.Path.{parts_at}
 use Rattle.psi_base.specs.declared.event.Act.{Act}
 use Rattle.psi_base.specs.declared.event.Act.TheVariants as act
@@ -14,10 +13,10 @@ use Rattle.psi_base.proofs.PartLaws.{HasNone, HasFirst, first_part, parts_at-all
 use Rattle.psi_spec.specs.Grammar.{header_of, header}
 use Rattle.psi_spec.specs.World.{World, Limits, first_world, after_event, after_from, after, ends}
 use Rattle.psi_spec.specs.Refusal.{AreLegal}
-use Rattle.psi_spec.specs.Trace.{Trace, limits_of, lines_of, text_of, AllFit, EndsLast, if_built, built_header, first_line, or_bad_header, first_rest, refused, events_from, with_events, followed, headed, trace_of_parts, trace_of, IsTrace, Accepted, HasFirstCause, IsRefusedLater, IsRefused, FirstRefused}
+use Rattle.psi_spec.specs.Trace.{Trace, limits_of, lines_of, text_of, AllFit, EndsLast, IsCpuCount, first_line, or_bad_header, first_rest, refused, events_from, with_events, followed, headed, trace_of_parts, trace_of, IsTrace, Accepted, HasFirstCause, IsRefusedLater, IsRefused, FirstRefused}
 use Rattle.psi_spec.proofs.Splitting.{Cut, cut}
 use Rattle.psi_spec.proofs.Reading.{Events, rest_from, reads_all, refuses_all, rest_from-lines, rest_from-cause, nothing_left, open_of_legal, same_refusal}
-use Rattle.psi_spec.proofs.GrammarHeaders.{headers_spelled, header-no_newline}
+use Rattle.psi_spec.proofs.GrammarHeaders.{headers_spelled, header-no_newline, length-header-le}
 
 -- ---- the end is the last
 
@@ -59,31 +58,23 @@ chosen_first true found cpus is = absurd (cc is)
 chosen_first false None cpus is = absurd (cc is)
 chosen_first false (Some n) cpus is = let same : n ≡ cpus = cc is in ap (λ m. let o : Option ℕ = Some m in o) same
 
-built_one : (n : ℕ) (cpus : ℕ) → (if n == 1 then Some n else None) ≡ Some cpus → (n ≡ cpus) × (cpus ≡ 1)
-built_one n cpus is = (grind (arith, is), grind (arith, is))
-
-built_some : (found : Option ℕ) (cpus : ℕ) → if_built found ≡ Some cpus → (found ≡ Some cpus) × (cpus ≡ 1)
-built_some None cpus is = absurd (cc is)
-built_some (Some n) cpus is = let one = built_one n cpus is in (ap (λ m. let o : Option ℕ = Some m in o) one.0, one.1)
-
-first_read : (part : List ℕ) (cpus : ℕ) → first_line part ≡ Ok cpus → (part ≡ header 1 cpus) × (cpus ≡ 1)
+first_read : (part : List ℕ) (cpus : ℕ) → first_line part ≡ Ok cpus → (part ≡ header 1 cpus) × IsCpuCount cpus
 unfolding first_line
 first_read part cpus is =
-    let found = built_some (header_of part) cpus (chosen_first (nat_lt 512 (length part)) (built_header part) cpus is) in
-    (((headers_spelled part cpus).0 found.0).2, found.1)
+    let found = (headers_spelled part cpus).0 (chosen_first (nat_lt 512 (length part)) (header_of part) cpus is) in
+    (found.2, (found.0, found.1))
 
-short_header : nat_lt 512 (length (header 1 1)) ≡ false
-unfolding header
-short_header = rw (decimal_digit 1 (omega arith)) refl
+short_header : (cpus : ℕ) → IsCpuCount cpus → nat_lt 512 (length (header 1 cpus)) ≡ false
+short_header cpus is = grind (arith, length-header-le 1 cpus (omega arith) (omega (arith, is.1)))
 
-one_header : (cpus : ℕ) → cpus ≡ 1 → HasNone 10 (header 1 cpus) (length (header 1 cpus))
-one_header cpus is = header-no_newline 1 cpus (omega arith) (omega (arith, is))
+whole_header : (cpus : ℕ) → IsCpuCount cpus → HasNone 10 (header 1 cpus) (length (header 1 cpus))
+whole_header cpus is = header-no_newline 1 cpus (omega arith) (omega (arith, is.1))
 
-first_back : (cpus : ℕ) → cpus ≡ 1 → first_line (header 1 cpus) ≡ Ok cpus
+first_back : (cpus : ℕ) → IsCpuCount cpus → first_line (header 1 cpus) ≡ Ok cpus
 unfolding first_line
 first_back cpus is =
-    let known : header_of (header 1 1) ≡ Some 1 = (headers_spelled (header 1 1) 1).1 (omega arith, omega arith, refl) in
-    rw (is, short_header, known) refl
+    let known : header_of (header 1 cpus) ≡ Some cpus = (headers_spelled (header 1 cpus) cpus).1 (is.0, is.1, refl) in
+    rw (short_header cpus is, known) refl
 
 -- ---- the whole trace
 
@@ -162,7 +153,7 @@ are_accepted tick bytes trace is =
     let text : bytes ≡ header 1 trace.cpus ++ 10 ∷ lines_of trace.events = is.text ∙ ap (λ v. header v trace.cpus ++ 10 ∷ lines_of trace.events) is.version in
     let same : made trace.cpus trace.events ≡ trace = ap (λ v. let t : Trace = record { version = v; cpus = trace.cpus; events = trace.events } in t) (sym is.version) in
     ap (trace_of tick) text
-    ∙ trace_of-line tick (header 1 trace.cpus) (lines_of trace.events) (one_header trace.cpus is.cpus)
+    ∙ trace_of-line tick (header 1 trace.cpus) (lines_of trace.events) (whole_header trace.cpus is.cpus)
     ∙ ap (λ first. headed tick first (parts_at 10 (lines_of trace.events))) (first_back trace.cpus is.cpus)
     ∙ ap (with_events trace.cpus) (rest_of_all (limits_of tick trace.cpus) first_world 2 trace.events is.fit is.legal ended)
     ∙ ap (λ t. let r : Whole = Ok t in r) same
@@ -182,7 +173,7 @@ line_refused tick part behind line why none is = ⊎_elim
       front = later.front;
       rest = later.rest;
       bytes_are = bytes;
-      built = first.1;
+      counted = first.1;
       fit = later.fit;
       legal = later.legal;
       line_is = omega (arith, later.at_is);
@@ -209,8 +200,8 @@ later_refused tick bytes line why is =
     let limits : Limits = limits_of tick is.cpus in
     let count : 2 + length is.front ≡ line = omega (arith, is.line_is) in
     ap (trace_of tick) (is.bytes_are ∙ append_assoc (header 1 is.cpus) (10 ∷ lines_of is.front) is.rest)
-    ∙ trace_of-line tick (header 1 is.cpus) (lines_of is.front ++ is.rest) (one_header is.cpus is.built)
-    ∙ ap (λ first. headed tick first (parts_at 10 (lines_of is.front ++ is.rest))) (first_back is.cpus is.built)
+    ∙ trace_of-line tick (header 1 is.cpus) (lines_of is.front ++ is.rest) (whole_header is.cpus is.counted)
+    ∙ ap (λ first. headed tick first (parts_at 10 (lines_of is.front ++ is.rest))) (first_back is.cpus is.counted)
     ∙ ap (with_events is.cpus) (rest_from-lines limits first_world 2 is.front is.rest is.fit is.legal ∙ ap (followed is.front) (rest_from-cause limits (after is.front) (2 + length is.front) is.rest why is.has))
     ∙ ap (λ n. let r : Whole = Err (refused n why) in r) count
 

@@ -18,3 +18,10 @@ pub mod SignalLaws
 pub mod TouchCounts
 pub mod TouchLaws
 pub mod TouchWithin
+pub mod GroupLaws
+pub mod LegalLaws
+pub mod MatchLaws
+pub mod JoinedParts
+pub mod PatternLaws
+pub mod SpelledLaws
+pub mod PathLaws

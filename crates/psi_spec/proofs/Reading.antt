@@ -9,7 +9,7 @@ use Rattle.psi_base.specs.declared.event.Refusal.{Refusal}
 use Rattle.psi_base.proofs.PartLaws.{HasNone, HasFirst, first_part, parts_at-all, parts_at-line}
 use Rattle.psi_spec.specs.Grammar.{event_of, spelling, Fits}
 use Rattle.psi_spec.specs.World.{World, Limits, after_event, after_from}
-use Rattle.psi_spec.specs.Refusal.{check_cause, cause_of, AreLegal, is_built}
+use Rattle.psi_spec.specs.Refusal.{cause_of, AreLegal}
 use Rattle.psi_spec.specs.Trace.{lines_of, AllFit, if_legal, then_legal, line_event, rest_cause, refused, at_end, followed, or_refused, events_from, HasCause}
 use Rattle.psi_spec.proofs.Splitting.{Cut, cut, cut_shorter}
 use Rattle.psi_spec.proofs.GrammarReads.{reads_spelled, spelling-no_newline, length-spelling-le}
@@ -41,18 +41,18 @@ pub record IsTaken (limits : Limits) (w : World) (part : List ℕ) (event : Even
   pub open_ : w.ended ≡ false
   pub fits : Fits event
   pub spelled : part ≡ spelling event
-  pub legal : check_cause limits w event ≡ None
+  pub legal : cause_of limits w event ≡ None
 
-legal_from : (limits : Limits) (w : World) (found event : Event) (why : Option Cause) → check_cause limits w found ≡ why → if_legal why found ≡ Ok event → (found ≡ event) × (check_cause limits w event ≡ None)
+legal_from : (limits : Limits) (w : World) (found event : Event) (why : Option Cause) → cause_of limits w found ≡ why → if_legal why found ≡ Ok event → (found ≡ event) × (cause_of limits w event ≡ None)
 legal_from limits w found event None none is =
     let same : found ≡ event = cc is in
-    (same, subst (λ e. check_cause limits w e ≡ None) same none)
+    (same, subst (λ e. cause_of limits w e ≡ None) same none)
 legal_from limits w found event (Some why) some is = absurd (cc is)
 
-legal_of : (limits : Limits) (w : World) (read : Result Event Cause) (event : Event) → then_legal limits w read ≡ Ok event → (read ≡ Ok event) × (check_cause limits w event ≡ None)
+legal_of : (limits : Limits) (w : World) (read : Result Event Cause) (event : Event) → then_legal limits w read ≡ Ok event → (read ≡ Ok event) × (cause_of limits w event ≡ None)
 legal_of limits w (Err why) event is = absurd (cc is)
 legal_of limits w (Ok found) event is =
-    let parts = legal_from limits w found event (check_cause limits w found) refl is in
+    let parts = legal_from limits w found event (cause_of limits w found) refl is in
     (ap (λ e. let r : Result Event Cause = Ok e in r) parts.0, parts.1)
 
 chosen : (ended long : Bool) (read : Result Event Cause) (event : Event) → (if ended then Err cause.AfterEnd else if long then Err cause.LineTooLong else read) ≡ Ok event → (ended ≡ false) × (read ≡ Ok event)
@@ -73,13 +73,9 @@ pub first_none : (b : Bool) (why : Cause) (others : Option Cause) → (if b then
 first_none true why others is = absurd (cc is)
 first_none false why others is = refl
 
-pub built_none : (b : Bool) (why : Option Cause) → (if b then why else Some cause.BadVerb) ≡ None → why ≡ None
-built_none true why is = is
-built_none false why is = absurd (cc is)
-
-pub open_of_legal : (limits : Limits) (w : World) (event : Event) → check_cause limits w event ≡ None → w.ended ≡ false
-unfolding check_cause cause_of
-open_of_legal limits w event is = first_none w.ended cause.AfterEnd _ (built_none (is_built event.act) _ is)
+pub open_of_legal : (limits : Limits) (w : World) (event : Event) → cause_of limits w event ≡ None → w.ended ≡ false
+unfolding cause_of
+open_of_legal limits w event is = first_none w.ended cause.AfterEnd _ is
 
 short_line : (event : Event) → Fits event → nat_lt 512 (length (spelling event)) ≡ false
 short_line event fits = grind (arith, length-spelling-le event fits)
@@ -87,11 +83,11 @@ short_line event fits = grind (arith, length-spelling-le event fits)
 chosen_back : (ended long : Bool) (read : Result Event Cause) (event : Event) → ended ≡ false → long ≡ false → read ≡ Ok event → (if ended then Err cause.AfterEnd else if long then Err cause.LineTooLong else read) ≡ Ok event
 chosen_back ended long read event open_ short is = rw (open_, short, is) refl
 
-legal_back : (limits : Limits) (w : World) (read : Result Event Cause) (event : Event) → read ≡ Ok event → check_cause limits w event ≡ None → then_legal limits w read ≡ Ok event
+legal_back : (limits : Limits) (w : World) (read : Result Event Cause) (event : Event) → read ≡ Ok event → cause_of limits w event ≡ None → then_legal limits w read ≡ Ok event
 legal_back limits w read event is legal = rw is (ap (λ why. if_legal why event) legal)
 
 -- a legal event's spelling is taken
-pub takes : (limits : Limits) (w : World) (event : Event) → Fits event → check_cause limits w event ≡ None → line_event limits w (spelling event) ≡ Ok event
+pub takes : (limits : Limits) (w : World) (event : Event) → Fits event → cause_of limits w event ≡ None → line_event limits w (spelling event) ≡ Ok event
 unfolding line_event
 takes limits w event fits legal =
     chosen_back w.ended (nat_lt 512 (length (spelling event))) _ event (open_of_legal limits w event legal) (short_line event fits)

@@ -86,18 +86,18 @@ counted_put p tasks k t =
     rw (fin.entries-insert nat_cmp_total tasks k t, fin.get-entries tasks k) (count_put p k t (fin.entries tasks) (fin.entries_sorted tasks))
 
 -- a task that is removed and put back is found as before
-put_back : (tasks : Tasks) (k : ℕ) (t : Task) → task_of tasks k ≡ Some t → (q : ℕ) → task_of (put (remove tasks k) k t) q ≡ task_of tasks q
+pub put_back : (tasks : Tasks) (k : ℕ) (t : Task) → task_of tasks k ≡ Some t → (q : ℕ) → task_of (put (remove tasks k) k t) q ≡ task_of tasks q
 put_back tasks k t is q =
     get_put (remove tasks k) k t q ∙ ap (cond (q == k) (Some t)) (get_remove tasks k q)
     ∙ ⊎_elim (λ same. rw (same.0) (sym (ap (task_of tasks) same.1 ∙ is))) (λ other. rw (other.0) refl) (eqb_tells q k)
 
 -- removing a number that no task has changes nothing
-same_without : (tasks : Tasks) (k : ℕ) → task_of tasks k ≡ None → (q : ℕ) → task_of (remove tasks k) q ≡ task_of tasks q
+pub same_without : (tasks : Tasks) (k : ℕ) → task_of tasks k ≡ None → (q : ℕ) → task_of (remove tasks k) q ≡ task_of tasks q
 same_without tasks k is q =
     get_remove tasks k q ∙ ⊎_elim (λ same. rw (same.0) (sym (ap (task_of tasks) same.1 ∙ is))) (λ other. rw (other.0) refl) (eqb_tells q k)
 
 -- one task less
-counted_remove : (p : Task → Bool) (tasks : Tasks) (k : ℕ) → counted p (remove tasks k) + one (test_task (task_of tasks k) p) ≡ counted p tasks
+pub counted_remove : (p : Task → Bool) (tasks : Tasks) (k : ℕ) → counted p (remove tasks k) + one (test_task (task_of tasks k) p) ≡ counted p tasks
 counted_remove p tasks k =
     elim (task_of tasks k) as (λ o. task_of tasks k ≡ o → counted p (remove tasks k) + one (test_task o p) ≡ counted p tasks) [
       | None ↦ λ is. let same = ap (counted p) (same_tasks (remove tasks k) tasks (same_without tasks k is)) in omega (arith, same)

@@ -1,7 +1,7 @@
 -- What a legal event does to counts of tasks, on the processors that it touches and on the others.
-use Rattle.std.proofs.Common.{◌≡◌, ℕ, ◌+◌, ◌≤◌, List, [], ◌∷◌, refl, ap, ◌∙◌, sym, Bool, true, false, arith, cond, Option, None, Some, nat_lt, ◌==◌, ⊎_elim}
-use Rattle.std.specs.Prelude.{map, find, ◌&&◌, ◌||◌, not, if◌then◌else◌, is_some}
-use Rattle.std.specs.List.{AllByRecursion, list_any}
+use Rattle.std.proofs.Common.{◌≡◌, ℕ, zero, suc, ◌+◌, ◌≤◌, List, [], ◌∷◌, refl, ap, ◌∙◌, sym, subst, Bool, true, false, arith, cond, Option, None, Some, nat_lt, ◌==◌, ⊎_elim}
+use Rattle.std.specs.Prelude.{map, find, ◌&&◌, ◌||◌, not, if◌then◌else◌, is_some, slice_get}
+use Rattle.std.specs.List.{list_any}
 use Rattle.std.specs.FinMap as fin
 use Rattle.std.proofs.lemmas.Bool.Decides.{nat_tests, eqb_tells}
 use Rattle.psi_base.specs.declared.event.How.{How}
@@ -18,7 +18,7 @@ use Rattle.psi_spec.specs.declared.machine.Counts.{Counts}
 use Rattle.psi_spec.specs.declared.machine.Mode.{Mode}
 use Rattle.psi_spec.specs.declared.machine.Mode.TheVariants.{Blocked, Waiting, Ready, Running}
 use Rattle.psi_spec.specs.World.{World, Limits, Tasks, task_of, test_task, task_part, change_to, leave, left_by, start, running_on, is_running_on, is_ready_on, is_running, is_ready, is_waiting, is_active, tasks_after, after_event, new_task, readied}
-use Rattle.psi_spec.specs.Refusal.{cause_of, check_cause, is_built, stands, order, is_wrong, isnt_ready}
+use Rattle.psi_spec.specs.Refusal.{cause_of, stands, order, is_wrong, isnt_ready}
 use Rattle.psi_spec.specs.Stall.{is_under, is_in, tasks_in, waits, stalls, is_up, runs}
 use Rattle.psi_spec.specs.Counts.{how_many, counts_among, is_up_stalled, runs_stalled}
 use Rattle.psi_spec.specs.Touch.{changed, before, after_of, is_at, touched, part, shown, change_on, change_of, no_counts, on_chain, RunsOnce, is_current_in, is_current_stalled, CountsFollow, RunsOnceFirst, RunsOnceKept, CurrentTells, StaysUntouched}
@@ -28,14 +28,19 @@ use Rattle.psi_spec.proofs.TouchCounts.{tally, tallied, tallied_both, counted, c
 
 -- ---- what the absence of a cause says
 
--- where a search finds nothing, nothing passes
-none_pass : (test : Cause → Bool) (causes : List Cause) → find test causes ≡ None → AllByRecursion (λ why. test why ≡ false) causes
-none_pass test [] h = tt
-none_pass test (why ∷ causes) h =
-    elim (test why) as (λ b. test why ≡ b → cond b (Some why) (find test causes) ≡ None → (test why ≡ false) × AllByRecursion (λ why. test why ≡ false) causes) [
-      | true ↦ λ t i. absurd (cc i)
-      | false ↦ λ t i. (t, none_pass test causes i)
-    ] refl h
+-- a cause that a search passes doesn't stand
+pub passed : (test : Cause → Bool) (causes : List Cause) (at : ℕ) (why : Cause) → find test causes ≡ None → slice_get causes at ≡ Some why → test why ≡ false
+passed test [] at why none is = absurd (cc is)
+passed test (first ∷ causes) zero why none is =
+    elim (test first) as (λ b. test first ≡ b → cond b (Some first) (find test causes) ≡ None → test why ≡ false) [
+      | true ↦ λ _ i. absurd (cc i)
+      | false ↦ λ off _. let same : first ≡ why = cc is in subst (λ c. test c ≡ false) same off
+    ] refl none
+passed test (first ∷ causes) (suc at) why none is =
+    elim (test first) as (λ b. cond b (Some first) (find test causes) ≡ None → test why ≡ false) [
+      | true ↦ λ i. absurd (cc i)
+      | false ↦ λ i. passed test causes at why i is
+    ] none
 
 -- causes that don't stand against a legal event
 pub record NoneStands (limits : Limits) (w : World) (event : Event) : Type 0 where
@@ -50,20 +55,15 @@ pub record NoneStands (limits : Limits) (w : World) (event : Event) : Type 0 whe
 pub none_stands : (limits : Limits) (w : World) (event : Event) → cause_of limits w event ≡ None → NoneStands limits w event
 unfolding cause_of
 none_stands limits w event legal =
-    let all = none_pass (λ why. stands why limits w event) order legal in
-    let from_group = all.1.1.1.1.1.1.1 in
-    let from_task = from_group.1.1.1.1 in
-    let from_ready = from_task.1.1.1.1.1 in
-    record { unknown_group = from_group.0; unknown_task = from_task.0; task_exists = from_task.1.0; bad_cpu = from_task.1.1.1.0; not_ready = from_ready.0; wrong_how = from_ready.1.1.0 }
-
--- an event that is let through is legal
-pub legal_of : (limits : Limits) (w : World) (event : Event) → check_cause limits w event ≡ None → cause_of limits w event ≡ None
-unfolding check_cause
-legal_of limits w event h =
-    elim (is_built event.act) as (λ b. (if b then cause_of limits w event else Some cause.BadVerb) ≡ None → cause_of limits w event ≡ None) [
-      | true ↦ λ i. i
-      | false ↦ λ i. absurd (cc i)
-    ] h
+    let off : (at : ℕ) (why : Cause) → slice_get order at ≡ Some why → stands why limits w event ≡ false = λ at why is. passed (λ why. stands why limits w event) order at why legal is in
+    record {
+      unknown_group = off 7 cause.UnknownGroup refl;
+      unknown_task = off 11 cause.UnknownTask refl;
+      task_exists = off 12 cause.TaskExists refl;
+      bad_cpu = off 14 cause.BadCpu refl;
+      not_ready = off 16 cause.NotReady refl;
+      wrong_how = off 18 cause.WrongHow refl;
+    }
 
 -- a negation that fails
 pub not_false : (b : Bool) → not b ≡ false → b ≡ true
@@ -71,7 +71,7 @@ not_false true h = refl
 not_false false h = cc h
 
 -- no value, by its test
-is_none : {A : Type 0} (o : Option A) → is_some o ≡ false → o ≡ None
+pub is_none : {A : Type 0} (o : Option A) → is_some o ≡ false → o ≡ None
 is_none None h = refl
 is_none (Some x) h = cc h
 
@@ -81,7 +81,7 @@ first_true true b h = refl
 first_true false b h = h
 
 -- the second of two tests that hold
-second_true : (a b : Bool) → (a && b) ≡ true → b ≡ true
+pub second_true : (a b : Bool) → (a && b) ≡ true → b ≡ true
 second_true true b h = h
 second_true false b h = cc h
 
@@ -117,7 +117,7 @@ ready_left tasks cpu how q ready (Some e) is =
 -- ---- what an act does to a count
 
 -- a test that doesn't tell ready from running
-abbrev Blind : (Task → Bool) → Type 0
+abbrev pub Blind : (Task → Bool) → Type 0
 Blind p = (t : Task) → is_ready t.mode ≡ true → p (record t { mode = Running }) ≡ p t
 
 -- a task that is ready on a processor is ready
@@ -142,11 +142,11 @@ counted_start p blind tasks cpu how (Some pid) h =
     counted_started p blind (leave how tasks (running_on tasks cpu)) pid.0 _ refl (rw still (ready_somewhere (task_of tasks pid.0) cpu ready))
 
 -- an act changes a count by the one task that it changes
-abbrev CountsOne : (Task → Bool) → World → Act → Type 0
+abbrev pub CountsOne : (Task → Bool) → World → Act → Type 0
 CountsOne p w a = counted p (tasks_after w.groups w.tasks a) + one (test_task (before w.tasks a) p) ≡ counted p w.tasks + one (test_task (after_of w.groups w.tasks a) p)
 
 -- each legal act counts so
-counted_act : (p : Task → Bool) → Blind p → (limits : Limits) (w : World) (at : ℕ) (a : Act) → cause_of limits w (record { at = at; act = a }) ≡ None → CountsOne p w a
+pub counted_act : (p : Task → Bool) → Blind p → (limits : Limits) (w : World) (at : ℕ) (a : Act) → cause_of limits w (record { at = at; act = a }) ≡ None → CountsOne p w a
 counted_act p blind limits w at (act.Group path) h = refl
 counted_act p blind limits w at (act.Remove path) h = refl
 counted_act p blind limits w at (act.Prefer path preference) h = refl

@@ -1,7 +1,6 @@
 -- What changes tell, and that their processors and slots are ones that there are.
 use Rattle.std.proofs.Common.{◌≡◌, ℕ, ◌+◌, ◌<◌, ◌≤◌, List, [], ◌∷◌, refl, ap, ◌∙◌, sym, subst, Bool, true, false, arith, cond, Option, None, Some, ◌==◌, length, ⊎_elim}
-use Rattle.std.specs.Prelude.{◌≢◌, nat_le, ◌&&◌, ◌||◌, not, if◌then◌else◌, is_some, unwrap_or, IfSome}
-use Rattle.std.specs.Str.{bytes_eq}
+use Rattle.std.specs.Prelude.{◌≢◌, nat_le, ◌||◌, not, if◌then◌else◌, is_some, unwrap_or, IfSome}
 use Rattle.std.specs.FinMap as fin
 use Rattle.std.specs.Ordering.{nat_cmp}
 use Rattle.std.proofs.lemmas.Bool.Decides.{nat_tests, eqb_tells}
@@ -19,7 +18,7 @@ use Rattle.psi_spec.specs.declared.machine.Touch.{Touch}
 use Rattle.psi_spec.specs.declared.machine.Counts.{Counts}
 use Rattle.psi_spec.specs.declared.machine.Mode.TheVariants.{Running}
 use Rattle.psi_spec.specs.declared.machine.GroupLife.{GroupLife}
-use Rattle.psi_spec.specs.World.{World, Limits, Tasks, task_of, test_task, task_part, placed, change_to, leave, left_by, start, running_on, is_running_on, is_running, tasks_after, after_event, new_task, readied, slot_from, slot_of, is_live}
+use Rattle.psi_spec.specs.World.{World, Limits, Tasks, task_of, test_task, task_part, placed, change_to, leave, left_by, start, running_on, is_running_on, is_running, tasks_after, after_event, new_task, readied, slot_of}
 use Rattle.psi_spec.specs.Refusal.{cause_of, named_cpu}
 use Rattle.psi_spec.specs.Stall.{tasks_in, waits, stalls, is_up}
 use Rattle.psi_spec.specs.Counts.{how_many, counts_among, is_up_stalled, IsRunningTold}
@@ -27,6 +26,7 @@ use Rattle.psi_spec.specs.Touch.{changed, left_if, before, after_of, is_at, touc
 use Rattle.psi_spec.proofs.CountLaws.{one, how_many-cons}
 use Rattle.psi_spec.proofs.TaskLaws.{itself, task_placed}
 use Rattle.psi_spec.proofs.TouchCounts.{running_found}
+use Rattle.psi_spec.proofs.GroupLaws.{found_below}
 use Rattle.psi_spec.proofs.TouchLaws.{first_true, none_stands, counts_follow, current_tells, runs_once_kept}
 
 -- a task, if there is one, is on one of so many processors and in one of so many slots
@@ -95,22 +95,12 @@ within_start cpus slots tasks within (Some pid) =
 room_of : (cpus cpu : ℕ) → nat_le cpus cpu ≡ false → cpu < cpus
 room_of cpus cpu h = grind (arith, nat_tests)
 
--- slots are counted up to the last group's
-slot_below : (from : ℕ) (groups : List GroupLife) (path : List ℕ) (slot : ℕ) → slot_from from groups path ≡ Some slot → slot < from + length groups
-slot_below from [] path slot is = absurd (cc is)
-slot_below from (group ∷ groups) path slot is =
-    let more : length (group ∷ groups) ≡ length groups + 1 = omega arith in
-    elim (is_live group && bytes_eq group.path path) as (λ b. (if b then Some from else slot_from (from + 1) groups path) ≡ Some slot → slot < from + length (group ∷ groups)) [
-      | true ↦ λ i. let same : from ≡ slot = cc i in omega (arith, same, more)
-      | false ↦ λ i. let rest = slot_below (from + 1) groups path slot i in omega (arith, rest, more)
-    ] is
-
 -- a live group's slot
-slot_room : (groups : List GroupLife) (path : List ℕ) → not (is_some (slot_of groups path)) ≡ false → unwrap_or (slot_of groups path) 0 < length groups
+pub slot_room : (groups : List GroupLife) (path : List ℕ) → not (is_some (slot_of groups path)) ≡ false → unwrap_or (slot_of groups path) 0 < length groups
 slot_room groups path live =
     elim (slot_of groups path) as (λ o. slot_of groups path ≡ o → not (is_some o) ≡ false → unwrap_or o 0 < length groups) [
       | None ↦ λ is l. absurd (cc l)
-      | Some slot ↦ λ is l. let below = slot_below 0 groups path slot is in omega (arith, below)
+      | Some slot ↦ λ is l. let below = (found_below 0 groups path slot is).1 in omega (arith, below)
     ] refl live
 
 -- the task that an act changes, before it and after it

@@ -12,3 +12,6 @@ pub mod Share
 pub mod Average
 pub mod Signal
 pub mod Touch
+pub mod Groups
+pub mod Legal
+pub mod Match

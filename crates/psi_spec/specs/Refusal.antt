@@ -1,5 +1,5 @@
 -- Which events are legal in a world, and the cause against one that isn't.
-use Rattle.std.specs.Prelude.{◌≡◌, ℕ, List, [], ◌∷◌, length, nat_lt, nat_le, ◌==◌, ◌&&◌, ◌||◌, not, Bool, true, false, if◌then◌else◌, Option, None, Some, is_some, find}
+use Rattle.std.specs.Prelude.{◌≡◌, ℕ, List, [], ◌∷◌, length, nat_lt, nat_le, ◌==◌, ◌&&◌, ◌||◌, not, Bool, true, false, Option, None, Some, is_some, find}
 use Rattle.std.specs.List.{list_any}
 use Rattle.std.specs.FinMap as tasks_by
 use Rattle.psi_base.specs.declared.event.Pid.{Pid}
@@ -238,21 +238,7 @@ order =
 unfoldable pub cause_of : Limits → World → Event → Option Cause
 cause_of limits w event = find (λ why. stands why limits w event) order
 
--- ---- what is built so far
-
--- Acts that the program replays by now. The others are refused as verbs that it doesn't know.
-abbrev pub is_built : Act → Bool
-is_built (act.Fork pid path cpu) = true
-is_built (act.Wake pid cpu) = true
-is_built (act.Switch cpu next how) = true
-is_built act.End = true
-is_built _ = false
-
--- the first cause against an event, of which only acts that are built are let through
-unfoldable pub check_cause : Limits → World → Event → Option Cause
-check_cause limits w event = if is_built event.act then cause_of limits w event else Some cause.BadVerb
-
 -- each event is legal in the world after those before it
 abbrev pub AreLegal : Limits → World → List Event → Type 0
 AreLegal limits w [] = Unit {0}
-AreLegal limits w (event ∷ events) = (check_cause limits w event ≡ None) × AreLegal limits (after_event w event) events
+AreLegal limits w (event ∷ events) = (cause_of limits w event ≡ None) × AreLegal limits (after_event w event) events

@@ -1,5 +1,5 @@
 -- The trace that bytes are, or the first line that is refused, with its cause.
-use Rattle.std.specs.Prelude.{◌≡◌, ◌↔◌, ◌⊎◌, ◌≢◌, ℕ, ◌+◌, ◌*◌, ◌<◌, List, [], ◌∷◌, ◌++◌, length, slice_index, nat_lt, ◌==◌, if◌then◌else◌, Option, None, Some, Result, Ok, Err}
+use Rattle.std.specs.Prelude.{◌≡◌, ◌↔◌, ◌⊎◌, ◌≢◌, ℕ, ◌+◌, ◌*◌, ◌<◌, ◌≤◌, List, [], ◌∷◌, ◌++◌, length, slice_index, nat_lt, if◌then◌else◌, Option, None, Some, Result, Ok, Err}
 use Rattle.std.specs.List.{flat_map}
 use Rattle.psi_base.specs.Path.{parts_at}
 use Rattle.psi_base.specs.declared.event.Act.TheVariants as act
@@ -9,7 +9,7 @@ use Rattle.psi_base.specs.declared.event.Cause.TheVariants as cause
 use Rattle.psi_base.specs.declared.event.Refusal.{Refusal}
 use Rattle.psi_spec.specs.Grammar.{event_of, header_of, header, spelling, Fits}
 use Rattle.psi_spec.specs.World.{World, Limits, first_world, after_event, after}
-use Rattle.psi_spec.specs.Refusal.{check_cause, AreLegal}
+use Rattle.psi_spec.specs.Refusal.{cause_of, AreLegal}
 
 -- an accepted trace: its version, how many processors it has, and its events
 pub record Trace : Type 0 where
@@ -40,17 +40,6 @@ AllFit (event ∷ events) = Fits event × AllFit events
 abbrev pub EndsLast : List Event → Type 0
 EndsLast events = (front : List Event) × (at : ℕ) × (events ≡ front ++ record { at = at; act = act.End } ∷ [])
 
--- ---- what is built so far
-
--- Traces have one processor by now. Another number is refused as a header that isn't known.
-abbrev pub if_built : Option ℕ → Option ℕ
-if_built None = None
-if_built (Some cpus) = if cpus == 1 then Some cpus else None
-
--- the number of processors of a header line, of those that are built
-abbrev pub built_header : List ℕ → Option ℕ
-built_header line = if_built (header_of line)
-
 -- ---- one line
 
 -- an event that is refused for a cause, or taken
@@ -61,7 +50,7 @@ if_legal (Some why) event = Err why
 -- what was read, where it is legal too
 abbrev pub then_legal : Limits → World → Result Event Cause → Result Event Cause
 then_legal limits w (Err why) = Err why
-then_legal limits w (Ok event) = if_legal (check_cause limits w event) event
+then_legal limits w (Ok event) = if_legal (cause_of limits w event) event
 
 -- the event of a line behind the header, or the first cause against the line: nothing may stand behind the end, a line
 -- has at most 512 bytes, it spells an event, and the event is legal
@@ -80,7 +69,7 @@ or_bad_header (Some cpus) = Ok cpus
 
 -- the number of processors of the first line, or the cause against it
 unfoldable pub first_line : List ℕ → Result ℕ Cause
-first_line line = if nat_lt 512 (length line) then Err cause.LineTooLong else or_bad_header (built_header line)
+first_line line = if nat_lt 512 (length line) then Err cause.LineTooLong else or_bad_header (header_of line)
 
 -- the cause against input that ends inside its first line
 unfoldable pub first_rest : List ℕ → Cause
@@ -134,16 +123,16 @@ trace_of tick bytes = trace_of_parts tick (parts_at 10 bytes)
 
 -- ---- laws
 
--- a header that is built
-abbrev pub IsBuilt : ℕ → Type 0
-IsBuilt cpus = cpus ≡ 1
+-- how many processors a trace may have
+abbrev pub IsCpuCount : ℕ → Type 0
+IsCpuCount cpus = (1 ≤ cpus) × (cpus ≤ 64)
 
 -- what makes bytes a trace, with no reader in sight: they are its text, its header is known, each event can be spelled
 -- and is legal in its turn, and the end is the last
 pub record IsTrace (tick : ℕ) (bytes : List ℕ) (trace : Trace) : Type 0 where
   pub text : bytes ≡ text_of trace
   pub version : trace.version ≡ 1
-  pub cpus : IsBuilt trace.cpus
+  pub cpus : IsCpuCount trace.cpus
   pub fit : AllFit trace.events
   pub legal : AreLegal (limits_of tick trace.cpus) first_world trace.events
   pub ends : EndsLast trace.events
@@ -178,7 +167,7 @@ pub record IsRefusedLater (tick : ℕ) (bytes : List ℕ) (line : ℕ) (why : Ca
   pub front : List Event
   pub rest : List ℕ
   pub bytes_are : bytes ≡ text_of (record { version = 1; cpus = cpus; events = front }) ++ rest
-  pub built : IsBuilt cpus
+  pub counted : IsCpuCount cpus
   pub fit : AllFit front
   pub legal : AreLegal (limits_of tick cpus) first_world front
   pub line_is : line ≡ length front + 2

@@ -4,15 +4,21 @@
 mod arithmetic;
 mod clocks;
 mod grammar;
+mod groups;
 mod laws;
+mod legal;
 mod machine;
+mod matches;
 mod touches;
 
 pub use arithmetic::{averages, fixed_point, shares, signals};
 pub use clocks::{clock_times, clock_words, masks, same_clocks, states_by_counts};
 pub use grammar::{event_lines, header_lines};
+pub use groups::{ancestors, kept_parents, legal_groups};
 pub use laws::{stall_time, traces};
+pub use legal::{legal_counts, legal_worlds};
 pub use machine::{Change, Counts, GroupLife, Mode, Task, Touch};
+pub use matches::{PatternFault, matching, reading_patterns};
 pub use touches::{
     change_tells, changes_are_within, counts_follow, current_tells, runs_once, touched, within,
 };

@@ -1,6 +1,7 @@
-pub mod ClockSums
 pub mod LineLaws
+pub mod LineTexts
 pub mod Pieces
-pub mod RootLaws
+pub mod PlayLaws
+pub mod ProcessorLaws
 pub mod RunLaws
-pub mod SumLaws
+pub mod StallsLaws

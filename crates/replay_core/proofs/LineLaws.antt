@@ -1,6 +1,6 @@
 -- Reading a trace line by line, against the definition over its bytes.
 use Rattle.std.proofs.Common.{◌≡◌, ◌≢◌, ℕ, ◌+◌, ◌<◌, ◌≤◌, List, [], ◌∷◌, ◌++◌, length, get_or, refl, sym, ap, ◌∙◌, arith, ◌⊎◌, ⊎_elim, true, false, Bool}
-use Rattle.std.specs.Prelude.{Result, Ok, Err, Option, None, Some, nat_lt, ◌==◌, if◌then◌else◌}
+use Rattle.std.specs.Prelude.{Result, Ok, Err, Option, None, Some, nat_lt, if◌then◌else◌}
 use Rattle.std.proofs.lemmas.List.{append-nil, length-append}
 use Rattle.std.proofs.Math.Seq.{get_or-append_seam}
 use Rattle.psi_base.specs.Path.{parts_at}
@@ -12,10 +12,9 @@ use Rattle.psi_base.specs.declared.event.Fault.{Fault}
 use Rattle.psi_base.specs.declared.event.Fault.TheVariants as fault
 use Rattle.psi_lines.specs.Lines.{BeginsWithLine, IsTooLong, IsCut}
 use Rattle.psi_spec.specs.World.{World, Limits, after, after_event, after_from, first_world}
-use Rattle.psi_spec.specs.Refusal.{check_cause}
+use Rattle.psi_spec.specs.Refusal.{cause_of}
 use Rattle.psi_spec.specs.Grammar.{event_of, header_of}
-use Rattle.std.proofs.lemmas.Bool.Decides.{eqb_tells}
-use Rattle.psi_spec.specs.Trace.{Trace, if_built, or_bad_header, line_event, rest_cause, then_legal, at_end, or_refused, followed, refused, first_line, first_rest, headed, with_events, trace_of, limits_of}
+use Rattle.psi_spec.specs.Trace.{Trace, line_event, rest_cause, then_legal, at_end, or_refused, followed, refused, first_line, first_rest, headed, with_events, trace_of, limits_of}
 use Rattle.psi_spec.proofs.Splitting.{Cut, cut}
 use Rattle.psi_spec.proofs.Reading.{Events, rest_from-line, rest_from-rest, nothing_left, followed-followed}
 use Rattle.psi_spec.proofs.Accepting.{trace_of-line, trace_of-rest}
@@ -63,10 +62,10 @@ line_refused limits w line bytes part behind why begins is =
 
 -- ---- a line that is played
 
-legal_line : (ended long : Bool) (read : Result Event Cause) (limits : Limits) (w : World) (event : Event) → ended ≡ false → long ≡ false → read ≡ Ok event → check_cause limits w event ≡ None → (if ended then Err cause.AfterEnd else if long then Err cause.LineTooLong else then_legal limits w read) ≡ Ok event
+legal_line : (ended long : Bool) (read : Result Event Cause) (limits : Limits) (w : World) (event : Event) → ended ≡ false → long ≡ false → read ≡ Ok event → cause_of limits w event ≡ None → (if ended then Err cause.AfterEnd else if long then Err cause.LineTooLong else then_legal limits w read) ≡ Ok event
 legal_line ended long read limits w event running short is legal = rw (running, short, is, legal) refl
 
-refused_line : (ended long : Bool) (read : Result Event Cause) (limits : Limits) (w : World) (event : Event) (why : Cause) → ended ≡ false → long ≡ false → read ≡ Ok event → check_cause limits w event ≡ Some why → (if ended then Err cause.AfterEnd else if long then Err cause.LineTooLong else then_legal limits w read) ≡ Err why
+refused_line : (ended long : Bool) (read : Result Event Cause) (limits : Limits) (w : World) (event : Event) (why : Cause) → ended ≡ false → long ≡ false → read ≡ Ok event → cause_of limits w event ≡ Some why → (if ended then Err cause.AfterEnd else if long then Err cause.LineTooLong else then_legal limits w read) ≡ Err why
 refused_line ended long read limits w event why running short is refused = rw (running, short, is, refused) refl
 
 unread_line : (ended long : Bool) (read : Result Event Cause) (limits : Limits) (w : World) (why : Cause) → ended ≡ false → long ≡ false → read ≡ Err why → (if ended then Err cause.AfterEnd else if long then Err cause.LineTooLong else then_legal limits w read) ≡ Err why
@@ -206,23 +205,17 @@ header_long tick bytes is = ⊎_elim
     ap (trace_of tick) c.whole ∙ trace_of-line tick c.line c.behind c.none ∙ ap (λ r. headed tick r (parts_at 10 c.behind)) (line_too_long (length c.line) _ (long_cut bytes c is)))
     (cut 10 bytes)
 
--- a header line of one processor, and another line
+-- a header line, and another line
 short_first : (long : Bool) (read : Result ℕ Cause) → long ≡ false → (if long then Err cause.LineTooLong else read) ≡ read
 short_first long read is = rw is refl
 
-pub first_one : (line : List ℕ) → length line ≤ 512 → header_of line ≡ Some 1 → first_line line ≡ Ok 1
+pub first_known : (line : List ℕ) (cpus : ℕ) → length line ≤ 512 → header_of line ≡ Some cpus → first_line line ≡ Ok cpus
 unfolding first_line
-first_one line short is = short_first (nat_lt 512 (length line)) _ (not_long (length line) short) ∙ rw is refl
+first_known line cpus short is = short_first (nat_lt 512 (length line)) _ (not_long (length line) short) ∙ rw is refl
 
-bad_unless : (found : Option ℕ) → (found ≢ Some 1) → or_bad_header (if_built found) ≡ Err cause.BadHeader
-bad_unless None other = refl
-bad_unless (Some n) other =
-    let not_one : (n == 1) ≡ false = ⊎_elim (λ same. absurd (other (ap (λ m. let o : Option ℕ = Some m in o) same.1))) (λ apart. apart.0) (eqb_tells n 1) in
-    rw not_one refl
-
-pub first_other : (line : List ℕ) → length line ≤ 512 → (header_of line ≢ Some 1) → first_line line ≡ Err cause.BadHeader
+pub first_other : (line : List ℕ) → length line ≤ 512 → header_of line ≡ None → first_line line ≡ Err cause.BadHeader
 unfolding first_line
-first_other line short other = short_first (nat_lt 512 (length line)) _ (not_long (length line) short) ∙ bad_unless (header_of line) other
+first_other line short none = short_first (nat_lt 512 (length line)) _ (not_long (length line) short) ∙ rw none refl
 
 -- ---- all lines
 

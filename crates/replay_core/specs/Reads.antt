@@ -8,7 +8,7 @@ use Rattle.psi_base.specs.declared.event.Cause.TheVariants as cause
 use Rattle.psi_base.specs.declared.event.Fault.{Fault}
 use Rattle.psi_base.specs.declared.event.Fault.TheVariants as fault
 use Rattle.psi_spec.specs.World.{World, Limits, after, first_world}
-use Rattle.psi_spec.specs.Refusal.{check_cause}
+use Rattle.psi_spec.specs.Refusal.{cause_of}
 use Rattle.psi_spec.specs.Trace.{events_from, followed, limits_of, line_event, refused, trace_of, with_events}
 use Rattle.replay_core.specs.declared.trace.TraceFault.{TraceFault}
 use Rattle.replay_core.specs.declared.trace.TraceFault.TheVariants.{Refused, NoFile, ReadFault, NoMemory}
@@ -31,8 +31,8 @@ IsPlaying Played = (limits : Limits) × (events : List Event) × Played limits e
 -- What an event does to a player that has played any events: it is legal and played behind them, and there were fewer
 -- than 4,000,000; or it is refused with the first cause. Of want of memory nothing is said.
 abbrev pub Takes : Plays → Plays → Event → Result (Unit {0}) (Fault Cause) → Type 0
-Takes Before After event (Ok x) = (limits : Limits) (events : List Event) → Before limits events → (check_cause limits (after events) event ≡ None) × After limits (events ++ event ∷ []) × (length events < 4000000)
-Takes Before After event (Err (fault.Refused why)) = (limits : Limits) (events : List Event) → Before limits events → check_cause limits (after events) event ≡ Some why
+Takes Before After event (Ok x) = (limits : Limits) (events : List Event) → Before limits events → (cause_of limits (after events) event ≡ None) × After limits (events ++ event ∷ []) × (length events < 4000000)
+Takes Before After event (Err (fault.Refused why)) = (limits : Limits) (events : List Event) → Before limits events → cause_of limits (after events) event ≡ Some why
 Takes Before After event (Err fault.NoMemory) = ⊤
 
 -- ---- one line

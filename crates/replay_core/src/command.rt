@@ -3,19 +3,19 @@ ghost use Rattle.std.specs.Prelude.{◌≡◌, ◌⊎◌, ℕ, List, Some, None,
 ghost use Rattle.std.specs.Io.KnownBytes.{Appends, Keeps};
 ghost use Rattle.psi_base.specs.Outside.{told, Lacks, Rose, AppendsFront};
 ghost use Rattle.psi_base.specs.declared.event.Cause.{Cause};
-ghost use Rattle.psi_spec.specs.Text.{check_text, stall_text};
+ghost use Rattle.psi_spec.specs.Text.{check_text};
 ghost use Rattle.psi_spec.specs.Trace.{Trace, refused, trace_of};
 ghost use Rattle.psi_spec.specs.Words.{Command, check, command_of, stall, tick_of, trace_name};
 ghost use Rattle.psi_base.specs.declared.event.Event.{Event};
 ghost use Rattle.psi_spec.specs.World.{Limits};
-ghost use Rattle.replay_core.specs.Reads.{IsPlayed, IsPlaying};
-ghost use Rattle.replay_core.specs.Sums.{AreSums};
+ghost use Rattle.replay_core.specs.Reads.{IsPlayed};
 ghost use Rattle.replay_core.specs.Run.{IsMissing, IsStatusOf, LeavesWords, Means, Runs, RunsWords, WritesText};
 ghost use Rattle.replay_core.specs.Status.{seen_all, status_text};
 
+use crate::lines::put_check;
 use crate::note::put_status;
+use crate::stalls::{Stalls, write_stalls};
 use crate::status::{Status, Which};
-use crate::sums::{RootSums, put_check, put_stall};
 use crate::trace::{TraceFault, play_trace};
 use crate::words::{Request, read_words};
 use psi_base::{Gate, Ns, Shelf, Sink, WriteFailed};
@@ -25,17 +25,6 @@ use task_table::Table;
 
 /// The tick length (ns): a trace's latest moment is a million ticks.
 const TICK: Ns = 2_000_000_000;
-
-// Writes the sums of a trace.
-fn write_sums<K: Sink>(sums: &RootSums, out: &mut K) -> Status
-    requires { IsPlaying (AreSums sums.now.table.limits sums.now.table.world sums.now.counts sums.now.mask sums.now.clock) }
-    ensures { (limits : Limits) (events : List Event) → AreSums sums.now.table.limits sums.now.table.world sums.now.counts sums.now.mask sums.now.clock limits events → WritesText (stall_text (record { version = 1; cpus = limits.cpus; events = events })) (K.faults out.old) (K.faults out.new) (K.has out.old) (K.has out.new) result }
-{
-    match put_stall(sums, out) {
-        Ok(()) => Status::Done,
-        Err(WriteFailed) => Status::WriteFault,
-    }
-}
 
 // The status of a trace that can't be read.
 fn fault_status(fault: TraceFault) -> Status
@@ -59,8 +48,8 @@ fn run_stall<S: Shelf, K: Sink>(alloc: Global, name: &str, shelf: &mut S, out: &
     ensures kept { S.holds shelf.new ≡ S.holds shelf.old }
     ensures runs { Runs (stall name.now) (S.holds shelf.old) (S.faults shelf.old) (S.faults shelf.new) (S.absent shelf.old) (S.absent shelf.new) (K.faults out.old) (K.faults out.new) (K.has out.old) (K.has out.new) result }
 {
-    match play_trace::<S, RootSums>(alloc, name, shelf, TICK) {
-        Ok(sums) => write_sums(&sums, out),
+    match play_trace::<S, Stalls>(alloc, name, shelf, TICK) {
+        Ok(stalls) => write_stalls(alloc, &stalls, out),
         Err(fault) => fault_status(fault),
     }
 }

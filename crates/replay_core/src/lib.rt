@@ -1,11 +1,13 @@
 //! The top call: the words of a command, its trace, and what it prints.
 #![tactic(auto)]
 
+mod clocks;
 mod command;
+mod lines;
 mod note;
 mod player;
+mod stalls;
 mod status;
-mod sums;
 mod text;
 mod trace;
 mod words;

@@ -3,7 +3,7 @@ ghost use Rattle.std.specs.Prelude.{◌≡◌, ◌≤◌, List, [], IfOk};
 ghost use Rattle.psi_base.specs.declared.event.Event.{Event};
 ghost use Rattle.psi_spec.specs.World.{Limits, after};
 ghost use Rattle.psi_spec.specs.Share.{last_moment};
-ghost use Rattle.psi_spec.specs.Trace.{IsBuilt};
+ghost use Rattle.psi_spec.specs.Trace.{IsCpuCount};
 ghost use Rattle.replay_core.specs.Reads.{IsPlaying, Takes};
 
 use psi_base::{Cause, Event, Fault, NoMemory, Ns};
@@ -15,9 +15,9 @@ pub(crate) trait Player: Sized {
     /// It has played these events of a trace with these limits.
     ghost Played: { Self → Limits → List Event → Type 0 };
 
-    /// The machine before a trace of version 1 with so many processors, in which no event is later than `latest` (ns).
+    /// The machine before a trace of version 1 with so many processors, 1 to 64, in which no event is later than `latest` (ns).
     fn start(alloc: Global, cpus: u32, latest: Ns) -> Result<Self, NoMemory>
-        requires built { IsBuilt cpus }
+        requires counted { IsCpuCount cpus }
         requires short { latest ≤ last_moment }
         ensures { IfOk result (λ player. Self.Played player (record { version = 1; cpus = cpus; latest = latest }) []) };
 

@@ -1,10 +1,9 @@
 //! Traces from a shelf.
-ghost use Rattle.std.specs.Prelude.{◌≡◌, ◌≢◌, ◌+◌, ◌*◌, ◌<◌, ◌≤◌, ◌^◌, ℕ, List, [], OnOk, IfOk, IsErrOf, Some, None, Ok, MatchOption, MatchResult, false, length, IsErr};
+ghost use Rattle.std.specs.Prelude.{◌≡◌, ◌+◌, ◌*◌, ◌<◌, ◌≤◌, ◌^◌, ℕ, List, [], OnOk, IfOk, IsErrOf, Some, None, Ok, MatchResult, false, length, IsErr};
 ghost use Rattle.psi_base.specs.Outside.{told, Lacks, HasCauses};
 ghost use Rattle.psi_base.specs.declared.event.Cause.TheVariants as cause;
 ghost use Rattle.psi_lines.specs.Lines.{left};
-ghost use Rattle.psi_spec.specs.Grammar.{header_of};
-ghost use Rattle.psi_spec.specs.Trace.{limits_of, refused};
+ghost use Rattle.psi_spec.specs.Trace.{IsCpuCount, limits_of, refused};
 ghost use Rattle.replay_core.specs.Reads.{HeadGives, IsFaultAt, IsPlaying, NextGives, RestGives, TailGives, TakesLine, TellsNothing, TracePlayed, TraceRefused};
 
 use crate::player::Player;
@@ -148,32 +147,22 @@ fn play_events<S: Shelf, P: Player>(
     unreachable!()
 }
 
-// The number of processors of a header line, where it is the one that is built.
-fn built_header(line: &[u8]) -> Option<u32>
-    ensures { MatchOption result (header_of line.now ≢ Some 1) (λ cpus. (cpus ≡ 1) × (header_of line.now ≡ Some 1)) }
-{
-    match read_header(line) {
-        Ok(1) => Some(1),
-        _ => None,
-    }
-}
-
 // Reads the header line: the number of processors.
 fn read_cpus<S: Shelf>(lines: &mut Lines, shelf: &mut S, tick: Ns) -> Result<u32, TraceFault>
     requires { lines.old.number ≡ 1 }
     ensures kept { S.holds shelf.new ≡ S.holds shelf.old }
     ensures name { lines.new.name ≡ lines.old.name }
     ensures number { OnOk result (lines.new.number ≡ 2) }
-    ensures one { IfOk result (λ cpus. cpus ≡ 1) }
+    ensures counted { IfOk result IsCpuCount }
     ensures content { (bytes : List ℕ) → told (S.holds shelf.old) lines.old.name ≡ Some bytes → HeadGives tick (left lines.old bytes) (left lines.new bytes) result }
     ensures missing { lines.old.held ≡ [] → Lacks (S.holds shelf.old) lines.old.name → TellsNothing result }
     ensures missed { IsErrOf result TraceFault.NoFile → told (S.holds shelf.old) lines.old.name ≡ None }
     ensures cause { HasCauses (S.faults shelf.old) (S.faults shelf.new) (S.absent shelf.old) (S.absent shelf.new) (IsErrOf result TraceFault.ReadFault) (IsErrOf result TraceFault.NoFile) }
 {
     match lines.next(shelf) {
-        Ok(Some(found)) => match built_header(found.bytes.bytes()) {
-            Some(cpus) => Ok(cpus),
-            None => Err(refused(1, Cause::BadHeader)),
+        Ok(Some(found)) => match read_header(found.bytes.bytes()) {
+            Ok(cpus) => Ok(cpus),
+            Err(_) => Err(refused(1, Cause::BadHeader)),
         },
         Ok(None) => Err(refused(1, Cause::BadHeader)),
         Err(LineFault::Cut(_)) => Err(refused(1, Cause::BadHeader)),

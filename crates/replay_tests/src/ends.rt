@@ -61,7 +61,6 @@ fn third_lines_are_refused(rt: HostRuntime) -> Result<(), Fail> {
         (b"5\n".as_slice(), Cause::BadVerb, "BadVerb"),
         (b"5 \n".as_slice(), Cause::BadVerb, "BadVerb"),
         (b"5 sleep 1\n".as_slice(), Cause::BadVerb, "BadVerb"),
-        (b"5 group /a\n".as_slice(), Cause::BadVerb, "BadVerb"),
         (b"5 group\n".as_slice(), Cause::BadField(1), "BadField 1"),
         (
             b"5 wake 01 0\n".as_slice(),
@@ -112,6 +111,20 @@ fn third_lines_are_refused(rt: HostRuntime) -> Result<(), Fail> {
             Cause::WrongHow,
             "WrongHow",
         ),
+        (b"5 stall 1\n".as_slice(), Cause::NotRunning, "NotRunning"),
+        (b"5 rmgroup /\n".as_slice(), Cause::GroupBusy, "GroupBusy"),
+        (b"5 group /\n".as_slice(), Cause::GroupExists, "GroupExists"),
+        (b"5 group /a/b\n".as_slice(), Cause::NoParent, "NoParent"),
+        (
+            b"5 move 1 /a\n".as_slice(),
+            Cause::UnknownGroup,
+            "UnknownGroup",
+        ),
+        (
+            b"5 trigger / io some 500001 500000\n".as_slice(),
+            Cause::BadWindow,
+            "BadWindow",
+        ),
         (
             b"5 switch 0 2 sleep\n".as_slice(),
             Cause::UnknownTask,
@@ -154,7 +167,7 @@ fn first_and_last_lines_are_refused(rt: HostRuntime) -> Result<(), Fail> {
             Cause::BadHeader,
         ),
         (
-            b"psitrace 1 cpus=2\n0 end\n".as_slice(),
+            b"psitrace 1 cpus=08\n0 end\n".as_slice(),
             1,
             Cause::BadHeader,
         ),

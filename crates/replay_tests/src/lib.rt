@@ -6,6 +6,8 @@ mod ends;
 #[cfg(test)]
 mod faults;
 #[cfg(test)]
+mod groups;
+#[cfg(test)]
 mod runs;
 #[cfg(test)]
 mod words;

@@ -1,7 +1,8 @@
 -- The bits of a mask, one for each state.
 use Rattle.std.proofs.Common.{◌≡◌, ◌≢◌, ℕ, zero, suc, ◌+◌, ◌*◌, ◌^◌, ◌<◌, ◌≤◌, refl, ap, ◌∙◌, sym, Bool, true, false, arith, nat_eq, ◌==◌, ◌⊎◌, ⊎_elim, bit_and, bit_or, max}
-use Rattle.std.specs.Prelude.{not, slice_index_or}
+use Rattle.std.specs.Prelude.{◌||◌, if◌then◌else◌, not, slice_index_or}
 use Rattle.std.specs.Int.{bit_at}
+use Rattle.std.specs.Int.Bits.{or_zero_r}
 use Rattle.std.proofs.lemmas.Bool.Decides.{nat_tests}
 use Rattle.std.proofs.lemmas.Nat.{or_lt, pow_pos}
 use Rattle.std.proofs.lemmas.Nat.Bits.{and_pow, bit_at-lt, bit_at_or, bit_at-pow_same, bit_at-pow_other}
@@ -71,6 +72,27 @@ pub with_keeps : (mask : ℕ) (state other : State) → other ≢ state → mask
 with_keeps mask state other apart =
     let numbers : number_of other ≢ number_of state = λ same. apart (same_state other state same) in
     rw (bit_at_or mask (2 ^ number_of state) (number_of other), bit_at-pow_other (number_of state) (number_of other) numbers, least_bit (bit_at mask (number_of other))) refl
+
+-- the same where the state may not be added
+pub mask_with_if : (mask : ℕ) (state : State) (held : Bool) → IsMask mask → IsMask (bit_or mask (if held then 2 ^ number_of state else 0))
+mask_with_if mask state true is = mask_with mask state is
+mask_with_if mask state false is = rw (or_zero_r mask) is
+
+or_true : (b : Bool) → true ≡ (b || true)
+or_true true = refl
+or_true false = refl
+
+or_false : (b : Bool) → b ≡ (b || false)
+or_false true = refl
+or_false false = refl
+
+pub with_holds_if : (mask : ℕ) (state : State) (held : Bool) → mask_holds (bit_or mask (if held then 2 ^ number_of state else 0)) state ≡ (mask_holds mask state || held)
+with_holds_if mask state true = with_holds mask state ∙ or_true (mask_holds mask state)
+with_holds_if mask state false = ap (λ m. mask_holds m state) (or_zero_r mask) ∙ or_false (mask_holds mask state)
+
+pub with_keeps_if : (mask : ℕ) (state other : State) (held : Bool) → other ≢ state → mask_holds (bit_or mask (if held then 2 ^ number_of state else 0)) other ≡ mask_holds mask other
+with_keeps_if mask state other true apart = with_keeps mask state other apart
+with_keeps_if mask state other false apart = ap (λ m. mask_holds m other) (or_zero_r mask)
 
 -- an empty mask holds no state
 pub empty_holds : (state : State) → mask_holds 0 state ≡ false

@@ -52,9 +52,7 @@ pub fn mask_of(counts: &Counts, on_cpu: bool, current_stalled: bool) -> Mask
 {
     let mut mask = Mask::empty();
     'states: for state in STATES {
-        if told(state, counts, on_cpu, current_stalled) {
-            mask = mask.with(state);
-        }
+        mask = mask.with(state, told(state, counts, on_cpu, current_stalled));
     }
     mask
 }

@@ -1,5 +1,5 @@
 -- The causes by verb are the causes in their order, and what their absence says.
-use Rattle.std.proofs.Common.{◌≡◌, ℕ, ◌+◌, List, refl, ◌∙◌, sym, Bool, true, false, arith, Option, None, Some, is_some}
+use Rattle.std.proofs.Common.{◌≡◌, ℕ, List, refl, ◌∙◌, sym, Bool, true, false, Option, None, Some, is_some}
 use Rattle.std.specs.Prelude.{nat_lt, nat_le, not, ◌&&◌, ◌||◌, if◌then◌else◌}
 use Rattle.std.specs.FinMap as tasks_by
 use Rattle.psi_base.specs.declared.event.Pid.{Pid}
@@ -10,31 +10,50 @@ use Rattle.psi_base.specs.declared.event.Event.{Event}
 use Rattle.psi_base.specs.declared.event.Cause.{Cause}
 use Rattle.psi_base.specs.declared.event.Cause.TheVariants as cause
 use Rattle.psi_spec.specs.declared.machine.GroupLife.{GroupLife}
-use Rattle.psi_spec.specs.World.{World, Limits, Tasks, task_of, test_task, running_on, task_part, slot_of, is_active, tasks_after, groups_after, is_trigger, ends, after_event}
-use Rattle.psi_spec.specs.Refusal.{check_cause, cause_of, is_built, is_wrong, is_exit, isnt_ready, lacks_task}
-use Rattle.task_table.specs.Causes.{fork_cause, wake_cause, how_cause, switch_cause, act_cause, line_cause, first_cause}
+use Rattle.psi_spec.specs.World.{World, Limits, Tasks, task_of, test_task, running_on, task_part, slot_of, is_active, is_ready, is_root}
+use Rattle.psi_spec.specs.Refusal.{cause_of, has_child, has_member, is_wrong, is_exit, isnt_ready, lacks_group, lacks_task}
+use Rattle.group_tree.specs.Tree.{remove_cause}
+use Rattle.task_table.specs.Causes.{act_cause, fork_cause, groups_cause, how_cause, line_cause, migrate_cause, move_cause, or_cause, switch_cause, wake_cause, next_cause}
+
+-- a busy group, in two parts
+busy_parts : (a b c d : Bool) → (if a then Some cause.UnknownGroup else if b || c || d then Some cause.GroupBusy else None) ≡ or_cause (if a then Some cause.UnknownGroup else if b || c then Some cause.GroupBusy else None) (if d then Some cause.GroupBusy else None)
+busy_parts true b c d = refl
+busy_parts false true c d = refl
+busy_parts false false true d = refl
+busy_parts false false false d = refl
+
+-- the causes of a switch, in two parts
+switch_parts : (a b c : Bool) (rest : Option Cause) → (if a then Some cause.UnknownTask else if b then Some cause.BadCpu else if c then Some cause.NotReady else rest) ≡ or_cause (if a then Some cause.UnknownTask else if b then Some cause.BadCpu else if c then Some cause.NotReady else None) rest
+switch_parts true b c rest = refl
+switch_parts false true c rest = refl
+switch_parts false false true rest = refl
+switch_parts false false false rest = refl
+
+-- the causes of any line, before those of an act
+before_act : (a b c d : Bool) (rest other : Option Cause) → rest ≡ other → (if a then Some cause.AfterEnd else if b then Some cause.TimeBack else if c then Some cause.TimeTooLate else if d then Some cause.TooManyEvents else rest) ≡ (if a then Some cause.AfterEnd else if b then Some cause.TimeBack else if c then Some cause.TimeTooLate else if d then Some cause.TooManyEvents else other)
+before_act a b c d rest other same = rw same refl
 
 -- for each act, both compute to the same
-built_first : (limits : Limits) (w : World) (at : ℕ) (a : Act) → check_cause limits w (record { at = at; act = a }) ≡ first_cause limits w (record { at = at; act = a })
-unfolding check_cause cause_of
-built_first limits w at (act.Group path) = refl
-built_first limits w at (act.Remove path) = refl
-built_first limits w at (act.Prefer path preference) = refl
-built_first limits w at (act.Fork pid path cpu) = refl
-built_first limits w at (act.Wake pid cpu) = refl
-built_first limits w at (act.Switch cpu next how) = refl
-built_first limits w at (act.Stall pid) = refl
-built_first limits w at (act.Unstall pid) = refl
-built_first limits w at (act.Migrate pid cpu) = refl
-built_first limits w at (act.Move pid path) = refl
-built_first limits w at (act.Mem path current swap scan) = refl
-built_first limits w at (act.Host mem_total swap_total swap_free) = refl
-built_first limits w at (act.Trigger path res level threshold_us window_us) = refl
-built_first limits w at act.End = refl
+by_verb : (limits : Limits) (w : World) (at : ℕ) (a : Act) → cause_of limits w (record { at = at; act = a }) ≡ line_cause limits w (record { at = at; act = a })
+unfolding cause_of
+by_verb limits w at (act.Group path) = refl
+by_verb limits w at (act.Remove path) = before_act w.ended (nat_lt at w.last) (nat_lt limits.latest at) (nat_le 4000000 w.lines) _ _ (busy_parts (lacks_group w.groups (Some path)) (is_root path) (has_child w.groups (slot_of w.groups path)) (has_member w.tasks (slot_of w.groups path)))
+by_verb limits w at (act.Prefer path preference) = refl
+by_verb limits w at (act.Fork pid path cpu) = refl
+by_verb limits w at (act.Wake pid cpu) = refl
+by_verb limits w at (act.Switch cpu next how) = before_act w.ended (nat_lt at w.last) (nat_lt limits.latest at) (nat_le 4000000 w.lines) _ _ (switch_parts (lacks_task w.tasks next) (nat_le limits.cpus cpu.0) (isnt_ready w.tasks cpu.0 next) (how_cause how (running_on w.tasks cpu.0)))
+by_verb limits w at (act.Stall pid) = refl
+by_verb limits w at (act.Unstall pid) = refl
+by_verb limits w at (act.Migrate pid cpu) = refl
+by_verb limits w at (act.Move pid path) = refl
+by_verb limits w at (act.Mem path current swap scan) = refl
+by_verb limits w at (act.Host mem_total swap_total swap_free) = refl
+by_verb limits w at (act.Trigger path res level threshold_us window_us) = refl
+by_verb limits w at act.End = refl
 
 -- the first cause in the order of causes is the first by verbs
-pub first_is : (limits : Limits) (w : World) (event : Event) → check_cause limits w event ≡ first_cause limits w event
-first_is limits w event = built_first limits w event.at event.act
+pub first_is : (limits : Limits) (w : World) (event : Event) → cause_of limits w event ≡ line_cause limits w event
+first_is limits w event = by_verb limits w event.at event.act
 
 -- ---- what a cause that doesn't come says
 
@@ -43,11 +62,6 @@ past : (b : Bool) (why : Cause) (rest : Option Cause) → (if b then Some why el
 past false why rest h = (refl, h)
 past true why rest h = cc h
 
--- the same of the filter of acts
-built_past : (b : Bool) (rest : Option Cause) → (if b then rest else Some cause.BadVerb) ≡ None → (b ≡ true) × (rest ≡ None)
-built_past true rest h = (refl, h)
-built_past false rest h = cc h
-
 -- the same of three causes in a row
 third : (a b c : Bool) (x y z : Cause) (rest : Option Cause) → (if a then Some x else if b then Some y else if c then Some z else rest) ≡ None → (c ≡ false) × (rest ≡ None)
 third a b c x y z rest h =
@@ -55,13 +69,23 @@ third a b c x y z rest h =
     let two = past b y (if c then Some z else rest) one.1 in
     past c z rest two.1
 
--- an event that is let through is of a built act, and no cause of its act comes
-pub let_through : (limits : Limits) (w : World) (event : Event) → check_cause limits w event ≡ None → (is_built event.act ≡ true) × (act_cause limits.cpus w.groups w.tasks event.act ≡ None)
+-- no cause of its act comes against a legal event
+pub let_through : (limits : Limits) (w : World) (event : Event) → cause_of limits w event ≡ None → act_cause limits.cpus w.groups w.tasks w.triggers event.act ≡ None
 let_through limits w event h =
-    let line = built_past (is_built event.act) (line_cause limits w event) (sym (first_is limits w event) ∙ h) in
     let rest = third w.ended (nat_lt event.at w.last) (nat_lt limits.latest event.at) cause.AfterEnd cause.TimeBack cause.TimeTooLate
-    (if nat_le 4000000 w.lines then Some cause.TooManyEvents else act_cause limits.cpus w.groups w.tasks event.act) line.1 in
-    (line.0, (past (nat_le 4000000 w.lines) cause.TooManyEvents (act_cause limits.cpus w.groups w.tasks event.act) rest.1).1)
+    (if nat_le 4000000 w.lines then Some cause.TooManyEvents else act_cause limits.cpus w.groups w.tasks w.triggers event.act) (sym (first_is limits w event) ∙ h) in
+    (past (nat_le 4000000 w.lines) cause.TooManyEvents (act_cause limits.cpus w.groups w.tasks w.triggers event.act) rest.1).1
+
+-- no cause, and no other
+no_causes : (first other : Option Cause) → or_cause first other ≡ None → (first ≡ None) × (other ≡ None)
+no_causes None other h = (refl, h)
+no_causes (Some why) other h = cc h
+
+-- nor of the groups
+pub groups_through : (cpus : ℕ) (groups : List GroupLife) (tasks : Tasks) (triggers : ℕ) (a : Act) → act_cause cpus groups tasks triggers a ≡ None → groups_cause groups a ≡ None
+groups_through cpus groups tasks triggers (act.Group path) h = h
+groups_through cpus groups tasks triggers (act.Remove path) h = (no_causes (remove_cause groups path) _ h).0
+groups_through cpus groups tasks triggers _ h = refl
 
 -- no value, by its test
 is_some_false : {A : Type 0} (o : Option A) → is_some o ≡ false → o ≡ None
@@ -89,38 +113,26 @@ pub record MaySwitch (cpus : ℕ) (tasks : Tasks) (cpu : ℕ) (next : Option Pid
 -- a legal switch
 pub may_switch : (cpus : ℕ) (tasks : Tasks) (cpu : ℕ) (next : Option Pid) (how : How) → switch_cause cpus tasks cpu next how ≡ None → MaySwitch cpus tasks cpu next how
 may_switch cpus tasks cpu next how h =
-    let rest = how_cause how (running_on tasks cpu) in
-    let one = past (lacks_task tasks next) cause.UnknownTask (if nat_le cpus cpu then Some cause.BadCpu else if isnt_ready tasks cpu next then Some cause.NotReady else rest) h in
-    let two = past (nat_le cpus cpu) cause.BadCpu (if isnt_ready tasks cpu next then Some cause.NotReady else rest) one.1 in
-    let three = past (isnt_ready tasks cpu next) cause.NotReady rest two.1 in
+    let parts = no_causes (next_cause cpus tasks cpu next) (how_cause how (running_on tasks cpu)) h in
+    let one = past (lacks_task tasks next) cause.UnknownTask (if nat_le cpus cpu then Some cause.BadCpu else if isnt_ready tasks cpu next then Some cause.NotReady else None) parts.0 in
+    let two = past (nat_le cpus cpu) cause.BadCpu (if isnt_ready tasks cpu next then Some cause.NotReady else None) one.1 in
     record {
       room = two.0;
-      ready = three.0;
-      leaves = (past (is_wrong how (running_on tasks cpu)) cause.WrongHow (if is_exit how && test_task (task_part (running_on tasks cpu)) (λ task. task.stalled) then Some cause.InStall else None) three.1).0;
+      ready = (past (isnt_ready tasks cpu next) cause.NotReady None two.1).0;
+      leaves = (past (is_wrong how (running_on tasks cpu)) cause.WrongHow (if is_exit how && test_task (task_part (running_on tasks cpu)) (λ task. task.stalled) then Some cause.InStall else None) parts.1).0;
     }
 
--- ---- what a built act leaves
+-- a legal fork's group is there
+pub fork_group : (cpus : ℕ) (groups : List GroupLife) (tasks : Tasks) (pid : ℕ) (path : List ℕ) (cpu : ℕ) → fork_cause cpus groups tasks pid path cpu ≡ None → not (is_some (slot_of groups path)) ≡ false
+fork_group cpus groups tasks pid path cpu h =
+    let one = past (nat_le 65536 (tasks_by.len tasks)) cause.TooManyTasks (if not (is_some (slot_of groups path)) then Some cause.UnknownGroup else if is_some (task_of tasks pid) then Some cause.TaskExists else if nat_le cpus cpu then Some cause.BadCpu else None) h in
+    (past (not (is_some (slot_of groups path))) cause.UnknownGroup (if is_some (task_of tasks pid) then Some cause.TaskExists else if nat_le cpus cpu then Some cause.BadCpu else None) one.1).0
 
--- a built act leaves the groups
-pub groups_kept : (at : ℕ) (groups : List GroupLife) (a : Act) → is_built a ≡ true → groups_after at groups a ≡ groups
-groups_kept at groups (act.Group path) h = cc h
-groups_kept at groups (act.Remove path) h = cc h
-groups_kept at groups a h = refl
+-- so is a legal move's
+pub move_group : (groups : List GroupLife) (tasks : Tasks) (pid : ℕ) (path : List ℕ) → move_cause groups tasks pid path ≡ None → not (is_some (slot_of groups path)) ≡ false
+move_group groups tasks pid path h = (past (lacks_group groups (Some path)) cause.UnknownGroup (if not (is_some (task_of tasks pid)) then Some cause.UnknownTask else None) h).0
 
--- a built act makes no trigger
-pub no_trigger : (a : Act) → is_built a ≡ true → is_trigger a ≡ false
-no_trigger (act.Trigger path res level threshold_us window_us) h = cc h
-no_trigger a h = refl
-
--- nothing is counted
-no_more : (n : ℕ) (b : Bool) → b ≡ false → n + (if b then 1 else 0) ≡ n
-no_more n true h = cc h
-no_more n false h = omega arith
-
--- the world after a built event
-abbrev pub next_world : World → Event → World
-next_world w event = record { tasks = tasks_after w.groups w.tasks event.act; groups = w.groups; triggers = w.triggers; lines = w.lines + 1; last = event.at; ended = w.ended || ends event.act }
-
--- that is the world after it
-pub after_built : (w : World) (event : Event) → is_built event.act ≡ true → after_event w event ≡ next_world w event
-after_built w event built = rw (groups_kept event.at w.groups event.act built, no_more w.triggers (is_trigger event.act) (no_trigger event.act built)) refl
+-- a legal migration is of a task that is ready
+pub migrate_off : (cpus : ℕ) (tasks : Tasks) (pid cpu : ℕ) → migrate_cause cpus tasks pid cpu ≡ None → test_task (task_of tasks pid) (λ task. not (is_ready task.mode)) ≡ false
+migrate_off cpus tasks pid cpu h =
+    (third (not (is_some (task_of tasks pid))) (nat_le cpus cpu) (test_task (task_of tasks pid) (λ task. not (is_ready task.mode))) cause.UnknownTask cause.BadCpu cause.NotReady None h).0

@@ -217,3 +217,15 @@ pub index_first : (running : List (Option ℕ)) → ((i : ℕ) → slice_index_o
 index_first running none = record {
   each = λ pid cpu. ap (λ o. test_task o (is_running_on cpu)) (map.get-empty nat_cmp pid) ∙ ap (is_pid pid) (sym (none cpu));
 }
+
+-- a task that changes neither where it is nor what it does
+pub index_same : (running : List (Option ℕ)) (tasks : Tasks) (pid : ℕ) (old new : Task) → IsIndex running tasks → task_of tasks pid ≡ Some old → new.cpu ≡ old.cpu → new.mode ≡ old.mode → IsIndex running (put tasks pid new)
+index_same running tasks pid old new index is cpu mode = record {
+  each = λ q c.
+      ap (λ o. test_task o (is_running_on c)) (get_put tasks pid new q)
+      ∙ elim (q == pid) as (λ b. (q == pid) ≡ b → test_task (cond b (Some new) (task_of tasks q)) (is_running_on c) ≡ runs_on tasks q c) [
+        | true ↦ λ h. rw (same_number q pid h, is, cpu, mode) refl
+        | false ↦ λ h. refl
+      ] refl
+      ∙ index.each q c;
+}

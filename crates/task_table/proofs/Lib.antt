@@ -1,5 +1,5 @@
 pub mod CauseLaws
 pub mod Index
-pub mod KindLaws
+pub mod MemberLaws
 pub mod Tabled
 pub mod Touching

@@ -12,8 +12,22 @@ use Rattle.psi_base.specs.declared.event.Fault.{Fault}
 use Rattle.psi_base.specs.declared.event.Fault.TheVariants as fault
 use Rattle.psi_spec.specs.declared.machine.Task.{Task}
 use Rattle.psi_spec.specs.declared.machine.GroupLife.{GroupLife}
-use Rattle.psi_spec.specs.World.{World, Limits, Tasks, task_of, test_task, running_on, task_part, is_active, slot_of}
-use Rattle.psi_spec.specs.Refusal.{is_built, is_wrong, is_exit, isnt_ready, lacks_task}
+use Rattle.psi_spec.specs.World.{World, Limits, Tasks, task_of, test_task, running_on, task_part, is_active, is_ready, is_running, slot_of}
+use Rattle.psi_spec.specs.Refusal.{has_member, is_window, is_wrong, is_exit, isnt_ready, lacks_group, lacks_task}
+use Rattle.group_tree.specs.Tree.{add_cause, remove_cause}
+
+-- a cause, if there is one, or another
+abbrev pub or_cause : Option Cause → Option Cause → Option Cause
+or_cause None other = other
+or_cause (Some why) other = Some why
+
+-- a group isn't to be removed: as the tree says, or a live task is in it
+abbrev pub empty_cause : List GroupLife → Tasks → List ℕ → Option Cause
+empty_cause groups tasks path = or_cause (remove_cause groups path) (if has_member tasks (slot_of groups path) then Some cause.GroupBusy else None)
+
+-- no live group has the path
+abbrev pub path_cause : List GroupLife → List ℕ → Option Cause
+path_cause groups path = if lacks_group groups (Some path) then Some cause.UnknownGroup else None
 
 -- a fork is refused: too many tasks, no such group, a task that lives, a processor that isn't there
 abbrev pub fork_cause : ℕ → List GroupLife → Tasks → ℕ → List ℕ → ℕ → Option Cause
@@ -36,20 +50,73 @@ how_cause how running =
     if is_wrong how running then Some cause.WrongHow else
     if is_exit how && test_task (task_part running) (λ task. task.stalled) then Some cause.InStall else None
 
--- a switch is refused: no such next task, a processor that isn't there, a next task that isn't ready there, and as above
-abbrev pub switch_cause : ℕ → Tasks → ℕ → Option Pid → How → Option Cause
-switch_cause cpus tasks cpu next how =
+-- a next task can't run: no such task, a processor that isn't there, a task that isn't ready there
+abbrev pub next_cause : ℕ → Tasks → ℕ → Option Pid → Option Cause
+next_cause cpus tasks cpu next =
     if lacks_task tasks next then Some cause.UnknownTask else
     if nat_le cpus cpu then Some cause.BadCpu else
-    if isnt_ready tasks cpu next then Some cause.NotReady else
-    how_cause how (running_on tasks cpu)
+    if isnt_ready tasks cpu next then Some cause.NotReady else None
 
--- the first cause against a built act; acts that aren't built are refused before this is asked
-abbrev pub act_cause : ℕ → List GroupLife → Tasks → Act → Option Cause
-act_cause cpus groups tasks (act.Fork pid path cpu) = fork_cause cpus groups tasks pid.0 path cpu.0
-act_cause cpus groups tasks (act.Wake pid cpu) = wake_cause cpus tasks pid.0 cpu.0
-act_cause cpus groups tasks (act.Switch cpu next how) = switch_cause cpus tasks cpu.0 next how
-act_cause cpus groups tasks _ = None
+-- a switch is refused: by its next task, or by how the running one leaves
+abbrev pub switch_cause : ℕ → Tasks → ℕ → Option Pid → How → Option Cause
+switch_cause cpus tasks cpu next how = or_cause (next_cause cpus tasks cpu next) (how_cause how (running_on tasks cpu))
+
+-- a stall is refused: no such task, a task that doesn't run, one that is in a stall
+abbrev pub stall_cause : Tasks → ℕ → Option Cause
+stall_cause tasks pid =
+    if not (is_some (task_of tasks pid)) then Some cause.UnknownTask else
+    if test_task (task_of tasks pid) (λ task. not (is_running task.mode)) then Some cause.NotRunning else
+    if test_task (task_of tasks pid) (λ task. task.stalled) then Some cause.InStall else None
+
+-- the end of a stall is refused: no such task, a task that doesn't run, one that is in none
+abbrev pub unstall_cause : Tasks → ℕ → Option Cause
+unstall_cause tasks pid =
+    if not (is_some (task_of tasks pid)) then Some cause.UnknownTask else
+    if test_task (task_of tasks pid) (λ task. not (is_running task.mode)) then Some cause.NotRunning else
+    if test_task (task_of tasks pid) (λ task. not task.stalled) then Some cause.NotInStall else None
+
+-- a migration is refused: no such task, a processor that isn't there, a task that isn't ready
+abbrev pub migrate_cause : ℕ → Tasks → ℕ → ℕ → Option Cause
+migrate_cause cpus tasks pid cpu =
+    if not (is_some (task_of tasks pid)) then Some cause.UnknownTask else
+    if nat_le cpus cpu then Some cause.BadCpu else
+    if test_task (task_of tasks pid) (λ task. not (is_ready task.mode)) then Some cause.NotReady else None
+
+-- a move is refused: no such group, no such task
+abbrev pub move_cause : List GroupLife → Tasks → ℕ → List ℕ → Option Cause
+move_cause groups tasks pid path =
+    if lacks_group groups (Some path) then Some cause.UnknownGroup else
+    if not (is_some (task_of tasks pid)) then Some cause.UnknownTask else None
+
+-- a trigger is refused: too many triggers, no such group, a window or a threshold out of range
+abbrev pub trigger_cause : List GroupLife → ℕ → List ℕ → ℕ → ℕ → Option Cause
+trigger_cause groups triggers path threshold window =
+    if nat_le 256 triggers then Some cause.TooManyTriggers else
+    if lacks_group groups (Some path) then Some cause.UnknownGroup else
+    if not (is_window threshold window) then Some cause.BadWindow else None
+
+-- the first cause against an act
+abbrev pub act_cause : ℕ → List GroupLife → Tasks → ℕ → Act → Option Cause
+act_cause cpus groups tasks triggers (act.Group path) = add_cause groups path
+act_cause cpus groups tasks triggers (act.Remove path) = empty_cause groups tasks path
+act_cause cpus groups tasks triggers (act.Prefer path preference) = path_cause groups path
+act_cause cpus groups tasks triggers (act.Fork pid path cpu) = fork_cause cpus groups tasks pid.0 path cpu.0
+act_cause cpus groups tasks triggers (act.Wake pid cpu) = wake_cause cpus tasks pid.0 cpu.0
+act_cause cpus groups tasks triggers (act.Switch cpu next how) = switch_cause cpus tasks cpu.0 next how
+act_cause cpus groups tasks triggers (act.Stall pid) = stall_cause tasks pid.0
+act_cause cpus groups tasks triggers (act.Unstall pid) = unstall_cause tasks pid.0
+act_cause cpus groups tasks triggers (act.Migrate pid cpu) = migrate_cause cpus tasks pid.0 cpu.0
+act_cause cpus groups tasks triggers (act.Move pid path) = move_cause groups tasks pid.0 path
+act_cause cpus groups tasks triggers (act.Mem path current swap scan) = path_cause groups path
+act_cause cpus groups tasks triggers (act.Host mem_total swap_total swap_free) = None
+act_cause cpus groups tasks triggers (act.Trigger path res level threshold_us window_us) = trigger_cause groups triggers path threshold_us window_us
+act_cause cpus groups tasks triggers act.End = None
+
+-- the part of an act's causes that the tree of groups tells
+abbrev pub groups_cause : List GroupLife → Act → Option Cause
+groups_cause groups (act.Group path) = add_cause groups path
+groups_cause groups (act.Remove path) = remove_cause groups path
+groups_cause groups _ = None
 
 -- the first cause against a line: those that any line can have, and then those of its act
 abbrev pub line_cause : Limits → World → Event → Option Cause
@@ -58,15 +125,17 @@ line_cause limits w event =
     if nat_lt event.at w.last then Some cause.TimeBack else
     if nat_lt limits.latest event.at then Some cause.TimeTooLate else
     if nat_le 4000000 w.lines then Some cause.TooManyEvents else
-    act_cause limits.cpus w.groups w.tasks event.act
+    act_cause limits.cpus w.groups w.tasks w.triggers event.act
 
--- acts that aren't built come first
-abbrev pub first_cause : Limits → World → Event → Option Cause
-first_cause limits w event = if is_built event.act then line_cause limits w event else Some cause.BadVerb
+-- the act makes a group
+abbrev pub makes_group : Act → Bool
+makes_group (act.Group path) = true
+makes_group _ = false
 
--- the act takes memory: it makes a task
+-- the act takes memory: it makes a task or a group
 abbrev pub takes_memory : Act → Bool
 takes_memory (act.Fork pid path cpu) = true
+takes_memory (act.Group path) = true
 takes_memory _ = false
 
 -- the fault is the first cause; memory is wanted only where there is no cause, and for acts that take some

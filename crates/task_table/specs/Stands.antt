@@ -1,12 +1,14 @@
--- What a table stands for: its limits and a world, and what its list of running tasks says.
+-- What a table stands for: its limits and a world, and what its indexes say.
 use Rattle.std.specs.Prelude.{◌≡◌, ℕ, ◌≤◌, ◌==◌, List, length, slice_index_or, Option, None, Some, Bool, false, refl}
 use Rattle.std.specs.FinMap as tasks_by
 use Rattle.std.specs.Coded.{Coded, code_by, coded×, coded_ℕ, coded_bool, coded_list}
 use Rattle.psi_spec.specs.declared.machine.GroupLife.{GroupLife}
+use Rattle.psi_spec.specs.declared.machine.Task.{Task}
 use Rattle.psi_spec.specs.contracts.machine.GroupLife as group_row
 use Rattle.psi_spec.specs.contracts.machine.Task as task_row
 use Rattle.psi_spec.specs.World.{World, Limits, Tasks, task_of, test_task, is_running_on}
-use Rattle.psi_spec.specs.Touch.{AreWithin}
+use Rattle.psi_spec.specs.Counts.{how_many}
+use Rattle.psi_spec.specs.Legal.{IsLegalWorld}
 
 -- the value of a table
 pub record TableView : Type 0 where
@@ -26,12 +28,29 @@ is_pid pid None = false
 pub record IsIndex (running : List (Option ℕ)) (tasks : Tasks) : Type 0 where
   pub each : (pid cpu : ℕ) → runs_on tasks pid cpu ≡ is_pid pid (slice_index_or running cpu None)
 
--- what is true of each table: few lines, the list of running tasks, few processors, and tasks on these and in the root alone
-pub record IsTable (lines : ℕ) (running : List (Option ℕ)) (tasks : Tasks) : Type 0 where
-  pub few : lines ≤ 4000000
-  pub index : IsIndex running tasks
+-- the task is in this very group
+abbrev pub is_of : ℕ → Task → Bool
+is_of slot task = task.slot.0 == slot
+
+-- the list tells for each group how many live tasks are in it
+pub record AreMembers (members : List ℕ) (tasks : Tasks) : Type 0 where
+  pub each : (slot : ℕ) → slice_index_or members slot 0 ≡ how_many (is_of slot) (tasks_by.values tasks)
+
+-- What is true of each table: its world is legal, it has a place for each processor, of which there are at most 64, and
+-- for each group, and the lists tell which tasks run and how many are in each group.
+pub record IsTable (table : TableView) (running : List (Option ℕ)) (members : List ℕ) : Type 0 where
+  pub legal : IsLegalWorld table.limits table.world
+  pub index : IsIndex running table.world.tasks
+  pub members_are : AreMembers members table.world.tasks
+  pub cover : length table.world.groups ≤ length members
   pub cpus : length running ≤ 64
-  pub within : AreWithin (length running) 1 tasks
+
+-- the value of a table with these fields
+abbrev pub table_of : ℕ → ℕ → Tasks → List GroupLife → ℕ → ℕ → ℕ → Bool → TableView
+table_of cpus latest tasks groups triggers lines last ended = record {
+  limits = record { version = 1; cpus = cpus; latest = latest };
+  world = record { tasks = tasks; groups = groups; triggers = triggers; lines = lines; last = last; ended = ended };
+}
 
 -- a world as nested pairs, by which proofs tell values apart
 abbrev pub world_code : Coded World

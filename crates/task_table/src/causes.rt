@@ -1,46 +1,77 @@
 //! Why an act is refused, asked in the order of causes.
-ghost use Rattle.std.specs.Prelude.{◌≡◌, length, [], ◌∷◌};
-ghost use Rattle.psi_spec.specs.World.{root, slot_of};
-ghost use Rattle.psi_spec.specs.Refusal.{is_built, isnt_ready, lacks_task};
-ghost use Rattle.task_table.specs.Causes.{fork_cause, wake_cause, how_cause, switch_cause, act_cause};
-ghost use Rattle.task_table.specs.Stands.{IsIndex};
+ghost use Rattle.std.specs.Prelude.{◌≡◌, if◌then◌else◌, nat_le, length, None, Some};
+ghost use Rattle.psi_base.specs.declared.event.Cause.TheVariants as cause;
+ghost use Rattle.psi_spec.specs.Refusal.{has_member, is_window};
+ghost use Rattle.psi_spec.specs.World.{Tasks, slot_of};
+ghost use Rattle.task_table.specs.Causes.{act_cause, empty_cause, fork_cause, how_cause, migrate_cause, move_cause, next_cause, path_cause, stall_cause, switch_cause, trigger_cause, unstall_cause, wake_cause};
+ghost use Rattle.task_table.specs.Stands.{AreMembers, IsIndex};
 
+use crate::members::Members;
 use crate::running::running_at;
 use crate::task_map::TaskMap;
+use group_tree::Tree;
 use psi_base::{Act, Cause, How, Path, Pid};
 use psi_spec::{Mode, Task};
 
 /// The most tasks that may live at once.
 const MOST_TASKS: usize = 65_536;
 
-/// The table replays this act.
-pub(crate) fn is_built(act: &Act) -> bool
-    ensures { result ≡ is_built act.now }
-{
-    match act {
-        Act::Fork { .. } | Act::Wake { .. } | Act::Switch { .. } | Act::End => true,
-        _ => false,
-    }
-}
+/// The most triggers that a trace may make.
+const MOST_TRIGGERS: u32 = 256;
 
-/// The slot of the live group with this path. The root is the only group.
-pub(crate) fn slot_at(path: &Path) -> Option<u32>
-    ensures { result ≡ slot_of (root ∷ []) path.now }
+/// The shortest and the longest window of a trigger, in us.
+const SHORTEST_WINDOW: u64 = 500_000;
+
+const LONGEST_WINDOW: u64 = 10_000_000;
+
+/// No live group has this path.
+fn lacks_path(tree: &Tree, path: &Path) -> Option<Cause>
+    ensures { result ≡ path_cause tree.now path.now }
 {
-    if path.bytes() == b"/".as_slice() {
-        Some(0)
+    if tree.find(path).is_none() {
+        Some(Cause::UnknownGroup)
     } else {
         None
     }
 }
 
+/// A live task is in the group with this path.
+fn is_manned(tree: &Tree, members: &Members, path: &Path) -> bool
+    ensures { (tasks : Tasks) → AreMembers members.now tasks → result ≡ has_member tasks (slot_of tree.now path.now) }
+{
+    match tree.find(path) {
+        Some(slot) => members.has(slot),
+        None => false,
+    }
+}
+
+/// Why a group can't be removed.
+fn remove_refused(tree: &Tree, members: &Members, path: &Path) -> Option<Cause>
+    ensures { (tasks : Tasks) → AreMembers members.now tasks → result ≡ empty_cause tree.now tasks path.now }
+{
+    if let Some(cause) = tree.remove_cause(path) {
+        return Some(cause);
+    }
+    if is_manned(tree, members, path) {
+        return Some(Cause::GroupBusy);
+    }
+    None
+}
+
 /// Why a fork isn't legal.
-fn fork_refused(tasks: &TaskMap, cpus: usize, pid: u32, path: &Path, cpu: u32) -> Option<Cause>
-    ensures { result ≡ fork_cause cpus (root ∷ []) tasks.now pid path.now cpu }
+fn fork_refused(
+    tree: &Tree,
+    tasks: &TaskMap,
+    cpus: usize,
+    pid: u32,
+    path: &Path,
+    cpu: u32,
+) -> Option<Cause>
+    ensures { result ≡ fork_cause cpus tree.now tasks.now pid path.now cpu }
 {
     if tasks.len() >= MOST_TASKS {
         Some(Cause::TooManyTasks)
-    } else if slot_at(path).is_none() {
+    } else if tree.find(path).is_none() {
         Some(Cause::UnknownGroup)
     } else if tasks.get(pid).is_some() {
         Some(Cause::TaskExists)
@@ -67,27 +98,33 @@ fn wake_refused(tasks: &TaskMap, cpus: usize, pid: u32, cpu: u32) -> Option<Caus
     }
 }
 
-/// The next task doesn't live.
-fn is_missing(tasks: &TaskMap, next: Option<Pid>) -> bool
-    ensures { result ≡ lacks_task tasks.now next }
-{
-    match next {
-        Some(pid) => tasks.get(pid.0).is_none(),
-        None => false,
-    }
-}
-
-/// The next task isn't ready on this processor.
-fn is_unready(tasks: &TaskMap, cpu: u32, next: Option<Pid>) -> bool
-    ensures { result ≡ isnt_ready tasks.now cpu next }
+/// Why the next task, if there is one, can't run on this processor.
+fn next_refused(tasks: &TaskMap, cpus: usize, cpu: u32, next: Option<Pid>) -> Option<Cause>
+    ensures { result ≡ next_cause cpus tasks.now cpu next }
 {
     let Some(pid) = next else {
-        return false;
+        return cpu_refused(cpus, cpu);
     };
-    match tasks.get(pid.0) {
-        Some(task) if task.cpu.0 == cpu && task.mode == Mode::Ready => false,
-        _ => true,
+    let Some(task) = tasks.get(pid.0) else {
+        return Some(Cause::UnknownTask);
+    };
+    if cpus <= cpu as usize {
+        return Some(Cause::BadCpu);
     }
+    if task.cpu.0 == cpu && task.mode == Mode::Ready {
+        return None;
+    }
+    Some(Cause::NotReady)
+}
+
+/// The processor isn't there.
+fn cpu_refused(cpus: usize, cpu: u32) -> Option<Cause>
+    ensures { result ≡ (if nat_le cpus cpu then Some cause.BadCpu else None) }
+{
+    if cpus <= cpu as usize {
+        return Some(Cause::BadCpu);
+    }
+    None
 }
 
 /// Why the running task can't leave so.
@@ -114,27 +151,136 @@ fn switch_refused(
     requires index { IsIndex running.now tasks.now }
     ensures { result ≡ switch_cause (length running.now) tasks.now cpu next how }
 {
-    if is_missing(tasks, next) {
-        return Some(Cause::UnknownTask);
-    }
-    if running.len() <= cpu as usize {
-        return Some(Cause::BadCpu);
-    }
-    if is_unready(tasks, cpu, next) {
-        return Some(Cause::NotReady);
+    if let Some(cause) = next_refused(tasks, running.len(), cpu, next) {
+        return Some(cause);
     }
     how_refused(how, running_at(tasks, running, cpu))
 }
 
-/// Why an act isn't legal, where it is one that the table replays.
-pub(crate) fn act_refused(tasks: &TaskMap, running: &[Option<u32>], act: &Act) -> Option<Cause>
+/// Why a stall can't begin.
+fn stall_refused(tasks: &TaskMap, pid: u32) -> Option<Cause>
+    ensures { result ≡ stall_cause tasks.now pid }
+{
+    let Some(task) = tasks.get(pid) else {
+        return Some(Cause::UnknownTask);
+    };
+    if task.mode != Mode::Running {
+        return Some(Cause::NotRunning);
+    }
+    if task.stalled {
+        return Some(Cause::InStall);
+    }
+    None
+}
+
+/// Why a stall can't end.
+fn unstall_refused(tasks: &TaskMap, pid: u32) -> Option<Cause>
+    ensures { result ≡ unstall_cause tasks.now pid }
+{
+    let Some(task) = tasks.get(pid) else {
+        return Some(Cause::UnknownTask);
+    };
+    if task.mode != Mode::Running {
+        return Some(Cause::NotRunning);
+    }
+    if !task.stalled {
+        return Some(Cause::NotInStall);
+    }
+    None
+}
+
+/// Why a task can't migrate.
+fn migrate_refused(tasks: &TaskMap, cpus: usize, pid: u32, cpu: u32) -> Option<Cause>
+    ensures { result ≡ migrate_cause cpus tasks.now pid cpu }
+{
+    let Some(task) = tasks.get(pid) else {
+        return Some(Cause::UnknownTask);
+    };
+    if cpus <= cpu as usize {
+        return Some(Cause::BadCpu);
+    }
+    if task.mode != Mode::Ready {
+        return Some(Cause::NotReady);
+    }
+    None
+}
+
+/// Why a task can't move.
+fn move_refused(tree: &Tree, tasks: &TaskMap, pid: u32, path: &Path) -> Option<Cause>
+    ensures { result ≡ move_cause tree.now tasks.now pid path.now }
+{
+    if tree.find(path).is_none() {
+        Some(Cause::UnknownGroup)
+    } else if tasks.get(pid).is_none() {
+        Some(Cause::UnknownTask)
+    } else {
+        None
+    }
+}
+
+/// Window and threshold (us) are in their ranges.
+fn is_window(threshold_us: u64, window_us: u64) -> bool
+    ensures { result ≡ is_window threshold_us window_us }
+{
+    SHORTEST_WINDOW <= window_us
+        && window_us <= LONGEST_WINDOW
+        && 1 <= threshold_us
+        && threshold_us <= window_us
+}
+
+/// Why a trigger can't be made.
+fn trigger_refused(
+    tree: &Tree,
+    triggers: u32,
+    path: &Path,
+    threshold_us: u64,
+    window_us: u64,
+) -> Option<Cause>
+    ensures { result ≡ trigger_cause tree.now triggers path.now threshold_us window_us }
+{
+    if triggers >= MOST_TRIGGERS {
+        Some(Cause::TooManyTriggers)
+    } else if tree.find(path).is_none() {
+        Some(Cause::UnknownGroup)
+    } else if !is_window(threshold_us, window_us) {
+        Some(Cause::BadWindow)
+    } else {
+        None
+    }
+}
+
+/// Why an act isn't legal.
+pub(crate) fn act_refused(
+    tree: &Tree,
+    tasks: &TaskMap,
+    running: &[Option<u32>],
+    members: &Members,
+    triggers: u32,
+    act: &Act,
+) -> Option<Cause>
     requires index { IsIndex running.now tasks.now }
-    ensures { result ≡ act_cause (length running.now) (root ∷ []) tasks.now act.now }
+    requires members { AreMembers members.now tasks.now }
+    ensures { result ≡ act_cause (length running.now) tree.now tasks.now triggers act.now }
 {
     match act {
-        Act::Fork { pid, path, cpu } => fork_refused(tasks, running.len(), pid.0, path, cpu.0),
+        Act::Group { path } => tree.add_cause(path),
+        Act::Remove { path } => remove_refused(tree, members, path),
+        Act::Prefer { path, .. } | Act::Mem { path, .. } => lacks_path(tree, path),
+        Act::Fork { pid, path, cpu } => {
+            fork_refused(tree, tasks, running.len(), pid.0, path, cpu.0)
+        }
         Act::Wake { pid, cpu } => wake_refused(tasks, running.len(), pid.0, cpu.0),
         Act::Switch { cpu, next, how } => switch_refused(tasks, running, cpu.0, *next, *how),
-        _ => None,
+        Act::Stall { pid } => stall_refused(tasks, pid.0),
+        Act::Unstall { pid } => unstall_refused(tasks, pid.0),
+        Act::Migrate { pid, cpu } => migrate_refused(tasks, running.len(), pid.0, cpu.0),
+        Act::Move { pid, path } => move_refused(tree, tasks, pid.0, path),
+        Act::Trigger {
+            path,
+            threshold_us,
+            window_us,
+            ..
+        } => trigger_refused(tree, triggers, path, *threshold_us, *window_us),
+        Act::Host { .. } | Act::End => None,
     }
 }

@@ -1,9 +1,9 @@
-//! The table of tasks: which events are legal, what they do, and in which states a group is on a processor.
+//! The table of tasks: which events are legal, what they do, and what they change on processors.
 #![tactic(auto)]
 
 mod causes;
 mod effects;
-mod kinds;
+mod members;
 mod running;
 mod table;
 mod task_map;

@@ -1,17 +1,18 @@
 //! The table of tasks.
-ghost use Rattle.std.specs.Prelude.{◌≡◌, ◌<◌, ◌≤◌, IfNone, None, IfOk, OnErr, OnOk, MatchResult, map, false, slice_index_or, length};
+ghost use Rattle.std.specs.Prelude.{◌≡◌, ◌<◌, ◌≤◌, IfNone, IfOk, OnErr, OnOk, MatchResult, None, length};
 ghost use Rattle.psi_spec.specs.World.{after_event, first_world};
-ghost use Rattle.psi_spec.specs.Stall.{holds, number_of, states};
-ghost use Rattle.psi_base.specs.declared.event.State.{State};
 ghost use Rattle.psi_spec.specs.Touch.{IsTouch, AllTouched, HasSlotsBelow, IsOfOne};
-ghost use Rattle.psi_spec.specs.Refusal.{check_cause};
+ghost use Rattle.psi_spec.specs.Refusal.{cause_of};
+ghost use Rattle.psi_spec.specs.Legal.{IsLegalWorld};
 ghost use Rattle.task_table.specs.Causes.{IsFault};
 
-use crate::causes::{act_refused, is_built};
-use crate::effects::{apply, has_ended};
+use crate::causes::act_refused;
+use crate::effects::{change_groups, change_tasks, has_ended, triggers_with};
+use crate::members::Members;
 use crate::task_map::TaskMap;
 use crate::touch::{task_after, task_before, touch_of};
-use psi_base::{Cause, Cpu, Event, Fault, NoMemory, Ns, Slot, State};
+use group_tree::Tree;
+use psi_base::{Cause, Event, Fault, NoMemory, Ns};
 use psi_spec::Touch;
 use std::alloc::Global;
 use std::marker::Model;
@@ -27,6 +28,12 @@ pub struct Table {
     tasks: TaskMap,
     /// The number of the running task of each processor.
     running: Vec<Option<u32>>,
+    /// How many live tasks are in each group.
+    members: Members,
+    /// All groups ever made.
+    tree: Tree,
+    /// How many triggers were made.
+    triggers: u32,
     /// How many events there were.
     lines: u32,
     /// The moment of the last event (ns).
@@ -35,17 +42,16 @@ pub struct Table {
 }
 
 impl Model for Table {
-    ghost use Rattle.std.specs.Prelude.{[], ◌∷◌, length};
-    ghost use Rattle.psi_spec.specs.World.{root};
-    ghost use Rattle.task_table.specs.Stands.{TableView, IsTable, view_code};
+    ghost use Rattle.std.specs.Prelude.{length};
+    ghost use Rattle.task_table.specs.Stands.{IsTable, TableView, table_of, view_code};
 
     ghost Value = { TableView };
 
     ghost coded = { view_code };
 
-    ghost view = { λ t. record { limits = record { version = 1; cpus = length t.running.items; latest = t.latest }; world = record { tasks = t.tasks; groups = root ∷ []; triggers = 0; lines = t.lines; last = t.last; ended = t.ended } } };
+    ghost view = { λ t. table_of (length t.running.items) t.latest t.tasks t.tree t.triggers t.lines t.last t.ended };
 
-    ghost invariant = { λ t. IsTable t.lines t.running.items t.tasks };
+    ghost invariant = { λ t. IsTable (table_of (length t.running.items) t.latest t.tasks t.tree t.triggers t.lines t.last t.ended) t.running.items t.members };
 }
 
 impl Table {
@@ -65,6 +71,9 @@ impl Table {
             latest,
             tasks: TaskMap::new(alloc),
             running,
+            members: Members::new(alloc)?,
+            tree: Tree::new(alloc)?,
+            triggers: 0,
             lines: 0,
             last: 0,
             ended: false,
@@ -92,18 +101,21 @@ impl Table {
         self.ended
     }
 
-    /// The first cause against the event, in this profile's order of causes, or none where it is legal. An act that the
-    /// table doesn't replay is `BadVerb` before any other cause.
+    /// All groups ever made.
+    pub fn groups(&self) -> &Tree
+        ensures { result.now ≡ self.now.world.groups }
+    {
+        &self.tree
+    }
+
+    /// The first cause against the event, in this profile's order of causes, or none where it is legal.
     #[tactic(auto, using(crate::proofs::CauseLaws::first_is, std::proofs::lemmas::Bool::Decides::nat_tests))]
     pub fn check(&self, event: &Event) -> Option<Cause>
-        ensures cause { result ≡ check_cause self.now.limits self.now.world event.now }
+        ensures cause { result ≡ cause_of self.now.limits self.now.world event.now }
         ensures room { IfNone result (self.now.world.lines < 4000000) }
         ensures forward { IfNone result (self.now.world.last ≤ event.now.at) }
         ensures early { IfNone result (event.now.at ≤ self.now.limits.latest) }
     {
-        if !is_built(&event.act) {
-            return Some(Cause::BadVerb);
-        }
         if self.ended {
             return Some(Cause::AfterEnd);
         }
@@ -116,27 +128,47 @@ impl Table {
         if self.lines >= MOST_LINES {
             return Some(Cause::TooManyEvents);
         }
-        act_refused(&self.tasks, &self.running, &event.act)
+        act_refused(
+            &self.tree,
+            &self.tasks,
+            &self.running,
+            &self.members,
+            self.triggers,
+            &event.act,
+        )
     }
 
-    /// The world after the event. Where it is refused, or there is no memory for a new task, nothing changes: `Refused`
-    /// with the first cause, and `NoMemory` for a legal fork alone.
+    /// The world after the event. Where it is refused, or there is no memory for a new task or group, nothing changes:
+    /// `Refused` with the first cause, and `NoMemory` for a legal fork or a legal new group alone.
     pub fn play(&mut self, event: &Event) -> Result<(), Fault<Cause>>
         ensures limits { self.new.limits ≡ self.old.limits }
-        ensures legal { OnOk result (check_cause self.old.limits self.old.world event.now ≡ None) }
+        ensures legal { OnOk result (cause_of self.old.limits self.old.world event.now ≡ None) }
         ensures world { OnOk result (self.new.world ≡ after_event self.old.world event.now) }
+        ensures legal_world { OnOk result (IsLegalWorld self.new.limits self.new.world) }
         ensures lines { OnOk result (self.new.world.lines ≤ 4000000) }
         ensures early { OnOk result (self.new.world.last ≤ self.new.limits.latest) }
         ensures forward { OnOk result (self.old.world.last ≤ self.new.world.last) }
-        ensures fault { MatchResult result (λ _. Unit {0}) (IsFault (check_cause self.old.limits self.old.world event.now) event.now.act) }
+        ensures fault { MatchResult result (λ _. Unit {0}) (IsFault (cause_of self.old.limits self.old.world event.now) event.now.act) }
         ensures err { OnErr result (self.new ≡ self.old) }
     {
         if let Some(cause) = self.check(event) {
             return Err(Fault::Refused(cause));
         }
-        if apply(&mut self.tasks, &mut self.running, &event.act).is_err() {
+        let act = &event.act;
+        let changed = change_tasks(
+            &mut self.tasks,
+            &mut self.running,
+            &mut self.members,
+            &self.tree,
+            act,
+        );
+        if changed.is_err() {
             return Err(Fault::NoMemory);
         }
+        if change_groups(&mut self.tree, &mut self.members, event.at, act).is_err() {
+            return Err(Fault::NoMemory);
+        }
+        self.triggers = triggers_with(self.triggers, act);
         self.lines += 1;
         self.last = event.at;
         self.ended = has_ended(self.ended, &event.act);
@@ -147,12 +179,13 @@ impl Table {
     /// touches.
     pub fn step(&mut self, event: &Event) -> Result<Touch, Fault<Cause>>
         ensures limits { self.new.limits ≡ self.old.limits }
-        ensures legal { OnOk result (check_cause self.old.limits self.old.world event.now ≡ None) }
+        ensures legal { OnOk result (cause_of self.old.limits self.old.world event.now ≡ None) }
         ensures world { OnOk result (self.new.world ≡ after_event self.old.world event.now) }
+        ensures legal_world { OnOk result (IsLegalWorld self.new.limits self.new.world) }
         ensures lines { OnOk result (self.new.world.lines ≤ 4000000) }
         ensures early { OnOk result (self.new.world.last ≤ self.new.limits.latest) }
         ensures forward { OnOk result (self.old.world.last ≤ self.new.world.last) }
-        ensures fault { MatchResult result (λ _. Unit {0}) (IsFault (check_cause self.old.limits self.old.world event.now) event.now.act) }
+        ensures fault { MatchResult result (λ _. Unit {0}) (IsFault (cause_of self.old.limits self.old.world event.now) event.now.act) }
         ensures err { OnErr result (self.new ≡ self.old) }
         ensures touch { IfOk result (λ touch. IsTouch self.old.world event.now touch) }
         ensures cpus { IfOk result (λ touch. AllTouched (λ cpu change. cpu < self.old.limits.cpus) touch) }
@@ -161,25 +194,8 @@ impl Table {
         ensures moment { IfOk result (λ touch. AllTouched (λ cpu change. change.at ≡ event.now.at) touch) }
     {
         let old = task_before(&self.tasks, &self.running, &event.act);
-        let new = task_after(&event.act, old);
+        let new = task_after(&self.tree, &event.act, old);
         self.play(event)?;
         Ok(touch_of(event.at, &event.act, old, new, &self.tasks, &self.running))
-    }
-
-    /// Whether a group is in each of the seven states on a processor, in the order of the states' numbers, as
-    /// `test_states` of the kernel's psi.c tells them from its counts. It walks all tasks once. Any slot and any
-    /// processor may be asked for.
-    pub fn states(&self, cpu: Cpu, slot: Slot) -> [bool; 7]
-        ensures all { result ≡ map (λ state. holds state cpu.0 slot.0 self.now.world) states }
-        ensures each { (state : State) → slice_index_or result (number_of state) false ≡ holds state cpu.0 slot.0 self.now.world }
-    {
-        self.tasks.kinds(cpu, slot).states()
-    }
-
-    /// A group is in a state on a processor, by a walk over all tasks.
-    pub fn holds(&self, state: State, cpu: Cpu, slot: Slot) -> bool
-        ensures { result ≡ holds state cpu.0 slot.0 self.now.world }
-    {
-        self.states(cpu, slot)[state as usize]
     }
 }

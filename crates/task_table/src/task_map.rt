@@ -1,12 +1,9 @@
 //! Tasks by their numbers.
-ghost use Rattle.std.specs.Prelude.{◌≡◌, ◌∷◌, [], OnOk, OnErr, IsSome};
-ghost use Rattle.psi_spec.specs.World.{root, no_tasks, task_of, put, remove};
-ghost use Rattle.psi_spec.specs.Stall.{parents_of, tasks_in};
-ghost use Rattle.task_table.specs.Kinds.{AreKinds};
+ghost use Rattle.std.specs.Prelude.{◌≡◌, OnOk, OnErr, IsSome};
+ghost use Rattle.psi_spec.specs.World.{no_tasks, task_of, put, remove};
 ghost use Rattle.std.specs.FinMap as tasks_by;
 
-use crate::kinds::{Kinds, kinds_in};
-use psi_base::{Cpu, NoMemory, Slot};
+use psi_base::NoMemory;
 use psi_spec::Task;
 use std::alloc::Global;
 use std::collections::HashMap;
@@ -86,12 +83,5 @@ impl TaskMap {
         ensures { self.new ≡ remove self.old pid }
     {
         self.by_pid.remove(&pid);
-    }
-
-    /// The kinds of the tasks that count for a group on a processor.
-    pub(crate) fn kinds(&self, cpu: Cpu, slot: Slot) -> Kinds
-        ensures { AreKinds result (tasks_in (parents_of (root ∷ [])) cpu.0 slot.0 self.now) }
-    {
-        kinds_in(&self.by_pid, cpu, slot)
     }
 }

@@ -1,14 +1,14 @@
 //! What an act changes on the processors that it touches, read off the task that it changes: no walk over the tasks.
 ghost use Rattle.std.specs.Prelude.{◌≡◌, ℕ, if◌then◌else◌, Some, None, [], ◌∷◌};
-ghost use Rattle.psi_spec.specs.World.{Tasks, root, running_on};
+ghost use Rattle.psi_spec.specs.World.{Tasks, running_on};
 ghost use Rattle.psi_spec.specs.Counts.{counts_among};
 ghost use Rattle.psi_spec.specs.Touch.{before, after_of, touched, part, shown, change_on, told_of, IsBeside};
 ghost use Rattle.task_table.specs.Stands.{IsIndex};
 
-use crate::causes::slot_at;
-use crate::effects::{forked, left, readied};
+use crate::effects::{forked, left, readied, slot_at};
 use crate::running::running_at;
 use crate::task_map::TaskMap;
+use group_tree::Tree;
 use psi_base::{Act, Cpu, Ns, Slot};
 use psi_spec::{Change, Counts, Mode, Task, Touch};
 
@@ -100,11 +100,11 @@ pub(crate) fn task_before(tasks: &TaskMap, running: &[Option<u32>], act: &Act) -
 }
 
 /// The same task after the act.
-pub(crate) fn task_after(act: &Act, old: Option<Task>) -> Option<Task>
-    ensures { (tasks : Tasks) → old ≡ before tasks act.now → result ≡ after_of (root ∷ []) tasks act.now }
+pub(crate) fn task_after(tree: &Tree, act: &Act, old: Option<Task>) -> Option<Task>
+    ensures { (tasks : Tasks) → old ≡ before tasks act.now → result ≡ after_of tree.now tasks act.now }
 {
     match act {
-        Act::Fork { path, cpu, .. } => Some(forked(path, *cpu)),
+        Act::Fork { path, cpu, .. } => Some(forked(tree, path, *cpu)),
         Act::Wake { cpu, .. } | Act::Migrate { cpu, .. } => match old {
             Some(task) => Some(readied(task, *cpu)),
             None => None,
@@ -129,7 +129,7 @@ pub(crate) fn task_after(act: &Act, old: Option<Task>) -> Option<Task>
         },
         Act::Move { path, .. } => match old {
             Some(task) => Some(Task {
-                slot: Slot(slot_at(path).unwrap_or(0)),
+                slot: slot_at(tree, path),
                 ..task
             }),
             None => None,

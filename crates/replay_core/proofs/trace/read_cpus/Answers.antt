@@ -1,18 +1,18 @@
 use Rattle.replay_core.proofs.LineLaws as laws
 use Rattle.replay_core.proofs.trace.read_cpus.Goals as goal
 
-pub returns-in-Some-clause-content : goal.returns-in-Some-clause-content
-returns-in-Some-clause-content g c =
+pub returns-in-Ok-clause-content : goal.returns-in-Ok-clause-content
+returns-in-Ok-clause-content g c =
     λ bytes tells.
     let found = rw c.in-Ok-Some.field-0-is at c.in-Ok-Some.ensures.line bytes tells in
-    let one = rw c.bytes.ensures at c.in-Some.ensures in
-    rw one.0 (laws.header_read c.args.tick 1 _ _ _ found.0 (laws.first_one _ found.0.short one.1))
+    let known = rw c.bytes.ensures at c.in-Ok.ensures.exact in
+    laws.header_read c.args.tick c.in-Ok.cpus _ _ _ found.0 (laws.first_known _ c.in-Ok.cpus found.0.short known)
 
 pub returns-in-Ok-Some-clause-content : goal.returns-in-Ok-Some-clause-content
 returns-in-Ok-Some-clause-content g c =
     λ bytes tells.
     let found = rw c.in-Ok-Some.field-0-is at c.in-Ok-Some.ensures.line bytes tells in
-    rw c.refused.ensures (laws.header_refused c.args.tick _ _ _ _ found.0 (laws.first_other _ found.0.short (rw c.bytes.ensures at c.in-None.ensures)))
+    rw c.refused.ensures (laws.header_refused c.args.tick _ _ _ _ found.0 (laws.first_other _ found.0.short (rw c.bytes.ensures at c.in-Err.ensures.exact)))
 
 pub returns-in-Ok-None-clause-content : goal.returns-in-Ok-None-clause-content
 returns-in-Ok-None-clause-content g c =

@@ -1,4 +1,4 @@
-use Rattle.replay_core.proofs.SumLaws.{table_takes}
+use Rattle.replay_core.proofs.PlayLaws.{table_takes}
 use Rattle.replay_core.proofs.player.TablePlayer.take.Goals as goal
 
 pub returns : goal.returns

@@ -1,0 +1,192 @@
+//! Tests of the tree of groups.
+#![tactic(auto)]
+
+#[cfg(test)]
+mod tests {
+    use group_tree::Tree;
+    use psi_base::{Cause, Fault, NoMemory, Ns, Path, Slot};
+    use std::alloc::Global;
+    use std::test::Fail;
+
+    fn path(alloc: Global, text: &str) -> Result<Path, NoMemory> {
+        match Path::read(alloc, text.as_bytes())? {
+            Some(path) => Ok(path),
+            None => Path::root(alloc),
+        }
+    }
+
+    /// Makes a group. The cause that is asked for before it has to be the one that refuses it.
+    fn add(alloc: Global, tree: &mut Tree, text: &str, at: Ns) -> Result<Slot, Fault<Cause>> {
+        let path = path(alloc, text)?;
+        let asked = tree.add_cause(&path);
+        let given = tree.add(&path, at);
+        if asked.is_some() == given.is_ok() {
+            return Err(Fault::NoMemory);
+        }
+        given
+    }
+
+    /// Removes a group, and asks for the cause before it.
+    fn remove(alloc: Global, tree: &mut Tree, text: &str, at: Ns) -> Result<Slot, Fault<Cause>> {
+        let path = path(alloc, text)?;
+        let asked = tree.remove_cause(&path);
+        match tree.remove(&path, at) {
+            Ok(slot) if asked.is_none() => Ok(slot),
+            Err(cause) if asked == Some(cause) => Err(Fault::Refused(cause)),
+            _ => Err(Fault::NoMemory),
+        }
+    }
+
+    /// Groups that are made, and made again under the same paths.
+    fn forest(alloc: Global) -> Result<Tree, Fault<Cause>> {
+        let mut tree = Tree::new(alloc)?;
+        for text in ["/a", "/a/b", "/b"] {
+            add(alloc, &mut tree, text, 1)?;
+        }
+        for text in ["/a/b", "/a"] {
+            remove(alloc, &mut tree, text, 2)?;
+        }
+        for text in ["/a", "/a/b", "/a.b", "/a/b/c"] {
+            add(alloc, &mut tree, text, 3)?;
+        }
+        Ok(tree)
+    }
+
+    fn small_forest(alloc: Global) -> Result<Tree, Fail> {
+        match forest(alloc) {
+            Ok(tree) => Ok(tree),
+            Err(_) => Err(NoMemory.into()),
+        }
+    }
+
+    // A path that is made again has a new slot, and what was removed stays in its own.
+    #[test]
+    fn lives_of_groups(rt: HostRuntime) -> Result<(), Fail> {
+        let tree = small_forest(rt.alloc())?;
+        let lives = [
+            ("/", None, 0, None),
+            ("/a", Some(Slot(0)), 1, Some(2)),
+            ("/a/b", Some(Slot(1)), 1, Some(2)),
+            ("/b", Some(Slot(0)), 1, None),
+            ("/a", Some(Slot(0)), 3, None),
+            ("/a/b", Some(Slot(4)), 3, None),
+            ("/a.b", Some(Slot(0)), 3, None),
+            ("/a/b/c", Some(Slot(5)), 3, None),
+        ];
+        assert_eq!(rt; tree.len(), lives.len());
+        for (life, want) in tree.lives().iter().zip(lives.iter()) {
+            assert!(rt; life.path.text() == want.0);
+            assert_eq!(rt;
+                (life.parent, life.made, life.gone),
+                (want.1, want.2, want.3)
+            );
+        }
+        Ok(())
+    }
+
+    #[test]
+    fn refused_groups(rt: HostRuntime) -> Result<(), Fail> {
+        let mut tree = small_forest(rt.alloc())?;
+        for (text, want) in [
+            ("/a", Cause::GroupExists),
+            ("/", Cause::GroupExists),
+            ("/c/d", Cause::NoParent),
+        ] {
+            assert_eq!(rt;
+                add(rt.alloc(), &mut tree, text, 4),
+                Err(Fault::Refused(want)),
+                "{text}"
+            );
+        }
+        for (text, want) in [
+            ("/", Cause::GroupBusy),
+            ("/a", Cause::GroupBusy),
+            ("/a/b", Cause::GroupBusy),
+            ("/c", Cause::UnknownGroup),
+        ] {
+            assert_eq!(rt;
+                remove(rt.alloc(), &mut tree, text, 4),
+                Err(Fault::Refused(want)),
+                "{text}"
+            );
+        }
+        assert_eq!(rt; remove(rt.alloc(), &mut tree, "/a/b/c", 4), Ok(Slot(7)));
+        assert_eq!(rt; remove(rt.alloc(), &mut tree, "/a/b", 4), Ok(Slot(5)));
+        Ok(())
+    }
+
+    #[test]
+    fn found_groups(rt: HostRuntime) -> Result<(), Fail> {
+        let tree = small_forest(rt.alloc())?;
+        for (text, want) in [
+            ("/", Some(Slot(0))),
+            ("/a", Some(Slot(4))),
+            ("/a/b", Some(Slot(5))),
+            ("/c", None),
+        ] {
+            assert_eq!(rt; tree.find(&path(rt.alloc(), text)?), want, "{text}");
+        }
+        Ok(())
+    }
+
+    /// The slots from one up to the root's.
+    fn chain(alloc: Global, tree: &Tree, slot: Slot) -> Result<Vec<Slot>, NoMemory> {
+        if tree.len() <= slot.0 as usize {
+            return Err(NoMemory);
+        }
+        Ok(tree.chain(slot).collect(alloc)?)
+    }
+
+    #[test]
+    fn groups_above(rt: HostRuntime) -> Result<(), Fail> {
+        let tree = small_forest(rt.alloc())?;
+        let up = chain(rt.alloc(), &tree, Slot(7))?;
+        assert!(rt; up.as_slice() == [Slot(7), Slot(5), Slot(4), Slot(0)].as_slice());
+        let up = chain(rt.alloc(), &tree, Slot(0))?;
+        assert!(rt; up.as_slice() == [Slot(0)].as_slice());
+        for (low, high, want) in [
+            (7, 4, true),
+            (7, 7, true),
+            (7, 1, false),
+            (2, 1, true),
+            (4, 7, false),
+            (9, 9, true),
+            (9, 0, false),
+        ] {
+            assert_eq!(rt;
+                tree.is_under(Slot(low), Slot(high)),
+                want,
+                "{low} under {high}"
+            );
+        }
+        Ok(())
+    }
+
+    // In the order of bytes `.` comes before `/`.
+    #[test]
+    fn live_groups_by_path(rt: HostRuntime) -> Result<(), Fail> {
+        let tree = small_forest(rt.alloc())?;
+        let order = tree.live_order(rt.alloc())?;
+        let want = [Slot(0), Slot(4), Slot(6), Slot(5), Slot(7), Slot(3)];
+        assert!(rt; order.as_slice() == want.as_slice());
+        Ok(())
+    }
+
+    // 1,024 groups are made, the root among them, and none more, whatever else stands against it.
+    #[test]
+    fn at_most_1024_groups(rt: HostRuntime) -> Result<(), Fail> {
+        let mut tree = Tree::new(rt.alloc())?;
+        for slot in 1..1024u32 {
+            assert_eq!(rt; add(rt.alloc(), &mut tree, "/g", 1), Ok(Slot(slot)));
+            assert_eq!(rt; remove(rt.alloc(), &mut tree, "/g", 1), Ok(Slot(slot)));
+        }
+        for text in ["/g", "/", "/x/y"] {
+            assert_eq!(rt;
+                add(rt.alloc(), &mut tree, text, 2),
+                Err(Fault::Refused(Cause::TooManyGroups)),
+                "{text}"
+            );
+        }
+        Ok(())
+    }
+}

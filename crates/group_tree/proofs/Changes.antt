@@ -1,0 +1,245 @@
+-- What a tree keeps, after a group was made and after one was removed.
+use Rattle.std.proofs.Common.{◌≡◌, ◌≢◌, ℕ, zero, suc, ◌+◌, ◌<◌, ◌≤◌, List, [], ◌∷◌, ◌++◌, refl, ap, ◌∙◌, sym, subst, true, false, arith, Option, None, Some, ◌==◌, length, map, take, drop}
+use Rattle.std.specs.Prelude.{not, codes, nat_le, is_some, ◌&&◌, if◌then◌else◌, IfSome, slice_get, slice_set, slice_index_or}
+use Rattle.std.specs.Str.{bytes_eq}
+use Rattle.std.proofs.lemmas.Bool.Decides.{nat_tests}
+use Rattle.std.proofs.lemmas.List.{length-append, length-map, append-nil, drop_all, take_all, get_or_push}
+use Rattle.psi_base.specs.declared.event.Slot.{Slot}
+use Rattle.psi_base.specs.declared.event.Cause.TheVariants as cause
+use Rattle.psi_spec.specs.declared.machine.GroupLife.{GroupLife}
+use Rattle.psi_spec.specs.World.{root, is_live, is_root, slot_of, as_slot, parent_path, new_group, without}
+use Rattle.psi_spec.specs.Refusal.{is_slot}
+use Rattle.psi_spec.specs.Stall.{number_of_slot, parents_of}
+use Rattle.psi_spec.specs.Groups.{AreOlder, IsOneLive, AreGroups}
+use Rattle.psi_spec.proofs.GroupLaws.{first_of_two, found_behind, found_group, found_below, removed_not_found, same_bytes, and_false, got_behind, groups_first, groups_made, groups_removed, parents_behind}
+use Rattle.psi_spec.proofs.TouchLaws.{first_true, second_true}
+use Rattle.group_tree.specs.Tree.{slot_at, add_cause, count_children, IsTree}
+use Rattle.group_tree.proofs.Counting.{one, count_behind, count_set, count_at, count_few}
+
+-- ---- a group is made
+
+-- a zero behind changes no look-up
+zero_behind : (xs : List ℕ) (n : ℕ) → slice_index_or (xs ++ 0 ∷ []) n 0 ≡ slice_index_or xs n 0
+zero_behind [] zero = refl
+zero_behind [] (suc n) = refl
+zero_behind (x ∷ xs) zero = refl
+zero_behind (x ∷ xs) (suc n) = zero_behind xs n
+
+-- nothing in the second place
+first_alone : (o : Option ℕ) → first_of_two o None ≡ o
+first_alone None = refl
+first_alone (Some n) = refl
+
+-- a path finds the new group, or what it found
+found_more : (groups : List GroupLife) (group : GroupLife) (find : List ℕ → Option Slot) (slot : Slot) → ((path : List ℕ) → find path ≡ as_slot (slot_of groups path)) → IsOneLive (groups ++ group ∷ []) → is_live group ≡ true → slot.0 ≡ length groups → (path : List ℕ) → (if bytes_eq group.path path then Some slot else find path) ≡ as_slot (slot_of (groups ++ group ∷ []) path)
+found_more groups group find slot found one live number path =
+    elim (bytes_eq group.path path) as (λ b. bytes_eq group.path path ≡ b → (if b then Some slot else find path) ≡ as_slot (slot_of (groups ++ group ∷ []) path)) [
+      | true ↦ λ is.
+          let here : slot_of (groups ++ group ∷ []) group.path ≡ Some slot.0 = one slot.0 group (got_behind groups group slot.0 number) live in
+          subst (λ p. Some slot ≡ as_slot (slot_of (groups ++ group ∷ []) p)) (same_bytes group.path path is) (sym (ap as_slot here))
+      | false ↦ λ is.
+          let misses = and_false (is_live group) (bytes_eq group.path path) is in
+          found path ∙ sym (ap as_slot (found_behind 0 groups group path
+          ∙ ap (λ b. first_of_two (slot_of groups path) (if b then Some (0 + length groups) else None)) misses
+          ∙ first_alone (slot_of groups path)))
+    ] refl
+
+-- a live group counts as its parent says
+live_one : (slot : ℕ) (group : GroupLife) → is_live group ≡ true → one slot group ≡ (if is_slot (Some slot) group.parent then 1 else 0)
+live_one slot group live = ap (λ b. if b && is_slot (Some slot) group.parent then 1 else 0) live
+
+-- what a tree keeps, after a group was made
+pub tree_more : (groups : List GroupLife) (group : GroupLife) (find later : List ℕ → Option Slot) (slot : Slot) (children counts : List ℕ)
+    → IsTree groups find children → AreGroups (groups ++ group ∷ []) → is_live group ≡ true → slot.0 ≡ length groups
+    → ((path : List ℕ) → later path ≡ (if bytes_eq group.path path then Some slot else find path))
+    → length counts ≡ length children
+    → ((n : ℕ) → slice_index_or counts n 0 ≡ slice_index_or children n 0 + (if is_slot (Some n) group.parent then 1 else 0))
+    → IsTree (groups ++ group ∷ []) later (counts ++ 0 ∷ [])
+tree_more groups group find later slot children counts tree legal live number finds len each =
+    let same = tree.each in
+    record {
+      legal = legal;
+      found = λ path. finds path ∙ found_more groups group find slot tree.found legal.one_live live number path;
+      each = let more : length (counts ++ 0 ∷ []) ≡ length counts + 1 = length-append counts (0 ∷ []) in
+          let all : length (groups ++ group ∷ []) ≡ length groups + 1 = length-append groups (group ∷ []) in
+          omega (arith, more, all, len, same);
+      counted = λ n. zero_behind counts n ∙ each n ∙ ap (λ k. k + (if is_slot (Some n) group.parent then 1 else 0)) (tree.counted n) ∙ ap (λ k. count_children groups n + k) (sym (live_one n group live)) ∙ sym (count_behind groups group n);
+    }
+
+-- the parent of a new group was made
+new_parent : (groups : List GroupLife) (group : GroupLife) → AreOlder (parents_of (groups ++ group ∷ [])) → (o : Option Slot) → group.parent ≡ o → IfSome o (λ slot. slot.0 < length groups)
+new_parent groups group older None is = tt
+new_parent groups group older (Some slot) is =
+    let len : length (parents_of groups) ≡ length groups = length-map groups (λ (g : GroupLife). number_of_slot g.parent) in
+    older (length groups) slot.0 (ap (λ ps. slice_index_or ps (length groups) None) (parents_behind groups group) ∙ get_or_push (parents_of groups) (number_of_slot group.parent) None (length groups) len ∙ ap number_of_slot is)
+
+-- so it has a place among the counts
+pub parent_counted : (groups : List GroupLife) (group : GroupLife) (find : List ℕ → Option Slot) (children : List ℕ) → IsTree groups find children → AreGroups (groups ++ group ∷ []) → (o : Option Slot) → group.parent ≡ o → IfSome o (λ slot. slot.0 < length children)
+parent_counted groups group find children tree legal None is = tt
+parent_counted groups group find children tree legal (Some slot) is =
+    let less = new_parent groups group legal.older (Some slot) is in
+    let same = tree.each in
+    omega (arith, less, same)
+
+-- and its count is small
+pub counts_few : (groups : List GroupLife) (find : List ℕ → Option Slot) (children : List ℕ) → IsTree groups find children → (o : Option Slot) → IfSome o (λ slot. slice_index_or children slot.0 0 ≤ 1024)
+counts_few groups find children tree None = tt
+counts_few groups find children tree (Some slot) =
+    let is = tree.counted slot.0 in
+    let few = count_few groups slot.0 in
+    let all = tree.legal.few in
+    omega (arith, is, few, all)
+
+-- fewer by the test, fewer
+fewer : (n : ℕ) → nat_le 1024 n ≡ false → n < 1024
+fewer n h = grind (arith, nat_tests)
+
+-- what a test of an option says
+is_none : (o : Option ℕ) → is_some o ≡ false → o ≡ None
+is_none None h = refl
+is_none (Some n) h = cc h
+
+-- where no cause stands against a new group, it may be made
+pub may_add : (groups : List GroupLife) (path : List ℕ) (at : ℕ) → add_cause groups path ≡ None → AreGroups groups → AreGroups (groups ++ new_group groups path at ∷ [])
+may_add groups path at none are =
+    elim (nat_le 1024 (length groups)) as (λ few. nat_le 1024 (length groups) ≡ few → (if few then Some cause.TooManyGroups else (if is_some (slot_of groups path) then Some cause.GroupExists else (if not (is_some (slot_of groups (parent_path path))) then Some cause.NoParent else None))) ≡ None → AreGroups (groups ++ new_group groups path at ∷ [])) [
+      | true ↦ λ _ i. absurd (cc i)
+      | false ↦ λ few i. elim (is_some (slot_of groups path)) as (λ b. is_some (slot_of groups path) ≡ b → (if b then Some cause.GroupExists else (if not (is_some (slot_of groups (parent_path path))) then Some cause.NoParent else None)) ≡ None → AreGroups (groups ++ new_group groups path at ∷ [])) [
+        | true ↦ λ _ j. absurd (cc j)
+        | false ↦ λ new j. elim (slot_of groups (parent_path path)) as (λ o. slot_of groups (parent_path path) ≡ o → (if not (is_some o) then Some cause.NoParent else None) ≡ None → AreGroups (groups ++ new_group groups path at ∷ [])) [
+          | None ↦ λ _ k. absurd (cc k)
+          | Some parent ↦ λ over _. groups_made groups path at parent (fewer (length groups) few) (is_none (slot_of groups path) new) over are
+        ] refl j
+      ] refl i
+    ] refl none
+
+-- ---- the root alone
+
+-- the root alone has no child
+no_child : (slot : ℕ) → slice_index_or (0 ∷ []) slot 0 ≡ count_children (root ∷ []) slot
+no_child zero = refl
+no_child (suc slot) = refl
+
+-- what a tree keeps of the root alone
+pub first_tree : (find : List ℕ → Option Slot) → ((path : List ℕ) → find path ≡ (if bytes_eq (codes "/") path then Some (slot_at 0) else None)) → IsTree (root ∷ []) find (0 ∷ [])
+first_tree find finds = record {
+  legal = groups_first;
+  found = λ path. finds path ∙ elim (bytes_eq (codes "/") path) as (λ b. (if b then Some (slot_at 0) else None) ≡ as_slot (if b then Some 0 else None)) [ true ↦ refl | false ↦ refl ];
+  each = refl;
+  counted = λ slot. no_child slot;
+}
+
+-- ---- a group is removed
+
+-- a function that changes nothing in a list
+map_same : (f : GroupLife → GroupLife) (groups : List GroupLife) → ((at : ℕ) (group : GroupLife) → slice_get groups at ≡ Some group → f group ≡ group) → groups ≡ map f groups
+map_same f [] same = refl
+map_same f (group ∷ groups) same =
+    let here = same 0 group refl in
+    let rest = map_same f groups (λ at. same (suc at)) in
+    ap (λ g. g ∷ groups) (sym here) ∙ ap (λ gs. f group ∷ gs) rest
+
+-- a function that changes one place of a list
+set_is_map : (f : GroupLife → GroupLife) (groups : List GroupLife) (place : ℕ) (new : GroupLife) → ((group : GroupLife) → slice_get groups place ≡ Some group → f group ≡ new) → ((at : ℕ) (group : GroupLife) → slice_get groups at ≡ Some group → at ≢ place → f group ≡ group) → slice_set groups place new ≡ map f groups
+set_is_map f [] place new here others = refl
+set_is_map f (group ∷ groups) zero new here others =
+    ap (λ g. g ∷ groups) (sym (here group refl)) ∙ ap (λ gs. f group ∷ gs) (map_same f groups (λ at g is. others (suc at) g is (omega arith)))
+set_is_map f (group ∷ groups) (suc place) new here others =
+    ap (λ g. g ∷ slice_set groups place new) (sym (others 0 group refl (omega arith)))
+    ∙ ap (λ gs. f group ∷ gs) (set_is_map f groups place new here (λ at g is differs. others (suc at) g is (omega (arith, differs))))
+
+-- a slot that is found is one that there is
+pub found_made : (groups : List GroupLife) (path : List ℕ) (slot : ℕ) → slot_of groups path ≡ Some slot → slot < length groups
+found_made groups path slot found = let below = found_below 0 groups path slot found in omega (arith, below.1)
+
+-- a group that stays
+stays : (groups : List GroupLife) (path : List ℕ) (at place k : ℕ) (group : GroupLife) → IsOneLive groups → slot_of groups path ≡ Some place → slice_get groups k ≡ Some group → k ≢ place → without path at group ≡ group
+stays groups path at place k group one found got differs =
+    elim (is_live group && bytes_eq group.path path) as (λ b. (is_live group && bytes_eq group.path path) ≡ b → (if b then record group { gone = Some at } else group) ≡ group) [
+      | true ↦ λ is.
+          let alive = first_true (is_live group) (bytes_eq group.path path) is in
+          let same = same_bytes group.path path (second_true (is_live group) (bytes_eq group.path path) is) in
+          let both : Some k ≡ Some place = sym (one k group got alive) ∙ ap (slot_of groups) same ∙ found in
+          let equal : k ≡ place = cc both in
+          absurd (differs equal)
+      | false ↦ λ _. refl
+    ] refl
+
+-- the moment put into the found group's place is the removal
+pub ended_is : (groups : List GroupLife) (path : List ℕ) (at place : ℕ) (group : GroupLife) → IsOneLive groups → slot_of groups path ≡ Some place → slice_get groups place ≡ Some group → slice_set groups place (record group { gone = Some at }) ≡ map (without path at) groups
+ended_is groups path at place group one found got =
+    set_is_map (without path at) groups place (record group { gone = Some at })
+    (λ g is.
+    let same : group ≡ g = cc (got, is) in
+    let test = found_group 0 groups path place place g found (omega arith) is in
+    ap (λ b. if b then record g { gone = Some at } else g) test ∙ ap (λ (g : GroupLife). let ended : GroupLife = record g { gone = Some at } in ended) (sym same))
+    (λ k g is differs. stays groups path at place k g one found is differs)
+
+-- a path finds nothing, or what it found
+found_less : (groups : List GroupLife) (path : List ℕ) (at : ℕ) (find : List ℕ → Option Slot) → ((path : List ℕ) → find path ≡ as_slot (slot_of groups path)) → (other : List ℕ) → (if bytes_eq path other then None else find other) ≡ as_slot (slot_of (map (without path at) groups) other)
+found_less groups path at find found other =
+    elim (bytes_eq path other) as (λ b. (if b then None else find other) ≡ as_slot (if b then None else slot_of groups other)) [
+      | true ↦ refl
+      | false ↦ found other
+    ] ∙ sym (ap as_slot (removed_not_found 0 at path groups other))
+
+-- a count less one
+one_less : (a b c d k : ℕ) → c + k ≡ a → a ≡ b → d + k ≡ b + 0 → c ≡ d
+one_less a b c d k h i j = omega (arith, h, i, j)
+
+-- what a tree keeps, after a group was removed
+pub tree_less : (groups : List GroupLife) (path : List ℕ) (at : ℕ) (slot : Slot) (group : GroupLife) (find later : List ℕ → Option Slot) (children counts : List ℕ)
+    → IsTree groups find children → slot_of groups path ≡ Some slot.0 → is_root path ≡ false → slice_get groups slot.0 ≡ Some group
+    → ((other : List ℕ) → later other ≡ (if bytes_eq path other then None else find other))
+    → length counts ≡ length children
+    → ((n : ℕ) → slice_index_or counts n 0 + (if is_slot (Some n) group.parent then 1 else 0) ≡ slice_index_or children n 0)
+    → IsTree (map (without path at) groups) later counts
+tree_less groups path at slot group find later children counts tree found root got finds len each =
+    let same = tree.each in
+    let ended : GroupLife = record group { gone = Some at } in
+    let live = first_true (is_live group) (bytes_eq group.path path) (found_group 0 groups path slot.0 slot.0 group found (omega arith) got) in
+    record {
+      legal = groups_removed groups path at root tree.legal;
+      found = λ other. finds other ∙ found_less groups path at find tree.found other;
+      each = let all : length (map (without path at) groups) ≡ length groups = length-map groups (without path at) in omega (arith, all, len, same);
+      counted = λ n.
+          let set = count_set groups slot.0 group ended n got in
+          let is : count_children (map (without path at) groups) n + (if is_slot (Some n) group.parent then 1 else 0) ≡ count_children groups n + 0 =
+          ap (λ gs. count_children gs n + (if is_slot (Some n) group.parent then 1 else 0)) (sym (ended_is groups path at slot.0 group tree.legal.one_live found got))
+          ∙ ap (λ k. count_children (slice_set groups slot.0 ended) n + k) (sym (live_one n group live))
+          ∙ set in
+          one_less (slice_index_or children n 0) (count_children groups n) (slice_index_or counts n 0) (count_children (map (without path at) groups) n) (if is_slot (Some n) group.parent then 1 else 0) (each n) (tree.counted n) is;
+    }
+
+-- a number is itself
+itself : (n : ℕ) → (n == n) ≡ true
+itself n = grind (arith, nat_tests)
+
+-- the parent of a live group has a live child
+pub some_counted : (groups : List GroupLife) (path : List ℕ) (place : ℕ) (group : GroupLife) (find : List ℕ → Option Slot) (children : List ℕ) → IsTree groups find children → slot_of groups path ≡ Some place → slice_get groups place ≡ Some group → (o : Option Slot) → group.parent ≡ o → IfSome o (λ slot. 0 < slice_index_or children slot.0 0)
+some_counted groups path place group find children tree found got None is = tt
+some_counted groups path place group find children tree found got (Some slot) is =
+    let live = first_true (is_live group) (bytes_eq group.path path) (found_group 0 groups path place place group found (omega arith) got) in
+    let here : one slot.0 group ≡ 1 = live_one slot.0 group live ∙ ap (λ o. if is_slot (Some slot.0) o then 1 else 0) is ∙ ap (λ b. if b then 1 else 0) (itself slot.0) in
+    let among = count_at groups place group slot.0 got in
+    let count = tree.counted slot.0 in
+    omega (arith, here, among, count)
+
+-- ---- a slice that was written whole
+
+-- the elements written back
+pub written : (n : ℕ) (old new : List ℕ) → length new ≡ length old → n ≡ length old → take n (new ++ drop (length new) old) ≡ new
+written n old new len all =
+    ap (λ rest. take n (new ++ rest)) (drop_all (length new) old (omega (arith, len))) ∙ ap (take n) (append-nil new) ∙ take_all n new (omega (arith, len, all))
+
+-- a number that isn't 0 is in the list
+counted_inside : (xs : List ℕ) (n : ℕ) → 0 < slice_index_or xs n 0 → n < length xs
+counted_inside [] zero some = absurd (omega (arith, some))
+counted_inside [] (suc n) some = absurd (omega (arith, some))
+counted_inside (x ∷ xs) zero some = omega arith
+counted_inside (x ∷ xs) (suc n) some = let rest = counted_inside xs n some in omega (arith, rest)
+
+-- a slot with a child has a place among the counts
+pub inside_if : (xs : List ℕ) (o : Option Slot) → IfSome o (λ slot. 0 < slice_index_or xs slot.0 0) → IfSome o (λ slot. slot.0 < length xs)
+inside_if xs None some = tt
+inside_if xs (Some slot) some = counted_inside xs slot.0 some

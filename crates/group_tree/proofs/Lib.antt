@@ -1,0 +1,5 @@
+pub mod Chains
+pub mod Slashes
+pub mod Counting
+pub mod Changes
+pub mod Ordered

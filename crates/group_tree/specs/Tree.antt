@@ -1,0 +1,79 @@
+-- What a tree of groups refuses, the groups above a group, and what a tree keeps beside its groups.
+use Rattle.std.specs.Prelude.{◌≡◌, ℕ, zero, suc, ◌+◌, List, [], ◌∷◌, length, map, slice_index_or, nat_le, ◌&&◌, ◌||◌, Bool, if◌then◌else◌, Option, None, Some}
+use denote.Ref.{Bor}
+use Rattle.psi_base.specs.declared.event.Slot.{Slot}
+use Rattle.psi_base.specs.declared.event.Cause.{Cause}
+use Rattle.psi_base.specs.declared.event.Cause.TheVariants as cause
+use Rattle.psi_base.specs.declared.event.Fault.{Fault}
+use Rattle.psi_base.specs.declared.event.Fault.TheVariants as fault
+use Rattle.psi_spec.specs.declared.machine.GroupLife.{GroupLife}
+use Rattle.psi_spec.specs.World.{is_live, is_root, slot_of, as_slot}
+use Rattle.psi_spec.specs.Refusal.{has_group, lacks_group, lacks_parent, has_child, is_slot}
+use Rattle.psi_spec.specs.Stall.{parents_of, is_under}
+use Rattle.psi_spec.specs.Text.{live_groups}
+use Rattle.psi_spec.specs.Groups.{AreGroups}
+
+-- ---- refusals
+
+-- the first cause against a new group: 1,024 were made, one with the path is live, or none with the path above is
+abbrev pub add_cause : List GroupLife → List ℕ → Option Cause
+add_cause groups path =
+    if nat_le 1024 (length groups) then Some cause.TooManyGroups else
+    if has_group groups (Some path) then Some cause.GroupExists else
+    if lacks_parent groups (Some path) then Some cause.NoParent else None
+
+-- the first cause against the end of a group: none with the path is live, or it is the root or has a live child
+abbrev pub remove_cause : List GroupLife → List ℕ → Option Cause
+remove_cause groups path =
+    if lacks_group groups (Some path) then Some cause.UnknownGroup else
+    if is_root path || has_child groups (slot_of groups path) then Some cause.GroupBusy else None
+
+-- the fault is the first cause; memory is wanted only where there is none
+abbrev pub IsFault : Option Cause → Fault Cause → Type 0
+IsFault why (fault.Refused cause) = why ≡ Some cause
+IsFault why fault.NoMemory = why ≡ None
+
+-- ---- the groups above a group
+
+-- a number as a slot
+abbrev pub slot_at : ℕ → Slot
+slot_at n = record { 0 = n }
+
+-- the numbers below another that pass a test, from the greatest down
+abbrev pub down_from : ℕ → (ℕ → Bool) → List ℕ
+down_from zero test = []
+down_from (suc n) test = if test n then n ∷ down_from n test else down_from n test
+
+-- The chain of a group: its slot and all slots above it, the newest first. So the root is the last.
+abbrev pub chain_of : List GroupLife → ℕ → List Slot
+chain_of groups slot = map slot_at (down_from (suc slot) (is_under (parents_of groups) slot))
+
+-- the chain of a group, if there is one
+abbrev pub chain_from : List GroupLife → Option Slot → List Slot
+chain_from groups None = []
+chain_from groups (Some slot) = chain_of groups slot.0
+
+-- ---- live groups
+
+-- the slots of the live groups in the byte order of their paths
+abbrev pub live_slots : List GroupLife → List Slot
+live_slots groups = map (λ (pair : List ℕ × ℕ). slot_at pair.1) (live_groups groups)
+
+-- pairs of a path and a slot, by the path's bytes and the slot's number
+abbrev pub named : List (Bor (List ℕ) × Slot) → List (List ℕ × ℕ)
+named groups = map (λ (pair : Bor (List ℕ) × Slot). (pair.0.now, pair.1.0)) groups
+
+-- ---- what a tree keeps
+
+-- how many live groups have this one as their parent
+abbrev pub count_children : List GroupLife → ℕ → ℕ
+count_children [] slot = 0
+count_children (group ∷ groups) slot = count_children groups slot + (if is_live group && is_slot (Some slot) group.parent then 1 else 0)
+
+-- What is true of each tree: its groups are those of a legal world, a look-up of a path finds the live ones, and it has
+-- the number of live children of each.
+pub record IsTree (groups : List GroupLife) (find : List ℕ → Option Slot) (children : List ℕ) : Type 0 where
+  pub legal : AreGroups groups
+  pub found : (path : List ℕ) → find path ≡ as_slot (slot_of groups path)
+  pub each : length children ≡ length groups
+  pub counted : (slot : ℕ) → slice_index_or children slot 0 ≡ count_children groups slot

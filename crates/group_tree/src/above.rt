@@ -1,0 +1,42 @@
+//! The path above a path.
+ghost use Rattle.std.specs.Prelude.{◌≡◌};
+ghost use Rattle.psi_spec.specs.World.{or_root, parent_path};
+
+use psi_base::Path;
+
+// The bytes, or those of the root's path where there are none.
+fn or_root(bytes: &[u8]) -> &[u8]
+    ensures { result.now ≡ or_root bytes.now }
+{
+    if bytes.is_empty() {
+        b"/".as_slice()
+    } else {
+        bytes
+    }
+}
+
+// The bytes before the last slash, or those of the root's path.
+#[tactic(auto, using(crate::proofs::Slashes::slashes))]
+fn before_last_slash(path: &[u8]) -> &[u8]
+    ensures { result.now ≡ parent_path path.now }
+{
+    let mut end = path.len();
+    'back: while end > 0 {
+        end -= 1;
+        if path[end] == b'/' {
+            return or_root(&path[..end]);
+        }
+    }
+    b"/".as_slice()
+}
+
+/// The path of the group above one with this path. That of the root is its own.
+#[tactic(auto, using(crate::proofs::Slashes::texts))]
+pub(crate) fn path_above(path: &Path) -> &str
+    ensures { result.now ≡ parent_path path.now }
+{
+    match str::from_utf8(before_last_slash(path.text().as_bytes())) {
+        Ok(text) => text,
+        Err(_) => unreachable!(),
+    }
+}

@@ -1,0 +1,89 @@
+//! How groups are made and removed: the parts of a tree change together.
+ghost use Rattle.std.specs.Prelude.{◌≡◌, ◌+◌, ◌<◌, ◌≤◌, ◌++◌, [], ◌∷◌, ℕ, length, map, None, Some, IfOk, OnOk, OnErr, IfSome, slice_index_or, string_bytes, true, false, if◌then◌else◌};
+ghost use Rattle.std.specs.HashMap.{get_by_text};
+ghost use Rattle.psi_spec.specs.World.{slot_of, without, is_root, is_live};
+ghost use Rattle.psi_spec.specs.Refusal.{is_slot};
+ghost use Rattle.psi_spec.specs.Groups.{AreGroups};
+ghost use Rattle.group_tree.specs.Tree.{IsTree};
+
+use psi_base::{NoMemory, Ns, Path, Slot};
+use psi_spec::GroupLife;
+use std::collections::HashMap;
+
+/// Counts one live child more of a group, if there is one.
+fn count_child(children: &mut [u32], parent: Option<Slot>)
+    requires made { IfSome parent (λ slot. slot.0 < length children.old) }
+    requires few { IfSome parent (λ slot. slice_index_or children.old slot.0 0 ≤ 1024) }
+    ensures len { length children.new ≡ length children.old }
+    ensures each { (slot : ℕ) → slice_index_or children.new slot 0 ≡ slice_index_or children.old slot 0 + (if is_slot (Some slot) parent then 1 else 0) }
+{
+    if let Some(slot) = parent {
+        children[slot.0 as usize] += 1;
+    }
+}
+
+/// Counts one live child less of a group, if there is one.
+fn uncount_child(children: &mut [u32], parent: Option<Slot>)
+    requires made { IfSome parent (λ slot. slot.0 < length children.old) }
+    requires some { IfSome parent (λ slot. 0 < slice_index_or children.old slot.0 0) }
+    ensures len { length children.new ≡ length children.old }
+    ensures each { (slot : ℕ) → slice_index_or children.new slot 0 + (if is_slot (Some slot) parent then 1 else 0) ≡ slice_index_or children.old slot 0 }
+{
+    if let Some(slot) = parent {
+        children[slot.0 as usize] -= 1;
+    }
+}
+
+/// Puts a group behind the others. All memory is taken first, so that where there is none nothing changes.
+pub(crate) fn push_group(
+    lives: &mut Vec<GroupLife>,
+    slots: &mut HashMap<String, Slot>,
+    children: &mut Vec<u32>,
+    life: GroupLife,
+    text: String,
+) -> Result<Slot, NoMemory>
+    requires tree { IsTree lives.old.items (get_by_text slots.old) children.old.items }
+    requires legal { AreGroups (lives.old.items ++ life ∷ []) }
+    requires live { is_live life ≡ true }
+    requires text { string_bytes text ≡ life.path }
+    ensures tree { IsTree lives.new.items (get_by_text slots.new) children.new.items }
+    ensures ok { OnOk result (lives.new.items ≡ lives.old.items ++ life ∷ []) }
+    ensures slot { IfOk result (λ slot. slot.0 ≡ length lives.old.items) }
+    ensures err { OnErr result (lives.new.items ≡ lives.old.items) }
+{
+    lives.reserve(1)?;
+    children.reserve(1)?;
+    let slot = Slot(lives.len() as u32);
+    let Ok(_) = slots.insert(text, slot) else {
+        return Err(NoMemory);
+    };
+    count_child(children, life.parent);
+    let Ok(()) = children.push(0) else {
+        unreachable!();
+    };
+    let Ok(()) = lives.push(life) else {
+        unreachable!();
+    };
+    Ok(slot)
+}
+
+/// Ends a live group at a moment (ns). It takes no memory.
+pub(crate) fn end_group(
+    lives: &mut Vec<GroupLife>,
+    slots: &mut HashMap<String, Slot>,
+    children: &mut Vec<u32>,
+    path: &Path,
+    slot: Slot,
+    at: Ns,
+)
+    requires tree { IsTree lives.old.items (get_by_text slots.old) children.old.items }
+    requires found { slot_of lives.old.items path.now ≡ Some slot.0 }
+    requires other { is_root path.now ≡ false }
+    ensures tree { IsTree lives.new.items (get_by_text slots.new) children.new.items }
+    ensures lives { lives.new.items ≡ map (without path.now at) lives.old.items }
+{
+    let life = &mut lives[slot.0 as usize];
+    life.gone = Some(at);
+    uncount_child(children, life.parent);
+    slots.remove(path.text());
+}

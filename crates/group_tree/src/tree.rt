@@ -1,0 +1,246 @@
+//! The tree of groups.
+ghost use Rattle.std.specs.Prelude.{◌≡◌, ◌<◌, ◌≤◌, ◌++◌, [], ◌∷◌, length, map, slice_index_or, None, Some, IfOk, IfErr, IfSome, OnOk, OnErr, MatchResult, ◌↔◌};
+ghost use Rattle.psi_spec.specs.World.{root, slot_of, as_slot, parent_path, new_group, without};
+ghost use Rattle.psi_spec.specs.Stall.{number_of_slot, parents_of, is_under};
+ghost use Rattle.psi_spec.specs.Refusal.{has_child};
+ghost use Rattle.psi_spec.specs.Groups.{AreGroups};
+ghost use Rattle.group_tree.specs.Tree.{add_cause, remove_cause, IsFault, chain_of, live_slots};
+
+use crate::above::path_above;
+use crate::chain::{Chain, parent_of};
+use crate::grow::{end_group, push_group};
+use crate::order::live_order;
+use psi_base::{Cause, Fault, NoMemory, Ns, Path, Slot};
+use psi_spec::GroupLife;
+use std::alloc::Global;
+use std::collections::HashMap;
+use std::marker::Model;
+
+/// The most groups that may ever be made, the root among them.
+const MOST_GROUPS: usize = 1024;
+
+/// All groups ever made, in the order of their slots. Contracts see the list of their lives. A path finds its live
+/// group in a map, and the live children of each group are counted, so that no call but [`Tree::live_order`] walks all
+/// groups.
+#[derive(Drop)]
+pub struct Tree {
+    alloc: Global,
+    lives: Vec<GroupLife>,
+    slots: HashMap<String, Slot>,
+    children: Vec<u32>,
+}
+
+impl Model for Tree {
+    ghost use Rattle.std.specs.Prelude.{List};
+    ghost use Rattle.std.specs.Coded.{coded_list};
+    ghost use Rattle.std.specs.HashMap.{get_by_text};
+    ghost use Rattle.psi_spec.specs.declared.machine.GroupLife.{GroupLife};
+    ghost use Rattle.psi_spec.specs.contracts.machine.GroupLife as group_row;
+    ghost use Rattle.group_tree.specs.Tree.{IsTree};
+
+    ghost Value = { List GroupLife };
+
+    ghost coded = { coded_list group_row.the_row.coded };
+
+    ghost view = { λ t. t.lives.items };
+
+    ghost invariant = { λ t. IsTree t.lives.items (get_by_text t.slots) t.children.items };
+}
+
+impl Tree {
+    /// The root alone, made at 0.
+    pub fn new(alloc: Global) -> Result<Tree, NoMemory>
+        ensures { IfOk result (λ tree. tree ≡ root ∷ []) }
+    {
+        let mut slots = HashMap::new(alloc);
+        let Ok(_) = slots.insert(String::from_str(alloc, "/")?, Slot(0)) else {
+            return Err(NoMemory);
+        };
+        let root = GroupLife {
+            path: Path::root(alloc)?,
+            parent: None,
+            made: 0,
+            gone: None,
+        };
+        let Ok(lives) = Vec::from_array(alloc, [root]) else {
+            return Err(NoMemory);
+        };
+        Ok(Tree {
+            alloc,
+            lives,
+            slots,
+            children: Vec::from_slice(alloc, &[0])?,
+        })
+    }
+
+    /// All groups ever made, in the order of their slots. Those that were removed have the moment in `gone`.
+    pub fn lives(&self) -> &[GroupLife]
+        ensures lives { result.now ≡ self.now }
+        ensures groups { AreGroups result.now }
+    {
+        &self.lives
+    }
+
+    /// How many groups were ever made, 1,024 at most.
+    pub fn len(&self) -> usize
+        ensures len { result ≡ length self.now }
+        ensures few { result ≤ 1024 }
+    {
+        self.lives.len()
+    }
+
+    /// The slot of the live group with this path. None exactly where no live group has it.
+    pub fn find(&self, path: &Path) -> Option<Slot>
+        ensures { result ≡ as_slot (slot_of self.now path.now) }
+    {
+        self.slots.get(path.text()).copied()
+    }
+
+    /// The slot of the live group with the path above this one.
+    fn find_above(&self, path: &Path) -> Option<Slot>
+        ensures { result ≡ as_slot (slot_of self.now (parent_path path.now)) }
+    {
+        self.slots.get(path_above(path)).copied()
+    }
+
+    /// A live group has this one as its parent.
+    fn has_child(&self, slot: Slot) -> bool
+        ensures { result ≡ has_child self.now (Some slot.0) }
+    {
+        self.children.get(slot.0 as usize).copied().unwrap_or(0) > 0
+    }
+
+    /// Why a group with this path can't be made: the first of TooManyGroups, where 1,024 were made, GroupExists, where
+    /// a live one has the path, and NoParent, where none has the path above. None exactly where it can.
+    pub fn add_cause(&self, path: &Path) -> Option<Cause>
+        ensures { result ≡ add_cause self.now path.now }
+    {
+        if self.lives.len() >= MOST_GROUPS {
+            Some(Cause::TooManyGroups)
+        } else if self.find(path).is_some() {
+            Some(Cause::GroupExists)
+        } else if self.find_above(path).is_none() {
+            Some(Cause::NoParent)
+        } else {
+            None
+        }
+    }
+
+    /// Why the group with this path can't be removed, as far as groups tell: UnknownGroup, where no live one has it, or
+    /// GroupBusy, where it is the root or has a live child. None exactly where neither is so.
+    pub fn remove_cause(&self, path: &Path) -> Option<Cause>
+        ensures { result ≡ remove_cause self.now path.now }
+    {
+        let Some(slot) = self.find(path) else {
+            return Some(Cause::UnknownGroup);
+        };
+        if path.bytes() == b"/".as_slice() || self.has_child(slot) {
+            Some(Cause::GroupBusy)
+        } else {
+            None
+        }
+    }
+
+    /// The slot of the group above. None for the root alone.
+    pub fn parent(&self, slot: Slot) -> Option<Slot>
+        requires made { slot.0 < length self.now }
+        ensures parent { number_of_slot result ≡ slice_index_or (parents_of self.now) slot.0 None }
+        ensures older { IfSome result (λ parent. parent.0 < slot.0) }
+        ensures root { (result ≡ None) ↔ (slot.0 ≡ 0) }
+    {
+        parent_of(&self.lives, slot)
+    }
+
+    /// The slots from a group's own up to the root's, each the parent of the one before it.
+    pub fn chain(&self, slot: Slot) -> Chain<'_>
+        requires made { slot.0 < length self.now }
+        ensures { result ≡ chain_of self.now slot.0 }
+    {
+        Chain::new(&self.lives, Some(slot))
+    }
+
+    /// The first group is the second, or has it among the groups above it. A group that wasn't made is only itself.
+    pub fn is_under(&self, low: Slot, high: Slot) -> bool
+        ensures { result ≡ is_under (parents_of self.now) low.0 high.0 }
+    {
+        let mut at = low;
+        'climb: while at.0 > high.0 {
+            let Some(parent) = parent_of(&self.lives, at) else {
+                return false;
+            };
+            at = parent;
+        }
+        at.0 == high.0
+    }
+
+    /// The new group with this path under the live one with the path above.
+    fn new_life(&self, path: &Path, at: Ns) -> Result<GroupLife, NoMemory>
+        ensures { IfOk result (λ life. life ≡ new_group self.now path.now at) }
+    {
+        Ok(GroupLife {
+            path: path.copy(self.alloc)?,
+            parent: self.find_above(path),
+            made: at,
+            gone: None,
+        })
+    }
+
+    /// Makes a group at a moment (ns) in the next slot, which it gives. Refused exactly with the cause of
+    /// [`Tree::add_cause`], and nothing changes then, nor where there is no memory.
+    pub fn add(&mut self, path: &Path, at: Ns) -> Result<Slot, Fault<Cause>>
+        ensures legal { OnOk result (add_cause self.old path.now ≡ None) }
+        ensures groups { OnOk result (self.new ≡ self.old ++ new_group self.old path.now at ∷ []) }
+        ensures slot { IfOk result (λ slot. slot.0 ≡ length self.old) }
+        ensures fault { MatchResult result (λ _. Unit {0}) (IsFault (add_cause self.old path.now)) }
+        ensures err { OnErr result (self.new ≡ self.old) }
+    {
+        if let Some(cause) = self.add_cause(path) {
+            return Err(Fault::Refused(cause));
+        }
+        let life = self.new_life(path, at)?;
+        let Ok(text) = String::from_str(self.alloc, path.text()) else {
+            return Err(Fault::NoMemory);
+        };
+        let slot = push_group(
+            &mut self.lives,
+            &mut self.slots,
+            &mut self.children,
+            life,
+            text,
+        )?;
+        Ok(slot)
+    }
+
+    /// Ends the live group with this path at a moment (ns), and gives its slot. Refused exactly with the cause of
+    /// [`Tree::remove_cause`], and nothing changes then. It takes no memory.
+    pub fn remove(&mut self, path: &Path, at: Ns) -> Result<Slot, Cause>
+        ensures legal { OnOk result (remove_cause self.old path.now ≡ None) }
+        ensures groups { OnOk result (self.new ≡ map (without path.now at) self.old) }
+        ensures slot { IfOk result (λ slot. slot_of self.old path.now ≡ Some slot.0) }
+        ensures cause { IfErr result (λ cause. remove_cause self.old path.now ≡ Some cause) }
+        ensures err { OnErr result (self.new ≡ self.old) }
+    {
+        if let Some(cause) = self.remove_cause(path) {
+            return Err(cause);
+        }
+        let Some(slot) = self.find(path) else {
+            return Err(Cause::UnknownGroup);
+        };
+        end_group(
+            &mut self.lives,
+            &mut self.slots,
+            &mut self.children,
+            path,
+            slot,
+            at,
+        );
+        Ok(slot)
+    }
+
+    /// The slots of the live groups in the byte order of their paths.
+    pub fn live_order(&self, alloc: Global) -> Result<Vec<Slot>, NoMemory>
+        ensures { IfOk result (λ slots. slots.items ≡ live_slots self.now) }
+    {
+        live_order(alloc, &self.lives)
+    }
+}

@@ -1,0 +1,90 @@
+//! Whether one pattern matches.
+ghost use Rattle.std.specs.Prelude.{◌≡◌, ◌==◌};
+ghost use Rattle.std.specs.List.{list_all};
+ghost use Rattle.psi_base.specs.Path.{parts_at};
+ghost use Rattle.psi_spec.specs.Match.{are_matches, components, is_component_match};
+
+use crate::form::behind_slash;
+use psi_base::Parts;
+
+/// The last star that a walk passed.
+#[derive(Clone, Copy)]
+struct LastStar {
+    /// What follows it in the pattern begins here.
+    behind: usize,
+    /// The run of bytes that it takes ends here.
+    end: usize,
+}
+
+// Whether a component of a pattern matches one of a path: a star any run of bytes, any other byte itself. Where what
+// follows the last star doesn't match, its run takes one byte more. The runs before it stay as short as they are, since
+// longer ones would only leave less to the last. So the steps are at most about the product of the two lengths.
+fn matches_component(pattern: &[u8], bytes: &[u8]) -> bool
+    ensures { result ≡ is_component_match pattern.now bytes.now }
+{
+    let mut at = 0;
+    let mut next = 0;
+    let mut star: Option<LastStar> = None;
+    'walk: while next < bytes.len() {
+        if at < pattern.len() && pattern[at] == b'*' {
+            at += 1;
+            star = Some(LastStar {
+                behind: at,
+                end: next,
+            });
+        } else if at < pattern.len() && pattern[at] == bytes[next] {
+            at += 1;
+            next += 1;
+        } else if let Some(last) = star {
+            at = last.behind;
+            next = last.end + 1;
+            star = Some(LastStar {
+                behind: last.behind,
+                end: next,
+            });
+        } else {
+            return false;
+        }
+    }
+    are_stars(&pattern[at..])
+}
+
+// Only stars, which match no byte at all.
+fn are_stars(pattern: &[u8]) -> bool
+    ensures { result ≡ list_all (λ c. c == 42) pattern.now }
+{
+    pattern.iter().all(|c| *c == b'*')
+}
+
+// Whether equally many components stand between slashes, each matched.
+fn matches_components(pattern: &[u8], path: &[u8]) -> bool
+    ensures { result ≡ are_matches (parts_at 47 pattern.now) (parts_at 47 path.now) }
+{
+    let mut wanted: Parts<'_, b'/'> = Parts::new(pattern);
+    let mut found: Parts<'_, b'/'> = Parts::new(path);
+    'parts: while let Some(component) = wanted.next_part() {
+        match found.next_part() {
+            Some(part) => {
+                if !matches_component(component, part) {
+                    return false;
+                }
+            }
+            None => return false,
+        }
+    }
+    found.next_part().is_none()
+}
+
+/// Whether a pattern, given by its text, matches a path. The root has no components.
+#[tactic(auto, unfolding(psi_spec::specs::Match::components))]
+pub fn matches_pattern(pattern: &[u8], path: &[u8]) -> bool
+    ensures { result ≡ are_matches (components pattern.now) (components path.now) }
+{
+    if pattern == b"/".as_slice() {
+        return path == b"/".as_slice();
+    }
+    if path == b"/".as_slice() {
+        return false;
+    }
+    matches_components(behind_slash(pattern), behind_slash(path))
+}

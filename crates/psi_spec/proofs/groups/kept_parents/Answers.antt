@@ -1,0 +1,8 @@
+use Rattle.psi_spec.proofs.GroupLaws as laws
+use Rattle.psi_spec.proofs.groups.kept_parents.Goals as goal
+
+pub returns-clause-parents : goal.returns-clause-parents
+returns-clause-parents c = laws.parents_kept
+
+pub returns-clause-climbs : goal.returns-clause-climbs
+returns-clause-climbs c = laws.climbs_kept

@@ -1,0 +1,8 @@
+use Rattle.psi_spec.proofs.GroupLaws as laws
+use Rattle.psi_spec.proofs.groups.legal_groups.Goals as goal
+
+pub returns-clause-first : goal.returns-clause-first
+returns-clause-first c = laws.groups_first
+
+pub returns-clause-kept : goal.returns-clause-kept
+returns-clause-kept c = laws.groups_kept

@@ -1,0 +1,95 @@
+-- What holds of the groups of each legal world, and how the groups above a group are told step by step.
+use Rattle.std.specs.Prelude.{◌≡◌, ℕ, ◌<◌, ◌≤◌, List, [], ◌∷◌, ◌++◌, length, map, take, slice_get, slice_index_or, ◌==◌, ◌||◌, Bool, true, false, Option, None, Some, IsSome}
+use Rattle.psi_base.specs.declared.event.Act.{Act}
+use Rattle.psi_base.specs.declared.event.Act.TheVariants as act
+use Rattle.psi_base.specs.declared.event.Event.{Event}
+use Rattle.psi_spec.specs.declared.machine.GroupLife.{GroupLife}
+use Rattle.psi_spec.specs.World.{World, Limits, root, is_live, slot_of, parent_path, after_event}
+use Rattle.psi_spec.specs.Refusal.{cause_of}
+use Rattle.psi_spec.specs.Stall.{parents_of, is_under}
+
+-- ---- groups of legal worlds
+
+-- each parent is older: it has a smaller slot
+abbrev pub AreOlder : List (Option ℕ) → Type 0
+AreOlder parents = (slot parent : ℕ) → slice_index_or parents slot None ≡ Some parent → parent < slot
+
+-- each slot but the first has a parent
+abbrev pub HaveParents : List (Option ℕ) → Type 0
+HaveParents parents = (slot : ℕ) → 0 < slot → slot < length parents → IsSome (slice_index_or parents slot None)
+
+-- the path of the group in a slot
+abbrev pub path_at : List GroupLife → ℕ → List ℕ
+path_at groups slot = slice_index_or (map (λ group. group.path) groups) slot []
+
+-- each parent has the path before the last slash of its child's
+abbrev pub AreAbove : List GroupLife → Type 0
+AreAbove groups = (slot parent : ℕ) → slice_index_or (parents_of groups) slot None ≡ Some parent → path_at groups parent ≡ parent_path (path_at groups slot)
+
+-- each live group is the one that its path finds, so no two live ones have one path
+abbrev pub IsOneLive : List GroupLife → Type 0
+IsOneLive groups = (slot : ℕ) (group : GroupLife) → slice_get groups slot ≡ Some group → is_live group ≡ true → slot_of groups group.path ≡ Some slot
+
+-- What holds of the groups of each legal world: they are few, the root is the first, parents are older and are what the
+-- paths say, and no two live groups have one path.
+pub record AreGroups (groups : List GroupLife) : Type 0 where
+  pub few : length groups ≤ 1024
+  pub rooted : take 1 groups ≡ root ∷ []
+  pub older : AreOlder (parents_of groups)
+  pub parented : HaveParents (parents_of groups)
+  pub above : AreAbove groups
+  pub one_live : IsOneLive groups
+
+-- ---- the groups above a group
+
+-- a slot, if there is one, is another or has it among its ancestors
+abbrev pub leads_to : List (Option ℕ) → Option ℕ → ℕ → Bool
+leads_to parents None high = false
+leads_to parents (Some low) high = is_under parents low high
+
+-- the parents that an act adds: that of a new group
+abbrev pub new_parents : List GroupLife → Act → List (Option ℕ)
+new_parents groups (act.Group path) = slot_of groups (parent_path path) ∷ []
+new_parents groups (act.Remove path) = []
+new_parents groups (act.Prefer path preference) = []
+new_parents groups (act.Fork pid path cpu) = []
+new_parents groups (act.Wake pid cpu) = []
+new_parents groups (act.Switch cpu next how) = []
+new_parents groups (act.Stall pid) = []
+new_parents groups (act.Unstall pid) = []
+new_parents groups (act.Migrate pid cpu) = []
+new_parents groups (act.Move pid path) = []
+new_parents groups (act.Mem path current swap scan) = []
+new_parents groups (act.Host mem_total swap_total swap_free) = []
+new_parents groups (act.Trigger path res level threshold_us window_us) = []
+new_parents groups act.End = []
+
+-- ---- laws
+
+-- The root alone is such a list of groups.
+abbrev pub AreGroupsFirst : Type 0
+AreGroupsFirst = AreGroups (root ∷ [])
+
+-- A legal event keeps them so.
+abbrev pub AreGroupsKept : Type 0
+AreGroupsKept = (limits : Limits) (w : World) (event : Event) → cause_of limits w event ≡ None → AreGroups w.groups → AreGroups (after_event w event).groups
+
+-- Parents never change: an event only adds those of new groups behind them.
+abbrev pub ParentsKept : Type 0
+ParentsKept = (w : World) (event : Event) → parents_of (after_event w event).groups ≡ parents_of w.groups ++ new_parents w.groups event.act
+
+-- Groups that are made later change nothing above the groups before them.
+abbrev pub ClimbsKept : Type 0
+ClimbsKept = (parents more : List (Option ℕ)) (low high : ℕ) → AreOlder parents → low < length parents → is_under (parents ++ more) low high ≡ is_under parents low high
+
+-- A slot is another or has it among its ancestors where it is the other, or its parent is or has.
+abbrev pub UnderByStep : Type 0
+UnderByStep = (parents : List (Option ℕ)) (low high : ℕ) → AreOlder parents → is_under parents low high ≡ (low == high || leads_to parents (slice_index_or parents low None) high)
+
+-- Ancestors are older.
+abbrev pub AncestorsAreOlder : Type 0
+AncestorsAreOlder = (parents : List (Option ℕ)) (low high : ℕ) → AreOlder parents → is_under parents low high ≡ true → high ≤ low
+
+-- Each group is the root or has it among its ancestors.
+abbrev pub RootIsAbove : Type 0
+RootIsAbove = (groups : List GroupLife) (slot : ℕ) → AreGroups groups → slot < length groups → is_under (parents_of groups) slot 0 ≡ true

@@ -1,0 +1,229 @@
+//! What a rules file is read as, as one text: the rules, or the fault as it is told.
+use path_match::Patterns;
+use psi_base::{Fault, MemSink, NoMemory, Path, Text};
+use ruleset_json::{Action, After, DetectorSpec, Rules, RulesFault, put_fault, read};
+use std::alloc::{AllocError, Global};
+use std::process::Abort;
+use std::test::Fail;
+
+// Paths of which it is shown whether patterns match.
+const SAMPLE: [&str; 7] = ["/", "/g0", "/g1", "/g2", "/5", "/true", "/s/a"];
+
+// The paths of the sample that match, each with a space behind it.
+fn matching(alloc: Global, patterns: &Patterns) -> Result<String, Fail> {
+    let mut text = String::new(alloc);
+    for name in SAMPLE {
+        if let Some(path) = Path::read(alloc, name.as_bytes())? {
+            if patterns.matches(&path) {
+                text.push_str(name)?;
+                text.push_str(" ")?;
+            }
+        }
+    }
+    Ok(text)
+}
+
+fn after(alloc: Global, after: &After) -> Result<String, AllocError> {
+    format!(in alloc;
+        "{} {} {}",
+        after.recursive, after.always_continue, after.delay_s
+    )
+}
+
+fn detector(alloc: Global, spec: &DetectorSpec) -> Result<String, Fail> {
+    Ok(match spec {
+        DetectorSpec::PressureAbove {
+            cgroup,
+            resource,
+            threshold,
+            duration_s,
+        } => {
+            let cgroup = matching(alloc, cgroup)?;
+            format!(in alloc; "pressure_above {cgroup}{resource:?} {threshold} {duration_s}")?
+        }
+        DetectorSpec::PressureRisingBeyond {
+            cgroup,
+            resource,
+            threshold,
+            duration_s,
+            ratio,
+        } => {
+            let cgroup = matching(alloc, cgroup)?;
+            format!(in alloc;
+                "pressure_rising_beyond {cgroup}{resource:?} {threshold} {duration_s} {ratio}"
+            )?
+        }
+        DetectorSpec::MemoryAbove {
+            cgroup,
+            threshold,
+            duration_s,
+        } => {
+            let cgroup = matching(alloc, cgroup)?;
+            format!(in alloc; "memory_above {cgroup}{threshold:?} {duration_s}")?
+        }
+        DetectorSpec::MemoryReclaim { cgroup, duration_s } => {
+            let cgroup = matching(alloc, cgroup)?;
+            format!(in alloc; "memory_reclaim {cgroup}{duration_s}")?
+        }
+        DetectorSpec::SwapFree { threshold_pct } => {
+            format!(in alloc; "swap_free {threshold_pct}")?
+        }
+        DetectorSpec::Exists { cgroup, negate } => {
+            let cgroup = matching(alloc, cgroup)?;
+            format!(in alloc; "exists {cgroup}{negate}")?
+        }
+    })
+}
+
+fn action(alloc: Global, action: &Action) -> Result<String, Fail> {
+    Ok(match action {
+        Action::SizeOrGrowth {
+            cgroup,
+            size_threshold,
+            percentile,
+            ratio,
+            after: rest,
+        } => {
+            let cgroup = matching(alloc, cgroup)?;
+            let rest = after(alloc, rest)?;
+            format!(in alloc;
+                "size_or_growth {cgroup}{size_threshold} {percentile} {ratio} {rest}"
+            )?
+        }
+        Action::SwapUsage {
+            cgroup,
+            threshold,
+            after: rest,
+        } => {
+            let cgroup = matching(alloc, cgroup)?;
+            let rest = after(alloc, rest)?;
+            format!(in alloc; "swap_usage {cgroup}{threshold:?} {rest}")?
+        }
+        Action::Pressure {
+            cgroup,
+            resource,
+            after: rest,
+        } => {
+            let cgroup = matching(alloc, cgroup)?;
+            let rest = after(alloc, rest)?;
+            format!(in alloc; "pressure {cgroup}{resource:?} {rest}")?
+        }
+        Action::PgScan {
+            cgroup,
+            after: rest,
+        } => {
+            let cgroup = matching(alloc, cgroup)?;
+            let rest = after(alloc, rest)?;
+            format!(in alloc; "pg_scan {cgroup}{rest}")?
+        }
+    })
+}
+
+fn push_text(to: &mut String, text: &Text) -> Result<(), AllocError> {
+    for byte in text.bytes() {
+        to.push(char::from(*byte))?;
+    }
+    Ok(())
+}
+
+// The rules: a ruleset is its name and a colon, then each group in brackets, each detector with a semicolon behind it,
+// then each action with one.
+fn rules(alloc: Global, rules: &Rules) -> Result<String, Fail> {
+    let mut text = String::new(alloc);
+    for rule in rules.rules.items() {
+        push_text(&mut text, &rule.name)?;
+        text.push_str(":")?;
+        for group in rule.groups.items() {
+            text.push_str(" [")?;
+            push_text(&mut text, &group.name)?;
+            for spec in group.detectors.items() {
+                text.push_str("; ")?;
+                text.push_str(&detector(alloc, spec)?)?;
+            }
+            text.push_str("]")?;
+        }
+        for one in rule.actions.items() {
+            text.push_str(" ")?;
+            text.push_str(&action(alloc, one)?)?;
+            text.push_str(";")?;
+        }
+        text.push_str("\n")?;
+    }
+    Ok(text)
+}
+
+// The text of a fault.
+fn fault(alloc: Global, fault: RulesFault) -> Result<String, Fail> {
+    let mut out = MemSink::new(alloc, 256, 256, Vec::new(alloc))?;
+    put_fault(&mut out, fault)?;
+    let mut text = String::new(alloc);
+    for byte in out.bytes.as_slice() {
+        text.push(char::from(*byte))?;
+    }
+    Ok(text)
+}
+
+/// What the bytes are read as.
+pub fn shown(alloc: Global, bytes: &[u8]) -> Result<String, Fail> {
+    match read(alloc, bytes) {
+        Ok(read) => rules(alloc, &read),
+        Err(Fault::Refused(refused)) => fault(alloc, refused),
+        Err(Fault::NoMemory) => Err(Fail::from(NoMemory)),
+    }
+}
+
+/// The bytes are read as this text.
+pub fn reads_bytes(rt: &impl Abort, alloc: Global, bytes: &[u8], text: &str) -> Result<(), Fail> {
+    assert_eq!(rt; shown(alloc, bytes)?.as_str(), text);
+    Ok(())
+}
+
+/// The file is read as this text. Its quotes are written `'`.
+pub fn reads(rt: &impl Abort, alloc: Global, file: &str, text: &str) -> Result<(), Fail> {
+    let mut bytes = Vec::new(alloc);
+    for byte in file.as_bytes() {
+        bytes.push(if *byte == b'\'' { b'"' } else { *byte })?;
+    }
+    assert_eq!(rt; shown(alloc, &bytes)?.as_str(), text, "at {file}");
+    Ok(())
+}
+
+// The text with this in place of its first `@`, if it has one.
+fn with(alloc: Global, text: &str, value: &str) -> Result<String, AllocError> {
+    match text.split_once('@') {
+        Some((front, behind)) => format!(in alloc; "{front}{value}{behind}"),
+        None => String::from_str(alloc, text),
+    }
+}
+
+/// Files and what they are read as, a row each. A row is what stands for the `@` of the file, and behind a `~` what
+/// stands for that of the rules as they are shown, or behind a `!` what stands for that of the fault.
+pub fn reads_rows(
+    rt: &impl Abort,
+    alloc: Global,
+    file: &str,
+    rules: &str,
+    fault: &str,
+    rows: &str,
+) -> Result<(), Fail> {
+    for row in rows.split('\n') {
+        if let Some((value, shown)) = row.split_once('~') {
+            reads(
+                rt,
+                alloc,
+                &with(alloc, file, value)?,
+                &with(alloc, rules, shown)?,
+            )?;
+        } else if let Some((value, cause)) = row.split_once('!') {
+            reads(
+                rt,
+                alloc,
+                &with(alloc, file, value)?,
+                &with(alloc, fault, cause)?,
+            )?;
+        } else {
+            assert!(rt; false, "no row: {row}");
+        }
+    }
+    Ok(())
+}

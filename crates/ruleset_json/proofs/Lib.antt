@@ -1,0 +1,4 @@
+pub mod Views
+pub mod Texts
+pub mod Each
+pub mod FirstFaults

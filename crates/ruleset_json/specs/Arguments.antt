@@ -1,0 +1,136 @@
+-- The arguments of plugins: of what kind each is, what its text means, and what stands where it isn't there.
+use Rattle.std.specs.Prelude.{ℕ, List, [], ◌∷◌, Bool, true, false, codes, decimal, Option, None, Some, option_and_then, Result, Ok, Err}
+use Rattle.psi_base.specs.declared.event.Res.{Res}
+use Rattle.psi_spec.specs.Match.{patterns_of}
+use Rattle.psi_spec.specs.declared.matches.PatternFault.{PatternFault}
+use Rattle.psi_spec.specs.declared.matches.PatternFault.TheVariants as pattern
+use Rattle.serde_json.specs.Data.{Num, unsigned, Data, boolean, number as numeric, string}
+use Rattle.serde_json.specs.Find.{get}
+use Rattle.ruleset_json.specs.declared.types.Size.{Size}
+use Rattle.ruleset_json.specs.declared.fault.Place.{Place}
+use Rattle.ruleset_json.specs.declared.fault.RulesCause.{RulesCause}
+use Rattle.ruleset_json.specs.declared.fault.RulesCause.TheVariants as cause
+use Rattle.ruleset_json.specs.declared.fault.RulesFault.{RulesFault}
+use Rattle.ruleset_json.specs.declared.name.Key.{Key}
+use Rattle.ruleset_json.specs.Names.{key_word}
+use Rattle.ruleset_json.specs.Forms.{number_up_to, ratio_of, size_of, truth_of, resource_of}
+
+-- ---- the first fault on the walk
+
+-- a step of reading after another, unless that one found a fault
+infixl 10 ◌>>=◌
+abbrev pub ◌>>=◌ : {A B : Type 0} → Result A RulesFault → (A → Result B RulesFault) → Result B RulesFault
+(Ok x) >>= f = f x
+(Err e) >>= f = Err e
+
+-- nothing is read, for this cause at this place
+abbrev pub refused : {A : Type 0} → Place → RulesCause → Result A RulesFault
+refused at what = Err (record { place = at; what = what })
+
+-- what was found, or this cause
+abbrev pub or_fault : {A : Type 0} → Place → RulesCause → Option A → Result A RulesFault
+or_fault at what None = refused at what
+or_fault at what (Some x) = Ok x
+
+-- ---- kinds of arguments
+
+-- patterns of paths; a resource; a number of at most so much; a ratio, in thousandths; a size; a truth
+pub data Kind : Type 0 where
+  patterns : Kind
+  resource : Kind
+  number : (most : ℕ) → Kind
+  ratio : Kind
+  size : Kind
+  truth : Kind
+
+-- the values of a kind
+abbrev pub Value : Kind → Type 0
+Value patterns = List (List (List ℕ))
+Value resource = Res
+Value (number most) = ℕ
+Value ratio = ℕ
+Value size = Size
+Value truth = Bool
+
+-- why a text of patterns is refused
+abbrev pub pattern_cause : PatternFault → RulesCause
+pattern_cause pattern.BadPattern = cause.BadArg
+pattern_cause pattern.TooMany = cause.TooMany
+
+-- what was read, or the cause against it
+abbrev pub or_pattern : {A : Type 0} → Place → Result A PatternFault → Result A RulesFault
+or_pattern at (Ok x) = Ok x
+or_pattern at (Err fault) = refused at (pattern_cause fault)
+
+-- what a text means as an argument of a kind
+unfoldable pub value_of : Place → (k : Kind) → List ℕ → Result (Value k) RulesFault
+value_of at patterns text = or_pattern at (patterns_of text)
+value_of at resource text = or_fault at cause.BadArg (resource_of text)
+value_of at (number most) text = or_fault at cause.BadArg (number_up_to most text)
+value_of at ratio text = or_fault at cause.BadArg (ratio_of text)
+value_of at size text = or_fault at cause.BadArg (size_of text)
+value_of at truth text = or_fault at cause.BadArg (truth_of text)
+
+-- ---- the texts of arguments
+
+-- the text of a truth
+abbrev pub truth_text : Bool → List ℕ
+truth_text true = codes "true"
+truth_text false = codes "false"
+
+-- the text of a whole number from 0 on
+abbrev pub number_text : Num → Option (List ℕ)
+number_text (unsigned n) = Some (decimal n)
+number_text _ = None
+
+-- the text that an argument is taken as: its own, or the spelling of a whole number or a truth
+abbrev pub argument_text : Data → Option (List ℕ)
+argument_text (string text) = Some text
+argument_text (numeric n) = number_text n
+argument_text (boolean b) = Some (truth_text b)
+argument_text _ = None
+
+-- an argument that is there, as a value of its kind
+unfoldable pub value_at : Place → (k : Kind) → Data → Result (Value k) RulesFault
+value_at at k d = do
+  text ← or_fault at cause.WrongKind (argument_text d)
+  value_of at k text
+
+-- ---- tables of arguments
+
+-- a known argument: its key, its kind, and what it is where it isn't there, if it needn't be there
+pub record Argument : Type 0 where
+  pub key : Key
+  pub kind : Kind
+  pub default : Option (Value kind)
+
+-- one that must be there
+abbrev pub needed : Key → Kind → Argument
+needed key k = record { key = key; kind = k; default = None }
+
+-- one that needn't
+abbrev pub optional : Key → (k : Kind) → Value k → Argument
+optional key k default = record { key = key; kind = k; default = Some default }
+
+-- what stands where an argument isn't there, or what it is
+abbrev pub found_or : Place → (k : Kind) → Option (Value k) → Option Data → Result (Value k) RulesFault
+found_or at k None None = refused at cause.MissingKey
+found_or at k (Some default) None = Ok default
+found_or at k default (Some d) = value_at at k d
+
+-- the value of one argument among those of a plugin, of which there may be none
+unfoldable pub argument_at : Place → (a : Argument) → Option Data → Result (Value a.kind) RulesFault
+argument_at at a args = found_or at a.kind a.default (option_and_then (get (key_word a.key)) args)
+
+-- one value of each argument
+abbrev pub Values : List Argument → Type 0
+Values [] = Unit {0}
+Values (a ∷ rest) = Value a.kind × Values rest
+
+-- the values of all arguments, in their order
+abbrev pub values_at : Place → (known : List Argument) → Option Data → Result (Values known) RulesFault
+values_at at [] args = Ok tt
+values_at at (a ∷ known) args = do
+  first ← argument_at at a args
+  others ← values_at at known args
+  Ok (first, others)

@@ -1,0 +1,30 @@
+-- What a fault of a rules file is told as.
+use Rattle.std.specs.Prelude.{ℕ, List, [], ◌∷◌, ◌++◌, codes, decimal}
+use Rattle.psi_spec.specs.Grammar.{joined}
+use Rattle.ruleset_json.specs.declared.fault.Place.{Place}
+use Rattle.ruleset_json.specs.declared.fault.Place.TheVariants as place
+use Rattle.ruleset_json.specs.declared.fault.RulesCause.{RulesCause}
+use Rattle.ruleset_json.specs.declared.fault.RulesCause.TheVariants as cause
+use Rattle.ruleset_json.specs.declared.fault.RulesFault.{RulesFault}
+
+-- the name of a cause
+abbrev pub cause_name : RulesCause → List ℕ
+cause_name cause.TooLong = codes "TooLong"
+cause_name cause.BadJson = codes "BadJson"
+cause_name cause.MissingKey = codes "MissingKey"
+cause_name cause.WrongKind = codes "WrongKind"
+cause_name cause.UnknownPlugin = codes "UnknownPlugin"
+cause_name cause.BadArg = codes "BadArg"
+cause_name cause.TooMany = codes "TooMany"
+
+-- the words of a place: none for the whole file
+abbrev pub place_words : Place → List (List ℕ)
+place_words place.Whole = []
+place_words (place.Rule i) = codes "ruleset" ∷ decimal i ∷ []
+place_words (place.Group i j) = codes "ruleset" ∷ decimal i ∷ codes "group" ∷ decimal j ∷ []
+place_words (place.Detector i j k) = codes "ruleset" ∷ decimal i ∷ codes "group" ∷ decimal j ∷ codes "item" ∷ decimal k ∷ []
+place_words (place.Action i k) = codes "ruleset" ∷ decimal i ∷ codes "action" ∷ decimal k ∷ []
+
+-- the text of a fault
+abbrev pub fault_text : RulesFault → List ℕ
+fault_text fault = joined (codes "rules" ∷ place_words fault.place) ++ (codes ": " ++ cause_name fault.what)

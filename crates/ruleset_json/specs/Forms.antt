@@ -1,0 +1,128 @@
+-- The texts of arguments, as this profile has them after oomd's: numbers, ratios, sizes, truths and resources.
+use Rattle.std.specs.Prelude.{ℕ, ◌+◌, ◌-◌, ◌*◌, ◌/◌, ◌^◌, List, [], ◌∷◌, take, length, slice_index, nat_lt, nat_le, ◌==◌, ◌&&◌, ◌||◌, Bool, true, false, if◌then◌else◌, codes, Option, None, Some, option_map}
+use Rattle.std.specs.List.{list_any}
+use Rattle.std.specs.Str.{bytes_eq}
+use Rattle.psi_base.specs.Number.{number_of}
+use Rattle.psi_base.specs.Path.{parts_at}
+use Rattle.psi_base.specs.declared.event.Res.{Res}
+use Rattle.psi_base.specs.declared.event.Res.TheVariants as res
+use Rattle.psi_spec.specs.Fields.{named, resource_word}
+use Rattle.ruleset_json.specs.declared.types.Size.{Size}
+use Rattle.ruleset_json.specs.declared.types.Size.TheVariants as size
+
+-- a step of reading after another, unless that one found nothing
+infixl 10 ◌>>=◌
+abbrev pub ◌>>=◌ : {A B : Type 0} → Option A → (A → Option B) → Option B
+None >>= f = None
+(Some x) >>= f = f x
+
+-- a number of at most so much
+abbrev pub at_most : ℕ → Option ℕ → Option ℕ
+at_most most None = None
+at_most most (Some n) = if nat_le n most then Some n else None
+
+-- a number as a trace spells it, of at most so much
+unfoldable pub number_up_to : ℕ → List ℕ → Option ℕ
+number_up_to most text = at_most most (number_of text)
+
+-- ---- numbers with a point
+
+-- the digit that a byte is
+abbrev pub digit_of : ℕ → Option ℕ
+digit_of byte = if nat_le 48 byte && nat_le byte 57 then Some (byte - 48) else None
+
+-- the digit at a place behind a point, counted from 0: behind the last one stand zeros
+unfoldable pub digit_at : List ℕ → ℕ → Option ℕ
+digit_at digits place = if nat_lt place (length digits) then digit_of (slice_index digits place) else Some 0
+
+-- the first three digits behind a point, in thousandths
+abbrev pub three_digits : List ℕ → Option ℕ
+three_digits digits = do
+  tenths ← digit_at digits 0
+  hundredths ← digit_at digits 1
+  thousandths ← digit_at digits 2
+  Some (tenths * 100 + hundredths * 10 + thousandths)
+
+-- what one to three digits behind a point are, in thousandths
+unfoldable pub fraction_of : List ℕ → Option ℕ
+fraction_of digits = if nat_lt 0 (length digits) && nat_le (length digits) 3 then three_digits digits else None
+
+-- a number of at most so much, and a fraction of it in thousandths behind a point, if there is one
+abbrev pub pointed : ℕ → List (List ℕ) → Option (ℕ × ℕ)
+pointed most [] = None
+pointed most (whole ∷ []) = do
+  n ← number_up_to most whole
+  Some (n, 0)
+pointed most (whole ∷ digits ∷ []) = do
+  n ← number_up_to most whole
+  fraction ← fraction_of digits
+  Some (n, fraction)
+pointed most (whole ∷ digits ∷ other ∷ parts) = None
+
+-- the thousandths that a text spells: a number of at most so much, which may be followed by a point and one to three
+-- digits
+unfoldable pub thousandths_of : ℕ → List ℕ → Option ℕ
+thousandths_of most text = do
+  parts ← pointed most (parts_at 46 text)
+  Some (parts.0 * 1000 + parts.1)
+
+-- the ratio that a text spells, in thousandths: the number before the point is at most 1000
+abbrev pub ratio_of : List ℕ → Option ℕ
+ratio_of text = thousandths_of 1000 text
+
+-- ---- sizes
+
+-- what a letter behind a size multiplies it by
+unfoldable pub unit_of : ℕ → Option ℕ
+unit_of letter =
+    if letter == 75 || letter == 107 then Some (1024 ^ 1)  -- K, k
+    else if letter == 77 || letter == 109 then Some (1024 ^ 2)  -- M, m
+    else if letter == 71 || letter == 103 then Some (1024 ^ 3)  -- G, g
+    else if letter == 84 || letter == 116 then Some (1024 ^ 4)  -- T, t
+    else None
+
+-- a text's last byte
+abbrev pub last : List ℕ → ℕ
+last text = slice_index text (length text - 1)
+
+-- a text without its last byte
+abbrev pub front : List ℕ → List ℕ
+front text = take (length text - 1) text
+
+-- the largest size, in bytes
+abbrev pub largest : ℕ
+largest = 2 ^ 60
+
+-- the bytes that a number with this unit behind it is: it may have a point, and the bytes are rounded down
+unfoldable pub scaled : ℕ → List ℕ → Option ℕ
+scaled unit text = do
+  thousandths ← thousandths_of (2 ^ 64 - 1) text
+  at_most largest (Some (thousandths * unit / 1000))
+
+-- the bytes that a text spells which has this unit, or none
+abbrev pub bytes_in : Option ℕ → List ℕ → Option ℕ
+bytes_in None text = number_up_to largest text
+bytes_in (Some unit) text = scaled unit (front text)
+
+-- the size that a text spells: a number of 0 to 100 and `%`; or bytes, with a letter or without
+unfoldable pub size_of : List ℕ → Option Size
+size_of text =
+    if last text == 37 then option_map size.Percent (number_up_to 100 (front text))
+    else option_map size.Bytes (bytes_in (unit_of (last text)) text)
+
+-- ---- words
+
+-- the text is one of these words
+abbrev pub is_among : List (List ℕ) → List ℕ → Bool
+is_among words text = list_any (bytes_eq text) words
+
+-- the truth that a text spells
+unfoldable pub truth_of : List ℕ → Option Bool
+truth_of text =
+    if is_among (codes "true" ∷ codes "True" ∷ codes "1" ∷ []) text then Some true
+    else if is_among (codes "false" ∷ codes "False" ∷ codes "0" ∷ []) text then Some false
+    else None
+
+-- the resource that a text spells: one that tasks stall for
+unfoldable pub resource_of : List ℕ → Option Res
+resource_of text = named resource_word (res.Io ∷ res.Memory ∷ []) text

@@ -1,0 +1,11 @@
+-- What groups of detectors are within.
+use Rattle.std.specs.Prelude.{List}
+use Rattle.ruleset_json.specs.declared.types.DetectorGroup.{DetectorGroup}
+use Rattle.ruleset_json.specs.Ranges.{FitsList, FitsDetectors}
+
+-- a group has at most 16 detectors, with their arguments in their ranges
+abbrev pub FitsGroup : DetectorGroup → Type 0
+FitsGroup group = FitsDetectors group.detectors
+
+abbrev pub FitsGroups : List DetectorGroup → Type 0
+FitsGroups = FitsList FitsGroup 16

@@ -1,0 +1,11 @@
+pub mod Gives
+pub mod Forms
+pub mod Names
+pub mod Arguments
+pub mod Plugins
+pub mod Ranges
+pub mod GroupRanges
+pub mod RuleRanges
+pub mod Rules
+pub mod FaultText
+pub mod Laws

@@ -1,0 +1,157 @@
+-- The rules that a file's bytes give, or the first fault on the walk through it: down into each part before the next.
+use Rattle.std.specs.Prelude.{ℕ, ◌+◌, List, [], ◌∷◌, drop, length, nat_lt, if◌then◌else◌, codes, Option, None, Some, is_some, Result, Ok}
+use Rattle.std.specs.List.{slice_get}
+use Rattle.std.specs.Str.{is_utf8}
+use Rattle.serde_json.specs.Data.{Data, Items, no_items, item}
+use Rattle.serde_json.specs.Find.{get, as_array, as_object, as_str}
+use Rattle.serde_json.specs.Read as json
+use Rattle.ruleset_json.specs.declared.fault.Place.{Place}
+use Rattle.ruleset_json.specs.declared.fault.Place.TheVariants as place
+use Rattle.ruleset_json.specs.declared.fault.RulesCause.TheVariants as cause
+use Rattle.ruleset_json.specs.declared.fault.RulesFault.{RulesFault}
+use Rattle.ruleset_json.specs.declared.name.ActionName.{ActionName}
+use Rattle.ruleset_json.specs.declared.name.Key.TheVariants as key
+use Rattle.ruleset_json.specs.declared.types.DetectorSpec.{DetectorSpec}
+use Rattle.ruleset_json.specs.declared.types.DetectorGroup.{DetectorGroup}
+use Rattle.ruleset_json.specs.declared.types.Action.{Action}
+use Rattle.ruleset_json.specs.declared.types.Rule.{Rule}
+use Rattle.ruleset_json.specs.declared.types.Rules.{Rules}
+use Rattle.ruleset_json.specs.Arguments.{◌>>=◌, refused, or_fault, number, optional, argument_at, values_at}
+use Rattle.ruleset_json.specs.Names.{detector_named, action_named}
+use Rattle.ruleset_json.specs.Plugins.{Plugin, detector_of, action_of, after_of, longest}
+
+-- ---- kinds of values
+
+-- an object
+abbrev pub object_at : Place → Data → Result Data RulesFault
+object_at at d = if is_some (as_object d) then Ok d else refused at cause.WrongKind
+
+-- the member of this key, which must be there
+abbrev pub member_at : Place → List ℕ → Data → Result Data RulesFault
+member_at at key d = or_fault at cause.MissingKey (get key d)
+
+-- a text
+abbrev pub text_at : Place → Data → Result (List ℕ) RulesFault
+text_at at d = or_fault at cause.WrongKind (as_str d)
+
+-- the items of an array, as a list
+abbrev pub listed : Items → List Data
+listed no_items = []
+listed (item d ds) = d ∷ listed ds
+
+-- at most so many items
+abbrev pub few : Place → ℕ → List Data → Result (List Data) RulesFault
+few at most ds = if nat_lt most (length ds) then refused at cause.TooMany else Ok ds
+
+-- a list of at most so many items, of whatever kinds
+unfoldable pub list_at : Place → ℕ → Data → Result (List Data) RulesFault
+list_at at most d = do
+  items ← or_fault at cause.WrongKind (as_array d)
+  few at most (listed items)
+
+-- each item in order, with its number from this one on
+abbrev pub each : {A : Type 0} → (ℕ → Data → Result A RulesFault) → ℕ → List Data → Result (List A) RulesFault
+each f i [] = Ok []
+each f i (d ∷ ds) = do
+  first ← f i d
+  rest ← each f (i + 1) ds
+  Ok (first ∷ rest)
+
+-- ---- plugins
+
+-- the arguments of a plugin object: none where it has none
+abbrev pub arguments_in : Place → Option Data → Result (Option Data) RulesFault
+arguments_in at None = Ok None
+arguments_in at (Some d) = do
+  whole ← object_at at d
+  Ok (Some whole)
+
+-- what a plugin makes of its arguments
+unfoldable pub made_at : {Made : Type 0} → Place → Plugin Made → Option Data → Result Made RulesFault
+made_at at known args = do
+  values ← values_at at known.arguments args
+  Ok (known.make values)
+
+-- what an action makes of its arguments, in a ruleset that rests for so long (s) after a kill
+unfoldable pub action_made_at : Place → ℕ → ActionName → Option Data → Result Action RulesFault
+action_made_at at delay name args = do
+  make ← made_at at (action_of name) args
+  after ← made_at at (after_of delay) args
+  Ok (make after)
+
+-- what a plugin object makes, by the names of its kind and what each of these makes of arguments
+unfoldable pub plugin_at : {Name Made : Type 0} → (List ℕ → Option Name) → (Name → Option Data → Result Made RulesFault) → Place → Data → Result Made RulesFault
+plugin_at name_of made at d = do
+  whole ← object_at at d
+  found ← member_at at (codes "name") whole
+  text ← text_at at found
+  name ← or_fault at cause.UnknownPlugin (name_of text)
+  args ← arguments_in at (get (codes "args") whole)
+  made name args
+
+-- the detector that a plugin object is
+abbrev pub detector_in : Place → Data → Result DetectorSpec RulesFault
+detector_in at d = plugin_at detector_named (λ name. made_at at (detector_of name)) at d
+
+-- the action that a plugin object is, in a ruleset that rests for so long (s) after a kill
+abbrev pub action_in : ℕ → Place → Data → Result Action RulesFault
+action_in delay at d = plugin_at action_named (action_made_at at delay) at d
+
+-- ---- groups, rulesets and the file
+
+-- a group: its name and at most 16 detectors behind it in one list
+unfoldable pub group_at : ℕ → ℕ → Data → Result DetectorGroup RulesFault
+group_at i j d = do
+  items ← list_at (place.Group i j) 17 d
+  first ← or_fault (place.Group i j) cause.MissingKey (slice_get items 0)
+  name ← text_at (place.Group i j) first
+  found ← each (λ k. detector_in (place.Detector i j k)) 0 (drop 1 items)
+  Ok (record { name = name; detectors = found })
+
+-- how long a ruleset rests after a kill, in seconds
+abbrev pub delay_at : Place → Data → Result ℕ RulesFault
+delay_at at whole = argument_at at (optional key.PostActionDelay (number longest) 15) (Some whole)
+
+-- the groups of a ruleset
+abbrev pub groups_at : ℕ → Data → Result (List DetectorGroup) RulesFault
+groups_at i whole = do
+  found ← member_at (place.Rule i) (codes "detectors") whole
+  items ← list_at (place.Rule i) 16 found
+  each (group_at i) 0 items
+
+-- the actions of a ruleset that rests for so long
+abbrev pub actions_at : ℕ → ℕ → Data → Result (List Action) RulesFault
+actions_at i delay whole = do
+  found ← member_at (place.Rule i) (codes "actions") whole
+  items ← list_at (place.Rule i) 16 found
+  each (λ k. action_in delay (place.Action i k)) 0 items
+
+-- a ruleset
+unfoldable pub rule_at : ℕ → Data → Result Rule RulesFault
+rule_at i d = do
+  whole ← object_at (place.Rule i) d
+  found ← member_at (place.Rule i) (codes "name") whole
+  name ← text_at (place.Rule i) found
+  delay ← delay_at (place.Rule i) whole
+  groups ← groups_at i whole
+  chain ← actions_at i delay whole
+  Ok (record { name = name; groups = groups; actions = chain })
+
+-- the file
+unfoldable pub rules_in : Data → Result Rules RulesFault
+rules_in d = do
+  whole ← object_at place.Whole d
+  found ← member_at place.Whole (codes "rulesets") whole
+  items ← list_at place.Whole 64 found
+  rules ← each rule_at 0 items
+  Ok (record { rules = rules })
+
+-- the JSON data of a text; what isn't UTF-8 is no text
+abbrev pub data_of : List ℕ → Option Data
+data_of bytes = if is_utf8 bytes then json.read bytes else None
+
+-- the rules that a file's bytes give, or the first fault
+unfoldable pub rules_of : List ℕ → Result Rules RulesFault
+rules_of bytes =
+    if nat_lt 1048576 (length bytes) then refused place.Whole cause.TooLong
+    else or_fault place.Whole cause.BadJson (data_of bytes) >>= rules_in

@@ -1,0 +1,230 @@
+//! The walk through a rules file: down into each part before the next.
+ghost use Rattle.std.specs.Prelude.{◌≡◌, ◌≤◌, ◌-◌, drop, map, length, IfOk, Err};
+ghost use Rattle.std.specs.List.{slice_get};
+ghost use Rattle.serde_json.specs.View.{view};
+ghost use Rattle.ruleset_json.specs.Arguments.{or_fault};
+ghost use Rattle.ruleset_json.specs.GroupRanges.{FitsGroup, FitsGroups};
+ghost use Rattle.ruleset_json.specs.Ranges.{FitsDetectors, FitsActions, IsTime};
+ghost use Rattle.ruleset_json.specs.RuleRanges.{FitsRule, FitsRules};
+ghost use Rattle.ruleset_json.specs.Rules.{each, detector_in, action_in, group_at, delay_at, groups_at, actions_at, rule_at, rules_in, rules_of};
+ghost use Rattle.ruleset_json.specs.Gives.{Gives, GivesBy, ReadsBy, FaultOf};
+ghost use Rattle.psi_base.specs.declared.event.Fault.TheVariants as outcome;
+ghost use Rattle.ruleset_json.specs.declared.fault.Place.TheVariants as place;
+ghost use Rattle.ruleset_json.specs.declared.fault.RulesCause.TheVariants as cause;
+
+use crate::action::action;
+use crate::arguments::{Arguments, LONGEST_S};
+use crate::detector::detector;
+use crate::fault::{Place, RulesCause, RulesFault, refused};
+use crate::json::{list, member, object, text, value_of};
+use crate::name::Key;
+use crate::types::{ActionList, DetectorGroup, GroupList, Rule, RuleList, Rules, SpecList};
+use psi_base::{Fault, Text};
+use serde_json::Value;
+use std::alloc::Global;
+
+/// The most bytes of a rules file.
+const MOST_BYTES: usize = 1_048_576;
+
+/// The most rulesets of a file.
+const MOST_RULES: usize = 64;
+
+/// The most groups of a ruleset, detectors of a group, and actions of a ruleset.
+const MOST_PARTS: usize = 16;
+
+/// How long a ruleset rests after a kill where nothing is said, in seconds: oomd's default.
+const DELAY_S: u32 = 15;
+
+// The detectors of a group.
+fn detectors(
+    alloc: Global,
+    rule: u32,
+    group: u32,
+    items: &[Value],
+) -> Result<SpecList, Fault<RulesFault>>
+    requires { length items.now ≤ 16 }
+    ensures value { Gives result (each (λ k. detector_in (place.Detector rule group k)) 0 (map view items.now)) }
+    ensures range { IfOk result (λ found. FitsDetectors found) }
+{
+    let mut found = Vec::new(alloc);
+    'items: for index in 0..items.len() {
+        let place = Place::Detector(rule, group, index as u32);
+        let one = match detector(alloc, &items[index], place) {
+            Ok(one) => one,
+            Err(fault) => return Err(fault),
+        };
+        if found.push(one).is_err() {
+            return Err(Fault::NoMemory);
+        }
+    }
+    Ok(SpecList::new(found))
+}
+
+// The actions of a ruleset that rests for so long after a kill.
+fn actions(
+    alloc: Global,
+    rule: u32,
+    delay_s: u32,
+    items: &[Value],
+) -> Result<ActionList, Fault<RulesFault>>
+    requires few { length items.now ≤ 16 }
+    requires delay { IsTime delay_s }
+    ensures value { Gives result (each (λ k. action_in delay_s (place.Action rule k)) 0 (map view items.now)) }
+    ensures range { IfOk result (λ found. FitsActions found) }
+{
+    let mut found = Vec::new(alloc);
+    'items: for index in 0..items.len() {
+        let place = Place::Action(rule, index as u32);
+        let one = match action(alloc, &items[index], delay_s, place) {
+            Ok(one) => one,
+            Err(fault) => return Err(fault),
+        };
+        if found.push(one).is_err() {
+            return Err(Fault::NoMemory);
+        }
+    }
+    Ok(ActionList::new(found))
+}
+
+// The first item of a list, which must be there.
+fn first(items: &[Value], place: Place) -> Result<&Value, RulesFault>
+    ensures { ReadsBy (λ v. view v.now) result (or_fault place cause.MissingKey (slice_get (map view items.now) 0)) }
+{
+    match items {
+        [first, ..] => Ok(first),
+        [] => Err(RulesFault {
+            place,
+            what: RulesCause::MissingKey,
+        }),
+    }
+}
+
+// The items of a list behind the first.
+fn rest(items: &[Value]) -> &[Value]
+    ensures rest { map view result.now ≡ drop 1 (map view items.now) }
+    ensures fewer { length result.now ≤ length items.now - 1 }
+{
+    match items {
+        [_, rest @ ..] => rest,
+        [] => items,
+    }
+}
+
+// A group: its name and its detectors in one list.
+#[tactic(auto, unfolding(crate::specs::Rules::group_at))]
+fn group(
+    alloc: Global,
+    rule: u32,
+    index: u32,
+    value: &Value,
+) -> Result<DetectorGroup, Fault<RulesFault>>
+    ensures value { Gives result (group_at rule index (view value.now)) }
+    ensures range { IfOk result FitsGroup }
+{
+    let place = Place::Group(rule, index);
+    let items = list(value, MOST_PARTS + 1, place)?;
+    let name = text(first(items, place)?, place)?;
+    let detectors = detectors(alloc, rule, index, rest(items))?;
+    let name = Text::make(alloc, name.as_bytes())?;
+    Ok(DetectorGroup { name, detectors })
+}
+
+// The groups of a ruleset.
+fn groups(alloc: Global, rule: u32, items: &[Value]) -> Result<GroupList, Fault<RulesFault>>
+    requires { length items.now ≤ 16 }
+    ensures value { Gives result (each (group_at rule) 0 (map view items.now)) }
+    ensures range { IfOk result (λ found. FitsGroups found) }
+{
+    let mut found = Vec::new(alloc);
+    'items: for index in 0..items.len() {
+        let one = match group(alloc, rule, index as u32, &items[index]) {
+            Ok(one) => one,
+            Err(fault) => return Err(fault),
+        };
+        if found.push(one).is_err() {
+            return Err(Fault::NoMemory);
+        }
+    }
+    Ok(GroupList::new(found))
+}
+
+// How long a ruleset rests after a kill, in seconds.
+fn delay(alloc: Global, whole: &Value, place: Place) -> Result<u32, Fault<RulesFault>>
+    ensures value { Gives result (delay_at place (view whole.now)) }
+    ensures range { IfOk result IsTime }
+{
+    Arguments::of(alloc, whole, place).number_or(Key::PostActionDelay, LONGEST_S, DELAY_S)
+}
+
+// A ruleset.
+#[tactic(auto, unfolding(crate::specs::Rules::rule_at))]
+fn rule(alloc: Global, index: u32, value: &Value) -> Result<Rule, Fault<RulesFault>>
+    ensures value { Gives result (rule_at index (view value.now)) }
+    ensures range { IfOk result FitsRule }
+{
+    let place = Place::Rule(index);
+    let whole = object(value, place)?;
+    let name = text(member(whole, "name", place)?, place)?;
+    let delay_s = delay(alloc, whole, place)?;
+    let items = list(member(whole, "detectors", place)?, MOST_PARTS, place)?;
+    let groups = groups(alloc, index, items)?;
+    let items = list(member(whole, "actions", place)?, MOST_PARTS, place)?;
+    let actions = actions(alloc, index, delay_s, items)?;
+    let name = Text::make(alloc, name.as_bytes())?;
+    Ok(Rule {
+        name,
+        groups,
+        actions,
+    })
+}
+
+// The rulesets of the file.
+fn rules(alloc: Global, items: &[Value]) -> Result<RuleList, Fault<RulesFault>>
+    requires { length items.now ≤ 64 }
+    ensures value { Gives result (each rule_at 0 (map view items.now)) }
+    ensures range { IfOk result (λ found. FitsRules found) }
+{
+    let mut found = Vec::new(alloc);
+    'items: for index in 0..items.len() {
+        let one = match rule(alloc, index as u32, &items[index]) {
+            Ok(one) => one,
+            Err(fault) => return Err(fault),
+        };
+        if found.push(one).is_err() {
+            return Err(Fault::NoMemory);
+        }
+    }
+    Ok(RuleList::new(found))
+}
+
+// What the file says.
+#[tactic(auto, unfolding(crate::specs::Rules::rules_in))]
+fn file(alloc: Global, value: &Value) -> Result<Rules, Fault<RulesFault>>
+    ensures { Gives result (rules_in (view value.now)) }
+{
+    let whole = object(value, Place::Whole)?;
+    let items = list(
+        member(whole, "rulesets", Place::Whole)?,
+        MOST_RULES,
+        Place::Whole,
+    )?;
+    let rules = rules(alloc, items)?;
+    Ok(Rules { rules })
+}
+
+/// The rules that a file's bytes give, or the first fault on the walk through it, which goes down into each part
+/// before the next: the file, its list `rulesets`, and of each ruleset `name`, `post_action_delay`, `detectors` and
+/// `actions`. A list is taken before its items; of a plugin its name, its `args` and each argument in the order of
+/// its table. Beyond the length and UTF-8 the text is what `serde_json` reads of it: at most 127 nested lists and
+/// objects, and of a key that comes twice the last value. `NoMemory` comes only for a file that isn't too long.
+#[tactic(auto, unfolding(crate::specs::Rules::rules_of))]
+pub fn read(alloc: Global, bytes: &[u8]) -> Result<Rules, Fault<RulesFault>>
+    ensures exact { Gives result (rules_of bytes.now) }
+    ensures memory { result ≡ Err outcome.NoMemory → length bytes.now ≤ 1048576 }
+{
+    if bytes.len() > MOST_BYTES {
+        return Err(refused(Place::Whole, RulesCause::TooLong));
+    }
+    let value = value_of(alloc, bytes)?;
+    file(alloc, &value)
+}

@@ -1,0 +1,195 @@
+//! The texts of arguments: numbers, ratios, sizes, truths and resources.
+ghost use Rattle.std.specs.Prelude.{◌≡◌, ℕ, ◌<◌, ◌≤◌, ◌^◌, ◌*◌, ◌+◌, IfSome};
+ghost use Rattle.ruleset_json.specs.Forms as form;
+ghost use Rattle.ruleset_json.specs.Ranges.{IsRatio, IsSize, IsStallable};
+
+use crate::types::Size;
+use psi_base::{Parts, Res, read_number};
+
+/// The largest size, in bytes.
+const LARGEST_BYTES: u64 = 1 << 60;
+
+/// The largest number before the point of a ratio.
+const LARGEST_RATIO: u64 = 1000;
+
+// A number of at most so much.
+#[tactic(auto, unfolding(crate::specs::Forms::number_up_to))]
+fn long_number(text: &[u8], most: u64) -> Option<u64>
+    ensures value { result ≡ form.number_up_to most text.now }
+    ensures range { IfSome result (λ n. n ≤ most) }
+{
+    match read_number(text) {
+        Some(n) if n <= most => Some(n),
+        _ => None,
+    }
+}
+
+/// A number of at most so much.
+pub fn number(text: &[u8], most: u32) -> Option<u32>
+    ensures value { result ≡ form.number_up_to most text.now }
+    ensures range { IfSome result (λ n. n ≤ most) }
+{
+    match long_number(text, u64::from(most)) {
+        Some(n) => Some(n as u32),
+        None => None,
+    }
+}
+
+// The digit at a place behind a point, counted from 0: behind the last one stand zeros.
+#[tactic(auto, unfolding(crate::specs::Forms::digit_at))]
+fn digit_at(digits: &[u8], place: usize) -> Option<u32>
+    ensures value { result ≡ form.digit_at digits.now place }
+    ensures range { IfSome result (λ n. n ≤ 9) }
+{
+    if place >= digits.len() {
+        return Some(0);
+    }
+    let byte = digits[place];
+    if byte >= b'0' && byte <= b'9' {
+        Some(u32::from(byte - b'0'))
+    } else {
+        None
+    }
+}
+
+// What one to three digits behind a point are, in thousandths.
+#[tactic(auto, unfolding(crate::specs::Forms::fraction_of))]
+fn fraction(digits: &[u8]) -> Option<u32>
+    ensures value { result ≡ form.fraction_of digits.now }
+    ensures range { IfSome result (λ n. n ≤ 999) }
+{
+    if digits.is_empty() || digits.len() > 3 {
+        return None;
+    }
+    let tenths = digit_at(digits, 0)?;
+    let hundredths = digit_at(digits, 1)?;
+    let thousandths = digit_at(digits, 2)?;
+    Some(tenths * 100 + hundredths * 10 + thousandths)
+}
+
+// The thousandths of a number of at most so much, which may be followed by a point and one to three digits.
+#[tactic(auto, unfolding(crate::specs::Forms::thousandths_of))]
+fn thousandths(text: &[u8], most: u64) -> Option<u128>
+    ensures value { result ≡ form.thousandths_of most text.now }
+    ensures range { IfSome result (λ n. n ≤ most * 1000 + 999) }
+{
+    let mut parts: Parts<'_, b'.'> = Parts::new(text);
+    let whole = u128::from(long_number(parts.next_part()?, most)?) * 1000;
+    let Some(digits) = parts.next_part() else {
+        return Some(whole);
+    };
+    if parts.next_part().is_some() {
+        return None;
+    }
+    Some(whole + u128::from(fraction(digits)?))
+}
+
+/// A ratio in thousandths: a number of at most 1000, which may be followed by a point and one to three digits.
+pub fn ratio(text: &[u8]) -> Option<u32>
+    ensures value { result ≡ form.ratio_of text.now }
+    ensures range { IfSome result IsRatio }
+{
+    match thousandths(text, LARGEST_RATIO) {
+        Some(n) => Some(n as u32),
+        None => None,
+    }
+}
+
+// What a letter behind a size multiplies it by.
+#[tactic(auto, unfolding(crate::specs::Forms::unit_of))]
+fn unit(letter: u8) -> Option<u128>
+    ensures value { result ≡ form.unit_of letter }
+    ensures range { IfSome result (λ n. n ≤ 2 ^ 40) }
+{
+    match letter {
+        b'K' | b'k' => Some(1 << 10),
+        b'M' | b'm' => Some(1 << 20),
+        b'G' | b'g' => Some(1 << 30),
+        b'T' | b't' => Some(1 << 40),
+        _ => None,
+    }
+}
+
+// The bytes of a number with this unit, rounded down.
+#[tactic(auto, unfolding(crate::specs::Forms::scaled))]
+fn scaled(text: &[u8], unit: u128) -> Option<u64>
+    requires { unit ≤ 2 ^ 40 }
+    ensures value { result ≡ form.scaled unit text.now }
+    ensures range { IfSome result (λ n. n ≤ 2 ^ 60) }
+{
+    let bytes = thousandths(text, u64::MAX)? * unit / 1000;
+    if bytes <= u128::from(LARGEST_BYTES) {
+        Some(bytes as u64)
+    } else {
+        None
+    }
+}
+
+// The bytes of a text, of which the last may be the letter of a unit.
+fn bytes(text: &[u8], front: &[u8], last: u8) -> Option<u64>
+    requires { front.now ≡ form.front text.now }
+    ensures value { result ≡ form.bytes_in (form.unit_of last) text.now }
+    ensures range { IfSome result (λ n. n ≤ 2 ^ 60) }
+{
+    match unit(last) {
+        Some(unit) => scaled(front, unit),
+        None => long_number(text, LARGEST_BYTES),
+    }
+}
+
+/// A size: a number of 0 to 100 and `%`; or at most 2^60 bytes, as a number, or as a number with or without a point
+/// and one of the letters `K`, `M`, `G`, `T` in either case, which are powers of 1024.
+#[tactic(auto, using(crate::proofs::Texts::empty_size), unfolding(crate::specs::Forms::size_of))]
+pub fn size(text: &[u8]) -> Option<Size>
+    ensures value { result ≡ form.size_of text.now }
+    ensures range { IfSome result IsSize }
+{
+    if text.is_empty() {
+        return None;
+    }
+    let front = &text[..text.len() - 1];
+    let last = text[text.len() - 1];
+    if last == b'%' {
+        match number(front, 100) {
+            Some(percent) => Some(Size::Percent(percent)),
+            None => None,
+        }
+    } else {
+        match bytes(text, front, last) {
+            Some(bytes) => Some(Size::Bytes(bytes)),
+            None => None,
+        }
+    }
+}
+
+/// A truth: `true`, `True` or `1`, and `false`, `False` or `0`.
+#[tactic(auto, unfolding(crate::specs::Forms::truth_of))]
+pub fn truth(text: &[u8]) -> Option<bool>
+    ensures { result ≡ form.truth_of text.now }
+{
+    if text == b"true".as_slice() || text == b"True".as_slice() || text == b"1".as_slice() {
+        Some(true)
+    } else if text == b"false".as_slice()
+        || text == b"False".as_slice()
+        || text == b"0".as_slice()
+    {
+        Some(false)
+    } else {
+        None
+    }
+}
+
+/// A resource that tasks stall for: `io` or `memory`.
+#[tactic(auto, unfolding(crate::specs::Forms::resource_of))]
+pub fn resource(text: &[u8]) -> Option<Res>
+    ensures value { result ≡ form.resource_of text.now }
+    ensures range { IfSome result IsStallable }
+{
+    if text == b"io".as_slice() {
+        Some(Res::Io)
+    } else if text == b"memory".as_slice() {
+        Some(Res::Memory)
+    } else {
+        None
+    }
+}

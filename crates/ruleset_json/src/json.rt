@@ -1,0 +1,93 @@
+//! Values of a rules file by their kinds, and the faults of other kinds.
+ghost use Rattle.std.specs.Prelude.{◌≡◌, ◌≤◌, map, length, IfOk};
+ghost use Rattle.serde_json.specs.View.{view};
+ghost use Rattle.ruleset_json.specs.Arguments.{or_fault};
+ghost use Rattle.ruleset_json.specs.Rules.{data_of, object_at, member_at, text_at, list_at};
+ghost use Rattle.ruleset_json.specs.Gives.{GivesBy, ReadsBy, FaultOf};
+ghost use Rattle.ruleset_json.specs.declared.fault.Place.TheVariants as place;
+ghost use Rattle.ruleset_json.specs.declared.fault.RulesCause.TheVariants as cause;
+
+use crate::fault::{Place, RulesCause, RulesFault, refused};
+use psi_base::Fault;
+use serde_json::Value;
+use std::alloc::Global;
+
+/// The value that the bytes are, or BadJson.
+pub fn value_of(alloc: Global, bytes: &[u8]) -> Result<Value, Fault<RulesFault>>
+    ensures { GivesBy view result (or_fault place.Whole cause.BadJson (data_of bytes.now)) }
+{
+    match Value::from_slice(alloc, bytes) {
+        Ok(value) => Ok(value),
+        Err(error) => {
+            if error.is_memory() {
+                Err(Fault::NoMemory)
+            } else {
+                Err(refused(Place::Whole, RulesCause::BadJson))
+            }
+        }
+    }
+}
+
+/// The value, if it is an object.
+pub fn object<'v>(value: &'v Value, place: Place) -> Result<&'v Value, RulesFault>
+    ensures { ReadsBy (λ v. view v.now) result (object_at place (view value.now)) }
+{
+    if value.is_object() {
+        Ok(value)
+    } else {
+        Err(RulesFault {
+            place,
+            what: RulesCause::WrongKind,
+        })
+    }
+}
+
+/// The member of this key, which must be there.
+pub fn member<'v>(value: &'v Value, key: &str, place: Place) -> Result<&'v Value, RulesFault>
+    ensures { ReadsBy (λ v. view v.now) result (member_at place key.now (view value.now)) }
+{
+    match value.get(key) {
+        Some(found) => Ok(found),
+        None => Err(RulesFault {
+            place,
+            what: RulesCause::MissingKey,
+        }),
+    }
+}
+
+/// The value's text.
+pub fn text<'v>(value: &'v Value, place: Place) -> Result<&'v str, RulesFault>
+    ensures { ReadsBy (λ s. s.now) result (text_at place (view value.now)) }
+{
+    match value.as_str() {
+        Some(found) => Ok(found),
+        None => Err(RulesFault {
+            place,
+            what: RulesCause::WrongKind,
+        }),
+    }
+}
+
+/// The value's items, if it is a list of at most so many.
+#[tactic(auto, using(crate::proofs::Views::listed_view), unfolding(crate::specs::Rules::list_at))]
+pub fn list<'v>(value: &'v Value, most: usize, place: Place) -> Result<&'v [Value], RulesFault>
+    ensures read { ReadsBy (λ v. map view v.now) result (list_at place most (view value.now)) }
+    ensures few { IfOk result (λ items. length items.now ≤ most) }
+{
+    match value.as_array() {
+        Some(items) => {
+            if items.len() > most {
+                Err(RulesFault {
+                    place,
+                    what: RulesCause::TooMany,
+                })
+            } else {
+                Ok(items.as_slice())
+            }
+        }
+        None => Err(RulesFault {
+            place,
+            what: RulesCause::WrongKind,
+        }),
+    }
+}

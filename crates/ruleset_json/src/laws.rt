@@ -1,0 +1,22 @@
+//! Laws of the walk. Each function has an empty body: its contract is the law.
+ghost use Rattle.ruleset_json.specs.Laws.{ReadsEach, RefusesFirst};
+ghost use Rattle.ruleset_json.specs.declared.types.Action.{Action};
+ghost use Rattle.ruleset_json.specs.declared.types.DetectorGroup.{DetectorGroup};
+ghost use Rattle.ruleset_json.specs.declared.types.DetectorSpec.{DetectorSpec};
+ghost use Rattle.ruleset_json.specs.declared.types.Rule.{Rule};
+
+/// A list is read exactly where each of its items is.
+pub fn lists_are_read()
+    ensures detectors { ReadsEach DetectorSpec }
+    ensures groups { ReadsEach DetectorGroup }
+    ensures actions { ReadsEach Action }
+    ensures rules { ReadsEach Rule }
+{}
+
+/// A list is refused exactly with the fault of its first item that is.
+pub fn first_faults()
+    ensures detectors { RefusesFirst DetectorSpec }
+    ensures groups { RefusesFirst DetectorGroup }
+    ensures actions { RefusesFirst Action }
+    ensures rules { RefusesFirst Rule }
+{}

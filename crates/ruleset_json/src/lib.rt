@@ -1,0 +1,27 @@
+//! Rules files of a killer of groups that run out of memory, as oomd's: which groups to watch, and which to kill.
+//!
+//! [`read`] makes of any bytes the rules with every default filled in, or the first fault with its place and cause.
+//! Each plugin is one definition in `specs/Plugins.antt` with its table of arguments, one variant of
+//! [`DetectorSpec`] or [`Action`], and one function with a line an argument.
+#![tactic(auto)]
+
+mod action;
+mod arguments;
+mod detector;
+mod fault;
+mod file;
+mod form;
+mod json;
+mod laws;
+mod name;
+mod note;
+mod types;
+
+pub use fault::{Place, RulesCause, RulesFault};
+pub use file::read;
+pub use laws::{first_faults, lists_are_read};
+pub use note::put_fault;
+pub use types::{
+    Action, ActionList, After, DetectorGroup, DetectorSpec, GroupList, Rule, RuleList, Rules, Size,
+    SpecList,
+};

@@ -1,0 +1,80 @@
+//! The text of a fault.
+ghost use Rattle.psi_base.specs.Outside.{PutsAll, HasCause};
+ghost use Rattle.std.specs.Prelude.{◌≡◌};
+ghost use Rattle.ruleset_json.specs.FaultText.{cause_name, fault_text};
+
+use crate::fault::{Place, RulesCause, RulesFault};
+use itoa::Buffer;
+use psi_base::{Sink, WriteFailed, put_each};
+
+// The name of a cause.
+fn name_of(cause: RulesCause) -> &'static [u8]
+    ensures { result.now ≡ cause_name cause }
+{
+    match cause {
+        RulesCause::TooLong => b"TooLong",
+        RulesCause::BadJson => b"BadJson",
+        RulesCause::MissingKey => b"MissingKey",
+        RulesCause::WrongKind => b"WrongKind",
+        RulesCause::UnknownPlugin => b"UnknownPlugin",
+        RulesCause::BadArg => b"BadArg",
+        RulesCause::TooMany => b"TooMany",
+    }
+}
+
+/// Writes what a fault is told as: `rules`, the place by the numbers of its ruleset, its group and its item or its
+/// action, which is nothing for the whole file, then `: ` and the cause. Takes no memory.
+pub fn put_fault<K: Sink>(out: &mut K, fault: RulesFault) -> Result<(), WriteFailed>
+    ensures bytes { PutsAll (K.has out.old) (K.has out.new) result (fault_text fault) }
+    ensures cause { HasCause (K.faults out.old) (K.faults out.new) result }
+{
+    let name = name_of(fault.what);
+    let (mut first, mut second, mut third) = (Buffer::new(), Buffer::new(), Buffer::new());
+    match fault.place {
+        Place::Whole => put_each(out, &[b"rules: ".as_slice(), name]),
+        Place::Rule(rule) => put_each(
+            out,
+            &[
+                b"rules ruleset ".as_slice(),
+                first.format(rule).as_bytes(),
+                b": ".as_slice(),
+                name,
+            ],
+        ),
+        Place::Group(rule, group) => put_each(
+            out,
+            &[
+                b"rules ruleset ".as_slice(),
+                first.format(rule).as_bytes(),
+                b" group ".as_slice(),
+                second.format(group).as_bytes(),
+                b": ".as_slice(),
+                name,
+            ],
+        ),
+        Place::Detector(rule, group, item) => put_each(
+            out,
+            &[
+                b"rules ruleset ".as_slice(),
+                first.format(rule).as_bytes(),
+                b" group ".as_slice(),
+                second.format(group).as_bytes(),
+                b" item ".as_slice(),
+                third.format(item).as_bytes(),
+                b": ".as_slice(),
+                name,
+            ],
+        ),
+        Place::Action(rule, action) => put_each(
+            out,
+            &[
+                b"rules ruleset ".as_slice(),
+                first.format(rule).as_bytes(),
+                b" action ".as_slice(),
+                second.format(action).as_bytes(),
+                b": ".as_slice(),
+                name,
+            ],
+        ),
+    }
+}

@@ -1,0 +1,313 @@
+//! What a rules file says.
+use path_match::Patterns;
+use psi_base::{Res, Text};
+use std::marker::Model;
+
+/// A size: a number of bytes, at most 2^60, or a percentage, at most 100.
+#[derive(Clone, Copy, Debug, PartialEq, Eq)]
+pub enum Size {
+    /// So many bytes.
+    Bytes(u64),
+    /// So many hundredths of a whole that the plugin names.
+    Percent(u32),
+}
+
+/// What every action says of the time after it.
+#[derive(Clone, Copy, Debug, PartialEq, Eq)]
+pub struct After {
+    /// Whether the victim is looked for among the chosen group's children too.
+    pub recursive: bool,
+    /// Whether the actions behind it are taken although it killed.
+    pub always_continue: bool,
+    /// How long the ruleset rests after the kill, in seconds, at most 1,000,000.
+    pub delay_s: u32,
+}
+
+/// A detector: a condition on the groups or on the machine. A threshold in percent is at most 100, a duration in
+/// seconds at most 1,000,000, a ratio in thousandths at most 1,000,999, and a resource is IO or memory.
+#[derive(Drop)]
+pub enum DetectorSpec {
+    /// `pressure_above`: full pressure over 10 s is above the threshold (percent), for the duration (s).
+    PressureAbove {
+        cgroup: Patterns,
+        resource: Res,
+        threshold: u32,
+        duration_s: u32,
+    },
+    /// `pressure_rising_beyond`: full pressure over 60 s is above the threshold (percent) for the duration (s), and
+    /// that over 10 s is, too, and doesn't fall faster than by the ratio (thousandths).
+    PressureRisingBeyond {
+        cgroup: Patterns,
+        resource: Res,
+        threshold: u32,
+        duration_s: u32,
+        ratio: u32,
+    },
+    /// `memory_above`: memory in use is above the threshold for the duration (s).
+    MemoryAbove {
+        cgroup: Patterns,
+        threshold: Size,
+        duration_s: u32,
+    },
+    /// `memory_reclaim`: pages were scanned within the duration (s).
+    MemoryReclaim {
+        cgroup: Patterns,
+        duration_s: u32,
+    },
+    /// `swap_free`: the machine's free swap is below the threshold (percent).
+    SwapFree {
+        threshold_pct: u32,
+    },
+    /// `exists`: there is such a group, or, with `negate`, there is none.
+    Exists {
+        cgroup: Patterns,
+        negate: bool,
+    },
+}
+
+/// An action: how the group to be killed is chosen. Percentages are at most 100, a ratio in thousandths at most
+/// 1,000,999, and a resource is IO or memory.
+#[derive(Drop)]
+pub enum Action {
+    /// `kill_by_memory_size_or_growth`: the largest group, if it has a share of the memory (percent); else one that
+    /// grew by the ratio (thousandths), among the largest above the percentile.
+    SizeOrGrowth {
+        cgroup: Patterns,
+        size_threshold: u32,
+        percentile: u32,
+        ratio: u32,
+        after: After,
+    },
+    /// `kill_by_swap_usage`: the group with the most swap, of at least the threshold.
+    SwapUsage {
+        cgroup: Patterns,
+        threshold: Size,
+        after: After,
+    },
+    /// `kill_by_pressure`: the group with the most pressure.
+    Pressure {
+        cgroup: Patterns,
+        resource: Res,
+        after: After,
+    },
+    /// `kill_by_pg_scan`: the group whose scanned pages rose most.
+    PgScan {
+        cgroup: Patterns,
+        after: After,
+    },
+}
+
+/// Detectors in order, at most 16, each in its ranges.
+#[derive(Drop)]
+pub struct SpecList {
+    specs: Vec<DetectorSpec>,
+}
+
+impl Model for SpecList {
+    ghost use Rattle.std.specs.Prelude.{List};
+    ghost use Rattle.ruleset_json.specs.declared.types.DetectorSpec.{DetectorSpec};
+    ghost use Rattle.ruleset_json.specs.Ranges.{FitsDetectors};
+
+    ghost Value = { List DetectorSpec };
+
+    ghost view = { λ l. l.specs.items };
+
+    ghost invariant = { λ l. FitsDetectors l.specs.items };
+}
+
+impl SpecList {
+    ghost use Rattle.std.specs.Prelude.{◌≡◌};
+    ghost use Rattle.ruleset_json.specs.Ranges.{FitsDetectors};
+
+    /// The list of these.
+    pub fn new(specs: Vec<DetectorSpec>) -> Self
+        requires { FitsDetectors specs.items }
+        ensures { result ≡ specs.items }
+    {
+        SpecList { specs }
+    }
+
+    /// The detectors, in order.
+    pub fn items(&self) -> &[DetectorSpec]
+        ensures items { result.now ≡ self.now }
+        ensures fits { FitsDetectors result.now }
+    {
+        &self.specs
+    }
+
+    /// The same as a vector, without taking memory.
+    pub fn into_items(self) -> Vec<DetectorSpec>
+        ensures items { result.items ≡ self }
+        ensures fits { FitsDetectors result.items }
+    {
+        self.specs
+    }
+}
+
+/// A group of detectors with a name. It holds where all its detectors do; one without detectors always holds.
+#[derive(Drop)]
+pub struct DetectorGroup {
+    /// Its name.
+    pub name: Text,
+    /// Its detectors.
+    pub detectors: SpecList,
+}
+
+/// Groups of detectors in order, at most 16.
+#[derive(Drop)]
+pub struct GroupList {
+    groups: Vec<DetectorGroup>,
+}
+
+impl Model for GroupList {
+    ghost use Rattle.std.specs.Prelude.{List};
+    ghost use Rattle.ruleset_json.specs.declared.types.DetectorGroup.{DetectorGroup};
+    ghost use Rattle.ruleset_json.specs.GroupRanges.{FitsGroups};
+
+    ghost Value = { List DetectorGroup };
+
+    ghost view = { λ l. l.groups.items };
+
+    ghost invariant = { λ l. FitsGroups l.groups.items };
+}
+
+impl GroupList {
+    ghost use Rattle.std.specs.Prelude.{◌≡◌};
+    ghost use Rattle.ruleset_json.specs.GroupRanges.{FitsGroups};
+
+    /// The list of these.
+    pub fn new(groups: Vec<DetectorGroup>) -> Self
+        requires { FitsGroups groups.items }
+        ensures { result ≡ groups.items }
+    {
+        GroupList { groups }
+    }
+
+    /// The groups, in order.
+    pub fn items(&self) -> &[DetectorGroup]
+        ensures items { result.now ≡ self.now }
+        ensures fits { FitsGroups result.now }
+    {
+        &self.groups
+    }
+
+    /// The same as a vector, without taking memory.
+    pub fn into_items(self) -> Vec<DetectorGroup>
+        ensures items { result.items ≡ self }
+        ensures fits { FitsGroups result.items }
+    {
+        self.groups
+    }
+}
+
+/// Actions in order, at most 16, each in its ranges.
+#[derive(Drop)]
+pub struct ActionList {
+    actions: Vec<Action>,
+}
+
+impl Model for ActionList {
+    ghost use Rattle.std.specs.Prelude.{List};
+    ghost use Rattle.ruleset_json.specs.declared.types.Action.{Action};
+    ghost use Rattle.ruleset_json.specs.Ranges.{FitsActions};
+
+    ghost Value = { List Action };
+
+    ghost view = { λ l. l.actions.items };
+
+    ghost invariant = { λ l. FitsActions l.actions.items };
+}
+
+impl ActionList {
+    ghost use Rattle.std.specs.Prelude.{◌≡◌};
+    ghost use Rattle.ruleset_json.specs.Ranges.{FitsActions};
+
+    /// The list of these.
+    pub fn new(actions: Vec<Action>) -> Self
+        requires { FitsActions actions.items }
+        ensures { result ≡ actions.items }
+    {
+        ActionList { actions }
+    }
+
+    /// The actions, in order.
+    pub fn items(&self) -> &[Action]
+        ensures items { result.now ≡ self.now }
+        ensures fits { FitsActions result.now }
+    {
+        &self.actions
+    }
+
+    /// The same as a vector, without taking memory.
+    pub fn into_items(self) -> Vec<Action>
+        ensures items { result.items ≡ self }
+        ensures fits { FitsActions result.items }
+    {
+        self.actions
+    }
+}
+
+/// A ruleset: where one of its groups holds, its actions are taken in order.
+#[derive(Drop)]
+pub struct Rule {
+    /// Its name. Several rulesets may have the same.
+    pub name: Text,
+    /// Its groups of detectors.
+    pub groups: GroupList,
+    /// Its actions.
+    pub actions: ActionList,
+}
+
+/// Rulesets in order, at most 64.
+#[derive(Drop)]
+pub struct RuleList {
+    rules: Vec<Rule>,
+}
+
+impl Model for RuleList {
+    ghost use Rattle.std.specs.Prelude.{List};
+    ghost use Rattle.ruleset_json.specs.declared.types.Rule.{Rule};
+    ghost use Rattle.ruleset_json.specs.RuleRanges.{FitsRules};
+
+    ghost Value = { List Rule };
+
+    ghost view = { λ l. l.rules.items };
+
+    ghost invariant = { λ l. FitsRules l.rules.items };
+}
+
+impl RuleList {
+    ghost use Rattle.std.specs.Prelude.{◌≡◌};
+    ghost use Rattle.ruleset_json.specs.RuleRanges.{FitsRules};
+
+    /// The list of these.
+    pub fn new(rules: Vec<Rule>) -> Self
+        requires { FitsRules rules.items }
+        ensures { result ≡ rules.items }
+    {
+        RuleList { rules }
+    }
+
+    /// The rulesets, in order.
+    pub fn items(&self) -> &[Rule]
+        ensures items { result.now ≡ self.now }
+        ensures fits { FitsRules result.now }
+    {
+        &self.rules
+    }
+
+    /// The same as a vector, without taking memory.
+    pub fn into_items(self) -> Vec<Rule>
+        ensures items { result.items ≡ self }
+        ensures fits { FitsRules result.items }
+    {
+        self.rules
+    }
+}
+
+/// The rules of a file.
+#[derive(Drop)]
+pub struct Rules {
+    /// Its rulesets.
+    pub rules: RuleList,
+}

@@ -1,0 +1,4 @@
+mod ChainLaws
+pub mod ToldLaws
+mod TurnLaws
+mod WalkLaws

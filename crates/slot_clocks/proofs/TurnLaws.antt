@@ -1,0 +1,73 @@
+-- A group that a change doesn't reach, and one to which it comes.
+use Rattle.std.proofs.Common.{◌≡◌, ℕ, ◌+◌, ◌-◌, ◌≤◌, List, refl, sym, ap, ◌∙◌, subst, arith, Bool, true, false, Option, None, Some}
+use Rattle.std.specs.Prelude.{slice_index, if◌then◌else◌}
+use Rattle.psi_base.specs.declared.event.Slot.{Slot}
+use Rattle.psi_base.specs.declared.event.State.{State}
+use Rattle.psi_base.specs.declared.event.State.TheVariants.{IoSome, IoFull, MemSome, MemFull, CpuSome, CpuFull, Nonidle}
+use Rattle.psi_spec.specs.declared.machine.Counts.{Counts}
+use Rattle.psi_spec.specs.declared.machine.Change.{Change}
+use Rattle.psi_spec.specs.Counts.{mask_holds, tells}
+use Rattle.psi_spec.specs.Clock.{ClockView}
+use Rattle.psi_spec.specs.Stall.{number_of}
+use Rattle.psi_spec.specs.Touch.{Follows, is_current_in, is_current_stalled, no_counts, on_chain}
+use Rattle.slot_clocks.specs.declared.cell.Cell.{Cell}
+use Rattle.slot_clocks.specs.Clocks.{ClockFollows, IsTold, IsUpTo}
+use Rattle.slot_clocks.specs.Walk.{IsTurned, counts_in, reaches, slot_in}
+
+-- ---- sides of a change, by what is reached
+
+-- what counts on a chain are for a slot that is reached or isn't
+pub chain_is : (parents : List (Option ℕ)) (slot : ℕ) (side : Option (Slot × Counts)) (here : Bool) → reaches parents (slot_in side) slot ≡ here → on_chain parents slot side ≡ (if here then counts_in side else no_counts)
+chain_is parents slot None true reached = refl
+chain_is parents slot None false reached = refl
+chain_is parents slot (Some part) here reached = ap (λ b. if b then part.1 else no_counts) reached
+
+-- whether the running task is in a group that is reached or isn't
+pub current_is : (parents : List (Option ℕ)) (slot : ℕ) (current : Option (Slot × Bool)) (here : Bool) → reaches parents (slot_in current) slot ≡ here → is_current_in parents slot current ≡ here
+current_is parents slot None here reached = reached
+current_is parents slot (Some running) here reached = reached
+
+-- ---- a group that isn't reached
+
+-- where the running task isn't in the group, it doesn't matter whether it is in a stall
+told_off : (state : State) (counts : Counts) (one other : Bool) → tells state counts false one ≡ tells state counts false other
+told_off IoSome counts one other = refl
+told_off IoFull counts one other = refl
+told_off MemSome counts one other = refl
+told_off MemFull counts one other = refl
+told_off CpuSome counts one other = refl
+told_off CpuFull counts one other = refl
+told_off Nonidle counts one other = refl
+
+follows_none : (counts : Counts) → Follows counts no_counts no_counts counts
+follows_none counts = record { io = refl; stalled = refl; running = refl; stalled_running = refl }
+
+split_time : (held : Bool) (time start at later : ℕ) → start ≤ at → at ≤ later → time + (if held then later - start else 0) ≡ (time + (if held then at - start else 0)) + (if held then later - at else 0)
+split_time true time start at later from to = omega arith
+split_time false time start at later from to = omega arith
+
+-- a clock follows itself
+clock_stays : (clock : ClockView) (at : ℕ) → clock.start ≤ at → ClockFollows clock at clock
+clock_stays clock at from = record {
+  start = from;
+  times = λ state later to. split_time (mask_holds clock.mask state) (slice_index clock.times (number_of state)) clock.start at later from to;
+}
+
+-- a group that no chain of a change reaches stays as it is
+pub stays_turned : (parents : List (Option ℕ)) (current : Option (Slot × Bool)) (change : Change) (slot : ℕ) (cell : Cell) → reaches parents (slot_in change.minus) slot ≡ false → reaches parents (slot_in change.plus) slot ≡ false
+    → reaches parents (slot_in current) slot ≡ false → reaches parents (slot_in change.current) slot ≡ false → IsTold parents current slot cell → IsUpTo change.at cell.clock → IsTurned parents change slot cell cell
+stays_turned parents current change slot cell minus plus before after told up_to =
+    let taken : on_chain parents slot change.minus ≡ no_counts = chain_is parents slot change.minus false minus in
+    let added : on_chain parents slot change.plus ≡ no_counts = chain_is parents slot change.plus false plus in
+    let ran : is_current_in parents slot current ≡ false = current_is parents slot current false before in
+    let runs : is_current_in parents slot change.current ≡ false = current_is parents slot change.current false after in
+    record {
+      counts = subst (λ m. Follows cell.counts m (on_chain parents slot change.plus) cell.counts) (sym taken) (subst (λ p. Follows cell.counts no_counts p cell.counts) (sym added) (follows_none cell.counts));
+      clock = clock_stays cell.clock change.at up_to.start;
+      up_to = up_to;
+      told = λ state.
+          told state
+          ∙ ap (λ on. tells state cell.counts on (is_current_stalled current)) ran
+          ∙ told_off state cell.counts (is_current_stalled current) (is_current_stalled change.current)
+          ∙ ap (λ on. tells state cell.counts on (is_current_stalled change.current)) (sym runs);
+    }

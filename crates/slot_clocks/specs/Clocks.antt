@@ -1,0 +1,103 @@
+-- The clocks of all groups on one processor, and how they follow its changes.
+use Rattle.std.specs.Prelude.{◌≡◌, ℕ, ◌+◌, ◌-◌, ◌≤◌, ◌<◌, ◌^◌, List, [], ◌++◌, length, map, slice_index, slice_index_or, Bool, if◌then◌else◌, Option, None, IfSome}
+use Rattle.psi_base.specs.declared.event.Slot.{Slot}
+use Rattle.psi_base.specs.declared.event.State.{State}
+use Rattle.psi_spec.specs.declared.machine.Counts.{Counts}
+use Rattle.psi_spec.specs.declared.machine.Change.{Change}
+use Rattle.psi_spec.specs.Counts.{mask_holds, tells}
+use Rattle.psi_spec.specs.Clock.{ClockView, opened_time, zero_clock}
+use Rattle.psi_spec.specs.Groups.{AreOlder}
+use Rattle.psi_spec.specs.Share.{last_moment}
+use Rattle.psi_spec.specs.Stall.{number_of, number_of_slot}
+use Rattle.psi_spec.specs.Touch.{Follows, is_current_in, is_current_stalled, no_counts, on_chain}
+use Rattle.slot_clocks.specs.declared.cell.Cell.{Cell}
+
+-- ---- parents
+
+-- the parents of all slots, by their numbers
+abbrev pub numbers_of : List (Option Slot) → List (Option ℕ)
+numbers_of parents = map number_of_slot parents
+
+-- ---- clocks
+
+-- a group that no change has reached: no task is counted, and no state held for any time
+abbrev pub zero_cell : Cell
+zero_cell = record { counts = no_counts; clock = zero_clock }
+
+-- The clocks of a processor: the counts and the clock of each group, by its slot; the slot of the task that runs there and
+-- whether it is in a memory stall; and the moment (ns) of the last change. No change has reached a group beyond the list.
+pub record ClocksView : Type 0 where
+  pub cells : List Cell
+  pub current : Option (Slot × Bool)
+  pub last : ℕ
+
+-- no change was made yet
+abbrev pub no_clocks : ClocksView
+no_clocks = record { cells = []; current = None; last = 0 }
+
+-- the cell of a slot, in a list
+abbrev pub cell_in : List Cell → ℕ → Cell
+cell_in cells slot = slice_index_or cells slot zero_cell
+
+-- the counts and the clock of the group in a slot
+abbrev pub cell_at : ClocksView → ℕ → Cell
+cell_at clocks slot = cell_in clocks.cells slot
+
+-- a cell's mask has the states that its counts tell, with the task that runs
+abbrev pub IsTold : List (Option ℕ) → Option (Slot × Bool) → ℕ → Cell → Type 0
+IsTold parents current slot cell = (state : State) → mask_holds cell.clock.mask state ≡ tells state cell.counts (is_current_in parents slot current) (is_current_stalled current)
+
+-- each group's mask has the states that its counts tell, with the task that runs
+abbrev pub AreTold : List (Option ℕ) → ClocksView → Type 0
+AreTold parents clocks = (slot : ℕ) → IsTold parents clocks.current slot (cell_at clocks slot)
+
+-- ---- changes
+
+-- counts can follow a change: what is taken was there, and the sums fit 32 bits
+pub record CanFollow (counts minus plus : Counts) : Type 0 where
+  pub io : (minus.io ≤ counts.io + plus.io) × (counts.io + plus.io < 2 ^ 32)
+  pub stalled : (minus.stalled ≤ counts.stalled + plus.stalled) × (counts.stalled + plus.stalled < 2 ^ 32)
+  pub running : (minus.running ≤ counts.running + plus.running) × (counts.running + plus.running < 2 ^ 32)
+  pub stalled_running : (minus.stalled_running ≤ counts.stalled_running + plus.stalled_running) × (counts.stalled_running + plus.stalled_running < 2 ^ 32)
+
+-- A clock follows another over a change at a moment (ns): it tells for each state, at each moment from the change on, what
+-- the other told at the change, and the time since then where its own mask has the state. It may be advanced to the change,
+-- or be the same clock where the mask stays.
+pub record ClockFollows (old : ClockView) (at : ℕ) (new : ClockView) : Type 0 where
+  pub start : new.start ≤ at
+  pub times : (state : State) (later : ℕ) → at ≤ later → opened_time new later state ≡ opened_time old at state + (if mask_holds new.mask state then later - at else 0)
+
+-- the counts of each group can follow what a change takes and adds on its chains
+abbrev pub AllCanFollow : List (Option ℕ) → Change → ClocksView → Type 0
+AllCanFollow parents change clocks = (slot : ℕ) → CanFollow (cell_at clocks slot).counts (on_chain parents slot change.minus) (on_chain parents slot change.plus)
+
+-- the counts of each group followed what a change takes and adds on its chains
+abbrev pub AllFollow : List (Option ℕ) → Change → ClocksView → ClocksView → Type 0
+AllFollow parents change old new = (slot : ℕ) → Follows (cell_at old slot).counts (on_chain parents slot change.minus) (on_chain parents slot change.plus) (cell_at new slot).counts
+
+-- the clock of each group followed over a change at a moment
+abbrev pub AllClocksFollow : ℕ → ClocksView → ClocksView → Type 0
+AllClocksFollow at old new = (slot : ℕ) → ClockFollows (cell_at old slot).clock at (cell_at new slot).clock
+
+-- ---- what is kept of each clock
+
+-- a clock started at a moment (ns) or before it, and no state held for longer than up to its start
+pub record IsUpTo (at : ℕ) (clock : ClockView) : Type 0 where
+  pub start : clock.start ≤ at
+  pub times : (state : State) → slice_index clock.times (number_of state) ≤ clock.start
+
+-- the clocks of a processor are up to its last change, which a trace may reach, and its running task has a cell
+pub record AreUpTo (cells : List Cell) (current : Option (Slot × Bool)) (last : ℕ) : Type 0 where
+  pub each : (slot : ℕ) → IsUpTo last (cell_in cells slot).clock
+  pub early : last ≤ last_moment
+  pub room : IfSome current (λ running. running.0.0 < length cells)
+
+-- ---- laws
+
+-- At first each mask tells that nothing holds, whatever the groups.
+abbrev pub FirstAreTold : Type 0
+FirstAreTold = (parents : List (Option ℕ)) → AreTold parents no_clocks
+
+-- New groups leave the masks as they are told, where the running task is in one of the older ones.
+abbrev pub ToldWithMore : Type 0
+ToldWithMore = (parents more : List (Option ℕ)) (clocks : ClocksView) → AreOlder (parents ++ more) → IfSome clocks.current (λ running. running.0.0 < length parents) → AreTold parents clocks → AreTold (parents ++ more) clocks

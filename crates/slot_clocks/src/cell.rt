@@ -1,0 +1,90 @@
+//! What is kept of one group.
+
+ghost use Rattle.std.specs.Prelude.{◌≡◌, ◌+◌, ◌<◌, ◌≤◌, ◌^◌};
+ghost use Rattle.psi_base.specs.declared.event.State.{State};
+ghost use Rattle.psi_spec.specs.Counts.{mask_holds, tells};
+ghost use Rattle.psi_spec.specs.Share.{last_moment};
+ghost use Rattle.psi_spec.specs.Touch.{Follows, no_counts};
+ghost use Rattle.slot_clocks.specs.Clocks.{CanFollow, ClockFollows, IsUpTo, zero_cell};
+
+use cpu_clock::Clock;
+use psi_base::Ns;
+use state_mask::{Counts, mask_of};
+
+/// No task is counted.
+pub(crate) const NO_COUNTS: Counts = Counts {
+    io: 0,
+    stalled: 0,
+    running: 0,
+    stalled_running: 0,
+};
+
+/// The counts and the clock of a group on a processor.
+#[derive(Clone, Copy, Debug)]
+pub(crate) struct Cell {
+    pub(crate) counts: Counts,
+    pub(crate) clock: Clock,
+}
+
+/// A count to which some are added, and from which some are then taken.
+fn moved(count: u32, minus: u32, plus: u32) -> u32
+    requires taken { minus ≤ count + plus }
+    requires fits { count + plus < 2 ^ 32 }
+    ensures { result + minus ≡ count + plus }
+{
+    count + plus - minus
+}
+
+/// Counts to which some are added, and from which some are then taken.
+fn follow(counts: &Counts, minus: &Counts, plus: &Counts) -> Counts
+    requires { CanFollow counts.now minus.now plus.now }
+    ensures { Follows counts.now minus.now plus.now result }
+{
+    Counts {
+        io: moved(counts.io, minus.io, plus.io),
+        stalled: moved(counts.stalled, minus.stalled, plus.stalled),
+        running: moved(counts.running, minus.running, plus.running),
+        stalled_running: moved(
+            counts.stalled_running,
+            minus.stalled_running,
+            plus.stalled_running,
+        ),
+    }
+}
+
+impl Cell {
+    /// A group that no change has reached.
+    pub(crate) fn zero() -> Cell
+        ensures { result ≡ zero_cell }
+    {
+        Cell {
+            counts: NO_COUNTS,
+            clock: Clock::zero(),
+        }
+    }
+
+    /// Follows a change at a moment (ns), by what it takes and adds for this group. The clock stays where no state
+    /// changes.
+    pub(crate) fn turn(
+        &mut self,
+        at: Ns,
+        minus: &Counts,
+        plus: &Counts,
+        on_cpu: bool,
+        current_stalled: bool,
+    )
+        requires fits { CanFollow self.old.counts minus.now plus.now }
+        requires up_to { IsUpTo at self.old.clock }
+        requires early { at ≤ last_moment }
+        ensures counts { Follows self.old.counts minus.now plus.now self.new.counts }
+        ensures clock { ClockFollows self.old.clock at self.new.clock }
+        ensures up_to { IsUpTo at self.new.clock }
+        ensures told { (state : State) → mask_holds self.new.clock.mask state ≡ tells state self.new.counts on_cpu current_stalled }
+    {
+        self.counts = follow(&self.counts, minus, plus);
+        let mask = mask_of(&self.counts, on_cpu, current_stalled);
+        if mask != self.clock.mask {
+            self.clock.advance(at, mask);
+        }
+    }
+}

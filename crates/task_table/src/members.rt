@@ -1,0 +1,73 @@
+//! How many live tasks each group has in it.
+ghost use Rattle.std.specs.Prelude.{◌≡◌, ℕ, ◌+◌, ◌-◌, ◌<◌, ◌≤◌, ◌^◌, List, [], ◌∷◌, length, slice_index_or, slice_set, nat_lt, IfOk, OnOk};
+
+use psi_base::{NoMemory, Slot};
+use std::alloc::Global;
+use std::marker::Model;
+
+/// The numbers of live tasks by the slots of their groups. Contracts see the list of them; where it ends, there are none.
+#[derive(Drop)]
+pub(crate) struct Members {
+    counts: Vec<u32>,
+}
+
+impl Model for Members {
+    ghost use Rattle.std.specs.Prelude.{List, ℕ};
+    ghost use Rattle.std.specs.Coded.{coded_list, coded_ℕ};
+
+    ghost Value = { List ℕ };
+
+    ghost coded = { coded_list coded_ℕ };
+
+    ghost view = { λ m. m.counts.items };
+}
+
+impl Members {
+    /// One group without a task.
+    pub(crate) fn new(alloc: Global) -> Result<Members, NoMemory>
+        ensures { IfOk result (λ members. members ≡ 0 ∷ []) }
+    {
+        let Ok(counts) = Vec::from_array(alloc, [0]) else {
+            return Err(NoMemory);
+        };
+        Ok(Members { counts })
+    }
+
+    /// Makes room for so many groups. Those that are new have no task.
+    pub(crate) fn cover(&mut self, groups: usize) -> Result<(), NoMemory>
+        requires { groups ≤ length self.old + 1 }
+        ensures same { (slot : ℕ) → slice_index_or self.new slot 0 ≡ slice_index_or self.old slot 0 }
+        ensures room { OnOk result (groups ≤ length self.new) }
+        ensures longer { length self.old ≤ length self.new }
+    {
+        if self.counts.len() < groups && self.counts.push(0).is_err() {
+            return Err(NoMemory);
+        }
+        Ok(())
+    }
+
+    /// A live task is in the group.
+    pub(crate) fn has(&self, slot: Slot) -> bool
+        ensures { result ≡ nat_lt 0 (slice_index_or self.now slot.0 0) }
+    {
+        self.counts.get(slot.0 as usize).copied().unwrap_or(0) > 0
+    }
+
+    /// One task more is in the group.
+    pub(crate) fn join(&mut self, slot: Slot)
+        requires room { slot.0 < length self.old }
+        requires fits { slice_index_or self.old slot.0 0 + 1 < 2 ^ 32 }
+        ensures { self.new ≡ slice_set self.old slot.0 (slice_index_or self.old slot.0 0 + 1) }
+    {
+        self.counts[slot.0 as usize] += 1;
+    }
+
+    /// One task less is in the group.
+    pub(crate) fn leave(&mut self, slot: Slot)
+        requires room { slot.0 < length self.old }
+        requires some { 0 < slice_index_or self.old slot.0 0 }
+        ensures { self.new ≡ slice_set self.old slot.0 (slice_index_or self.old slot.0 0 - 1) }
+    {
+        self.counts[slot.0 as usize] -= 1;
+    }
+}
