@@ -3,7 +3,7 @@ ghost use Rattle.std.specs.Prelude.{◌≡◌, ◌↔◌, Err, IsTrue, IsOk, IfO
 ghost use Rattle.psi_base.specs.declared.event.Fault.TheVariants as fault;
 ghost use Rattle.psi_base.specs.Path.{parts_at};
 ghost use Rattle.psi_spec.specs.Match.{ArePatterns, MatchesSome, components, is_match, patterns_of};
-ghost use Rattle.path_match.specs.Gives.{Gives};
+ghost use Rattle.psi_base.specs.Gives.{Gives};
 
 use crate::component::matches_pattern;
 use crate::form::{are_few, are_patterns};

@@ -60,7 +60,7 @@ clock_tells_from clock (change ∷ changes) at state =
     let more = held_time-cons state change changes at in
     omega (arith, rest, here, more)
 
-zero_time : (at : ℕ) (state : State) → opened_time zero_clock at state ≡ 0
+pub zero_time : (at : ℕ) (state : State) → opened_time zero_clock at state ≡ 0
 zero_time at IoSome = refl
 zero_time at IoFull = refl
 zero_time at MemSome = refl

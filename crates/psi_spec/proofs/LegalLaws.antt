@@ -111,7 +111,7 @@ pub parent_each : (groups : List GroupLife) → length (parents_of groups) ≡ l
 parent_each groups = length-map groups (λ group. number_of_slot group.parent)
 
 -- groups are never fewer
-more_groups : (w : World) (event : Event) → length w.groups ≤ length (after_event w event).groups
+pub more_groups : (w : World) (event : Event) → length w.groups ≤ length (after_event w event).groups
 more_groups w event =
     let same = ap length (parents_kept w event) ∙ length-append (parents_of w.groups) (new_parents w.groups event.act) in
     omega (arith, same, parent_each w.groups, parent_each (after_event w event).groups)

@@ -25,3 +25,11 @@ pub mod JoinedParts
 pub mod PatternLaws
 pub mod SpelledLaws
 pub mod PathLaws
+pub mod PlanLaws
+pub mod PlanStates
+pub mod PlanTimes
+pub mod PlanStalls
+pub mod PlanClocks
+pub mod PlanUpTo
+pub mod PlanSteps
+pub mod PlanWhole

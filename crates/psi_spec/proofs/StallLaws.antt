@@ -11,7 +11,7 @@ use Rattle.psi_spec.specs.World.{after}
 use Rattle.psi_spec.specs.Stall.{holds, stall, stall_after, moment_of, GrowsByEvent, GrowsWithTime}
 
 -- functions that agree on n numbers have the same list of values there
-map_same : (f g : ℕ → ℕ) (from n : ℕ) → ((i : ℕ) → from ≤ i → i < from + n → f i ≡ g i) → map f (range_with_len from n) ≡ map g (range_with_len from n)
+pub map_same : (f g : ℕ → ℕ) (from n : ℕ) → ((i : ℕ) → from ≤ i → i < from + n → f i ≡ g i) → map f (range_with_len from n) ≡ map g (range_with_len from n)
 map_same f g from zero same = refl
 map_same f g from (suc n) same =
     let here : f from ≡ g from = same from (omega arith) (omega arith) in

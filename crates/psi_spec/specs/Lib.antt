@@ -15,3 +15,4 @@ pub mod Touch
 pub mod Groups
 pub mod Legal
 pub mod Match
+pub mod Plan

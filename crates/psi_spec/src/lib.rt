@@ -9,6 +9,7 @@ mod laws;
 mod legal;
 mod machine;
 mod matches;
+mod plans;
 mod touches;
 
 pub use arithmetic::{averages, fixed_point, shares, signals};
@@ -19,6 +20,9 @@ pub use laws::{stall_time, traces};
 pub use legal::{legal_counts, legal_worlds};
 pub use machine::{Change, Counts, GroupLife, Mode, Task, Touch};
 pub use matches::{PatternFault, matching, reading_patterns};
+pub use plans::{
+    numbered_changes, own_changes, plan_clocks, plan_states, plan_steps, planned_times, whole_plans,
+};
 pub use touches::{
     change_tells, changes_are_within, counts_follow, current_tells, runs_once, touched, within,
 };

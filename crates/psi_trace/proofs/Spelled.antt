@@ -9,7 +9,7 @@ use Rattle.psi_base.specs.declared.event.Fault.TheVariants.{Refused, NoMemory}
 use Rattle.psi_spec.specs.Grammar.{Fits, IsCause, event_of, spelling}
 use Rattle.psi_spec.proofs.GrammarReads.{reads_spelled}
 use Rattle.psi_spec.proofs.GrammarCauses.{finds_causes}
-use Rattle.psi_trace.specs.Gives.{Gives}
+use Rattle.psi_base.specs.Gives.{Gives}
 
 pub found_event : (line : List ℕ) (result : Result Event (Fault Cause)) → Gives result (event_of line) → IfOk result (λ event. Fits event × (line ≡ spelling event))
 found_event line (Ok event) gives = (reads_spelled line event).0 gives

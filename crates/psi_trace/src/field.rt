@@ -5,7 +5,7 @@ ghost use Rattle.psi_base.specs.declared.event.Cause.TheVariants as cause;
 ghost use Rattle.psi_spec.specs.Fields as kind;
 ghost use Rattle.psi_spec.specs.Fields.{number_in, value_of};
 ghost use Rattle.psi_spec.specs.Grammar.{field};
-ghost use Rattle.psi_trace.specs.Gives.{Takes, TakesAny};
+ghost use Rattle.psi_trace.specs.Taking.{Takes, TakesAny};
 
 use psi_base::{Cause, Cpu, Fault, How, Level, Parts, Path, Pid, Preference, Res, read_number};
 use std::alloc::Global;

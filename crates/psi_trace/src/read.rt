@@ -6,7 +6,8 @@ ghost use Rattle.psi_base.specs.declared.event.Event.{Event};
 ghost use Rattle.psi_base.specs.declared.event.Fault.TheVariants as fault;
 ghost use Rattle.psi_spec.specs.Grammar as verb;
 ghost use Rattle.psi_spec.specs.Grammar.{Fits, IsCause, act_at, act_from, event_of, spelling};
-ghost use Rattle.psi_trace.specs.Gives.{Gives, names_path};
+ghost use Rattle.psi_base.specs.Gives.{Gives};
+ghost use Rattle.psi_trace.specs.Taking.{names_path};
 
 use crate::field::{
     Words, amount_field, cpu_field, end_of, how_field, level_field, next_field, number_field,

@@ -18,7 +18,7 @@ use Rattle.psi_spec.specs.Trace.{Trace, line_event, rest_cause, then_legal, at_e
 use Rattle.psi_spec.proofs.Splitting.{Cut, cut}
 use Rattle.psi_spec.proofs.Reading.{Events, rest_from-line, rest_from-rest, nothing_left, followed-followed}
 use Rattle.psi_spec.proofs.Accepting.{trace_of-line, trace_of-rest}
-use Rattle.psi_trace.specs.Gives.{Gives}
+use Rattle.psi_base.specs.Gives.{Gives}
 use Rattle.replay_core.specs.Reads.{rest_from, FaultOf, IsFaultAt, NextGives, Plays, RestGives, TailGives, Takes, TakesLine, TracePlayed}
 use Rattle.replay_core.specs.declared.trace.TraceFault.{TraceFault}
 use Rattle.replay_core.specs.declared.trace.TraceFault.TheVariants.{Refused, NoFile, ReadFault, NoMemory}

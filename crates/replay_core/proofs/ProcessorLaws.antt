@@ -9,18 +9,18 @@ use Rattle.psi_base.specs.declared.event.State.TheVariants.{IoSome, IoFull, MemS
 use Rattle.psi_spec.specs.declared.machine.Counts.{Counts}
 use Rattle.psi_spec.specs.declared.machine.Change.{Change}
 use Rattle.psi_spec.specs.declared.machine.Task.{Task}
-use Rattle.psi_spec.specs.World.{World, Limits, Tasks, no_tasks, after, after_event, after_from, first_world, root}
+use Rattle.psi_spec.specs.World.{World, Limits, Tasks, no_tasks, after, after_event, first_world, root}
 use Rattle.psi_spec.specs.Refusal.{cause_of}
-use Rattle.psi_spec.specs.Stall.{holds, holds_of, is_in, is_under, parents_of, stall, tasks_in}
+use Rattle.psi_spec.specs.Stall.{holds, is_in, is_under, parents_of, stall, tasks_in}
 use Rattle.psi_spec.specs.Counts.{IsRunningTold, counts_among, mask_holds, tells}
 use Rattle.psi_spec.specs.Clock.{opened_time}
 use Rattle.psi_spec.specs.Share.{last_moment}
 use Rattle.psi_spec.specs.Groups.{AreOlder, new_parents}
 use Rattle.psi_spec.specs.Legal.{IsLegalWorld}
-use Rattle.psi_spec.specs.Touch.{AreAtMost, Follows, HasSlotsBelow, change_of, is_current_in, is_current_stalled, no_counts, on_chain}
+use Rattle.psi_spec.specs.Touch.{AreAtMost, Follows, change_of, is_current_in, is_current_stalled, no_counts, on_chain}
 use Rattle.psi_spec.proofs.GroupLaws.{climbs_kept, parents_kept}
 use Rattle.psi_spec.proofs.MaskLaws.{counts_tell}
-use Rattle.psi_spec.proofs.StallLaws.{by_event, with_time}
+use Rattle.psi_spec.proofs.StallLaws.{by_event}
 use Rattle.psi_spec.proofs.TaskLaws.{no_entries}
 use Rattle.psi_spec.proofs.TouchLaws.{stays_untouched}
 use Rattle.psi_spec.proofs.TouchWithin.{change_tells, changes_are_within}
@@ -29,52 +29,8 @@ use Rattle.slot_clocks.proofs.ToldLaws.{told_with_more}
 use Rattle.replay_core.proofs.LineLaws.{after_from-push}
 use Rattle.replay_core.specs.Sums.{IsProcessor, MayTurn, Turned}
 use Rattle.psi_spec.proofs.LegalLaws.{counts_are_few, legal_kept, parent_each, same_tasks_later}
-
--- ---- stall time from the last event on
-
-no_state : (state : State) → holds_of state [] ≡ false
-no_state IoSome = refl
-no_state IoFull = refl
-no_state MemSome = refl
-no_state MemFull = refl
-no_state CpuSome = refl
-no_state CpuFull = refl
-no_state Nonidle = refl
-
-no_time : (state : State) (cpu slot at : ℕ) → stall state cpu slot [] at ≡ 0
-unfolding stall
-no_time state cpu slot at = refl
-
--- the events before the last, and the last
-record FrontAndLast (events : List Event) : Type 0 where
-  front : List Event
-  last : Event
-  are : events ≡ front ++ last ∷ []
-
-front_and_last : (event : Event) (events : List Event) → FrontAndLast (event ∷ events)
-front_and_last event [] = record { front = []; last = event; are = refl }
-front_and_last event (next ∷ events) =
-    let rest = front_and_last next events in
-    record { front = event ∷ rest.front; last = rest.last; are = ap (λ es. event ∷ es) rest.are }
-
-last_moment_is : (w : World) (front : List Event) (event : Event) → (after_from w (front ++ event ∷ [])).last ≡ event.at
-last_moment_is w [] event = refl
-last_moment_is w (first ∷ front) event = last_moment_is (after_event w first) front event
-
-grows_from : (state : State) (cpu slot : ℕ) (events front : List Event) (event : Event) (later : ℕ) → events ≡ front ++ event ∷ [] → (after events).last ≤ later →
-    stall state cpu slot events later ≡ stall state cpu slot events (after events).last + (if holds state cpu slot (after events) then later - (after events).last else 0)
-grows_from state cpu slot events front event later are from =
-    let last : (after events).last ≡ event.at = ap (λ es. (after es).last) are ∙ last_moment_is first_world front event in
-    let grown = with_time state cpu slot front event event.at later (omega arith) (omega (arith, last, from)) in
-    rw (last, are) grown
-
--- stall time grows with time alone where the state holds after the last event
-stall_later : (state : State) (cpu slot : ℕ) (events : List Event) (later : ℕ) → holds state cpu slot first_world ≡ false → (after events).last ≤ later →
-    stall state cpu slot events later ≡ stall state cpu slot events (after events).last + (if holds state cpu slot (after events) then later - (after events).last else 0)
-stall_later state cpu slot [] later none from = rw (no_time state cpu slot later, no_time state cpu slot 0, none) refl
-stall_later state cpu slot (event ∷ events) later none from =
-    let parts = front_and_last event events in
-    grows_from state cpu slot (event ∷ events) parts.front parts.last later parts.are from
+use Rattle.psi_spec.proofs.PlanStalls.{no_time, stall_goes_on}
+use Rattle.psi_spec.proofs.PlanWhole.{slots_later}
 
 -- ---- states by counts
 
@@ -152,22 +108,6 @@ told_before limits w event events cpu view legal allowed is =
 no_tasks_in : (parents : List (Option ℕ)) (cpu slot : ℕ) → tasks_in parents cpu slot no_tasks ≡ []
 no_tasks_in parents cpu slot = ap (λ es. filter (is_in parents cpu slot) (map (λ (e : ℕ × Task). e.1) es)) no_entries
 
-first_holds_nothing : (state : State) (cpu slot : ℕ) → holds state cpu slot first_world ≡ false
-unfolding holds
-first_holds_nothing state cpu slot = ap (holds_of state) (no_tasks_in (parents_of (root ∷ [])) cpu slot) ∙ no_state state
-
-joined : (held : Bool) (time last moment at : ℕ) → last ≤ moment → moment ≤ at → (time + (if held then moment - last else 0)) + (if held then at - moment else 0) ≡ time + (if held then at - last else 0)
-joined true time last moment at later from = omega arith
-joined false time last moment at later from = omega arith
-
--- the stall time with an event more, where the state holds after it as before it
-stall_goes_on : (state : State) (cpu slot : ℕ) (events : List Event) (event : Event) (at : ℕ) → (after events).last ≤ event.at → event.at ≤ at → holds state cpu slot (after (events ++ event ∷ [])) ≡ holds state cpu slot (after events) →
-    stall state cpu slot (events ++ event ∷ []) at ≡ stall state cpu slot events at
-stall_goes_on state cpu slot events event at later from same =
-    let to_event = stall_later state cpu slot events event.at (first_holds_nothing state cpu slot) later in
-    let to_end = stall_later state cpu slot events at (first_holds_nothing state cpu slot) (omega (arith, later, from)) in
-    by_event state cpu slot events event at ∙ rw (same, to_event, to_end) (joined (holds state cpu slot (after events)) _ _ _ at later from)
-
 -- an event that doesn't touch a processor leaves its clocks true
 pub processor_stays : (limits : Limits) (w : World) (event : Event) (events : List Event) (cpu : ℕ) (view : ClocksView) → IsLegalWorld limits w → w ≡ after events → cause_of limits w event ≡ None → w.last ≤ event.at → change_of w event cpu ≡ None
     → IsProcessor view w events cpu → IsProcessor view (after_event w event) (events ++ event ∷ []) cpu
@@ -228,17 +168,6 @@ chain_small parents slot (Some part) one =
       | true ↦ one
       | false ↦ none_small
     ]
-
-part_later : (side : Option (Slot × Counts)) (few many : ℕ) → few ≤ many → IfSome side (λ part. part.0.0 < few) → IfSome side (λ part. part.0.0 < many)
-part_later None few many more below = tt
-part_later (Some part) few many more below = omega (arith, more, below)
-
-slots_later : (change : Change) (few many : ℕ) → few ≤ many → HasSlotsBelow few change → HasSlotsBelow many change
-slots_later change few many more below = record {
-  minus = part_later change.minus few many more below.minus;
-  plus = part_later change.plus few many more below.plus;
-  current = room_later change.current few many more below.current;
-}
 
 more_parents : (w : World) (event : Event) → length (parents_of w.groups) ≤ length (parents_of (after_event w event).groups)
 more_parents w event = omega (arith, ap length (parents_kept w event), length-append (parents_of w.groups) (new_parents w.groups event.act))

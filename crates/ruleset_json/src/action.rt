@@ -8,7 +8,7 @@ ghost use Rattle.ruleset_json.specs.Names.{action_named};
 ghost use Rattle.ruleset_json.specs.Plugins.{action_of, after_of};
 ghost use Rattle.ruleset_json.specs.Ranges.{FitsAction, IsTime};
 ghost use Rattle.ruleset_json.specs.Rules.{made_at, action_made_at, action_in};
-ghost use Rattle.ruleset_json.specs.Gives.{Gives, FaultOf};
+ghost use Rattle.psi_base.specs.Gives.{Gives, FaultOf};
 
 use crate::arguments::{Arguments, LONGEST_S, PERCENT};
 use crate::fault::{Place, RulesCause, RulesFault};

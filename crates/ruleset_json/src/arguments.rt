@@ -7,7 +7,8 @@ ghost use Rattle.ruleset_json.specs.Arguments.{argument_text, argument_at, value
 ghost use Rattle.ruleset_json.specs.Names.{key_word};
 ghost use Rattle.ruleset_json.specs.Rules.{arguments_in};
 ghost use Rattle.ruleset_json.specs.Ranges.{IsRatio, IsSize, IsStallable};
-ghost use Rattle.ruleset_json.specs.Gives.{Gives, GivesBy, ReadsBy, FaultOf};
+ghost use Rattle.psi_base.specs.Gives.{Gives, FaultOf};
+ghost use Rattle.ruleset_json.specs.Gives.{GivesBy, ReadsBy};
 ghost use Rattle.ruleset_json.specs.declared.fault.RulesCause.TheVariants as cause;
 
 use crate::fault::{Place, RulesCause, RulesFault, refused};

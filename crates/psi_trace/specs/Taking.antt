@@ -1,16 +1,10 @@
--- What a call that reads words returned, against what the definition reads from them.
+-- What a call took from words, against what the definition takes from them.
 use Rattle.std.specs.Prelude.{◌≡◌, ℕ, List, [], ◌∷◌, Bool, true, false, Option, None, Some, Result, Ok, Err, ⊤}
 use Rattle.psi_base.specs.declared.event.Cause.{Cause}
 use Rattle.psi_base.specs.declared.event.Fault.{Fault}
 use Rattle.psi_base.specs.declared.event.Fault.TheVariants.{Refused, NoMemory}
 use Rattle.psi_spec.specs.Fields.{Kind, path}
 use Rattle.psi_spec.specs.Grammar.{Verb, kinds_of, verb_of}
-
--- the call returned what the definition reads, unless memory ran out
-abbrev pub Gives : {A : Type 0} → Result A (Fault Cause) → Result A Cause → Type 0
-Gives (Ok x) read = read ≡ Ok x
-Gives (Err (Refused cause)) read = read ≡ Err cause
-Gives (Err NoMemory) read = ⊤
 
 -- the call took from the words what the definition takes, and these are left
 abbrev pub Takes : {A W : Type 0} → Result A Cause → W → Result (A × W) Cause → Type 0
