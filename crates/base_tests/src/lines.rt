@@ -1,8 +1,8 @@
 //! Lines over shelves that cut them anywhere, and that fail.
-ghost use Rattle.std.specs.Prelude.{◌<◌, ◌^◌};
+ghost use Rattle.std.specs.Prelude.{◌+◌, ◌<◌, ◌≤◌, ◌^◌};
 
 use psi_base::{MemShelf, Shelf, Text};
-use psi_lines::{LineFault, Lines};
+use psi_lines::{Line, LineFault, Lines};
 use std::alloc::{AllocError, Global};
 use std::process::Abort;
 use std::test::Fail;
@@ -16,20 +16,46 @@ fn shelf_of(alloc: Global, bytes: &[u8], most: usize, fails: u64) -> Result<MemS
     Ok(MemShelf::new(files, most, vec![in alloc; fails]?))
 }
 
-// What so many calls of `next` answer, a line each: the number and the bytes, or the fault, or the end.
+// The next line of this number, or a copy of where it is lent.
+fn next_line<S: Shelf>(
+    alloc: Global,
+    lines: &mut Lines,
+    shelf: &mut S,
+    number: u32,
+    lends: bool,
+) -> Result<Option<Line>, LineFault>
+    requires { lines.old.number < 2 ^ 32 }
+    ensures { lines.new.number ≤ lines.old.number + 1 }
+{
+    if !lends {
+        return lines.next(shelf);
+    }
+    match lines.next_bytes(shelf)? {
+        Some(bytes) => Ok(Some(Line {
+            number,
+            bytes: Text::make(alloc, bytes)?,
+        })),
+        None => Ok(None),
+    }
+}
+
+// What so many calls answer, a line each: the number and the bytes, or the fault, or the end.
 fn answers<S: Shelf>(
     alloc: Global,
     name: &str,
     shelf: &mut S,
     calls: u32,
+    lends: bool,
 ) -> Result<Vec<u8>, Fail> {
     let mut lines = Lines::new(alloc, name)?;
     let mut text = Vec::new(alloc);
+    let mut number = 1u32;
     for _ in 0..calls {
-        match lines.next(shelf) {
+        match next_line(alloc, &mut lines, shelf, number, lends) {
             Ok(Some(line)) => {
                 text.extend_from_slice(format!(in alloc; "{}:", line.number)?.as_bytes())?;
                 text.extend_from_slice(line.bytes.bytes())?;
+                number = number.saturating_add(1);
             }
             Ok(None) => text.extend_from_slice(b"end")?,
             Err(fault) => {
@@ -42,14 +68,20 @@ fn answers<S: Shelf>(
 }
 
 // What so many calls answer over a shelf that gives at most so many bytes a call.
-fn answers_by(alloc: Global, bytes: &[u8], most: usize, calls: u32) -> Result<Vec<u8>, Fail>
+fn answers_by(
+    alloc: Global,
+    bytes: &[u8],
+    most: usize,
+    calls: u32,
+    lends: bool,
+) -> Result<Vec<u8>, Fail>
     requires { 0 < most }
 {
     let mut shelf = shelf_of(alloc, bytes, most, u64::MAX)?;
-    answers(alloc, "f", &mut shelf, calls)
+    answers(alloc, "f", &mut shelf, calls, lends)
 }
 
-// Three ways to cut the bytes give the same answers.
+// Three ways to cut the bytes give the same answers, of lines of their own and of lines that are lent.
 fn agrees(
     rt: &impl Abort,
     alloc: Global,
@@ -57,9 +89,20 @@ fn agrees(
     calls: u32,
     wanted: &[u8],
 ) -> Result<(), Fail> {
-    assert_eq!(rt; answers_by(alloc, bytes, 1, calls)?.as_slice(), wanted);
-    assert_eq!(rt; answers_by(alloc, bytes, 7, calls)?.as_slice(), wanted);
-    assert_eq!(rt; answers_by(alloc, bytes, 65536, calls)?.as_slice(), wanted);
+    for lends in [false, true] {
+        assert_eq!(rt;
+            answers_by(alloc, bytes, 1, calls, lends)?.as_slice(),
+            wanted
+        );
+        assert_eq!(rt;
+            answers_by(alloc, bytes, 7, calls, lends)?.as_slice(),
+            wanted
+        );
+        assert_eq!(rt;
+            answers_by(alloc, bytes, 65536, calls, lends)?.as_slice(),
+            wanted
+        );
+    }
     Ok(())
 }
 
@@ -118,10 +161,12 @@ fn lines_have_512_bytes(rt: HostRuntime) -> Result<(), Fail> {
 
 // What four calls answer where a read fails, with two bytes a call.
 fn fails_once(rt: &impl Abort, alloc: Global, fails: u64, wanted: &[u8]) -> Result<(), Fail> {
-    let mut shelf = shelf_of(alloc, b"abc\nde\n", 2, fails)?;
-    let text = answers(alloc, "f", &mut shelf, 4)?;
-    assert_eq!(rt; text.as_slice(), wanted);
-    assert_eq!(rt; shelf.faults, 1);
+    for lends in [false, true] {
+        let mut shelf = shelf_of(alloc, b"abc\nde\n", 2, fails)?;
+        let text = answers(alloc, "f", &mut shelf, 4, lends)?;
+        assert_eq!(rt; text.as_slice(), wanted);
+        assert_eq!(rt; shelf.faults, 1);
+    }
     Ok(())
 }
 
@@ -132,10 +177,12 @@ fn faults_lose_nothing(rt: HostRuntime) -> Result<(), Fail> {
     fails_once(&rt, alloc, 1, b"ReadFault\n1:abc\n2:de\nend\n")?;
     fails_once(&rt, alloc, 3, b"1:abc\nReadFault\n2:de\nend\n")?;
     fails_once(&rt, alloc, 4, b"1:abc\n2:de\nReadFault\nend\n")?;
-    let mut shelf = shelf_of(alloc, b"abc\n", 2, u64::MAX)?;
-    let text = answers(alloc, "g", &mut shelf, 2)?;
-    assert_eq!(rt; text.as_slice(), b"NoFile\nNoFile\n".as_slice());
-    assert_eq!(rt; shelf.absent, 2);
+    for lends in [false, true] {
+        let mut shelf = shelf_of(alloc, b"abc\n", 2, u64::MAX)?;
+        let text = answers(alloc, "g", &mut shelf, 2, lends)?;
+        assert_eq!(rt; text.as_slice(), b"NoFile\nNoFile\n".as_slice());
+        assert_eq!(rt; shelf.absent, 2);
+    }
     Ok(())
 }
 

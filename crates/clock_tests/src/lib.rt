@@ -79,4 +79,36 @@ mod tests {
         assert_eq!(rt; Clock::from_words(words).to_words(), words);
         Ok(())
     }
+
+    // A task runs from 10 ns on. Each row: counts at 35 ns, whether the running task is among them, and the clock's words
+    // then. Where the states stay the clock does too, and else it goes on from there.
+    #[test]
+    fn turns_of_a_clock(rt: HostRuntime) -> Result<(), Fail> {
+        let mut clock = Clock::zero();
+        clock.advance(10, mask_of(&counts(0, 0, 1, 0), true, false));
+        let rows = [
+            (
+                counts(0, 0, 1, 0),
+                true,
+                [0, 0, 0, 0, 0, 0, 0, 0b100_0000, 10],
+            ),
+            (
+                counts(0, 0, 2, 0),
+                true,
+                [0, 0, 0, 0, 0, 0, 25, 0b101_0000, 35],
+            ),
+            (
+                counts(1, 0, 0, 0),
+                false,
+                [0, 0, 0, 0, 0, 0, 25, 0b100_0011, 35],
+            ),
+            (counts(0, 0, 0, 0), false, [0, 0, 0, 0, 0, 0, 25, 0, 35]),
+        ];
+        for (counts, on_cpu, want) in rows {
+            let mut turned = clock;
+            turned.turn(35, mask_of(&counts, on_cpu, false));
+            assert_eq!(rt; turned.to_words(), want, "{counts:?} {on_cpu}");
+        }
+        Ok(())
+    }
 }

@@ -1,7 +1,7 @@
 //! One clock, and its words.
 
 ghost use Rattle.std.specs.Prelude.{◌≡◌};
-ghost use Rattle.psi_spec.specs.Clock.{AreWordsOfClock, IsInTime, advanced, opened, opened_time, words_of, zero_clock};
+ghost use Rattle.psi_spec.specs.Clock.{AreWordsOfClock, ClockFollows, IsInTime, advanced, opened, opened_time, words_of, zero_clock};
 
 use psi_base::{Ns, State};
 use state_mask::{Mask, STATES};
@@ -83,6 +83,21 @@ impl Clock {
             mask,
             start: at,
         };
+    }
+
+    /// Takes the clock over a change of its processor at a moment (ns), from which on the states of the mask hold. Where the
+    /// mask stays the clock does too, and goes on from where it started.
+    ///
+    /// So a clock that stands for a slot after some changes of a plan stands for it after one more, where the mask has the
+    /// states after that: the law of [`psi_spec::plan_clocks`].
+    pub fn turn(&mut self, at: Ns, mask: Mask)
+        requires { IsInTime self.old at }
+        ensures mask { self.new.mask ≡ mask }
+        ensures follows { ClockFollows self.old at self.new }
+    {
+        if mask != self.mask {
+            self.advance(at, mask);
+        }
     }
 
     /// The clock as nine words: the times in the order of the states, the mask and the start.

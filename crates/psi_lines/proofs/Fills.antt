@@ -1,6 +1,6 @@
 -- How reads keep what is left.
 use Rattle.std.proofs.Common.{◌≡◌, ℕ, ◌+◌, ◌-◌, ◌<◌, ◌≤◌, List, [], ◌∷◌, ◌++◌, length, take, drop, refl, sym, ap, ◌∙◌, append_assoc, length-drop, arith}
-use Rattle.std.proofs.lemmas.List.{take-append-drop, drop-drop, drop-take}
+use Rattle.std.proofs.lemmas.List.{take-append-drop, drop-drop, drop-take, take-take}
 use Rattle.std.proofs.Math.ListN.{drop_of_length-le}
 use Rattle.std.proofs.Math.Seq.{take-add}
 use Rattle.psi_base.specs.Outside.{ReadsBytes}
@@ -19,6 +19,12 @@ fills bytes at held n old new buffer grew front room reads =
       left = rw same (read_on old (drop held buffer) bytes at n reads.read);
       end = λ none. drop_of_length-le bytes (reads.end none (omega (arith, length-drop held buffer)));
     }
+
+-- the first bytes that a buffer holds
+pub takes : (buffer : List ℕ) (start end count : ℕ) → start + count ≤ end → take (start + count - start) (drop start buffer) ≡ take count (take (end - start) (drop start buffer))
+takes buffer start end count inside =
+    let same : start + count - start ≡ count = omega arith in
+    rw same (sym (take-take count (end - start) (drop start buffer) (omega arith)))
 
 -- what a buffer holds behind the bytes that were handed out
 pub skips : (buffer : List ℕ) (start end count : ℕ) → start + count ≤ end → take (end - (start + count)) (drop (start + count) buffer) ≡ drop count (take (end - start) (drop start buffer))

@@ -2,8 +2,6 @@
 use Rattle.std.specs.Prelude.{◌≡◌, ℕ, ◌+◌, List, [], ◌++◌, drop, take, length, ◌<◌, ◌≤◌, slice_index, Option, None, Some, Result, Ok, Err, ⊤}
 use Rattle.psi_lines.specs.Lines.{Reader, NoNewline, left, BeginsWithLine, IsTooLong, IsCut}
 use Rattle.psi_lines.specs.declared.lines.Line.{Line}
-use Rattle.psi_lines.specs.declared.lines.LineEnd.{LineEnd}
-use Rattle.psi_lines.specs.declared.lines.LineEnd.TheVariants.{Newline, Long, Input}
 use Rattle.psi_lines.specs.declared.lines.LineFault.{LineFault}
 use Rattle.psi_lines.specs.declared.lines.LineFault.TheVariants.{TooLong, Cut, NoFile, ReadFault, NoMemory}
 
@@ -51,17 +49,25 @@ pub record ReadsOn (held : List ℕ) (at : ℕ) (held_now : List ℕ) (at_now : 
   pub front : take (length held) held_now ≡ held
   pub place : at_now + length held ≡ at + length held_now
 
--- where the line at the front of the held bytes ends
-abbrev pub IsLineEnd : List ℕ → LineEnd → Type 0
-IsLineEnd held (Newline i) = (i < length held) × (i ≤ 512) × (slice_index held i ≡ 10) × NoNewline held i
-IsLineEnd held Long = (513 ≤ length held) × NoNewline held 513
-IsLineEnd held Input = (length held ≤ 512) × NoNewline held (length held)
+-- what is found at the front of the held bytes: how many bytes the line with this number has, or why there is none
+abbrev pub FindsLine : ℕ → List ℕ → Result (Option ℕ) LineFault → Type 0
+FindsLine number held (Ok (Some count)) = (count < length held) × (count ≤ 512) × (slice_index held count ≡ 10) × NoNewline held count
+FindsLine number held (Ok None) = held ≡ []
+FindsLine number held (Err (TooLong n)) = (n ≡ number) × (513 ≤ length held) × NoNewline held 513
+FindsLine number held (Err (Cut n)) = (n ≡ number) × (0 < length held) × (length held ≤ 512) × NoNewline held (length held)
+FindsLine number held (Err NoFile) = ⊤
+FindsLine number held (Err ReadFault) = ⊤
+FindsLine number held (Err NoMemory) = ⊥
 
 -- the input is read to its end
-abbrev pub EndsAt : List ℕ → ℕ → LineEnd → Type 0
-EndsAt bytes at (Newline i) = ⊤
-EndsAt bytes at Long = ⊤
-EndsAt bytes at Input = drop at bytes ≡ []
+abbrev pub EndsAt : List ℕ → ℕ → Result (Option ℕ) LineFault → Type 0
+EndsAt bytes at (Ok (Some count)) = ⊤
+EndsAt bytes at (Ok None) = drop at bytes ≡ []
+EndsAt bytes at (Err (TooLong n)) = ⊤
+EndsAt bytes at (Err (Cut n)) = drop at bytes ≡ []
+EndsAt bytes at (Err NoFile) = ⊤
+EndsAt bytes at (Err ReadFault) = ⊤
+EndsAt bytes at (Err NoMemory) = ⊤
 
 -- a line, and a fault of a line, have the number of the next line, also where the files aren't told
 abbrev pub IsNumbered : ℕ → Result (Option Line) LineFault → Type 0

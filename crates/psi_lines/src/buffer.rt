@@ -73,6 +73,10 @@ impl Model for Buffer {
 }
 
 impl Buffer {
+    ghost use Rattle.std.specs.Borrow.{sem};
+    ghost use Rattle.std.specs.Io.BufRead.{Rests};
+    ghost use Rattle.psi_lines.specs.contracts.buffer.Buffer.{the_row};
+
     /// An empty buffer.
     pub(crate) fn new(alloc: Global) -> Result<Buffer, NoMemory>
         ensures { IfOk result (λ b. b ≡ []) }
@@ -92,12 +96,15 @@ impl Buffer {
         &self.bytes[self.start..self.end]
     }
 
-    /// Hands out the first bytes.
-    pub(crate) fn skip(&mut self, count: usize)
-        requires { count ≤ length self.old }
-        ensures { self.new ≡ drop count self.old }
+    /// Hands out so many bytes, and lets the one behind them go.
+    pub(crate) fn take_line(&mut self, count: usize) -> &[u8]
+        requires { count < length self.old }
+        ensures bytes { result.now ≡ take count self.old }
+        ensures* rest { sem 𝓛 (Rests the_row self.entry (λ new. new ≡ drop (count + 1) self.old)) }
     {
-        self.start += count;
+        let start = self.start;
+        self.start += count + 1;
+        &self.bytes[start..start + count]
     }
 
     /// Reads once, from the place `at` on. No byte is the end. A fault leaves what it holds.

@@ -2,7 +2,7 @@
 ghost use Rattle.std.specs.Prelude.{◌≡◌, ◌≢◌, ◌+◌, ◌-◌, ◌*◌, ◌<◌, ◌≤◌, ◌^◌, ◌↔◌, ◌⊎◌, [], ◌++◌, ℕ, List, length, drop, take, IfOk, OnErr, IsErrOf, IsTrue, MatchOption, slice_index, Ok, Some, None, false};
 ghost use Rattle.psi_base.specs.Outside.{told, Lacks, HasCauses};
 ghost use Rattle.psi_lines.specs.Lines.{NoNewline, Reader, left};
-ghost use Rattle.psi_lines.specs.Next.{EndsAt, IsLineEnd, IsMissing, IsNumbered, IsReadFault, IsShortLine, NextOf, ReadsOn, number_after};
+ghost use Rattle.psi_lines.specs.Next.{EndsAt, FindsLine, IsMissing, IsNumbered, IsReadFault, IsShortLine, NextOf, ReadsOn, number_after};
 
 use crate::buffer::{Buffer, LINE, ROOM};
 use memchr::memchr;
@@ -87,30 +87,23 @@ fn newline_in(held: &[u8]) -> Option<usize>
     memchr(b'\n', &held[..held.len().min(LINE)])
 }
 
-// Where the line at the front of the bytes ends.
-#[derive(Clone, Copy)]
-enum LineEnd {
-    Newline(usize),
-    Long,
-    Input,
-}
-
-// Reads on until it is known where the first line ends.
-fn find_end<S: Shelf>(
+// Reads on until the line with this number stands whole at the front of what is held: its bytes before the newline.
+// None at the end of the input.
+fn find_line<S: Shelf>(
     shelf: &mut S,
     name: &str,
+    number: u32,
     at: &mut u64,
     held: &mut Buffer,
-) -> Result<LineEnd, LineFault>
+) -> Result<Option<usize>, LineFault>
     requires room { at.old < 2 ^ 63 }
     requires short { length held.old ≤ ROOM }
     ensures kept { S.holds shelf.new ≡ S.holds shelf.old }
     ensures on { ReadsOn held.old at.old held.new at.new }
     ensures short { length held.new ≤ ROOM }
     ensures left { (bytes : List ℕ) → told (S.holds shelf.old) name.now ≡ Some bytes → held.new ++ drop at.new bytes ≡ held.old ++ drop at.old bytes }
-    ensures found { IfOk result (IsLineEnd held.new) }
-    ensures end { (bytes : List ℕ) → told (S.holds shelf.old) name.now ≡ Some bytes → IfOk result (EndsAt bytes at.new) }
-    ensures faults { IsReadFault result }
+    ensures found { FindsLine number held.new result }
+    ensures end { (bytes : List ℕ) → told (S.holds shelf.old) name.now ≡ Some bytes → EndsAt bytes at.new result }
     ensures cause { HasCauses (S.faults shelf.old) (S.faults shelf.new) (S.absent shelf.old) (S.absent shelf.new) (IsErrOf result LineFault.ReadFault) (IsErrOf result LineFault.NoFile) }
     ensures missed { IsErrOf result LineFault.NoFile → told (S.holds shelf.old) name.now ≡ None }
     ensures missing { held.old ≡ [] → Lacks (S.holds shelf.old) name.now → (held.new ≡ []) × (at.new ≡ at.old) × IsMissing result }
@@ -118,20 +111,30 @@ fn find_end<S: Shelf>(
     'reads: loop {
         let line = held.held();
         if let Some(i) = newline_in(line) {
-            return Ok(LineEnd::Newline(i));
+            return Ok(Some(i));
         }
         if line.len() >= LINE {
-            return Ok(LineEnd::Long);
+            return Err(LineFault::TooLong(number));
         }
+        let is_empty = line.is_empty();
         let count = held.read_more(shelf, name, *at)?;
         if count == 0 {
-            return Ok(LineEnd::Input);
+            return if is_empty {
+                Ok(None)
+            } else {
+                Err(LineFault::Cut(number))
+            };
         }
         *at += count as u64;
     }
 }
 
 impl Lines {
+    ghost use Rattle.std.specs.Borrow.{sem};
+    ghost use Rattle.std.specs.Io.BufRead.{Rests};
+    ghost use Rattle.psi_lines.specs.Lent.{LendsLine, lent_line};
+    ghost use Rattle.psi_lines.specs.contracts.lines.Lines.{the_row};
+
     /// A reader at the first byte of the name, before line 1. Nothing is read yet.
     pub fn new(alloc: Global, name: &str) -> Result<Lines, NoMemory>
         ensures { IfOk result (λ l. l ≡ record { name = name.now; number = 1; held = []; at = 0 }) }
@@ -163,18 +166,49 @@ impl Lines {
         ensures missed { IsErrOf result LineFault.NoFile → told (S.holds shelf.old) self.old.name ≡ None }
         ensures missing { self.old.held ≡ [] → Lacks (S.holds shelf.old) self.old.name → (self.new.held ≡ []) × (self.new.at ≡ self.old.at) × IsMissing result }
     {
-        match find_end(shelf, self.name.as_str(), &mut self.at, &mut self.held)? {
-            LineEnd::Newline(i) => {
-                let bytes = Text::make(self.alloc, &self.held.held()[..i])?;
-                let number = self.number as u32;
-                self.held.skip(i + 1);
-                self.number += 1;
-                Ok(Some(Line { number, bytes }))
-            }
-            LineEnd::Long => Err(LineFault::TooLong(self.number as u32)),
-            LineEnd::Input if self.held.held().is_empty() => Ok(None),
-            LineEnd::Input => Err(LineFault::Cut(self.number as u32)),
-        }
+        let number = self.number as u32;
+        let found = find_line(
+            shelf,
+            self.name.as_str(),
+            number,
+            &mut self.at,
+            &mut self.held,
+        )?;
+        let Some(count) = found else {
+            return Ok(None);
+        };
+        let bytes = Text::make(self.alloc, &self.held.held()[..count])?;
+        self.number += 1;
+        self.held.take_line(count);
+        Ok(Some(Line { number, bytes }))
+    }
+
+    /// As [`Lines::next`], but the bytes are lent from where they were read, up to the next call. It takes no memory,
+    /// so its answer is never `NoMemory`.
+    pub fn next_bytes<S: Shelf>(&mut self, shelf: &mut S) -> Result<Option<&[u8]>, LineFault>
+        requires { self.old.number < 2 ^ 32 }
+        ensures kept { S.holds shelf.new ≡ S.holds shelf.old }
+        ensures* rest { sem 𝓛 (Rests the_row self.entry (λ new. LendsLine (S.holds shelf.old) self.old new result)) }
+        ensures numbered { IsNumbered self.old.number (lent_line self.old.number result) }
+        ensures short { IsShortLine (lent_line self.old.number result) }
+        ensures cause { HasCauses (S.faults shelf.old) (S.faults shelf.new) (S.absent shelf.old) (S.absent shelf.new) (IsErrOf result LineFault.ReadFault) (IsErrOf result LineFault.NoFile) }
+        ensures missed { IsErrOf result LineFault.NoFile → told (S.holds shelf.old) self.old.name ≡ None }
+        ensures missing { self.old.held ≡ [] → Lacks (S.holds shelf.old) self.old.name → IsMissing result }
+        ensures memory { IsErrOf result LineFault.NoMemory → ⊥ }
+    {
+        let number = self.number as u32;
+        let found = find_line(
+            shelf,
+            self.name.as_str(),
+            number,
+            &mut self.at,
+            &mut self.held,
+        )?;
+        let Some(count) = found else {
+            return Ok(None);
+        };
+        self.number += 1;
+        Ok(Some(self.held.take_line(count)))
     }
 
     /// Whether nothing is left behind the lines that were handed out. Where bytes are held, that is known with no

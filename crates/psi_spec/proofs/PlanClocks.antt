@@ -5,9 +5,9 @@ use Rattle.psi_base.specs.declared.event.State.{State}
 use Rattle.psi_base.specs.declared.event.State.TheVariants.{IoSome, IoFull, MemSome, MemFull, CpuSome, CpuFull, Nonidle}
 use Rattle.psi_spec.specs.Stall.{number_of}
 use Rattle.psi_spec.specs.Counts.{mask_holds}
-use Rattle.psi_spec.specs.Clock.{ClockView, zero_clock, opened_time}
-use Rattle.psi_spec.specs.Plan.{AreInOrder, ClockIsInTime, PlanView, holds_after, last_change, planned_time, AdvancedIsClock, KeptIsClock, ZeroIsClock}
-use Rattle.psi_spec.proofs.ClockLaws.{advanced_time, zero_time}
+use Rattle.psi_spec.specs.Clock.{ClockFollows, ClockView, zero_clock, opened_time}
+use Rattle.psi_spec.specs.Plan.{AreInOrder, ClockIsInTime, PlanView, holds_after, last_change, planned_time, FollowedIsClock, KeptIsClock, ZeroIsClock}
+use Rattle.psi_spec.proofs.ClockLaws.{zero_time}
 use Rattle.psi_spec.proofs.PlanTimes.{planned_by_change}
 
 -- ---- before the first change
@@ -36,14 +36,14 @@ zero_is_clock plan slot = record {
 
 -- ---- a change more
 
-pub advanced_is_clock : AdvancedIsClock
-advanced_is_clock clock plan slot k mask is room later masks = record {
+pub followed_is_clock : FollowedIsClock
+followed_is_clock one next plan slot k is room later follows masks = record {
   within = omega (arith, room);
-  start = omega arith;
+  start = follows.start;
   mask = masks;
   times = λ state at from.
-      advanced_time clock (last_change plan (k + 1)) mask at state
-      ∙ ap (λ n. n + (if mask_holds mask state then at - last_change plan (k + 1) else 0)) (is.times state (last_change plan (k + 1)) later)
+      follows.times state at from
+      ∙ ap (λ n. n + (if mask_holds next.mask state then at - last_change plan (k + 1) else 0)) (is.times state (last_change plan (k + 1)) later)
       ∙ ap (λ b. planned_time state plan slot k (last_change plan (k + 1)) + (if b then at - last_change plan (k + 1) else 0)) (masks state)
       ∙ sym (planned_by_change state plan slot k at room);
 }
@@ -52,17 +52,16 @@ parted : (held : Bool) (time start at later : ℕ) → start ≤ at → at ≤ l
 parted true time start at later from to = omega arith
 parted false time start at later from to = omega arith
 
-pub kept_is_clock : KeptIsClock
-kept_is_clock clock plan slot k is room later same = record {
-  within = omega (arith, room);
-  start = omega (arith, is.start, later);
-  mask = λ state. is.mask state ∙ sym (same state);
-  times = λ state at from.
-      parted (mask_holds clock.mask state) (slice_index clock.times (number_of state)) clock.start (last_change plan (k + 1)) at (omega (arith, is.start, later)) from
-      ∙ ap (λ n. n + (if mask_holds clock.mask state then at - last_change plan (k + 1) else 0)) (is.times state (last_change plan (k + 1)) later)
-      ∙ ap (λ b. planned_time state plan slot k (last_change plan (k + 1)) + (if b then at - last_change plan (k + 1) else 0)) (is.mask state ∙ sym (same state))
-      ∙ sym (planned_by_change state plan slot k at room);
+-- a clock follows itself over a change that leaves its mask
+pub clock_stays : (clock : ClockView) (at : ℕ) → clock.start ≤ at → ClockFollows clock at clock
+clock_stays clock at from = record {
+  start = from;
+  times = λ state later to. parted (mask_holds clock.mask state) (slice_index clock.times (number_of state)) clock.start at later from to;
 }
+
+pub kept_is_clock : KeptIsClock
+kept_is_clock clock plan slot k is room later same =
+    followed_is_clock clock clock plan slot k is room later (clock_stays clock (last_change plan (k + 1)) (omega (arith, is.start, later))) (λ state. is.mask state ∙ sym (same state))
 
 -- ---- how long a clock runs
 

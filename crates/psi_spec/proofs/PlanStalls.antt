@@ -231,13 +231,13 @@ stall_by_own_changes limits events legal state cpu slot at from =
 
 -- ---- moments of a plan
 
-abbrev moment_at : List Change → ℕ → ℕ
+abbrev pub moment_at : List Change → ℕ → ℕ
 moment_at changes k = slice_index_or (0 ∷ moments changes) k 0
 
 -- the moments of changes stand in order, and none is after the last event
-record EndsInOrder (changes : List Change) (last : ℕ) : Type 0 where
-  order : (k : ℕ) → k < length changes → moment_at changes k ≤ moment_at changes (k + 1)
-  end : moment_at changes (length changes) ≤ last
+pub record EndsInOrder (changes : List Change) (last : ℕ) : Type 0 where
+  pub order : (k : ℕ) → k < length changes → moment_at changes k ≤ moment_at changes (k + 1)
+  pub end : moment_at changes (length changes) ≤ last
 
 order-none : EndsInOrder [] 0
 order-none = record { order = λ k low. absurd (omega (arith, low)); end = omega arith }
@@ -259,7 +259,7 @@ order-push changes change last later is =
       end = rw (len, end) (omega arith);
     }
 
-in_order : (limits : Limits) (cpu : ℕ) (events : List Event) → AreLegal limits first_world events → EndsInOrder (changes_from cpu first_world events) (after events).last
+pub in_order : (limits : Limits) (cpu : ℕ) (events : List Event) → AreLegal limits first_world events → EndsInOrder (changes_from cpu first_world events) (after events).last
 in_order limits cpu events =
     by_last (λ es. AreLegal limits first_world es → EndsInOrder (changes_from cpu first_world es) (after es).last) (λ _. order-none) step events
   where

@@ -62,6 +62,13 @@ pub record SameClock (one other : ClockView) : Type 0 where
 
 -- ---- changes
 
+-- A clock follows another over a change at a moment (ns): it tells for each state, at each moment from the change on, what
+-- the other told at the change, and the time since then where its own mask has the state. It may be advanced to the change,
+-- or be the same clock where the mask stays.
+pub record ClockFollows (old : ClockView) (at : ℕ) (new : ClockView) : Type 0 where
+  pub start : new.start ≤ at
+  pub times : (state : State) (later : ℕ) → at ≤ later → opened_time new later state ≡ opened_time old at state + (if mask_holds new.mask state then later - at else 0)
+
 -- a change of the mask: from a moment (ns) on the states of the mask hold
 pub record MaskChange : Type 0 where
   pub at : ℕ

@@ -13,7 +13,7 @@ use Rattle.psi_spec.specs.Share.{last_moment}
 use Rattle.psi_spec.specs.Groups.{AreOlder, HaveParents}
 use Rattle.psi_spec.specs.Stall.{is_under, parents_of, holds, stall, moment_of}
 use Rattle.psi_spec.specs.Counts.{tells, mask_holds}
-use Rattle.psi_spec.specs.Clock.{ClockView, IsInTime, zero_clock, opened_time, advanced}
+use Rattle.psi_spec.specs.Clock.{ClockView, ClockFollows, IsInTime, zero_clock, opened_time}
 use Rattle.psi_spec.specs.Touch.{AreAtMost, Follows, HasSlotsBelow, IsOfOne, before, touched, change_of, is_current_in, is_current_stalled, on_chain}
 use Rattle.psi_spec.specs.Legal.{changes_from, added, taken}
 
@@ -238,10 +238,11 @@ PlannedByChange = (state : State) (plan : PlanView) (slot k at : ℕ) → k < le
 abbrev pub ZeroIsClock : Type 0
 ZeroIsClock = (plan : PlanView) (slot : ℕ) → IsClock zero_clock plan slot 0
 
--- A clock that is opened to the next change and takes the states that hold after it stands for its slot there.
-abbrev pub AdvancedIsClock : Type 0
-AdvancedIsClock = (clock : ClockView) (plan : PlanView) (slot k mask : ℕ) → IsClock clock plan slot k → k < length plan.changes → last_change plan k ≤ last_change plan (k + 1) →
-    ((state : State) → mask_holds mask state ≡ holds_after state plan slot (k + 1)) → IsClock (advanced clock (last_change plan (k + 1)) mask) plan slot (k + 1)
+-- A clock that stands for a slot after k changes and follows over the next one, and then has the states that hold after it,
+-- stands for the slot there.
+abbrev pub FollowedIsClock : Type 0
+FollowedIsClock = (one next : ClockView) (plan : PlanView) (slot k : ℕ) → IsClock one plan slot k → k < length plan.changes → last_change plan k ≤ last_change plan (k + 1) →
+    ClockFollows one (last_change plan (k + 1)) next → ((state : State) → mask_holds next.mask state ≡ holds_after state plan slot (k + 1)) → IsClock next plan slot (k + 1)
 
 -- A clock that stands for a slot of a plan may be taken to each moment from the last change on.
 abbrev pub ClockIsInTime : Type 0

@@ -1,6 +1,6 @@
 //! Laws of plans: the changes of one processor, and the clocks that run on them alone. Each function has an empty body: its
 //! contract is the law.
-ghost use Rattle.psi_spec.specs.Plan.{AdvancedIsClock, AreOfOne, AsideStays, ChangesAreNumbered, ChangesUntil, ClockIsInTime, CountsByChange, CountsByPlan, CurrentByChange, EmptyIsPlan, KeptIsClock, PlaceOfMoment, PlanCountsAreFew, PlanIsWhole, PlanTellsStates, PlannedByChange, PlannedIsStall, StallByOwnChanges, StallUpTo, StatesStay, ZeroIsClock};
+ghost use Rattle.psi_spec.specs.Plan.{AreOfOne, AsideStays, ChangesAreNumbered, ChangesUntil, ClockIsInTime, CountsByChange, CountsByPlan, CurrentByChange, EmptyIsPlan, FollowedIsClock, KeptIsClock, PlaceOfMoment, PlanCountsAreFew, PlanIsWhole, PlanTellsStates, PlannedByChange, PlannedIsStall, StallByOwnChanges, StallUpTo, StatesStay, ZeroIsClock};
 
 /// A processor's changes are what the events change that touch it, in their order and at their moments. The events up to
 /// the k-th of these have the first k changes, and end with the k-th.
@@ -48,12 +48,12 @@ pub fn own_changes()
     ensures count { CountsByPlan }
 {}
 
-/// The zero clock stands for each slot before the first change. A clock that stands after some changes stands after one
-/// more where it is opened to it and takes the states after it, or stays as it is and the states do too. It may be taken to any moment
-/// from the last change on.
+/// The zero clock stands for each slot before the first change. Where a clock stands after some changes, one that follows it
+/// over one more and has the states after that stands there, and so does the clock itself where the states stay. It may be
+/// taken to any moment from the last change on.
 pub fn plan_clocks()
     ensures zero { ZeroIsClock }
-    ensures advanced { AdvancedIsClock }
+    ensures followed { FollowedIsClock }
     ensures kept { KeptIsClock }
     ensures in_time { ClockIsInTime }
 {}

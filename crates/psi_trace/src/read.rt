@@ -16,7 +16,11 @@ use crate::field::{
 use psi_base::{Act, Cause, Event, Fault, Parts, read_number};
 use std::alloc::Global;
 
+// The act of each verb from its fields. These functions are inlined: a call that stays would clear the place of its
+// answer for every line, whichever verb it has.
+
 #[tactic(auto, unfolding(psi_spec::specs::Grammar::act_from))]
+#[inline(always)]
 fn switch_of(mut words: Words) -> Result<Act, Cause>
     ensures { act_from verb.Switch words.entry ≡ result }
 {
@@ -28,6 +32,7 @@ fn switch_of(mut words: Words) -> Result<Act, Cause>
 }
 
 #[tactic(auto, unfolding(psi_spec::specs::Grammar::act_from))]
+#[inline(always)]
 fn wake_of(mut words: Words) -> Result<Act, Cause>
     ensures { act_from verb.Wake words.entry ≡ result }
 {
@@ -38,6 +43,7 @@ fn wake_of(mut words: Words) -> Result<Act, Cause>
 }
 
 #[tactic(auto, unfolding(psi_spec::specs::Grammar::act_from))]
+#[inline(always)]
 fn stall_of(mut words: Words) -> Result<Act, Cause>
     ensures { act_from verb.Stall words.entry ≡ result }
 {
@@ -47,6 +53,7 @@ fn stall_of(mut words: Words) -> Result<Act, Cause>
 }
 
 #[tactic(auto, unfolding(psi_spec::specs::Grammar::act_from))]
+#[inline(always)]
 fn unstall_of(mut words: Words) -> Result<Act, Cause>
     ensures { act_from verb.Unstall words.entry ≡ result }
 {
@@ -56,6 +63,7 @@ fn unstall_of(mut words: Words) -> Result<Act, Cause>
 }
 
 #[tactic(auto, unfolding(psi_spec::specs::Grammar::act_from))]
+#[inline(always)]
 fn migrate_of(mut words: Words) -> Result<Act, Cause>
     ensures { act_from verb.Migrate words.entry ≡ result }
 {
@@ -66,6 +74,7 @@ fn migrate_of(mut words: Words) -> Result<Act, Cause>
 }
 
 #[tactic(auto, unfolding(psi_spec::specs::Grammar::act_from))]
+#[inline(always)]
 fn move_of(alloc: Global, mut words: Words) -> Result<Act, Fault<Cause>>
     ensures { Gives result (act_from verb.Move words.entry) }
 {
@@ -76,6 +85,7 @@ fn move_of(alloc: Global, mut words: Words) -> Result<Act, Fault<Cause>>
 }
 
 #[tactic(auto, unfolding(psi_spec::specs::Grammar::act_from))]
+#[inline(always)]
 fn fork_of(alloc: Global, mut words: Words) -> Result<Act, Fault<Cause>>
     ensures { Gives result (act_from verb.Fork words.entry) }
 {
@@ -87,6 +97,7 @@ fn fork_of(alloc: Global, mut words: Words) -> Result<Act, Fault<Cause>>
 }
 
 #[tactic(auto, unfolding(psi_spec::specs::Grammar::act_from))]
+#[inline(always)]
 fn mem_of(alloc: Global, mut words: Words) -> Result<Act, Fault<Cause>>
     ensures { Gives result (act_from verb.Mem words.entry) }
 {
@@ -104,6 +115,7 @@ fn mem_of(alloc: Global, mut words: Words) -> Result<Act, Fault<Cause>>
 }
 
 #[tactic(auto, unfolding(psi_spec::specs::Grammar::act_from))]
+#[inline(always)]
 fn host_of(mut words: Words) -> Result<Act, Cause>
     ensures { act_from verb.Host words.entry ≡ result }
 {
@@ -119,6 +131,7 @@ fn host_of(mut words: Words) -> Result<Act, Cause>
 }
 
 #[tactic(auto, unfolding(psi_spec::specs::Grammar::act_from))]
+#[inline(always)]
 fn group_of(alloc: Global, mut words: Words) -> Result<Act, Fault<Cause>>
     ensures { Gives result (act_from verb.Group words.entry) }
 {
@@ -128,6 +141,7 @@ fn group_of(alloc: Global, mut words: Words) -> Result<Act, Fault<Cause>>
 }
 
 #[tactic(auto, unfolding(psi_spec::specs::Grammar::act_from))]
+#[inline(always)]
 fn rmgroup_of(alloc: Global, mut words: Words) -> Result<Act, Fault<Cause>>
     ensures { Gives result (act_from verb.Remove words.entry) }
 {
@@ -137,6 +151,7 @@ fn rmgroup_of(alloc: Global, mut words: Words) -> Result<Act, Fault<Cause>>
 }
 
 #[tactic(auto, unfolding(psi_spec::specs::Grammar::act_from))]
+#[inline(always)]
 fn prefer_of(alloc: Global, mut words: Words) -> Result<Act, Fault<Cause>>
     ensures { Gives result (act_from verb.Prefer words.entry) }
 {
@@ -147,6 +162,7 @@ fn prefer_of(alloc: Global, mut words: Words) -> Result<Act, Fault<Cause>>
 }
 
 #[tactic(auto, unfolding(psi_spec::specs::Grammar::act_from))]
+#[inline(always)]
 fn trigger_of(alloc: Global, mut words: Words) -> Result<Act, Fault<Cause>>
     ensures { Gives result (act_from verb.Trigger words.entry) }
 {
@@ -166,6 +182,7 @@ fn trigger_of(alloc: Global, mut words: Words) -> Result<Act, Fault<Cause>>
 }
 
 #[tactic(auto, unfolding(psi_spec::specs::Grammar::act_from))]
+#[inline(always)]
 fn end_act(mut words: Words) -> Result<Act, Cause>
     ensures { act_from verb.End words.entry ≡ result }
 {

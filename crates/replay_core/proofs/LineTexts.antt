@@ -1,5 +1,5 @@
--- The lines of all processors by their clocks are the text of a trace.
-use Rattle.std.proofs.Common.{◌≡◌, ℕ, zero, suc, ◌+◌, ◌≤◌, ◌<◌, List, [], ◌∷◌, ◌++◌, length, map, take, get_or, refl, sym, ap, ◌∙◌, arith, append_assoc, Bool, true, false, Option, is_eq, ◌-◌}
+-- The lines of all processors by their plans are the text of a trace.
+use Rattle.std.proofs.Common.{◌≡◌, ℕ, zero, suc, ◌+◌, ◌≤◌, ◌<◌, List, [], ◌∷◌, ◌++◌, length, map, take, get_or, refl, sym, ap, ◌∙◌, arith, append_assoc, Bool, true, false, is_eq, ◌-◌}
 use Rattle.std.specs.Prelude.{if◌then◌else◌}
 use Rattle.std.specs.List.{All, flat_map, range_with_len}
 use Rattle.std.specs.Ordering.{nat_cmp}
@@ -16,16 +16,22 @@ use Rattle.std.proofs.lemmas.Map.Text.{is_eq-slice_cmp}
 use Rattle.psi_base.specs.declared.event.Event.{Event}
 use Rattle.psi_base.specs.declared.event.Slot.{Slot}
 use Rattle.psi_spec.specs.declared.machine.GroupLife.{GroupLife}
-use Rattle.psi_spec.specs.World.{World, Limits, after, is_live}
+use Rattle.psi_spec.specs.World.{Limits, after, first_world, is_live}
+use Rattle.psi_spec.specs.Refusal.{AreLegal}
 use Rattle.psi_spec.specs.Stall.{stall}
-use Rattle.psi_spec.specs.Clock.{opened, opened_time}
 use Rattle.psi_spec.specs.Groups.{path_at}
+use Rattle.psi_spec.specs.Clock.{ClockView, opened, opened_time}
+use Rattle.psi_spec.specs.Plan.{IsClock, PlanView, last_change, plan_of, planned_time, until_change}
 use Rattle.psi_spec.specs.Text.{end_of, in_order, live_from, live_groups, stall_line, stall_lines, stall_text, stall_times}
-use Rattle.psi_spec.proofs.GroupLaws.{same_bytes}
 use Rattle.psi_spec.proofs.ClockLaws.{map_states}
-use Rattle.slot_clocks.specs.Clocks.{ClocksView, cell_at}
+use Rattle.psi_spec.proofs.GroupLaws.{same_bytes}
+use Rattle.psi_spec.proofs.PlanLaws.{as_many}
+use Rattle.psi_spec.proofs.PlanStalls as stalls
+use Rattle.psi_spec.proofs.PlanStalls.{planned_is_stall, stall_by_own_changes}
 use Rattle.group_tree.specs.Tree.{live_slots, slot_at}
-use Rattle.replay_core.specs.Sums.{AreStalls, IsProcessor, all_lines, clock_line, clock_lines, view_at}
+use Rattle.proc_plan.specs.Plans.{PlansView, StandFor, plan_at}
+use Rattle.proc_plan.proofs.Finishing.{standing_plans}
+use Rattle.replay_core.specs.Lines.{all_lines, plan_line, plan_lines, plan_times}
 
 -- ---- texts in pieces
 
@@ -116,31 +122,39 @@ slots_below groups (pair ∷ pairs) each = All-cons (λ (slot : Slot). slot.0 < 
 pub live_below : (groups : List GroupLife) → All (λ (slot : Slot). slot.0 < length groups) (live_slots groups)
 live_below groups = slots_below groups (live_groups groups) (live_groups_of groups)
 
--- ---- lines by clocks
+-- ---- lines by plans
 
-times_are : (view : ClocksView) (w : World) (events : List Event) (cpu slot : ℕ) → w ≡ after events → IsProcessor view w events cpu → opened (cell_at view slot).clock w.last ≡ stall_times cpu slot events
-times_are view w events cpu slot world is =
-    map_states (opened_time (cell_at view slot).clock w.last) (λ state. stall state cpu slot events (end_of events))
-    (λ state. is.times slot state w.last (omega arith) ∙ ap (stall state cpu slot events) (ap (λ (v : World). v.last) world))
+-- the last change isn't behind the end
+pub last_within : (limits : Limits) (events : List Event) (cpu : ℕ) → AreLegal limits first_world events → last_change (plan_of cpu events) (length (plan_of cpu events).changes) ≤ end_of events
+last_within limits events cpu legal = (stalls.in_order limits cpu events legal).end
+
+-- planned times by all changes are the stall times at the end
+times_are : (limits : Limits) (events : List Event) (cpu slot : ℕ) → AreLegal limits first_world events → plan_times (plan_of cpu events) slot (end_of events) ≡ stall_times cpu slot events
+times_are limits events cpu slot legal =
+    let many = as_many cpu events in
+    map_states (λ state. planned_time state (plan_of cpu events) slot (length (plan_of cpu events).changes) (end_of events)) (λ state. stall state cpu slot events (end_of events))
+    (λ state.
+    planned_is_stall limits events legal state cpu slot (length (plan_of cpu events).changes) (end_of events) (omega (arith, many)) (last_within limits events cpu legal)
+    ∙ ap (λ k. stall state cpu slot (until_change cpu events k) (end_of events)) many
+    ∙ sym (stall_by_own_changes limits events legal state cpu slot (end_of events) (omega arith)))
 
 joined_same : {first other : List ℕ} {rest more : List ℕ} → first ≡ other → rest ≡ more → first ++ rest ≡ other ++ more
 joined_same first rest = rw (first, rest) refl
 
-lines_of_pairs : (view : ClocksView) (w : World) (events : List Event) (cpu : ℕ) (pairs : List (List ℕ × ℕ)) → w ≡ after events → IsProcessor view w events cpu → AreOf w.groups pairs
-    → flat_map (λ (pair : List ℕ × ℕ). clock_line cpu w.groups view w.last (slot_at pair.1)) pairs ≡ flat_map (λ (pair : List ℕ × ℕ). stall_line cpu pair.0 (stall_times cpu pair.1 events)) pairs
-lines_of_pairs view w events cpu [] world is each = refl
-lines_of_pairs view w events cpu (pair ∷ pairs) world is each =
-    let line : clock_line cpu w.groups view w.last (slot_at pair.1) ≡ stall_line cpu pair.0 (stall_times cpu pair.1 events) =
-    ap (λ path. stall_line cpu path (opened (cell_at view pair.1).clock w.last)) each.1 ∙ ap (stall_line cpu pair.0) (times_are view w events cpu pair.1 world is) in
-    let rest = lines_of_pairs view w events cpu pairs world is each.2 in
+lines_of_pairs : (limits : Limits) (events : List Event) (cpu : ℕ) (groups : List GroupLife) (pairs : List (List ℕ × ℕ)) → AreLegal limits first_world events → AreOf groups pairs
+    → flat_map (λ (pair : List ℕ × ℕ). plan_line cpu groups (plan_of cpu events) (end_of events) (slot_at pair.1)) pairs ≡ flat_map (λ (pair : List ℕ × ℕ). stall_line cpu pair.0 (stall_times cpu pair.1 events)) pairs
+lines_of_pairs limits events cpu groups [] legal each = refl
+lines_of_pairs limits events cpu groups (pair ∷ pairs) legal each =
+    let line : plan_line cpu groups (plan_of cpu events) (end_of events) (slot_at pair.1) ≡ stall_line cpu pair.0 (stall_times cpu pair.1 events) =
+    ap (λ path. stall_line cpu path (plan_times (plan_of cpu events) pair.1 (end_of events))) each.1 ∙ ap (stall_line cpu pair.0) (times_are limits events cpu pair.1 legal) in
+    let rest = lines_of_pairs limits events cpu groups pairs legal each.2 in
     joined_same line rest
 
--- the lines of a processor by its clocks are those of its stall times
-lines_are : (view : ClocksView) (w : World) (events : List Event) (cpu : ℕ) → w ≡ after events → IsProcessor view w events cpu → clock_lines w.groups (live_slots w.groups) w.last view cpu ≡ stall_lines cpu events
-lines_are view w events cpu world is =
-    flat_map-map (clock_line cpu w.groups view w.last) (λ (pair : List ℕ × ℕ). slot_at pair.1) (live_groups w.groups)
-    ∙ lines_of_pairs view w events cpu (live_groups w.groups) world is (live_groups_of w.groups)
-    ∙ ap (λ (v : World). flat_map (λ (pair : List ℕ × ℕ). stall_line cpu pair.0 (stall_times cpu pair.1 events)) (live_groups v.groups)) world
+-- the lines of a processor by its plan are those of its stall times
+lines_are : (limits : Limits) (events : List Event) (cpu : ℕ) → AreLegal limits first_world events → plan_lines (after events).groups (live_slots (after events).groups) (end_of events) (plan_of cpu events) cpu ≡ stall_lines cpu events
+lines_are limits events cpu legal =
+    flat_map-map (plan_line cpu (after events).groups (plan_of cpu events) (end_of events)) (λ (pair : List ℕ × ℕ). slot_at pair.1) (live_groups (after events).groups)
+    ∙ lines_of_pairs limits events cpu (after events).groups (live_groups (after events).groups) legal (live_groups_of (after events).groups)
 
 flat_same : (f g : ℕ → List ℕ) (from n : ℕ) → ((i : ℕ) → from ≤ i → i < from + n → f i ≡ g i) → flat_map f (range_with_len from n) ≡ flat_map g (range_with_len from n)
 flat_same f g from zero same = refl
@@ -149,18 +163,31 @@ flat_same f g from (suc n) same =
     let rest = flat_same f g (from + 1) n (λ i low high. same i (omega (arith, low)) (omega (arith, high))) in
     flat_map-cons f from (range_with_len (from + 1) n) ∙ ap (λ xs. xs ++ flat_map f (range_with_len (from + 1) n)) here ∙ ap (λ ys. g from ++ ys) rest ∙ sym (flat_map-cons g from (range_with_len (from + 1) n))
 
--- the lines of all processors by their clocks are the text of the trace
-all_lines_are : (limits_now limits : Limits) (w : World) (parents : List (Option ℕ)) (clocks : List ClocksView) (events : List Event) → AreStalls limits_now w parents clocks limits events
-    → all_lines w.groups (live_slots w.groups) w.last clocks ≡ stall_text (record { version = 1; cpus = limits.cpus; events = events })
+-- the lines of all processors by plans that stand for events are the text of the trace
+pub printed_text : (limits : Limits) (plans : PlansView) (events : List Event) (order : List Slot) (last : ℕ) → AreLegal limits first_world events → StandFor plans limits.cpus events → order ≡ live_slots plans.lives → last ≡ plans.finish
+    → all_lines plans.lives order last plans.plans ≡ stall_text (record { version = 1; cpus = limits.cpus; events = events })
 unfolding stall_text
-all_lines_are limits_now limits w parents clocks events stalls =
-    ap (λ n. flat_map (λ cpu. clock_lines w.groups (live_slots w.groups) w.last (view_at clocks cpu) cpu) (range_with_len 0 n)) stalls.each
-    ∙ flat_same (λ cpu. clock_lines w.groups (live_slots w.groups) w.last (view_at clocks cpu) cpu) (λ cpu. stall_lines cpu events) 0 limits.cpus
-    (λ cpu low high. lines_are (view_at clocks cpu) w events cpu stalls.world (stalls.processors cpu (omega (arith, high))))
+printed_text limits plans events order last legal stand ordered ended =
+    let slots : order ≡ live_slots (after events).groups = ordered ∙ ap live_slots stand.lives in
+    ap (λ gs. all_lines gs order last plans.plans) stand.lives
+    ∙ ap (λ slots. all_lines (after events).groups slots last plans.plans) slots
+    ∙ ap (λ at. all_lines (after events).groups (live_slots (after events).groups) at plans.plans) (ended ∙ stand.finish)
+    ∙ ap (λ n. flat_map (λ cpu. plan_lines (after events).groups (live_slots (after events).groups) (end_of events) (plan_at plans cpu) cpu) (range_with_len 0 n)) stand.each
+    ∙ flat_same (λ cpu. plan_lines (after events).groups (live_slots (after events).groups) (end_of events) (plan_at plans cpu) cpu) (λ cpu. stall_lines cpu events) 0 limits.cpus
+    (λ cpu low high.
+    ap (λ plan. plan_lines (after events).groups (live_slots (after events).groups) (end_of events) plan cpu) (standing_plans plans limits.cpus events stand cpu (omega (arith, high))) ∙ lines_are limits events cpu legal)
 
--- the lines that are printed, by what was lent for them
-pub printed_text : (limits_now limits : Limits) (w : World) (parents : List (Option ℕ)) (clocks lent : List ClocksView) (events : List Event) (groups : List GroupLife) (order : List Slot) (last : ℕ) → AreStalls limits_now w parents clocks limits events
-    → groups ≡ w.groups → order ≡ live_slots w.groups → last ≡ w.last → lent ≡ clocks → all_lines groups order last lent ≡ stall_text (record { version = 1; cpus = limits.cpus; events = events })
-printed_text limits_now limits w parents clocks lent events groups order last stalls grouped ordered ended same =
-    ap (λ gs. all_lines gs order last lent) grouped ∙ ap (λ slots. all_lines w.groups slots last lent) ordered ∙ ap (λ at. all_lines w.groups (live_slots w.groups) at lent) ended
-    ∙ ap (all_lines w.groups (live_slots w.groups) w.last) same ∙ all_lines_are limits_now limits w parents clocks events stalls
+-- ---- times by clocks
+
+-- a clock that stands for a slot after all changes opens to the planned times
+pub clock_times : (clock : ClockView) (plan : PlanView) (slot k at : ℕ) → IsClock clock plan slot k → k ≡ length plan.changes → last_change plan k ≤ at → opened clock at ≡ plan_times plan slot at
+clock_times clock plan slot k at is all later =
+    map_states (opened_time clock at) (λ state. planned_time state plan slot (length plan.changes) at) (λ state. is.times state at later ∙ ap (λ n. planned_time state plan slot n at) all)
+
+-- ---- before the lines
+
+-- no change of a plan is behind the end, and the end is in time
+pub ends_later : (limits : Limits) (plans : PlansView) (events : List Event) (cpu : ℕ) → AreLegal limits first_world events → StandFor plans limits.cpus events → cpu < limits.cpus → last_change (plan_at plans cpu) (length (plan_at plans cpu).changes) ≤ plans.finish
+ends_later limits plans events cpu legal stand below =
+    let moment : last_change (plan_at plans cpu) (length (plan_at plans cpu).changes) ≡ last_change (plan_of cpu events) (length (plan_of cpu events).changes) = ap (λ (plan : PlanView). last_change plan (length plan.changes)) (standing_plans plans limits.cpus events stand cpu below) in
+    omega (arith, moment, last_within limits events cpu legal, stand.finish)

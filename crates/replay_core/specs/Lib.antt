@@ -1,4 +1,4 @@
+pub mod Lines
 pub mod Reads
 pub mod Run
 pub mod Status
-pub mod Sums

@@ -24,10 +24,6 @@ pub record IsPlayed (limits_now : Limits) (w : World) (limits : Limits) (events 
   pub limits_are : limits_now ≡ limits
   pub world : w ≡ after events
 
--- a player has played some trace
-abbrev pub IsPlaying : Plays → Type 0
-IsPlaying Played = (limits : Limits) × (events : List Event) × Played limits events
-
 -- What an event does to a player that has played any events: it is legal and played behind them, and there were fewer
 -- than 4,000,000; or it is refused with the first cause. Of want of memory nothing is said.
 abbrev pub Takes : Plays → Plays → Event → Result (Unit {0}) (Fault Cause) → Type 0

@@ -14,10 +14,11 @@ ghost use Rattle.replay_core.specs.Status.{seen_all, status_text};
 
 use crate::lines::put_check;
 use crate::note::put_status;
-use crate::stalls::{Stalls, write_stalls};
+use crate::stalls::write_stalls;
 use crate::status::{Status, Which};
 use crate::trace::{TraceFault, play_trace};
 use crate::words::{Request, read_words};
+use proc_plan::Planner;
 use psi_base::{Gate, Ns, Shelf, Sink, WriteFailed};
 use std::alloc::Global;
 use std::thread::Threads;
@@ -48,8 +49,8 @@ fn run_stall<S: Shelf, K: Sink>(alloc: Global, name: &str, shelf: &mut S, out: &
     ensures kept { S.holds shelf.new ≡ S.holds shelf.old }
     ensures runs { Runs (stall name.now) (S.holds shelf.old) (S.faults shelf.old) (S.faults shelf.new) (S.absent shelf.old) (S.absent shelf.new) (K.faults out.old) (K.faults out.new) (K.has out.old) (K.has out.new) result }
 {
-    match play_trace::<S, Stalls>(alloc, name, shelf, TICK) {
-        Ok(stalls) => write_stalls(alloc, &stalls, out),
+    match play_trace::<S, Planner>(alloc, name, shelf, TICK) {
+        Ok(planner) => write_stalls(alloc, planner, out),
         Err(fault) => fault_status(fault),
     }
 }

@@ -1,7 +1,6 @@
 //! The top call: the words of a command, its trace, and what it prints.
 #![tactic(auto)]
 
-mod clocks;
 mod command;
 mod lines;
 mod note;

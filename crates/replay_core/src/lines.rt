@@ -1,80 +1,109 @@
 //! What commands print of what was played.
 
-ghost use Rattle.std.specs.Prelude.{◌≡◌, ℕ, ◌<◌, ◌≤◌, List, length};
+ghost use Rattle.std.specs.Prelude.{◌≡◌, ℕ, ◌+◌, ◌<◌, ◌≤◌, List, length};
 ghost use Rattle.std.specs.List.{All};
 ghost use Rattle.psi_base.specs.Outside.{PutsAll, HasCause};
 ghost use Rattle.psi_base.specs.declared.event.Event.{Event};
+ghost use Rattle.psi_spec.specs.Plan.{IsPlan, last_change};
 ghost use Rattle.psi_spec.specs.Share.{last_moment};
 ghost use Rattle.psi_spec.specs.Text.{check_text};
 ghost use Rattle.psi_spec.specs.World.{Limits};
+ghost use Rattle.proc_plan.specs.Plans.{plan_at};
+ghost use Rattle.replay_core.specs.Lines.{all_lines, clocks_at, plan_line, plan_lines};
 ghost use Rattle.replay_core.specs.Reads.{IsPlayed};
-ghost use Rattle.replay_core.specs.Sums.{all_lines, clock_line, clock_lines, view_at};
 
 use crate::text::{write_check, write_stall};
+use proc_plan::{PlainClocks, Plans, ProcClocks};
 use psi_base::{Cpu, Ns, Sink, Slot, WriteFailed};
 use psi_spec::GroupLife;
-use slot_clocks::SlotClocks;
 use task_table::Table;
 
+// Makes all changes of a plan that are left.
+fn make_all<C: ProcClocks>(clocks: &mut C, changes: u64)
+    requires all { changes ≡ length (C.plan clocks.old).changes }
+    requires within { C.made clocks.old ≤ changes }
+    ensures plan { C.plan clocks.new ≡ C.plan clocks.old }
+    ensures made { C.made clocks.new ≡ changes }
+{
+    'changes: while clocks.count() < changes {
+        clocks.apply();
+    }
+}
+
 // Writes the line of a group on a processor at the last moment (ns) of a trace.
-fn put_clock<K: Sink>(
+fn put_group<K: Sink, C: ProcClocks>(
     out: &mut K,
     cpu: Cpu,
-    clocks: &SlotClocks,
+    clocks: &mut C,
     groups: &[GroupLife],
     slot: Slot,
     last: Ns,
 ) -> Result<(), WriteFailed>
     requires made { slot.0 < length groups.now }
-    requires later { clocks.now.last ≤ last }
+    requires whole { IsPlan (C.plan clocks.old) }
+    requires all { C.made clocks.old ≡ length (C.plan clocks.old).changes }
+    requires later { last_change (C.plan clocks.old) (length (C.plan clocks.old).changes) ≤ last }
     requires early { last ≤ last_moment }
-    ensures bytes { PutsAll (K.has out.old) (K.has out.new) result (clock_line cpu.0 groups.now clocks.now last slot) }
+    ensures plan { C.plan clocks.new ≡ C.plan clocks.old }
+    ensures made { C.made clocks.new ≡ C.made clocks.old }
+    ensures bytes { PutsAll (K.has out.old) (K.has out.new) result (plan_line cpu.0 groups.now (C.plan clocks.old) last slot) }
     ensures cause { HasCause (K.faults out.old) (K.faults out.new) result }
 {
     let path = groups[slot.0 as usize].path.bytes();
-    write_stall(out, cpu, path, clocks.clock(slot).opened(last))
+    write_stall(out, cpu, path, clocks.own(slot).opened(last))
 }
 
-// Writes the lines of a processor at the last moment (ns) of a trace, for groups in this order.
+// Makes all changes of a processor's plan, and then writes its lines at the last moment (ns) of a trace, for groups in this
+// order.
 #[tactic(auto, using(psi_base::proofs::Grows::growth))]
-fn put_clocks<K: Sink>(
+fn put_processor<K: Sink, C: ProcClocks>(
     out: &mut K,
     cpu: Cpu,
-    clocks: &SlotClocks,
+    clocks: &mut C,
+    changes: u64,
     groups: &[GroupLife],
     order: &[Slot],
     last: Ns,
 ) -> Result<(), WriteFailed>
     requires made { All (λ (slot : Slot). slot.0 < length groups.now) order.now }
-    requires later { clocks.now.last ≤ last }
+    requires whole { IsPlan (C.plan clocks.old) }
+    requires all { changes ≡ length (C.plan clocks.old).changes }
+    requires within { C.made clocks.old ≤ changes }
+    requires later { last_change (C.plan clocks.old) changes ≤ last }
     requires early { last ≤ last_moment }
-    ensures bytes { PutsAll (K.has out.old) (K.has out.new) result (clock_lines groups.now order.now last clocks.now cpu.0) }
+    ensures bytes { PutsAll (K.has out.old) (K.has out.new) result (plan_lines groups.now order.now last (C.plan clocks.old) cpu.0) }
     ensures cause { HasCause (K.faults out.old) (K.faults out.new) result }
 {
+    make_all(clocks, changes);
     'groups: for slot in order {
-        put_clock(out, cpu, clocks, groups, *slot, last)?;
+        put_group(out, cpu, clocks, groups, *slot, last)?;
     }
     Ok(())
 }
 
 /// Writes the lines of all processors at the last moment (ns) of a trace: those of each processor in turn, for groups in
-/// this order.
+/// this order. The clocks are those of the plans, before the first change.
 pub(crate) fn put_lines<K: Sink>(
     out: &mut K,
-    clocks: &[SlotClocks],
-    groups: &[GroupLife],
+    plans: &Plans,
+    clocks: &mut [PlainClocks<'_>],
     order: &[Slot],
     last: Ns,
 ) -> Result<(), WriteFailed>
-    requires few { length clocks.now ≤ 64 }
-    requires made { All (λ (slot : Slot). slot.0 < length groups.now) order.now }
-    requires later { (cpu : ℕ) → cpu < length clocks.now → (view_at clocks.now cpu).last ≤ last }
+    requires each { length clocks.old ≡ length plans.now.plans }
+    requires few { length clocks.old ≤ 64 }
+    requires fresh { (cpu : ℕ) → cpu < length clocks.old → clocks_at clocks.old cpu ≡ record { plan = plan_at plans.now cpu; made = 0 } }
+    requires made { All (λ (slot : Slot). slot.0 < length plans.now.lives) order.now }
+    requires later { (cpu : ℕ) → cpu < length clocks.old → last_change (plan_at plans.now cpu) (length (plan_at plans.now cpu).changes) ≤ last }
     requires early { last ≤ last_moment }
-    ensures bytes { PutsAll (K.has out.old) (K.has out.new) result (all_lines groups.now order.now last clocks.now) }
+    ensures bytes { PutsAll (K.has out.old) (K.has out.new) result (all_lines plans.now.lives order.now last plans.now.plans) }
     ensures cause { HasCause (K.faults out.old) (K.faults out.new) result }
 {
+    let groups = plans.lives();
     'cpus: for place in 0..clocks.len() {
-        put_clocks(out, Cpu(place as u32), &clocks[place], groups, order, last)?;
+        let cpu = Cpu(place as u32);
+        let changes = plans.plan(cpu).len();
+        put_processor(out, cpu, &mut clocks[place], changes, groups, order, last)?;
     }
     Ok(())
 }

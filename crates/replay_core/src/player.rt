@@ -1,10 +1,11 @@
 //! What the events of a trace are played on, one after the other, as their lines are read.
 ghost use Rattle.std.specs.Prelude.{◌≡◌, ◌≤◌, List, [], IfOk};
 ghost use Rattle.psi_base.specs.declared.event.Event.{Event};
+ghost use Rattle.psi_spec.specs.Grammar.{Fits};
 ghost use Rattle.psi_spec.specs.World.{Limits, after};
 ghost use Rattle.psi_spec.specs.Share.{last_moment};
 ghost use Rattle.psi_spec.specs.Trace.{IsCpuCount};
-ghost use Rattle.replay_core.specs.Reads.{IsPlaying, Takes};
+ghost use Rattle.replay_core.specs.Reads.{Takes};
 
 use psi_base::{Cause, Event, Fault, NoMemory, Ns};
 use std::alloc::Global;
@@ -21,9 +22,9 @@ pub(crate) trait Player: Sized {
         requires short { latest ≤ last_moment }
         ensures { IfOk result (λ player. Self.Played player (record { version = 1; cpus = cpus; latest = latest }) []) };
 
-    /// Plays one event more: `Refused` with the first cause against it, where it isn't legal.
+    /// Plays one event more, whose numbers are in the ranges of the grammar: `Refused` with the first cause against it, where it isn't legal.
     fn take(&mut self, event: &Event) -> Result<(), Fault<Cause>>
-        requires { IsPlaying (Self.Played self.old) }
+        requires { Fits event.now }
         ensures { Takes (Self.Played self.old) (Self.Played self.new) event.now result };
 
     /// The trace has ended.

@@ -1,69 +1,69 @@
-//! The stall sums of a trace: the clocks of all processors go by the changes that the table tells.
-ghost use Rattle.std.specs.Prelude.{◌≡◌, List};
+//! The stall sums of a trace: it is taken apart by processor, and then clocks make the changes of each.
+ghost use Rattle.std.specs.Prelude.{◌≡◌, ℕ, ◌<◌, List, length, IfOk};
 ghost use Rattle.psi_base.specs.declared.event.Event.{Event};
 ghost use Rattle.psi_spec.specs.Text.{stall_text};
 ghost use Rattle.psi_spec.specs.World.{Limits};
-ghost use Rattle.slot_clocks.specs.Clocks.{numbers_of};
-ghost use Rattle.replay_core.specs.Reads.{IsPlaying};
+ghost use Rattle.proc_plan.specs.Plans.{HasTaken, HasTrace, plan_at};
+ghost use Rattle.replay_core.specs.Lines.{clocks_at};
 ghost use Rattle.replay_core.specs.Run.{WritesText};
-ghost use Rattle.replay_core.specs.Sums.{AreStalls};
 
-use crate::clocks::{first_clocks, follow};
 use crate::lines::put_lines;
 use crate::player::Player;
 use crate::status::Status;
-use psi_base::{Cause, Event, Fault, NoMemory, Ns, Sink, Slot, WriteFailed};
-use slot_clocks::SlotClocks;
+use proc_plan::{PlainClocks, Planner, Plans};
+use psi_base::{Cause, Cpu, Event, Fault, NoMemory, Ns, Sink, WriteFailed};
 use std::alloc::Global;
-use task_table::Table;
 
-/// The table, and beside it the parents of all slots and the clocks of all processors.
-#[derive(Drop)]
-pub(crate) struct Stalls {
-    table: Table,
-    /// By slot; None for the root.
-    parents: Vec<Option<Slot>>,
-    /// By processor.
-    clocks: Vec<SlotClocks>,
-}
+/// To sum stalls a trace is taken apart by processor.
+impl Player for Planner {
+    ghost use Rattle.proc_plan.specs.Plans.{HasTaken};
 
-impl Player for Stalls {
-    ghost use Rattle.slot_clocks.specs.Clocks.{numbers_of};
-    ghost use Rattle.replay_core.specs.Sums.{AreStalls};
-
-    ghost Played = { λ stalls limits events. AreStalls stalls.table.limits stalls.table.world (numbers_of stalls.parents.items) stalls.clocks.items limits events };
+    ghost Played = { λ planner limits events. HasTaken planner limits events };
 
     fn start(alloc: Global, cpus: u32, latest: Ns) -> Result<Self, NoMemory> {
-        Ok(Stalls {
-            table: Table::new(alloc, cpus, latest)?,
-            parents: Vec::from_slice(alloc, &[None])?,
-            clocks: first_clocks(alloc, cpus)?,
-        })
+        Planner::new(alloc, cpus, latest)
     }
 
     fn take(&mut self, event: &Event) -> Result<(), Fault<Cause>> {
-        let touch = self.table.step(event)?;
-        let groups = self.table.groups();
-        follow(&mut self.clocks, &mut self.parents, groups, &touch)?;
-        Ok(())
+        Planner::take(self, event)
     }
 
     fn is_ended(&self) -> bool {
-        self.table.is_ended()
+        Planner::is_ended(self)
     }
 }
 
-/// Writes the stall sums of a trace. Where memory is wanting, nothing is written.
-pub(crate) fn write_stalls<K: Sink>(alloc: Global, stalls: &Stalls, out: &mut K) -> Status
-    requires { IsPlaying (AreStalls stalls.now.table.limits stalls.now.table.world (numbers_of stalls.now.parents.items) stalls.now.clocks.items) }
-    ensures { (limits : Limits) (events : List Event) → AreStalls stalls.now.table.limits stalls.now.table.world (numbers_of stalls.now.parents.items) stalls.now.clocks.items limits events → WritesText (stall_text (record { version = 1; cpus = limits.cpus; events = events })) (K.faults out.old) (K.faults out.new) (K.has out.old) (K.has out.new) result }
+// The clocks of all processors before the first change.
+fn first_clocks(alloc: Global, plans: &Plans) -> Result<Vec<PlainClocks<'_>>, NoMemory>
+    ensures each { IfOk result (λ clocks. length clocks.items ≡ length plans.now.plans) }
+    ensures fresh { IfOk result (λ clocks. (cpu : ℕ) → cpu < length clocks.items → clocks_at clocks.items cpu ≡ record { plan = plan_at plans.now cpu; made = 0 }) }
 {
-    let groups = stalls.table.groups();
-    let Ok(order) = groups.live_order(alloc) else {
+    let slots = plans.groups().len() as u32;
+    let mut clocks = Vec::new(alloc);
+    'cpus: for cpu in 0..plans.cpus() {
+        let fresh = PlainClocks::make(alloc, plans.plan(Cpu(cpu)), slots)?;
+        if clocks.push(fresh).is_err() {
+            return Err(NoMemory);
+        }
+    }
+    Ok(clocks)
+}
+
+/// Writes the stall sums of a trace that was taken apart. Where memory is wanting, nothing is written.
+pub(crate) fn write_stalls<K: Sink>(alloc: Global, planner: Planner, out: &mut K) -> Status
+    requires { HasTrace planner }
+    ensures { (limits : Limits) (events : List Event) → HasTaken planner limits events → WritesText (stall_text (record { version = 1; cpus = limits.cpus; events = events })) (K.faults out.old) (K.faults out.new) (K.has out.old) (K.has out.new) result }
+{
+    let Ok(plans) = planner.finish(alloc) else {
         return Status::NoMemory;
     };
-    let last = stalls.table.last();
-    match put_lines(out, &stalls.clocks, groups.lives(), &order, last) {
+    let Ok(order) = plans.groups().live_order(alloc) else {
+        return Status::NoMemory;
+    };
+    let Ok(mut clocks) = first_clocks(alloc, &plans) else {
+        return Status::NoMemory;
+    };
+    match put_lines(out, &plans, &mut clocks, &order, plans.finish()) {
         Ok(()) => Status::Done,
         Err(WriteFailed) => Status::WriteFault,
     }

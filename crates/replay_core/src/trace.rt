@@ -4,7 +4,7 @@ ghost use Rattle.psi_base.specs.Outside.{told, Lacks, HasCauses};
 ghost use Rattle.psi_base.specs.declared.event.Cause.TheVariants as cause;
 ghost use Rattle.psi_lines.specs.Lines.{left};
 ghost use Rattle.psi_spec.specs.Trace.{IsCpuCount, limits_of, refused};
-ghost use Rattle.replay_core.specs.Reads.{HeadGives, IsFaultAt, IsPlaying, NextGives, RestGives, TailGives, TakesLine, TellsNothing, TracePlayed, TraceRefused};
+ghost use Rattle.replay_core.specs.Reads.{HeadGives, IsFaultAt, NextGives, RestGives, TailGives, TakesLine, TellsNothing, TracePlayed, TraceRefused};
 
 use crate::player::Player;
 use psi_base::{Cause, Fault, NoMemory, Ns, Refusal, Shelf};
@@ -64,7 +64,6 @@ fn fault_at(line: u32, fault: Fault<Cause>) -> TraceFault
 #[tactic(auto, unfolding(psi_spec::specs::Trace::line_event))]
 fn take_line<P: Player>(alloc: Global, player: &mut P, line: &[u8]) -> Result<(), Fault<Cause>>
     requires short { length line.now ≤ 512 }
-    requires playing { IsPlaying (P.Played player.old) }
     ensures { TakesLine (P.Played player.old) (P.Played player.new) line.now result }
 {
     let event = read_event(alloc, line)?;
@@ -80,7 +79,6 @@ fn next_event<S: Shelf, P: Player>(
     line: u32,
 ) -> Result<(), TraceFault>
     requires number { lines.old.number ≡ line }
-    requires playing { IsPlaying (P.Played player.old) }
     ensures kept { S.holds shelf.new ≡ S.holds shelf.old }
     ensures name { lines.new.name ≡ lines.old.name }
     ensures number { OnOk result (lines.new.number ≡ line + 1) }
@@ -88,8 +86,8 @@ fn next_event<S: Shelf, P: Player>(
     ensures missed { IsErrOf result TraceFault.NoFile → told (S.holds shelf.old) lines.old.name ≡ None }
     ensures cause { HasCauses (S.faults shelf.old) (S.faults shelf.new) (S.absent shelf.old) (S.absent shelf.new) (IsErrOf result TraceFault.ReadFault) (IsErrOf result TraceFault.NoFile) }
 {
-    match lines.next(shelf) {
-        Ok(Some(found)) => match take_line(alloc, player, found.bytes.bytes()) {
+    match lines.next_bytes(shelf) {
+        Ok(Some(bytes)) => match take_line(alloc, player, bytes) {
             Ok(()) => Ok(()),
             Err(fault) => Err(fault_at(line, fault)),
         },
@@ -159,8 +157,8 @@ fn read_cpus<S: Shelf>(lines: &mut Lines, shelf: &mut S, tick: Ns) -> Result<u32
     ensures missed { IsErrOf result TraceFault.NoFile → told (S.holds shelf.old) lines.old.name ≡ None }
     ensures cause { HasCauses (S.faults shelf.old) (S.faults shelf.new) (S.absent shelf.old) (S.absent shelf.new) (IsErrOf result TraceFault.ReadFault) (IsErrOf result TraceFault.NoFile) }
 {
-    match lines.next(shelf) {
-        Ok(Some(found)) => match read_header(found.bytes.bytes()) {
+    match lines.next_bytes(shelf) {
+        Ok(Some(bytes)) => match read_header(bytes) {
             Ok(cpus) => Ok(cpus),
             Err(_) => Err(refused(1, Cause::BadHeader)),
         },

@@ -28,6 +28,7 @@ pub record IsMachine (parents : List (Option ℕ)) (groups : ℕ) (tasks : List 
   pub are_tasks : All (IsTask groups) tasks
   pub few : length tasks ≤ 1000
   pub sums : (slot : ℕ) → AreSums parents slot tasks (cell_at clocks slot).counts
+  pub room : groups ≤ length clocks.cells
   pub told : AreTold parents clocks
   pub current : IsSlot groups clocks.current
   pub in_time : clocks.last ≡ last

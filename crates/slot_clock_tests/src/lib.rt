@@ -163,7 +163,7 @@ mod tests {
         Ok(())
     }
 
-    // Groups each in the one before, of which a change reaches all at once.
+    // Groups each in the one before, of which a change reaches all at once. A slot beyond them has the zero clock.
     #[test]
     fn groups_that_a_change_first_reaches(rt: HostRuntime) -> Result<(), Fail> {
         let alloc = rt.alloc();

@@ -7,7 +7,7 @@ ghost use Rattle.slot_clocks.specs.Clocks.{numbers_of};
 ghost use Rattle.slot_clock_tests.specs.Machine.{IsMachine, IsSlot, IsTask};
 
 use cpu_clock::Clock;
-use psi_base::{NoMemory, Ns, Slot};
+use psi_base::{Ns, Slot};
 use psi_spec::{Change, Counts};
 use slot_clocks::SlotClocks;
 use std::alloc::Global;
@@ -15,7 +15,7 @@ use std::alloc::Global;
 /// The last moment of a clock, in ns.
 const LAST_MOMENT: Ns = 60_000_000_000_000_000;
 
-/// Why a machine didn't make a change.
+/// Why a machine wasn't made or didn't make a change.
 #[derive(Clone, Copy, Debug, PartialEq, Eq)]
 pub enum Failed {
     NoMemory,
@@ -79,14 +79,20 @@ impl Machine {
         if tasks > 1000 || !are_older(&parents) {
             return Err(Failed::Unfit);
         }
+        let Ok(slots) = u32::try_from(parents.len()) else {
+            return Err(Failed::Unfit);
+        };
         let mut none = Vec::new(alloc);
         if none.resize(tasks, None).is_err() {
             return Err(Failed::NoMemory);
         }
+        let Ok(clocks) = SlotClocks::make(alloc, slots) else {
+            return Err(Failed::NoMemory);
+        };
         Ok(Machine {
             parents,
             tasks: none,
-            clocks: SlotClocks::new(alloc),
+            clocks,
             last: 0,
         })
     }
@@ -114,14 +120,10 @@ impl Machine {
             plus: now,
             current,
         };
-        match self.clocks.apply(&self.parents, &change) {
-            Ok(()) => {
-                self.tasks[task] = now;
-                self.last = at;
-                Ok(())
-            }
-            Err(NoMemory) => Err(Failed::NoMemory),
-        }
+        self.clocks.apply(&self.parents, &change);
+        self.tasks[task] = now;
+        self.last = at;
+        Ok(())
     }
 
     /// The times of a group at a moment, None where it isn't one from the last change on.

@@ -1,8 +1,7 @@
 -- Places on chains of groups, where parents are older.
-use Rattle.std.proofs.Common.{◌≡◌, ◌≢◌, ℕ, ◌+◌, ◌≤◌, ◌<◌, List, ◌++◌, length, refl, sym, ap, ◌∙◌, arith, Bool, true, false, ◌⊎◌, inl, inr, ⊎_elim, Option, None, Some}
+use Rattle.std.proofs.Common.{◌≡◌, ◌≢◌, ℕ, ◌+◌, ◌≤◌, ◌<◌, List, refl, sym, ap, ◌∙◌, arith, Bool, true, false, ◌⊎◌, ⊎_elim, Option, None, Some}
 use Rattle.std.specs.Prelude.{slice_index_or, ◌==◌, ◌||◌, if◌then◌else◌}
 use Rattle.std.proofs.lemmas.Bool.Decides.{nat_tests}
-use Rattle.std.proofs.lemmas.List.{get_or_append_left, get_or_past}
 use Rattle.psi_base.specs.declared.event.Slot.{Slot}
 use Rattle.psi_spec.specs.Stall.{is_under, number_of_slot}
 use Rattle.psi_spec.specs.Groups.{AreOlder, leads_to}
@@ -12,21 +11,6 @@ use Rattle.slot_clocks.specs.Walk.{height, is_at, passed, reaches}
 -- the parent of a slot, if it has one
 abbrev parent_of : List (Option ℕ) → ℕ → Option ℕ
 parent_of parents slot = slice_index_or parents slot None
-
--- ---- parents
-
-in_list : (parents : List (Option ℕ)) (slot parent : ℕ) → parent_of parents slot ≡ Some parent → (slot < length parents) ⊎ (length parents ≤ slot) → slot < length parents
-in_list parents slot parent is (inl here) = here
-in_list parents slot parent is (inr past) = absurd (cc (is, get_or_past parents slot None past))
-
-below_or_past : (slot n : ℕ) → (slot < n) ⊎ (n ≤ slot)
-below_or_past slot n = grind arith
-
--- parents are older among the first of some
-pub older_front : (parents more : List (Option ℕ)) → AreOlder (parents ++ more) → AreOlder parents
-older_front parents more older slot parent is =
-    let here : slot < length parents = in_list parents slot parent is (below_or_past slot (length parents)) in
-    older slot parent (get_or_append_left parents more None slot here ∙ is)
 
 -- ---- the way up
 

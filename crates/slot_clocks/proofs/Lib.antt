@@ -1,4 +1,3 @@
 mod ChainLaws
-pub mod ToldLaws
 mod TurnLaws
 mod WalkLaws

@@ -1,17 +1,16 @@
 -- A group that a change doesn't reach, and one to which it comes.
-use Rattle.std.proofs.Common.{◌≡◌, ℕ, ◌+◌, ◌-◌, ◌≤◌, List, refl, sym, ap, ◌∙◌, subst, arith, Bool, true, false, Option, None, Some}
-use Rattle.std.specs.Prelude.{slice_index, if◌then◌else◌}
+use Rattle.std.proofs.Common.{◌≡◌, ℕ, List, refl, sym, ap, ◌∙◌, subst, Bool, true, false, Option, None, Some}
+use Rattle.std.specs.Prelude.{if◌then◌else◌}
 use Rattle.psi_base.specs.declared.event.Slot.{Slot}
 use Rattle.psi_base.specs.declared.event.State.{State}
 use Rattle.psi_base.specs.declared.event.State.TheVariants.{IoSome, IoFull, MemSome, MemFull, CpuSome, CpuFull, Nonidle}
 use Rattle.psi_spec.specs.declared.machine.Counts.{Counts}
 use Rattle.psi_spec.specs.declared.machine.Change.{Change}
-use Rattle.psi_spec.specs.Counts.{mask_holds, tells}
-use Rattle.psi_spec.specs.Clock.{ClockView}
-use Rattle.psi_spec.specs.Stall.{number_of}
+use Rattle.psi_spec.specs.Counts.{tells}
 use Rattle.psi_spec.specs.Touch.{Follows, is_current_in, is_current_stalled, no_counts, on_chain}
+use Rattle.psi_spec.proofs.PlanClocks.{clock_stays}
 use Rattle.slot_clocks.specs.declared.cell.Cell.{Cell}
-use Rattle.slot_clocks.specs.Clocks.{ClockFollows, IsTold, IsUpTo}
+use Rattle.slot_clocks.specs.Clocks.{IsTold, IsUpTo}
 use Rattle.slot_clocks.specs.Walk.{IsTurned, counts_in, reaches, slot_in}
 
 -- ---- sides of a change, by what is reached
@@ -41,17 +40,6 @@ told_off Nonidle counts one other = refl
 
 follows_none : (counts : Counts) → Follows counts no_counts no_counts counts
 follows_none counts = record { io = refl; stalled = refl; running = refl; stalled_running = refl }
-
-split_time : (held : Bool) (time start at later : ℕ) → start ≤ at → at ≤ later → time + (if held then later - start else 0) ≡ (time + (if held then at - start else 0)) + (if held then later - at else 0)
-split_time true time start at later from to = omega arith
-split_time false time start at later from to = omega arith
-
--- a clock follows itself
-clock_stays : (clock : ClockView) (at : ℕ) → clock.start ≤ at → ClockFollows clock at clock
-clock_stays clock at from = record {
-  start = from;
-  times = λ state later to. split_time (mask_holds clock.mask state) (slice_index clock.times (number_of state)) clock.start at later from to;
-}
 
 -- a group that no chain of a change reaches stays as it is
 pub stays_turned : (parents : List (Option ℕ)) (current : Option (Slot × Bool)) (change : Change) (slot : ℕ) (cell : Cell) → reaches parents (slot_in change.minus) slot ≡ false → reaches parents (slot_in change.plus) slot ≡ false

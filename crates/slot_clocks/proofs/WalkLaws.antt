@@ -6,13 +6,14 @@ use Rattle.std.proofs.Math.ListN.{get_or-map}
 use Rattle.psi_base.specs.declared.event.Slot.{Slot}
 use Rattle.psi_base.specs.declared.event.State.{State}
 use Rattle.psi_spec.specs.declared.machine.Change.{Change}
+use Rattle.psi_spec.specs.Clock.{ClockFollows}
 use Rattle.psi_spec.specs.Counts.{mask_holds, tells}
 use Rattle.psi_spec.specs.Groups.{AreOlder}
 use Rattle.psi_spec.specs.Stall.{number_of_slot}
 use Rattle.psi_spec.specs.Touch.{Follows, is_current_in, is_current_stalled, no_counts, on_chain}
 use Rattle.slot_clocks.specs.declared.cell.Cell.{Cell}
 use Rattle.slot_clocks.specs.declared.chains.Chains.{Chains}
-use Rattle.slot_clocks.specs.Clocks.{CanFollow, ClockFollows, IsTold, IsUpTo, cell_in, numbers_of, zero_cell}
+use Rattle.slot_clocks.specs.Clocks.{CanFollow, IsTold, IsUpTo, cell_in, numbers_of, zero_cell}
 use Rattle.slot_clocks.specs.Walk.{IsTurned, all_passed, chains_of, counts_in, height, is_at, passed, reaches, top}
 use Rattle.slot_clocks.proofs.ChainLaws.{not_at, passed_height, reaches_at, reaches_passed, stands}
 use Rattle.slot_clocks.proofs.TurnLaws.{chain_is, current_is, stays_turned}

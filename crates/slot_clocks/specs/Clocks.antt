@@ -1,14 +1,13 @@
 -- The clocks of all groups on one processor, and how they follow its changes.
-use Rattle.std.specs.Prelude.{◌≡◌, ℕ, ◌+◌, ◌-◌, ◌≤◌, ◌<◌, ◌^◌, List, [], ◌++◌, length, map, slice_index, slice_index_or, Bool, if◌then◌else◌, Option, None, IfSome}
+use Rattle.std.specs.Prelude.{◌≡◌, ℕ, ◌+◌, ◌≤◌, ◌<◌, ◌^◌, List, map, replicate, slice_index_or, Bool, Option, None}
 use Rattle.psi_base.specs.declared.event.Slot.{Slot}
 use Rattle.psi_base.specs.declared.event.State.{State}
 use Rattle.psi_spec.specs.declared.machine.Counts.{Counts}
 use Rattle.psi_spec.specs.declared.machine.Change.{Change}
 use Rattle.psi_spec.specs.Counts.{mask_holds, tells}
-use Rattle.psi_spec.specs.Clock.{ClockView, opened_time, zero_clock}
-use Rattle.psi_spec.specs.Groups.{AreOlder}
+use Rattle.psi_spec.specs.Clock.{ClockFollows, ClockView, opened_time, zero_clock}
 use Rattle.psi_spec.specs.Share.{last_moment}
-use Rattle.psi_spec.specs.Stall.{number_of, number_of_slot}
+use Rattle.psi_spec.specs.Stall.{number_of_slot}
 use Rattle.psi_spec.specs.Touch.{Follows, is_current_in, is_current_stalled, no_counts, on_chain}
 use Rattle.slot_clocks.specs.declared.cell.Cell.{Cell}
 
@@ -31,9 +30,9 @@ pub record ClocksView : Type 0 where
   pub current : Option (Slot × Bool)
   pub last : ℕ
 
--- no change was made yet
-abbrev pub no_clocks : ClocksView
-no_clocks = record { cells = []; current = None; last = 0 }
+-- the clocks of so many slots, before the first change
+abbrev pub first_clocks : ℕ → ClocksView
+first_clocks slots = record { cells = replicate slots zero_cell; current = None; last = 0 }
 
 -- the cell of a slot, in a list
 abbrev pub cell_in : List Cell → ℕ → Cell
@@ -60,13 +59,6 @@ pub record CanFollow (counts minus plus : Counts) : Type 0 where
   pub running : (minus.running ≤ counts.running + plus.running) × (counts.running + plus.running < 2 ^ 32)
   pub stalled_running : (minus.stalled_running ≤ counts.stalled_running + plus.stalled_running) × (counts.stalled_running + plus.stalled_running < 2 ^ 32)
 
--- A clock follows another over a change at a moment (ns): it tells for each state, at each moment from the change on, what
--- the other told at the change, and the time since then where its own mask has the state. It may be advanced to the change,
--- or be the same clock where the mask stays.
-pub record ClockFollows (old : ClockView) (at : ℕ) (new : ClockView) : Type 0 where
-  pub start : new.start ≤ at
-  pub times : (state : State) (later : ℕ) → at ≤ later → opened_time new later state ≡ opened_time old at state + (if mask_holds new.mask state then later - at else 0)
-
 -- the counts of each group can follow what a change takes and adds on its chains
 abbrev pub AllCanFollow : List (Option ℕ) → Change → ClocksView → Type 0
 AllCanFollow parents change clocks = (slot : ℕ) → CanFollow (cell_at clocks slot).counts (on_chain parents slot change.minus) (on_chain parents slot change.plus)
@@ -81,23 +73,18 @@ AllClocksFollow at old new = (slot : ℕ) → ClockFollows (cell_at old slot).cl
 
 -- ---- what is kept of each clock
 
--- a clock started at a moment (ns) or before it, and no state held for longer than up to its start
+-- a clock started at a moment (ns) or before it, and no state held for longer than up to the moment
 pub record IsUpTo (at : ℕ) (clock : ClockView) : Type 0 where
   pub start : clock.start ≤ at
-  pub times : (state : State) → slice_index clock.times (number_of state) ≤ clock.start
+  pub times : (state : State) → opened_time clock at state ≤ at
 
--- the clocks of a processor are up to its last change, which a trace may reach, and its running task has a cell
-pub record AreUpTo (cells : List Cell) (current : Option (Slot × Bool)) (last : ℕ) : Type 0 where
+-- the clocks of a processor are up to its last change, which a trace may reach
+pub record AreUpTo (cells : List Cell) (last : ℕ) : Type 0 where
   pub each : (slot : ℕ) → IsUpTo last (cell_in cells slot).clock
   pub early : last ≤ last_moment
-  pub room : IfSome current (λ running. running.0.0 < length cells)
 
 -- ---- laws
 
 -- At first each mask tells that nothing holds, whatever the groups.
 abbrev pub FirstAreTold : Type 0
-FirstAreTold = (parents : List (Option ℕ)) → AreTold parents no_clocks
-
--- New groups leave the masks as they are told, where the running task is in one of the older ones.
-abbrev pub ToldWithMore : Type 0
-ToldWithMore = (parents more : List (Option ℕ)) (clocks : ClocksView) → AreOlder (parents ++ more) → IfSome clocks.current (λ running. running.0.0 < length parents) → AreTold parents clocks → AreTold (parents ++ more) clocks
+FirstAreTold = (parents : List (Option ℕ)) (slots : ℕ) → AreTold parents (first_clocks slots)

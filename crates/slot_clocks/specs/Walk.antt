@@ -3,11 +3,12 @@ use Rattle.std.specs.Prelude.{ℕ, ◌+◌, List, max, Bool, false, ◌==◌, if
 use Rattle.psi_base.specs.declared.event.Slot.{Slot}
 use Rattle.psi_spec.specs.declared.machine.Counts.{Counts}
 use Rattle.psi_spec.specs.declared.machine.Change.{Change}
+use Rattle.psi_spec.specs.Clock.{ClockFollows}
 use Rattle.psi_spec.specs.Stall.{is_under}
 use Rattle.psi_spec.specs.Touch.{Follows, no_counts, on_chain}
 use Rattle.slot_clocks.specs.declared.cell.Cell.{Cell}
 use Rattle.slot_clocks.specs.declared.chains.Chains.{Chains}
-use Rattle.slot_clocks.specs.Clocks.{ClockFollows, IsTold, IsUpTo}
+use Rattle.slot_clocks.specs.Clocks.{IsTold, IsUpTo}
 
 -- the slot of a pair, if there is one
 abbrev pub slot_in : {A : Type 0} → Option (Slot × A) → Option Slot

@@ -2,10 +2,11 @@
 
 ghost use Rattle.std.specs.Prelude.{◌≡◌, ◌+◌, ◌<◌, ◌≤◌, ◌^◌};
 ghost use Rattle.psi_base.specs.declared.event.State.{State};
+ghost use Rattle.psi_spec.specs.Clock.{ClockFollows};
 ghost use Rattle.psi_spec.specs.Counts.{mask_holds, tells};
 ghost use Rattle.psi_spec.specs.Share.{last_moment};
 ghost use Rattle.psi_spec.specs.Touch.{Follows, no_counts};
-ghost use Rattle.slot_clocks.specs.Clocks.{CanFollow, ClockFollows, IsUpTo, zero_cell};
+ghost use Rattle.slot_clocks.specs.Clocks.{CanFollow, IsUpTo, zero_cell};
 
 use cpu_clock::Clock;
 use psi_base::Ns;
@@ -83,8 +84,6 @@ impl Cell {
     {
         self.counts = follow(&self.counts, minus, plus);
         let mask = mask_of(&self.counts, on_cpu, current_stalled);
-        if mask != self.clock.mask {
-            self.clock.advance(at, mask);
-        }
+        self.clock.turn(at, mask);
     }
 }

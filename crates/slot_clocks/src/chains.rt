@@ -111,12 +111,13 @@ pub(crate) fn walk(
 )
     requires older { AreOlder (numbers_of parents.now) }
     requires slots { top (chains_of current change.now) ≤ length parents.now }
-    requires room { top (chains_of current change.now) ≤ length cells.old }
+    requires room { length parents.now ≤ length cells.old }
     requires told { (slot : ℕ) → IsTold (numbers_of parents.now) current slot (cell_in cells.old slot) }
     requires fits { (slot : ℕ) → CanFollow (cell_in cells.old slot).counts (on_chain (numbers_of parents.now) slot change.now.minus) (on_chain (numbers_of parents.now) slot change.now.plus) }
     requires up_to { (slot : ℕ) → IsUpTo change.now.at (cell_in cells.old slot).clock }
     requires early { change.now.at ≤ last_moment }
-    ensures { (slot : ℕ) → IsTurned (numbers_of parents.now) change.now slot (cell_in cells.old slot) (cell_in cells.new slot) }
+    ensures turned { (slot : ℕ) → IsTurned (numbers_of parents.now) change.now slot (cell_in cells.old slot) (cell_in cells.new slot) }
+    ensures room { length cells.new ≡ length cells.old }
 {
     let minus = counts_of(change.minus);
     let plus = counts_of(change.plus);

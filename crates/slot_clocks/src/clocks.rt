@@ -1,15 +1,14 @@
 //! The clocks of all groups on one processor.
 
-ghost use Rattle.std.specs.Prelude.{◌≡◌, ℕ, ◌<◌, ◌≤◌, length, vec_len, IfSome, OnErr, OnOk};
+ghost use Rattle.std.specs.Prelude.{◌≡◌, ℕ, ◌<◌, ◌≤◌, length, IfOk, IfSome};
 ghost use Rattle.psi_spec.specs.Clock.{IsInTime};
 ghost use Rattle.psi_spec.specs.Groups.{AreOlder};
 ghost use Rattle.psi_spec.specs.Share.{last_moment};
 ghost use Rattle.psi_spec.specs.Touch.{HasSlotsBelow};
-ghost use Rattle.slot_clocks.specs.Clocks.{AllCanFollow, AllClocksFollow, AllFollow, AreTold, cell_at, cell_in, no_clocks, numbers_of};
-ghost use Rattle.slot_clocks.specs.Walk.{height};
+ghost use Rattle.slot_clocks.specs.Clocks.{AllCanFollow, AllClocksFollow, AllFollow, AreTold, cell_at, first_clocks, numbers_of};
 
 use crate::cell::Cell;
-use crate::chains::{Chains, walk};
+use crate::chains::walk;
 use cpu_clock::Clock;
 use psi_base::{NoMemory, Ns, Slot};
 use psi_spec::Change;
@@ -20,7 +19,7 @@ use std::marker::Model;
 /// and the clock of each slot, the processor's running task, and the moment of the last change.
 #[derive(Drop)]
 pub struct SlotClocks {
-    /// By slot, up to the greatest that a change came to.
+    /// By slot, as many as were made at first.
     cells: Vec<Cell>,
     /// The slot of the running task, and whether that task is in a memory stall.
     current: Option<(Slot, bool)>,
@@ -35,46 +34,30 @@ impl Model for SlotClocks {
 
     ghost view = { λ clocks. record { cells = clocks.cells.items; current = clocks.current; last = clocks.last } };
 
-    ghost invariant = { λ clocks. AreUpTo clocks.cells.items clocks.current clocks.last };
-}
-
-// Makes cells up to the slot, where there are fewer.
-fn grow(cells: &mut Vec<Cell>, slot: Option<Slot>) -> Result<(), NoMemory>
-    ensures room { OnOk result (height slot ≤ vec_len cells.new) }
-    ensures same { (other : ℕ) → cell_in cells.new.items other ≡ cell_in cells.old.items other }
-    ensures longer { vec_len cells.old ≤ vec_len cells.new }
-    ensures err { OnErr result (cells.new.items ≡ cells.old.items) }
-{
-    let Some(slot) = slot else {
-        return Ok(());
-    };
-    let wanted = slot.0 as usize + 1;
-    if cells.len() < wanted {
-        cells.resize(wanted, Cell::zero())?;
-    }
-    Ok(())
+    ghost invariant = { λ clocks. AreUpTo clocks.cells.items clocks.last };
 }
 
 impl SlotClocks {
-    /// The clocks before the first change. Takes no memory.
-    pub fn new(alloc: Global) -> SlotClocks
-        ensures { result ≡ no_clocks }
+    /// The clocks of so many slots, before the first change. Takes all memory that they will need.
+    pub fn make(alloc: Global, slots: u32) -> Result<SlotClocks, NoMemory>
+        ensures { IfOk result (λ clocks. clocks ≡ first_clocks slots) }
     {
-        SlotClocks {
-            cells: Vec::new(alloc),
+        Ok(SlotClocks {
+            cells: vec![in alloc; Cell::zero(); slots as usize]?,
             current: None,
             last: 0,
-        }
+        })
     }
 
     /// Makes a change of the processor: the counts of the groups on the chains of the change follow it, and so do their
-    /// clocks. `parents` has the parent of each slot, None for the root. Where there is no memory for clocks of groups that
-    /// no change came to before, nothing is changed.
+    /// clocks. `parents` has the parent of each slot, None for the root; there must be clocks for all of them. Takes no
+    /// memory.
     ///
     /// It takes time for each group on the chains of four slots: of the counts that are taken, of those that are added, of
     /// the task that ran and of the task that runs.
-    pub fn apply(&mut self, parents: &[Option<Slot>], change: &Change) -> Result<(), NoMemory>
+    pub fn apply(&mut self, parents: &[Option<Slot>], change: &Change)
         requires older { AreOlder (numbers_of parents.now) }
+        requires room { length parents.now ≤ length self.old.cells }
         requires slots { HasSlotsBelow (length parents.now) change.now }
         requires current { IfSome self.old.current (λ running. running.0.0 < length parents.now) }
         requires told { AreTold (numbers_of parents.now) self.old }
@@ -83,23 +66,21 @@ impl SlotClocks {
         requires early { change.now.at ≤ last_moment }
 
         // Each group follows the change, whether it is on a chain of it or not.
-        ensures counts { OnOk result (AllFollow (numbers_of parents.now) change.now self.old self.new) }
-        ensures clocks { OnOk result (AllClocksFollow change.now.at self.old self.new) }
-        ensures told { OnOk result (AreTold (numbers_of parents.now) self.new) }
+        ensures counts { AllFollow (numbers_of parents.now) change.now self.old self.new }
+        ensures clocks { AllClocksFollow change.now.at self.old self.new }
+        ensures told { AreTold (numbers_of parents.now) self.new }
 
-        ensures current { OnOk result (self.new.current ≡ change.now.current) }
-        ensures last { OnOk result (self.new.last ≡ change.now.at) }
-        ensures err { OnErr result (self.new ≡ self.old) }
+        ensures current { self.new.current ≡ change.now.current }
+        ensures last { self.new.last ≡ change.now.at }
+        ensures room { length self.new.cells ≡ length self.old.cells }
     {
-        let highest = Chains::of(self.current, change).top();
-        grow(&mut self.cells, highest)?;
         walk(&mut self.cells, parents, self.current, change);
         self.current = change.current;
         self.last = change.at;
-        Ok(())
     }
 
-    /// The clock of a group. It may be opened to any moment from the last change on.
+    /// The clock of a group, and the zero clock for a slot beyond the last. It may be opened to any moment from the last
+    /// change on.
     pub fn clock(&self, slot: Slot) -> Clock
         ensures value { result ≡ (cell_at self.now slot.0).clock }
         ensures in_time { (at : ℕ) → self.now.last ≤ at → at ≤ last_moment → IsInTime result at }

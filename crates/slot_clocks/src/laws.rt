@@ -1,13 +1,8 @@
 //! Laws of the clocks of a processor. Each function has an empty body: its contract is the law.
 
-ghost use Rattle.slot_clocks.specs.Clocks.{FirstAreTold, ToldWithMore};
+ghost use Rattle.slot_clocks.specs.Clocks.{FirstAreTold};
 
 /// Before the first change each mask tells that nothing holds, whatever the groups are.
 pub fn first_clocks()
     ensures { FirstAreTold }
-{}
-
-/// Masks stay as they are told when groups are made.
-pub fn more_groups()
-    ensures { ToldWithMore }
 {}

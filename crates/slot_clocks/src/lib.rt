@@ -10,4 +10,4 @@ mod clocks;
 mod laws;
 
 pub use clocks::SlotClocks;
-pub use laws::{first_clocks, more_groups};
+pub use laws::first_clocks;

@@ -1,7 +1,7 @@
 -- The causes by verb are the causes in their order, and what their absence says.
-use Rattle.std.proofs.Common.{◌≡◌, ℕ, List, refl, ◌∙◌, sym, Bool, true, false, Option, None, Some, is_some}
-use Rattle.std.specs.Prelude.{nat_lt, nat_le, not, ◌&&◌, ◌||◌, if◌then◌else◌}
-use Rattle.std.specs.FinMap as tasks_by
+use Rattle.std.proofs.Common.{◌≡◌, ℕ, ◌<◌, ◌≤◌, List, refl, ◌∙◌, sym, Bool, true, false, arith, Option, None, Some, is_some}
+use Rattle.std.proofs.lemmas.Bool.Decides.{nat_tests}
+use Rattle.std.specs.Prelude.{IfSome, nat_lt, nat_le, not, ◌&&◌, ◌||◌, if◌then◌else◌}
 use Rattle.psi_base.specs.declared.event.Pid.{Pid}
 use Rattle.psi_base.specs.declared.event.How.{How}
 use Rattle.psi_base.specs.declared.event.Act.{Act}
@@ -10,10 +10,13 @@ use Rattle.psi_base.specs.declared.event.Event.{Event}
 use Rattle.psi_base.specs.declared.event.Cause.{Cause}
 use Rattle.psi_base.specs.declared.event.Cause.TheVariants as cause
 use Rattle.psi_spec.specs.declared.machine.GroupLife.{GroupLife}
-use Rattle.psi_spec.specs.World.{World, Limits, Tasks, task_of, test_task, running_on, task_part, slot_of, is_active, is_ready, is_root}
+use Rattle.psi_spec.specs.declared.machine.Task.{Task}
+use Rattle.psi_spec.specs.World.{World, Limits, Tasks, task_of, test_task, running_on, task_part, slot_of, is_active, is_ready, is_ready_on, is_root}
 use Rattle.psi_spec.specs.Refusal.{cause_of, has_child, has_member, is_wrong, is_exit, isnt_ready, lacks_group, lacks_task}
+use Rattle.psi_spec.proofs.TouchLaws.{not_false}
 use Rattle.group_tree.specs.Tree.{remove_cause}
 use Rattle.task_table.specs.Causes.{act_cause, fork_cause, groups_cause, how_cause, line_cause, migrate_cause, move_cause, or_cause, switch_cause, wake_cause, next_cause}
+use Rattle.task_table.specs.Named.{next_task}
 
 -- a busy group, in two parts
 busy_parts : (a b c d : Bool) → (if a then Some cause.UnknownGroup else if b || c || d then Some cause.GroupBusy else None) ≡ or_cause (if a then Some cause.UnknownGroup else if b || c then Some cause.GroupBusy else None) (if d then Some cause.GroupBusy else None)
@@ -23,11 +26,15 @@ busy_parts false false true d = refl
 busy_parts false false false d = refl
 
 -- the causes of a switch, in two parts
-switch_parts : (a b c : Bool) (rest : Option Cause) → (if a then Some cause.UnknownTask else if b then Some cause.BadCpu else if c then Some cause.NotReady else rest) ≡ or_cause (if a then Some cause.UnknownTask else if b then Some cause.BadCpu else if c then Some cause.NotReady else None) rest
-switch_parts true b c rest = refl
-switch_parts false true c rest = refl
-switch_parts false false true rest = refl
-switch_parts false false false rest = refl
+either : (a b c : Bool) (rest : Option Cause) → (if a then Some cause.UnknownTask else if b then Some cause.BadCpu else if c then Some cause.NotReady else rest) ≡ or_cause (if a then Some cause.UnknownTask else if b then Some cause.BadCpu else if c then Some cause.NotReady else None) rest
+either true b c rest = refl
+either false true c rest = refl
+either false false true rest = refl
+either false false false rest = refl
+
+switch_parts : (cpus : ℕ) (tasks : Tasks) (cpu : ℕ) (next : Option Pid) (rest : Option Cause) → (if lacks_task tasks next then Some cause.UnknownTask else if nat_le cpus cpu then Some cause.BadCpu else if isnt_ready tasks cpu next then Some cause.NotReady else rest) ≡ or_cause (next_cause cpus cpu next (next_task tasks next)) rest
+switch_parts cpus tasks cpu None rest = either false (nat_le cpus cpu) false rest
+switch_parts cpus tasks cpu (Some pid) rest = either (not (is_some (task_of tasks pid.0))) (nat_le cpus cpu) (not (test_task (task_of tasks pid.0) (is_ready_on cpu))) rest
 
 -- the causes of any line, before those of an act
 before_act : (a b c d : Bool) (rest other : Option Cause) → rest ≡ other → (if a then Some cause.AfterEnd else if b then Some cause.TimeBack else if c then Some cause.TimeTooLate else if d then Some cause.TooManyEvents else rest) ≡ (if a then Some cause.AfterEnd else if b then Some cause.TimeBack else if c then Some cause.TimeTooLate else if d then Some cause.TooManyEvents else other)
@@ -41,7 +48,7 @@ by_verb limits w at (act.Remove path) = before_act w.ended (nat_lt at w.last) (n
 by_verb limits w at (act.Prefer path preference) = refl
 by_verb limits w at (act.Fork pid path cpu) = refl
 by_verb limits w at (act.Wake pid cpu) = refl
-by_verb limits w at (act.Switch cpu next how) = before_act w.ended (nat_lt at w.last) (nat_lt limits.latest at) (nat_le 4000000 w.lines) _ _ (switch_parts (lacks_task w.tasks next) (nat_le limits.cpus cpu.0) (isnt_ready w.tasks cpu.0 next) (how_cause how (running_on w.tasks cpu.0)))
+by_verb limits w at (act.Switch cpu next how) = before_act w.ended (nat_lt at w.last) (nat_lt limits.latest at) (nat_le 4000000 w.lines) _ _ (switch_parts limits.cpus w.tasks cpu.0 next (how_cause how (running_on w.tasks cpu.0)))
 by_verb limits w at (act.Stall pid) = refl
 by_verb limits w at (act.Unstall pid) = refl
 by_verb limits w at (act.Migrate pid cpu) = refl
@@ -54,6 +61,14 @@ by_verb limits w at act.End = refl
 -- the first cause in the order of causes is the first by verbs
 pub first_is : (limits : Limits) (w : World) (event : Event) → cause_of limits w event ≡ line_cause limits w event
 first_is limits w event = by_verb limits w event.at event.act
+
+-- where no cause comes that any line can have, the first is the first of the act
+pub first_of_act : (limits : Limits) (w : World) (event : Event) → w.ended ≡ false → w.last ≤ event.at → event.at ≤ limits.latest → w.lines < 4000000 → cause_of limits w event ≡ act_cause limits.cpus w.groups w.tasks w.triggers event.act
+first_of_act limits w event running forward early room =
+    let on_time : nat_lt event.at w.last ≡ false = grind (arith, nat_tests) in
+    let in_time : nat_lt limits.latest event.at ≡ false = grind (arith, nat_tests) in
+    let few : nat_le 4000000 w.lines ≡ false = grind (arith, nat_tests) in
+    first_is limits w event ∙ rw (running, on_time, in_time, few) refl
 
 -- ---- what a cause that doesn't come says
 
@@ -87,52 +102,47 @@ groups_through cpus groups tasks triggers (act.Group path) h = h
 groups_through cpus groups tasks triggers (act.Remove path) h = (no_causes (remove_cause groups path) _ h).0
 groups_through cpus groups tasks triggers _ h = refl
 
--- no value, by its test
-is_some_false : {A : Type 0} (o : Option A) → is_some o ≡ false → o ≡ None
-is_some_false None h = refl
-is_some_false (Some x) h = cc h
-
--- a legal fork is of a number that no task has
-pub fork_new : (cpus : ℕ) (groups : List GroupLife) (tasks : Tasks) (pid : ℕ) (path : List ℕ) (cpu : ℕ) → fork_cause cpus groups tasks pid path cpu ≡ None → task_of tasks pid ≡ None
-fork_new cpus groups tasks pid path cpu h =
-    is_some_false (task_of tasks pid)
-    (third (nat_le 65536 (tasks_by.len tasks)) (not (is_some (slot_of groups path))) (is_some (task_of tasks pid)) cause.TooManyTasks cause.UnknownGroup cause.TaskExists
-    (if nat_le cpus cpu then Some cause.BadCpu else None) h).0
-
--- a legal wake is of a task that sleeps
-pub wake_off : (cpus : ℕ) (tasks : Tasks) (pid cpu : ℕ) → wake_cause cpus tasks pid cpu ≡ None → test_task (task_of tasks pid) (λ task. is_active task.mode) ≡ false
-wake_off cpus tasks pid cpu h =
-    (third (not (is_some (task_of tasks pid))) (nat_le cpus cpu) (test_task (task_of tasks pid) (λ task. is_active task.mode)) cause.UnknownTask cause.BadCpu cause.NotBlocked None h).0
-
 -- what the absence of a switch's causes says
-pub record MaySwitch (cpus : ℕ) (tasks : Tasks) (cpu : ℕ) (next : Option Pid) (how : How) : Type 0 where
+pub record MaySwitch (cpus cpu : ℕ) (next : Option Pid) (task : Option Task) (how : How) (running : Option (ℕ × Task)) : Type 0 where
   pub room : nat_le cpus cpu ≡ false
-  pub ready : isnt_ready tasks cpu next ≡ false
-  pub leaves : is_wrong how (running_on tasks cpu) ≡ false
+  pub ready : IfSome next (λ _. test_task task (is_ready_on cpu) ≡ true)
+  pub leaves : is_wrong how running ≡ false
+
+-- a next task that may run
+may_run : (cpus cpu : ℕ) (next : Option Pid) (task : Option Task) → next_cause cpus cpu next task ≡ None → (nat_le cpus cpu ≡ false) × IfSome next (λ _. test_task task (is_ready_on cpu) ≡ true)
+may_run cpus cpu None task h = ((past (nat_le cpus cpu) cause.BadCpu None h).0, tt)
+may_run cpus cpu (Some pid) task h =
+    let one = past (not (is_some task)) cause.UnknownTask (if nat_le cpus cpu then Some cause.BadCpu else if not (test_task task (is_ready_on cpu)) then Some cause.NotReady else None) h in
+    let two = past (nat_le cpus cpu) cause.BadCpu (if not (test_task task (is_ready_on cpu)) then Some cause.NotReady else None) one.1 in
+    (two.0, not_false (test_task task (is_ready_on cpu)) (past (not (test_task task (is_ready_on cpu))) cause.NotReady None two.1).0)
 
 -- a legal switch
-pub may_switch : (cpus : ℕ) (tasks : Tasks) (cpu : ℕ) (next : Option Pid) (how : How) → switch_cause cpus tasks cpu next how ≡ None → MaySwitch cpus tasks cpu next how
-may_switch cpus tasks cpu next how h =
-    let parts = no_causes (next_cause cpus tasks cpu next) (how_cause how (running_on tasks cpu)) h in
-    let one = past (lacks_task tasks next) cause.UnknownTask (if nat_le cpus cpu then Some cause.BadCpu else if isnt_ready tasks cpu next then Some cause.NotReady else None) parts.0 in
-    let two = past (nat_le cpus cpu) cause.BadCpu (if isnt_ready tasks cpu next then Some cause.NotReady else None) one.1 in
+pub may_switch : (cpus cpu : ℕ) (next : Option Pid) (task : Option Task) (how : How) (running : Option (ℕ × Task)) → switch_cause cpus cpu next task how running ≡ None → MaySwitch cpus cpu next task how running
+may_switch cpus cpu next task how running h =
+    let parts = no_causes (next_cause cpus cpu next task) (how_cause how running) h in
+    let run = may_run cpus cpu next task parts.0 in
     record {
-      room = two.0;
-      ready = (past (isnt_ready tasks cpu next) cause.NotReady None two.1).0;
-      leaves = (past (is_wrong how (running_on tasks cpu)) cause.WrongHow (if is_exit how && test_task (task_part (running_on tasks cpu)) (λ task. task.stalled) then Some cause.InStall else None) parts.1).0;
+      room = run.0;
+      ready = run.1;
+      leaves = (past (is_wrong how running) cause.WrongHow (if is_exit how && test_task (task_part running) (λ task. task.stalled) then Some cause.InStall else None) parts.1).0;
     }
 
 -- a legal fork's group is there
-pub fork_group : (cpus : ℕ) (groups : List GroupLife) (tasks : Tasks) (pid : ℕ) (path : List ℕ) (cpu : ℕ) → fork_cause cpus groups tasks pid path cpu ≡ None → not (is_some (slot_of groups path)) ≡ false
-fork_group cpus groups tasks pid path cpu h =
-    let one = past (nat_le 65536 (tasks_by.len tasks)) cause.TooManyTasks (if not (is_some (slot_of groups path)) then Some cause.UnknownGroup else if is_some (task_of tasks pid) then Some cause.TaskExists else if nat_le cpus cpu then Some cause.BadCpu else None) h in
-    (past (not (is_some (slot_of groups path))) cause.UnknownGroup (if is_some (task_of tasks pid) then Some cause.TaskExists else if nat_le cpus cpu then Some cause.BadCpu else None) one.1).0
+pub fork_group : (cpus : ℕ) (groups : List GroupLife) (live : ℕ) (task : Option Task) (path : List ℕ) (cpu : ℕ) → fork_cause cpus groups live task path cpu ≡ None → not (is_some (slot_of groups path)) ≡ false
+fork_group cpus groups live task path cpu h =
+    let one = past (nat_le 65536 live) cause.TooManyTasks (if not (is_some (slot_of groups path)) then Some cause.UnknownGroup else if is_some task then Some cause.TaskExists else if nat_le cpus cpu then Some cause.BadCpu else None) h in
+    (past (not (is_some (slot_of groups path))) cause.UnknownGroup (if is_some task then Some cause.TaskExists else if nat_le cpus cpu then Some cause.BadCpu else None) one.1).0
 
 -- so is a legal move's
-pub move_group : (groups : List GroupLife) (tasks : Tasks) (pid : ℕ) (path : List ℕ) → move_cause groups tasks pid path ≡ None → not (is_some (slot_of groups path)) ≡ false
-move_group groups tasks pid path h = (past (lacks_group groups (Some path)) cause.UnknownGroup (if not (is_some (task_of tasks pid)) then Some cause.UnknownTask else None) h).0
+pub move_group : (groups : List GroupLife) (task : Option Task) (path : List ℕ) → move_cause groups task path ≡ None → not (is_some (slot_of groups path)) ≡ false
+move_group groups task path h = (past (lacks_group groups (Some path)) cause.UnknownGroup (if not (is_some task) then Some cause.UnknownTask else None) h).0
+
+-- a legal wake is of a task that sleeps
+pub wake_off : (cpus : ℕ) (task : Option Task) (cpu : ℕ) → wake_cause cpus task cpu ≡ None → test_task task (λ task. is_active task.mode) ≡ false
+wake_off cpus task cpu h =
+    (third (not (is_some task)) (nat_le cpus cpu) (test_task task (λ task. is_active task.mode)) cause.UnknownTask cause.BadCpu cause.NotBlocked None h).0
 
 -- a legal migration is of a task that is ready
-pub migrate_off : (cpus : ℕ) (tasks : Tasks) (pid cpu : ℕ) → migrate_cause cpus tasks pid cpu ≡ None → test_task (task_of tasks pid) (λ task. not (is_ready task.mode)) ≡ false
-migrate_off cpus tasks pid cpu h =
-    (third (not (is_some (task_of tasks pid))) (nat_le cpus cpu) (test_task (task_of tasks pid) (λ task. not (is_ready task.mode))) cause.UnknownTask cause.BadCpu cause.NotReady None h).0
+pub migrate_off : (cpus : ℕ) (task : Option Task) (cpu : ℕ) → migrate_cause cpus task cpu ≡ None → test_task task (λ task. not (is_ready task.mode)) ≡ false
+migrate_off cpus task cpu h =
+    (third (not (is_some task)) (nat_le cpus cpu) (test_task task (λ task. not (is_ready task.mode))) cause.UnknownTask cause.BadCpu cause.NotReady None h).0

@@ -1,25 +1,28 @@
 -- What the index of running tasks says, and that changes keep it.
-use Rattle.std.proofs.Common.{◌≡◌, ℕ, ◌<◌, List, [], ◌∷◌, refl, ap, ◌∙◌, sym, subst, Bool, true, false, arith, cond, Option, None, Some, ◌==◌, length, slice_set, ⊎_elim}
-use Rattle.std.specs.Prelude.{slice_index_or, find, ◌&&◌, IfSome}
+use Rattle.std.proofs.Common.{◌≡◌, ℕ, ◌<◌, ◌≤◌, List, [], ◌∷◌, refl, ap, ◌∙◌, sym, Bool, true, false, arith, cond, Option, None, Some, ◌==◌, is_some, length, slice_set, ◌⊎◌, ⊎_elim}
+use Rattle.std.specs.Prelude.{slice_index_or, find, ◌&&◌, if◌then◌else◌, IfSome}
 use Rattle.std.specs.Ordering.{nat_cmp}
 use Rattle.std.specs.Cmp.{unsigned_tied}
 use Rattle.std.specs.FinMap as map
 use Rattle.std.specs.List.{AllByRecursion}
-use Rattle.std.proofs.lemmas.List.{get_or-set_same, get_or-set_other}
+use Rattle.std.proofs.lemmas.List.{get_or-set_same, get_or-set_other, get_or_past}
 use Rattle.std.proofs.lemmas.Bool.Decides.{nat_tests, eqb_tells}
-use Rattle.psi_spec.specs.World.{Tasks, no_tasks, task_of, put, remove, running_on, is_ready_on, is_running_on, test_task, is_running, is_ready, is_active, leave}
-use Rattle.psi_spec.specs.Refusal.{is_wrong, isnt_ready}
+use Rattle.psi_spec.specs.World.{Tasks, no_tasks, placed, task_of, put, running_on, is_ready_on, is_running_on, test_task, is_running, is_ready, leave}
+use Rattle.psi_spec.specs.Refusal.{is_wrong}
 use Rattle.psi_base.specs.declared.event.Pid.{Pid}
 use Rattle.psi_spec.specs.declared.machine.Task.{Task}
 use Rattle.psi_spec.specs.declared.machine.Mode.{Mode}
 use Rattle.psi_spec.specs.declared.machine.Mode.TheVariants.{Blocked, Waiting, Ready, Running}
 use Rattle.psi_base.specs.declared.event.How.{How}
 use Rattle.psi_base.specs.declared.event.How.TheVariants.{Idle}
-use Rattle.psi_spec.proofs.TaskLaws.{found, get_put, get_remove, itself}
-use Rattle.psi_spec.proofs.TouchLaws.{not_false, ready_left}
-use Rattle.task_table.specs.Stands.{IsIndex, runs_on, is_pid}
+use Rattle.psi_spec.proofs.TaskLaws.{found, itself, task_placed}
+use Rattle.psi_spec.proofs.TouchLaws.{ready_left}
+use Rattle.task_table.specs.Named.{next_task}
+use Rattle.task_table.specs.Stands.{IsIndex, passing, task_on, task_with}
 
--- ---- a search for the entry with a number
+-- ---- the running task of a processor is the one in its place
+
+-- a task with its number, if there is one
 abbrev with_number : ℕ → Option Task → Option (ℕ × Task)
 with_number pid None = None
 with_number pid (Some task) = Some (pid, task)
@@ -43,126 +46,237 @@ same_find : (p q : ℕ × Task → Bool) (es : List (ℕ × Task)) → AllByRecu
 same_find p q [] h = refl
 same_find p q (e ∷ es) h = ap (λ b. cond b (Some e) (find p es)) h.0 ∙ ap (cond (q e) (Some e)) (same_find p q es h.1)
 
--- ---- the running task by the index
-abbrev pub told : Tasks → Option ℕ → Option (ℕ × Task)
-told tasks (Some pid) = with_number pid (task_of tasks pid)
-told tasks None = None
-
 -- a search for nothing finds nothing
 none_found : (es : List (ℕ × Task)) → find (λ e. false) es ≡ None
 none_found [] = refl
 none_found (e ∷ es) = none_found es
 
--- a search for the number in a place of the list finds the task that the place tells
-told_find : (tasks : Tasks) (at : Option ℕ) → find (λ e. is_pid e.0 at) (map.entries tasks) ≡ told tasks at
-told_find tasks (Some pid) = by_number (map.entries tasks) pid ∙ ap (with_number pid) (sym (map.get-entries tasks pid))
-told_find tasks None = none_found (map.entries tasks)
+-- a task that passes is there, and the test holds of it
+pub passed : (test : Task → Bool) (o : Option Task) (t : Task) → passing test o ≡ Some t → (o ≡ Some t) × (test t ≡ true)
+passed test None t h = cc h
+passed test (Some x) t h =
+    elim (test x) as (λ b. test x ≡ b → (if b then Some x else None) ≡ Some t → (let o : Option Task = Some x in o ≡ Some t) × (test t ≡ true)) [
+      | true ↦ λ holds same. (same, (let is : x ≡ t = cc same in rw (← is) holds))
+      | false ↦ λ fails none. cc none
+    ] refl h
+
+-- whether a task passes is its test
+passes : (test : Task → Bool) (t : Task) → is_some (passing test (Some t)) ≡ test t
+passes test t = elim (test t) as (λ b. is_some (let o : Option Task = if b then Some t else None in o) ≡ b) [ true ↦ refl | false ↦ refl ]
+
+-- a task in a place, under its own number
+own : (e : ℕ × Task) → task_with e.0 (Some e) ≡ Some e.1
+own e = rw (itself e.0) refl
+
+-- the number in a place
+abbrev numbered : ℕ → Option (ℕ × Task) → Bool
+numbered pid None = false
+numbered pid (Some e) = e.0 == pid
+
+-- whether a place has the task with a number is whether it has the number
+has_number : (pid : ℕ) (o : Option (ℕ × Task)) → is_some (task_with pid o) ≡ numbered pid o
+has_number pid None = refl
+has_number pid (Some e) = elim (e.0 == pid) as (λ b. is_some (let o : Option Task = if b then Some e.1 else None in o) ≡ b) [ true ↦ refl | false ↦ refl ]
 
 -- on each entry, running on a processor and having the number in its place are one test
-tests : (running : List (Option ℕ)) (tasks : Tasks) → IsIndex running tasks → (cpu : ℕ) (es : List (ℕ × Task)) → AllByRecursion (λ e. task_of tasks e.0 ≡ Some e.1) es → AllByRecursion (λ e. is_running_on cpu e.1 ≡ is_pid e.0 (slice_index_or running cpu None)) es
+tests : (running : List (Option (ℕ × Task))) (tasks : Tasks) → IsIndex running tasks → (cpu : ℕ) (es : List (ℕ × Task)) → AllByRecursion (λ e. task_of tasks e.0 ≡ Some e.1) es → AllByRecursion (λ e. is_running_on cpu e.1 ≡ numbered e.0 (slice_index_or running cpu None)) es
 tests running tasks index cpu [] h = tt
-tests running tasks index cpu (e ∷ es) h = (ap (λ o. test_task o (is_running_on cpu)) (sym h.0) ∙ index.each e.0 cpu, tests running tasks index cpu es h.1)
+tests running tasks index cpu (e ∷ es) h =
+    (sym (passes (is_running_on cpu) e.1) ∙ ap (λ o. is_some (passing (is_running_on cpu) o)) (sym h.0) ∙ ap is_some (index.each e.0 cpu) ∙ has_number e.0 (slice_index_or running cpu None), tests running tasks index cpu es h.1)
 
--- the running task of a processor is the one that its place tells
-pub running_told : (running : List (Option ℕ)) (tasks : Tasks) → IsIndex running tasks → (cpu : ℕ) → running_on tasks cpu ≡ told tasks (slice_index_or running cpu None)
+-- a task in a place lives, and runs on that processor
+pub in_place : (running : List (Option (ℕ × Task))) (tasks : Tasks) → IsIndex running tasks → (cpu : ℕ) (e : ℕ × Task) → slice_index_or running cpu None ≡ Some e → (task_of tasks e.0 ≡ Some e.1) × (is_running_on cpu e.1 ≡ true)
+in_place running tasks index cpu e at = passed (is_running_on cpu) (task_of tasks e.0) e.1 (index.each e.0 cpu ∙ ap (task_with e.0) at ∙ own e)
+
+-- a search for the number in a place finds what is there
+search_place : (tasks : Tasks) (place : Option (ℕ × Task)) → IfSome place (λ e. task_of tasks e.0 ≡ Some e.1) → find (λ e. numbered e.0 place) (map.entries tasks) ≡ place
+search_place tasks None h = none_found (map.entries tasks)
+search_place tasks (Some e) h = by_number (map.entries tasks) e.0 ∙ ap (with_number e.0) (sym (map.get-entries tasks e.0) ∙ h)
+
+-- the same of the place itself
+there : (running : List (Option (ℕ × Task))) (tasks : Tasks) → IsIndex running tasks → (cpu : ℕ) (place : Option (ℕ × Task)) → slice_index_or running cpu None ≡ place → IfSome place (λ e. task_of tasks e.0 ≡ Some e.1)
+there running tasks index cpu None at = tt
+there running tasks index cpu (Some e) at = (in_place running tasks index cpu e at).0
+
+-- the running task of a processor is the one in its place
+pub running_told : (running : List (Option (ℕ × Task))) (tasks : Tasks) → IsIndex running tasks → (cpu : ℕ) → running_on tasks cpu ≡ slice_index_or running cpu None
 running_told running tasks index cpu =
-    same_find (λ e. is_running_on cpu e.1) (λ e. is_pid e.0 (slice_index_or running cpu None)) (map.entries tasks) (tests running tasks index cpu (map.entries tasks) (found tasks))
-    ∙ told_find tasks (slice_index_or running cpu None)
+    same_find (λ e. is_running_on cpu e.1) (λ e. numbered e.0 (slice_index_or running cpu None)) (map.entries tasks) (tests running tasks index cpu (map.entries tasks) (found tasks))
+    ∙ search_place tasks (slice_index_or running cpu None) (there running tasks index cpu (slice_index_or running cpu None) refl)
+
+-- a processor with a task in its place has a place
+pub has_place : (running : List (Option (ℕ × Task))) (cpu : ℕ) (e : ℕ × Task) → slice_index_or running cpu None ≡ Some e → cpu < length running
+has_place running cpu e at =
+    let case : (cpu < length running) ⊎ (length running ≤ cpu) = grind arith in
+    ⊎_elim (λ room. room) (λ past. cc (sym at ∙ get_or_past running cpu None past)) case
 
 -- ---- changes keep the index
-one_place : (o : Option Task) (c cpu : ℕ) → test_task o (is_running_on cpu) ≡ true → (c == cpu) ≡ false → test_task o (is_running_on c) ≡ false
-one_place None c cpu h n = refl
-one_place (Some t) c cpu h n = grind (arith, nat_tests)
+
+-- equal by the test, equal
+same_number : (q pid : ℕ) → (q == pid) ≡ true → q ≡ pid
+same_number q pid h = grind (arith, nat_tests)
+
+-- the test of numbers, turned round
+flipped : (q pid : ℕ) → (q == pid) ≡ (pid == q)
+flipped q pid = grind (arith, nat_tests)
+
+-- a place has each task under its number alone
+with_is : (q pid : ℕ) (t : Task) → task_with q (Some (pid, t)) ≡ cond (q == pid) (Some t) None
+with_is q pid t = ap (λ b. cond b (Some t) None) (sym (flipped q pid))
+
+-- the task of a number on a processor, after another or none was placed under one number
+placed_on : (tasks : Tasks) (pid : ℕ) (new : Option Task) (q c : ℕ) → task_on (placed tasks pid new) q c ≡ cond (q == pid) (passing (is_running_on c) new) (task_on tasks q c)
+placed_on tasks pid new q c =
+    ap (passing (is_running_on c)) (task_placed tasks pid new q)
+    ∙ elim (q == pid) as (λ b. passing (is_running_on c) (cond b new (task_of tasks q)) ≡ cond b (passing (is_running_on c) new) (task_on tasks q c)) [ true ↦ refl | false ↦ refl ]
+
+-- a task that runs on no processor, or none
+abbrev pub IsOff : Option Task → Type 0
+IsOff o = (c : ℕ) → passing (is_running_on c) o ≡ None
+
+-- where neither the old task of a number nor the new one runs, its place stays
+stays : (tasks : Tasks) (pid : ℕ) (new : Option Task) (place : Option (ℕ × Task)) (c : ℕ) → passing (is_running_on c) (task_of tasks pid) ≡ None → passing (is_running_on c) new ≡ None → ((q : ℕ) → task_on tasks q c ≡ task_with q place) → (q : ℕ) → task_on (placed tasks pid new) q c ≡ task_with q place
+stays tasks pid new place c old_off new_off each q =
+    placed_on tasks pid new q c
+    ∙ elim (q == pid) as (λ b. (q == pid) ≡ b → cond b (passing (is_running_on c) new) (task_on tasks q c) ≡ task_with q place) [
+      | true ↦ λ h. new_off ∙ sym old_off ∙ sym (ap (λ k. task_on tasks k c) (same_number q pid h)) ∙ each q
+      | false ↦ λ h. each q
+    ] refl
+
+-- a task that doesn't run comes or changes
+pub index_kept : (running : List (Option (ℕ × Task))) (tasks : Tasks) → IsIndex running tasks → (pid : ℕ) (new : Option Task) → IsOff (task_of tasks pid) → IsOff new → IsIndex running (placed tasks pid new)
+index_kept running tasks index pid new old_off new_off = record {
+  each = λ q c. stays tasks pid new (slice_index_or running c None) c (old_off c) (new_off c) (λ k. index.each k c) q;
+}
+
+-- What is so of one place, where the task of a number changes: it has no other task, and then it has the new one where
+-- that runs there; elsewhere neither the old one runs nor the new one.
+pub record ChangesAt (running : List (Option (ℕ × Task))) (tasks : Tasks) (pid : ℕ) (new : Option Task) (cpu : ℕ) (place : Option (ℕ × Task)) : Type 0 where
+  pub room : cpu < length running
+  pub free : (q : ℕ) → (q == pid) ≡ false → task_with q (slice_index_or running cpu None) ≡ None
+  pub here : (q : ℕ) → cond (q == pid) (passing (is_running_on cpu) new) None ≡ task_with q place
+  pub old_off : (c : ℕ) → (c == cpu) ≡ false → passing (is_running_on c) (task_of tasks pid) ≡ None
+  pub new_off : (c : ℕ) → (c == cpu) ≡ false → passing (is_running_on c) new ≡ None
+
+-- the task of a number changes in one place
+pub index_at : (running : List (Option (ℕ × Task))) (tasks : Tasks) → IsIndex running tasks → (pid : ℕ) (new : Option Task) (cpu : ℕ) (place : Option (ℕ × Task)) → ChangesAt running tasks pid new cpu place → IsIndex (slice_set running cpu place) (placed tasks pid new)
+index_at running tasks index pid new cpu place is = record {
+  each = λ q c. ⊎_elim
+      (λ same. rw (same.1, get_or-set_same running cpu place None is.room)
+      (placed_on tasks pid new q cpu
+      ∙ elim (q == pid) as (λ b. (q == pid) ≡ b → cond b (passing (is_running_on cpu) new) (task_on tasks q cpu) ≡ cond b (passing (is_running_on cpu) new) None) [
+        | true ↦ λ h. refl
+        | false ↦ λ h. index.each q cpu ∙ is.free q h
+      ] refl
+      ∙ is.here q))
+      (λ other. rw (get_or-set_other running cpu c place None other.1) (stays tasks pid new (slice_index_or running c None) c (is.old_off c other.0) (is.new_off c other.0) (λ k. index.each k c) q))
+      (eqb_tells c cpu);
+}
+
+-- ---- the changes of a switch and of a task that stays where it is
 
 -- a false second test
-and_false : (a b : Bool) → b ≡ false → (a && b) ≡ false
+pub and_false : (a b : Bool) → b ≡ false → (a && b) ≡ false
 and_false true b h = h
 and_false false b h = refl
 
--- equal by the test, equal
-pub same_number : (q pid : ℕ) → (q == pid) ≡ true → q ≡ pid
-same_number q pid h = grind (arith, nat_tests)
+-- a task of which a test fails doesn't pass
+fails : (test : Task → Bool) (t : Task) → test t ≡ false → passing test (Some t) ≡ None
+fails test t h = rw h refl
 
--- what runs_on where after the task with this number stopped running
-abbrev pub Stops : Tasks → Tasks → ℕ → Type 0
-Stops tasks after pid = (q c : ℕ) → runs_on after q c ≡ cond (q == pid) false (runs_on tasks q c)
+-- a task whose test holds passes
+holds : (test : Task → Bool) (t : Task) → test t ≡ true → passing test (Some t) ≡ Some t
+holds test t h = rw h refl
 
--- a task that doesn't run stops under its number
-pub stops_put : (tasks : Tasks) (pid : ℕ) (t : Task) → is_running t.mode ≡ false → Stops tasks (put tasks pid t) pid
-stops_put tasks pid t h q c =
-    ap (λ o. test_task o (is_running_on c)) (get_put tasks pid t q)
-    ∙ elim (q == pid) as (λ b. test_task (cond b (Some t) (task_of tasks q)) (is_running_on c) ≡ cond b false (runs_on tasks q c)) [ true ↦ and_false (t.cpu.0 == c) (is_running t.mode) h | false ↦ refl ]
+-- a task that doesn't run is off
+pub off_task : (t : Task) → is_running t.mode ≡ false → IsOff (Some t)
+off_task t off c = fails (is_running_on c) t (and_false (t.cpu.0 == c) (is_running t.mode) off)
 
--- a task that is gone stops
-pub stops_remove : (tasks : Tasks) (pid : ℕ) → Stops tasks (remove tasks pid) pid
-stops_remove tasks pid q c =
-    ap (λ o. test_task o (is_running_on c)) (get_remove tasks pid q)
-    ∙ elim (q == pid) as (λ b. test_task (cond b None (task_of tasks q)) (is_running_on c) ≡ cond b false (runs_on tasks q c)) [ true ↦ refl | false ↦ refl ]
+-- so is the task of a number, if there is one
+pub off_found : (o : Option Task) (t : Task) → o ≡ Some t → is_running t.mode ≡ false → IsOff o
+off_found o t is off c = ap (passing (is_running_on c)) is ∙ off_task t off c
 
--- the test of numbers, turned round
-flipped : (q pid : ℕ) → (q == pid) ≡ true → (pid == q) ≡ true
-flipped q pid h = grind (arith, nat_tests)
+-- a missing one is off
+pub off_none : (o : Option Task) → o ≡ None → IsOff o
+off_none o is c = ap (passing (is_running_on c)) is
 
--- the case of the processor that is left
-off_here : (q pid : ℕ) (r : Bool) → r ≡ (pid == q) → cond (q == pid) false r ≡ false
-off_here q pid r h = grind (arith, nat_tests)
-
--- the case of another processor
-off_there : (q pid : ℕ) (r s : Bool) → r ≡ s → ((q == pid) ≡ true → r ≡ false) → cond (q == pid) false r ≡ s
-off_there q pid r s h n = grind (arith, nat_tests)
+-- a task that runs on one processor runs on no other
+one_place : (t : Task) (c cpu : ℕ) → is_running_on cpu t ≡ true → (c == cpu) ≡ false → is_running_on c t ≡ false
+one_place t c cpu h n = grind (arith, nat_tests)
 
 -- the task on a processor leaves it
-pub index_off : (running : List (Option ℕ)) (tasks after : Tasks) → IsIndex running tasks → (cpu pid : ℕ) → cpu < length running → slice_index_or running cpu None ≡ Some pid → Stops tasks after pid → IsIndex (slice_set running cpu None) after
-index_off running tasks after index cpu pid room at stops = record {
-  each = λ q c. stops q c ∙ ⊎_elim
-      (λ same. rw (same.1, get_or-set_same running cpu None None room) (off_here q pid (runs_on tasks q cpu) (index.each q cpu ∙ ap (is_pid q) at)))
-      (λ other. rw (get_or-set_other running cpu c None None other.1) (off_there q pid (runs_on tasks q c) _ (index.each q c) (λ e. one_place (task_of tasks q) c cpu (index.each q cpu ∙ ap (is_pid q) at ∙ flipped q pid e) other.0)))
-      (eqb_tells c cpu);
+pub index_off : (running : List (Option (ℕ × Task))) (tasks : Tasks) → IsIndex running tasks → (cpu : ℕ) (e : ℕ × Task) → slice_index_or running cpu None ≡ Some e → (new : Option Task) → IsOff new → IsIndex (slice_set running cpu None) (placed tasks e.0 new)
+index_off running tasks index cpu e at new off =
+    let is = in_place running tasks index cpu e at in
+    index_at running tasks index e.0 new cpu None (record {
+      room = has_place running cpu e at;
+      free = λ q h. ap (task_with q) at ∙ with_is q e.0 e.1 ∙ ap (λ b. cond b (Some e.1) None) h;
+      here = λ q. elim (q == e.0) as (λ b. cond b (passing (is_running_on cpu) new) None ≡ None) [ true ↦ off cpu | false ↦ refl ];
+      old_off = λ c h. ap (passing (is_running_on c)) is.0 ∙ fails (is_running_on c) e.1 (one_place e.1 c cpu is.1 h);
+      new_off = λ c h. off c;
+    })
+
+-- a running task in a place, under each number
+shown_here : (pid cpu : ℕ) (t : Task) → is_running_on cpu t ≡ true → (q : ℕ) → cond (q == pid) (passing (is_running_on cpu) (Some t)) None ≡ task_with q (Some (pid, t))
+shown_here pid cpu t runs q = ap (λ o. cond (q == pid) o None) (holds (is_running_on cpu) t runs) ∙ sym (with_is q pid t)
+
+-- a task starts on a processor where none runs
+pub index_on : (running : List (Option (ℕ × Task))) (tasks : Tasks) → IsIndex running tasks → (cpu pid : ℕ) (new : Task) → cpu < length running → slice_index_or running cpu None ≡ None → IsOff (task_of tasks pid) → is_running_on cpu new ≡ true → IsIndex (slice_set running cpu (Some (pid, new))) (put tasks pid new)
+index_on running tasks index cpu pid new room at off runs =
+    index_at running tasks index pid (Some new) cpu (Some (pid, new)) (record {
+      room = room;
+      free = λ q h. ap (task_with q) at;
+      here = shown_here pid cpu new runs;
+      old_off = λ c h. off c;
+      new_off = λ c h. fails (is_running_on c) new (one_place new c cpu runs h);
+    })
+
+-- a place has the task of a number that runs there
+placed_there : (running : List (Option (ℕ × Task))) (tasks : Tasks) → IsIndex running tasks → (cpu pid : ℕ) (t : Task) → task_of tasks pid ≡ Some t → is_running_on cpu t ≡ true → (place : Option (ℕ × Task)) → slice_index_or running cpu None ≡ place → place ≡ Some (pid, t)
+placed_there running tasks index cpu pid t is runs None at = cc (sym (holds (is_running_on cpu) t runs) ∙ ap (passing (is_running_on cpu)) (sym is) ∙ index.each pid cpu ∙ ap (task_with pid) at)
+placed_there running tasks index cpu pid t is runs (Some e) at =
+    let has : cond (pid == e.0) (Some e.1) None ≡ Some t = sym (with_is pid e.0 e.1) ∙ sym (ap (task_with pid) at) ∙ sym (index.each pid cpu) ∙ ap (passing (is_running_on cpu)) is ∙ holds (is_running_on cpu) t runs in
+    elim (pid == e.0) as (λ b. (pid == e.0) ≡ b → cond b (Some e.1) None ≡ Some t → Some e ≡ Some (pid, t)) [
+      | true ↦ λ h same. (let task : e.1 ≡ t = cc same in rw (same_number pid e.0 h, ← task) refl)
+      | false ↦ λ h none. cc none
+    ] refl has
+
+-- a task changes, and runs where it ran or on no processor as before
+pub index_replaced : (running : List (Option (ℕ × Task))) (tasks : Tasks) → IsIndex running tasks → (pid : ℕ) (old new : Task) → task_of tasks pid ≡ Some old → ((c : ℕ) → is_running_on c new ≡ is_running_on c old) → IsIndex (if is_running new.mode then slice_set running new.cpu.0 (Some (pid, new)) else running) (put tasks pid new)
+index_replaced running tasks index pid old new is same =
+    elim (is_running new.mode) as (λ b. is_running new.mode ≡ b → IsIndex (if b then slice_set running new.cpu.0 (Some (pid, new)) else running) (put tasks pid new)) [
+      | true ↦ λ runs.
+          let here : is_running_on new.cpu.0 new ≡ true = rw (itself new.cpu.0) runs in
+          let at = placed_there running tasks index new.cpu.0 pid old is (sym (same new.cpu.0) ∙ here) (slice_index_or running new.cpu.0 None) refl in
+          index_at running tasks index pid (Some new) new.cpu.0 (Some (pid, new)) (record {
+            room = has_place running new.cpu.0 (pid, old) at;
+            free = λ q h. ap (task_with q) at ∙ with_is q pid old ∙ ap (λ b. cond b (Some old) None) h;
+            here = shown_here pid new.cpu.0 new here;
+            old_off = λ c h. ap (passing (is_running_on c)) is ∙ fails (is_running_on c) old (sym (same c) ∙ one_place new c new.cpu.0 here h);
+            new_off = λ c h. fails (is_running_on c) new (one_place new c new.cpu.0 here h);
+          })
+      | false ↦ λ off.
+          let new_off = off_task new off in
+          index_kept running tasks index pid (Some new) (λ c. ap (passing (is_running_on c)) is ∙ fails (is_running_on c) old (sym (same c) ∙ and_false (new.cpu.0 == c) (is_running new.mode) off)) new_off
+    ] refl
+
+-- such a task has a place where it runs
+pub replaced_room : (running : List (Option (ℕ × Task))) (tasks : Tasks) → IsIndex running tasks → (pid : ℕ) (old new : Task) → task_of tasks pid ≡ Some old → ((c : ℕ) → is_running_on c new ≡ is_running_on c old) → is_running new.mode ≡ true → new.cpu.0 < length running
+replaced_room running tasks index pid old new is same runs =
+    let here : is_running_on new.cpu.0 new ≡ true = rw (itself new.cpu.0) runs in
+    has_place running new.cpu.0 (pid, old) (placed_there running tasks index new.cpu.0 pid old is (sym (same new.cpu.0) ∙ here) (slice_index_or running new.cpu.0 None) refl)
+
+-- where no task runs and none lives, the list is right
+pub index_first : (running : List (Option (ℕ × Task))) → ((i : ℕ) → slice_index_or running i None ≡ None) → IsIndex running no_tasks
+index_first running none = record {
+  each = λ pid cpu. ap (passing (is_running_on cpu)) (map.get-empty nat_cmp pid) ∙ ap (task_with pid) (sym (none cpu));
 }
 
--- a task that doesn't run comes or changes
-pub index_kept : (running : List (Option ℕ)) (tasks after : Tasks) → IsIndex running tasks → (pid : ℕ) → ((c : ℕ) → runs_on tasks pid c ≡ false) → Stops tasks after pid → IsIndex running after
-index_kept running tasks after index pid off stops = record {
-  each = λ q c. stops q c ∙ off_there q pid (runs_on tasks q c) _ (index.each q c) (λ e. rw (same_number q pid e) (off c));
-}
+-- ---- which tasks run
 
--- what runs_on where after this task was started on a processor
-abbrev pub Starts : Tasks → Tasks → ℕ → ℕ → Type 0
-Starts tasks after pid cpu = (q c : ℕ) → runs_on after q c ≡ cond (q == pid) (cpu == c) (runs_on tasks q c)
-
--- a true second test
-and_true : (a b : Bool) → b ≡ true → (a && b) ≡ a
-and_true true b h = h
-and_true false b h = refl
-
--- a task that runs starts on its processor
-pub starts_put : (tasks : Tasks) (pid : ℕ) (t : Task) → is_running t.mode ≡ true → Starts tasks (put tasks pid t) pid t.cpu.0
-starts_put tasks pid t h q c =
-    ap (λ o. test_task o (is_running_on c)) (get_put tasks pid t q)
-    ∙ elim (q == pid) as (λ b. test_task (cond b (Some t) (task_of tasks q)) (is_running_on c) ≡ cond b (t.cpu.0 == c) (runs_on tasks q c)) [ true ↦ and_true (t.cpu.0 == c) (is_running t.mode) h | false ↦ refl ]
-
--- the case of the processor on which the task starts
-on_here : (q pid cpu : ℕ) (r : Bool) → r ≡ false → cond (q == pid) (cpu == cpu) r ≡ (pid == q)
-on_here q pid cpu r h = grind (arith, nat_tests)
-
--- the case of another processor
-on_there : (q pid c cpu : ℕ) (r s : Bool) → r ≡ s → (c == cpu) ≡ false → ((q == pid) ≡ true → r ≡ false) → cond (q == pid) (cpu == c) r ≡ s
-on_there q pid c cpu r s h n f = grind (arith, nat_tests)
-
--- a task starts on a processor where none runs_on
-pub index_on : (running : List (Option ℕ)) (tasks after : Tasks) → IsIndex running tasks → (cpu pid : ℕ) → cpu < length running → slice_index_or running cpu None ≡ None → ((c : ℕ) → runs_on tasks pid c ≡ false) → Starts tasks after pid cpu → IsIndex (slice_set running cpu (Some pid)) after
-index_on running tasks after index cpu pid room at off starts = record {
-  each = λ q c. starts q c ∙ ⊎_elim
-      (λ same. rw (same.1, get_or-set_same running cpu (Some pid) None room) (on_here q pid cpu (runs_on tasks q cpu) (index.each q cpu ∙ ap (is_pid q) at)))
-      (λ other. rw (get_or-set_other running cpu c (Some pid) None other.1) (on_there q pid c cpu (runs_on tasks q c) _ (index.each q c) other.0 (λ e. rw (same_number q pid e) (off c))))
-      (eqb_tells c cpu);
-}
-
--- the task of a number that the index tells is there
-pub told_there : (running : List (Option ℕ)) (tasks : Tasks) → IsIndex running tasks → (cpu pid : ℕ) → slice_index_or running cpu None ≡ Some pid → task_of tasks pid ≡ None → ⊥
-told_there running tasks index cpu pid at none =
-    let no : false ≡ true = sym (ap (λ o. test_task o (is_running_on cpu)) none) ∙ index.each pid cpu ∙ ap (is_pid pid) at ∙ itself pid in
-    cc no
+-- a task that starts on its processor runs there
+pub starts : (t : Task) (cpu : ℕ) → t.cpu.0 ≡ cpu → is_running_on cpu (record t { mode = Running }) ≡ true
+starts t cpu same = rw (same, itself cpu) refl
 
 -- a running task never leaves by idling
 pub not_idle : (how : How) (e : ℕ × Task) → is_wrong how (Some e) ≡ false → how ≡ Idle → ⊥
@@ -175,57 +289,17 @@ ready_still Ready h = refl
 ready_still Blocked h = refl
 ready_still Waiting h = refl
 
--- a task that doesn't run runs nowhere
-pub off_of_task : (tasks : Tasks) (pid : ℕ) (t : Task) → task_of tasks pid ≡ Some t → is_running t.mode ≡ false → (c : ℕ) → runs_on tasks pid c ≡ false
-off_of_task tasks pid t is off c = ap (λ o. test_task o (is_running_on c)) is ∙ and_false (t.cpu.0 == c) (is_running t.mode) off
-
--- a missing task runs nowhere
-pub off_of_none : (tasks : Tasks) (pid : ℕ) → task_of tasks pid ≡ None → (c : ℕ) → runs_on tasks pid c ≡ false
-off_of_none tasks pid is c = ap (λ o. test_task o (is_running_on c)) is
-
--- as starts_put, with the processor named
-pub starts_at : (tasks : Tasks) (pid : ℕ) (t : Task) (cpu : ℕ) → t.cpu.0 ≡ cpu → is_running t.mode ≡ true → Starts tasks (put tasks pid t) pid cpu
-starts_at tasks pid t cpu same on = subst (λ k. Starts tasks (put tasks pid t) pid k) same (starts_put tasks pid t on)
-
--- ---- the next task is still ready when the running one left
-
 -- what a task that is ready on a processor is
 ready_there : (o : Option Task) (cpu : ℕ) → test_task o (is_ready_on cpu) ≡ true → IfSome o (λ t. (t.cpu.0 ≡ cpu) × (is_ready t.mode ≡ true))
 ready_there None cpu h = tt
 ready_there (Some t) cpu h = (grind (arith, nat_tests), grind (arith, nat_tests))
 
 -- a next task that was ready is ready when the running one left
-pub still_ready : (tasks : Tasks) (cpu : ℕ) (how : How) (next : Option Pid) → isnt_ready tasks cpu next ≡ false → IfSome next (λ pid. IfSome (task_of (leave how tasks (running_on tasks cpu)) pid.0) (λ t. (t.cpu.0 ≡ cpu) × (is_ready t.mode ≡ true)))
-still_ready tasks cpu how None h = tt
-still_ready tasks cpu how (Some pid) h =
-    let ready : test_task (task_of tasks pid.0) (is_ready_on cpu) ≡ true = not_false _ h in
-    rw (ready_left tasks cpu how pid.0 ready (running_on tasks cpu) refl) (ready_there (task_of tasks pid.0) cpu ready)
+pub next_ready : (cpu : ℕ) (next : Option Pid) (tasks : Tasks) → IfSome next (λ _. test_task (next_task tasks next) (is_ready_on cpu) ≡ true) → IfSome (next_task tasks next) (λ t. (t.cpu.0 ≡ cpu) × (is_ready t.mode ≡ true))
+next_ready cpu None tasks h = tt
+next_ready cpu (Some pid) tasks h = ready_there (task_of tasks pid.0) cpu h
 
--- a mode that is neither ready nor running doesn't run
-inactive : (m : Mode) → is_active m ≡ false → is_running m ≡ false
-inactive Running h = h
-inactive Ready h = refl
-inactive Blocked h = refl
-inactive Waiting h = refl
-
--- a task that sleeps runs nowhere
-pub inactive_off : (tasks : Tasks) (pid : ℕ) (t : Task) → task_of tasks pid ≡ Some t → test_task (task_of tasks pid) (λ task. is_active task.mode) ≡ false → (c : ℕ) → runs_on tasks pid c ≡ false
-inactive_off tasks pid t is off = off_of_task tasks pid t is (inactive t.mode (sym (ap (λ o. test_task o (λ task. is_active task.mode)) is) ∙ off))
-
--- where no task runs and none lives, the list is right
-pub index_first : (running : List (Option ℕ)) → ((i : ℕ) → slice_index_or running i None ≡ None) → IsIndex running no_tasks
-index_first running none = record {
-  each = λ pid cpu. ap (λ o. test_task o (is_running_on cpu)) (map.get-empty nat_cmp pid) ∙ ap (is_pid pid) (sym (none cpu));
-}
-
--- a task that changes neither where it is nor what it does
-pub index_same : (running : List (Option ℕ)) (tasks : Tasks) (pid : ℕ) (old new : Task) → IsIndex running tasks → task_of tasks pid ≡ Some old → new.cpu ≡ old.cpu → new.mode ≡ old.mode → IsIndex running (put tasks pid new)
-index_same running tasks pid old new index is cpu mode = record {
-  each = λ q c.
-      ap (λ o. test_task o (is_running_on c)) (get_put tasks pid new q)
-      ∙ elim (q == pid) as (λ b. (q == pid) ≡ b → test_task (cond b (Some new) (task_of tasks q)) (is_running_on c) ≡ runs_on tasks q c) [
-        | true ↦ λ h. rw (same_number q pid h, is, cpu, mode) refl
-        | false ↦ λ h. refl
-      ] refl
-      ∙ index.each q c;
-}
+-- and is the same task
+pub next_stays : (cpu : ℕ) (next : Option Pid) (tasks : Tasks) (how : How) → IfSome next (λ _. test_task (next_task tasks next) (is_ready_on cpu) ≡ true) → next_task (leave how tasks (running_on tasks cpu)) next ≡ next_task tasks next
+next_stays cpu None tasks how h = refl
+next_stays cpu (Some pid) tasks how h = ready_left tasks cpu how pid.0 h (running_on tasks cpu) refl

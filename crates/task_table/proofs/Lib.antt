@@ -1,5 +1,6 @@
 pub mod CauseLaws
 pub mod Index
 pub mod MemberLaws
+pub mod Replacing
 pub mod Tabled
 pub mod Touching

@@ -1,6 +1,6 @@
 -- What a table's step tells is the touch of its event.
 use Rattle.std.proofs.Common.{◌≡◌, ℕ, ◌+◌, ◌<◌, List, Bool, Some, None, length}
-use Rattle.std.specs.Prelude.{Option, ◌||◌, if◌then◌else◌}
+use Rattle.std.specs.Prelude.{Option, ◌||◌, if◌then◌else◌, slice_index_or}
 use Rattle.psi_base.specs.declared.event.Event.{Event}
 use Rattle.psi_spec.specs.declared.machine.Task.{Task}
 use Rattle.psi_spec.specs.declared.machine.Touch.{Touch}
@@ -8,17 +8,20 @@ use Rattle.psi_spec.specs.World.{World, Limits, Tasks, ends, groups_after, is_tr
 use Rattle.psi_spec.specs.declared.machine.GroupLife.{GroupLife}
 use Rattle.psi_spec.specs.Legal.{IsLegalWorld}
 use Rattle.psi_spec.proofs.LegalLaws.{legal_kept}
-use Rattle.task_table.specs.Stands.{table_of}
+use Rattle.task_table.proofs.Index.{running_told}
+use Rattle.task_table.specs.declared.changed.Changed.{Changed}
+use Rattle.task_table.specs.Named.{IsChanged, change_by}
+use Rattle.task_table.specs.Stands.{IsIndex, table_of}
 use Rattle.psi_spec.specs.Refusal.{cause_of}
-use Rattle.psi_spec.specs.Touch.{before, after_of, touched, change_on, change_of, told_of, IsBeside, IsTouch, AllTouched, HasSlotsBelow, IsOfOne, AreWithin}
+use Rattle.psi_spec.specs.Touch.{touched, change_of, told_of, IsBeside, IsTouch, AllTouched, HasSlotsBelow, IsOfOne, AreWithin}
 use Rattle.psi_spec.proofs.TouchWithin.{changes_are_within, all_touched}
 
--- a touch that is read off the task before and after, and off the tasks after
-pub touch_is : (w : World) (event : Event) → (tasks : Tasks) (old new : Option Task) (touch : Touch) → old ≡ before w.tasks event.act → new ≡ after_of w.groups w.tasks event.act → tasks ≡ tasks_after w.groups w.tasks event.act
-    → ((cpu : ℕ) → told_of touch cpu ≡ (if touched event.act old cpu then Some (change_on event.at old new tasks cpu) else None)) → IsBeside touch.first touch.second → IsTouch w event touch
+-- a touch that is read off the task that an event changes, and off the tasks that run after it
+pub touch_is : (w : World) (event : Event) (tasks : Tasks) (changed : Changed) (running : List (Option (ℕ × Task))) (touch : Touch) → IsChanged w.groups w.tasks event.act changed → tasks ≡ tasks_after w.groups w.tasks event.act → IsIndex running tasks
+    → ((cpu : ℕ) → told_of touch cpu ≡ (if touched event.act changed.old cpu then Some (change_by event.at changed (slice_index_or running cpu None) cpu) else None)) → IsBeside touch.first touch.second → IsTouch w event touch
 unfolding change_of
-touch_is w event tasks old new touch is_old is_new are told beside = record {
-  told = λ cpu. rw (← are, ← is_new, ← is_old) (told cpu);
+touch_is w event tasks changed running touch is are index told beside = record {
+  told = λ cpu. rw (← are, running_told running tasks index cpu, ← is.new, ← is.old) (told cpu);
   beside = beside;
 }
 

@@ -12,9 +12,10 @@ use Rattle.psi_base.specs.declared.event.Fault.{Fault}
 use Rattle.psi_base.specs.declared.event.Fault.TheVariants as fault
 use Rattle.psi_spec.specs.declared.machine.Task.{Task}
 use Rattle.psi_spec.specs.declared.machine.GroupLife.{GroupLife}
-use Rattle.psi_spec.specs.World.{World, Limits, Tasks, task_of, test_task, running_on, task_part, is_active, is_ready, is_running, slot_of}
-use Rattle.psi_spec.specs.Refusal.{has_member, is_window, is_wrong, is_exit, isnt_ready, lacks_group, lacks_task}
+use Rattle.psi_spec.specs.World.{World, Limits, Tasks, task_of, test_task, running_on, task_part, is_active, is_ready, is_ready_on, is_running, slot_of}
+use Rattle.psi_spec.specs.Refusal.{has_member, is_window, is_wrong, is_exit, lacks_group}
 use Rattle.group_tree.specs.Tree.{add_cause, remove_cause}
+use Rattle.task_table.specs.Named.{next_task}
 
 -- a cause, if there is one, or another
 abbrev pub or_cause : Option Cause → Option Cause → Option Cause
@@ -30,19 +31,19 @@ abbrev pub path_cause : List GroupLife → List ℕ → Option Cause
 path_cause groups path = if lacks_group groups (Some path) then Some cause.UnknownGroup else None
 
 -- a fork is refused: too many tasks, no such group, a task that lives, a processor that isn't there
-abbrev pub fork_cause : ℕ → List GroupLife → Tasks → ℕ → List ℕ → ℕ → Option Cause
-fork_cause cpus groups tasks pid path cpu =
-    if nat_le 65536 (tasks_by.len tasks) then Some cause.TooManyTasks else
+abbrev pub fork_cause : ℕ → List GroupLife → ℕ → Option Task → List ℕ → ℕ → Option Cause
+fork_cause cpus groups live task path cpu =
+    if nat_le 65536 live then Some cause.TooManyTasks else
     if not (is_some (slot_of groups path)) then Some cause.UnknownGroup else
-    if is_some (task_of tasks pid) then Some cause.TaskExists else
+    if is_some task then Some cause.TaskExists else
     if nat_le cpus cpu then Some cause.BadCpu else None
 
 -- a wake is refused: no such task, a processor that isn't there, a task that doesn't sleep
-abbrev pub wake_cause : ℕ → Tasks → ℕ → ℕ → Option Cause
-wake_cause cpus tasks pid cpu =
-    if not (is_some (task_of tasks pid)) then Some cause.UnknownTask else
+abbrev pub wake_cause : ℕ → Option Task → ℕ → Option Cause
+wake_cause cpus task cpu =
+    if not (is_some task) then Some cause.UnknownTask else
     if nat_le cpus cpu then Some cause.BadCpu else
-    if test_task (task_of tasks pid) (λ task. is_active task.mode) then Some cause.NotBlocked else None
+    if test_task task (λ task. is_active task.mode) then Some cause.NotBlocked else None
 
 -- the running task can't leave so: none may run where a processor idles and one must elsewhere, and none exits in a stall
 abbrev pub how_cause : How → Option (ℕ × Task) → Option Cause
@@ -51,42 +52,43 @@ how_cause how running =
     if is_exit how && test_task (task_part running) (λ task. task.stalled) then Some cause.InStall else None
 
 -- a next task can't run: no such task, a processor that isn't there, a task that isn't ready there
-abbrev pub next_cause : ℕ → Tasks → ℕ → Option Pid → Option Cause
-next_cause cpus tasks cpu next =
-    if lacks_task tasks next then Some cause.UnknownTask else
+abbrev pub next_cause : ℕ → ℕ → Option Pid → Option Task → Option Cause
+next_cause cpus cpu None task = if nat_le cpus cpu then Some cause.BadCpu else None
+next_cause cpus cpu (Some pid) task =
+    if not (is_some task) then Some cause.UnknownTask else
     if nat_le cpus cpu then Some cause.BadCpu else
-    if isnt_ready tasks cpu next then Some cause.NotReady else None
+    if not (test_task task (is_ready_on cpu)) then Some cause.NotReady else None
 
 -- a switch is refused: by its next task, or by how the running one leaves
-abbrev pub switch_cause : ℕ → Tasks → ℕ → Option Pid → How → Option Cause
-switch_cause cpus tasks cpu next how = or_cause (next_cause cpus tasks cpu next) (how_cause how (running_on tasks cpu))
+abbrev pub switch_cause : ℕ → ℕ → Option Pid → Option Task → How → Option (ℕ × Task) → Option Cause
+switch_cause cpus cpu next task how running = or_cause (next_cause cpus cpu next task) (how_cause how running)
 
 -- a stall is refused: no such task, a task that doesn't run, one that is in a stall
-abbrev pub stall_cause : Tasks → ℕ → Option Cause
-stall_cause tasks pid =
-    if not (is_some (task_of tasks pid)) then Some cause.UnknownTask else
-    if test_task (task_of tasks pid) (λ task. not (is_running task.mode)) then Some cause.NotRunning else
-    if test_task (task_of tasks pid) (λ task. task.stalled) then Some cause.InStall else None
+abbrev pub stall_cause : Option Task → Option Cause
+stall_cause task =
+    if not (is_some task) then Some cause.UnknownTask else
+    if test_task task (λ task. not (is_running task.mode)) then Some cause.NotRunning else
+    if test_task task (λ task. task.stalled) then Some cause.InStall else None
 
 -- the end of a stall is refused: no such task, a task that doesn't run, one that is in none
-abbrev pub unstall_cause : Tasks → ℕ → Option Cause
-unstall_cause tasks pid =
-    if not (is_some (task_of tasks pid)) then Some cause.UnknownTask else
-    if test_task (task_of tasks pid) (λ task. not (is_running task.mode)) then Some cause.NotRunning else
-    if test_task (task_of tasks pid) (λ task. not task.stalled) then Some cause.NotInStall else None
+abbrev pub unstall_cause : Option Task → Option Cause
+unstall_cause task =
+    if not (is_some task) then Some cause.UnknownTask else
+    if test_task task (λ task. not (is_running task.mode)) then Some cause.NotRunning else
+    if test_task task (λ task. not task.stalled) then Some cause.NotInStall else None
 
 -- a migration is refused: no such task, a processor that isn't there, a task that isn't ready
-abbrev pub migrate_cause : ℕ → Tasks → ℕ → ℕ → Option Cause
-migrate_cause cpus tasks pid cpu =
-    if not (is_some (task_of tasks pid)) then Some cause.UnknownTask else
+abbrev pub migrate_cause : ℕ → Option Task → ℕ → Option Cause
+migrate_cause cpus task cpu =
+    if not (is_some task) then Some cause.UnknownTask else
     if nat_le cpus cpu then Some cause.BadCpu else
-    if test_task (task_of tasks pid) (λ task. not (is_ready task.mode)) then Some cause.NotReady else None
+    if test_task task (λ task. not (is_ready task.mode)) then Some cause.NotReady else None
 
 -- a move is refused: no such group, no such task
-abbrev pub move_cause : List GroupLife → Tasks → ℕ → List ℕ → Option Cause
-move_cause groups tasks pid path =
+abbrev pub move_cause : List GroupLife → Option Task → List ℕ → Option Cause
+move_cause groups task path =
     if lacks_group groups (Some path) then Some cause.UnknownGroup else
-    if not (is_some (task_of tasks pid)) then Some cause.UnknownTask else None
+    if not (is_some task) then Some cause.UnknownTask else None
 
 -- a trigger is refused: too many triggers, no such group, a window or a threshold out of range
 abbrev pub trigger_cause : List GroupLife → ℕ → List ℕ → ℕ → ℕ → Option Cause
@@ -100,13 +102,13 @@ abbrev pub act_cause : ℕ → List GroupLife → Tasks → ℕ → Act → Opti
 act_cause cpus groups tasks triggers (act.Group path) = add_cause groups path
 act_cause cpus groups tasks triggers (act.Remove path) = empty_cause groups tasks path
 act_cause cpus groups tasks triggers (act.Prefer path preference) = path_cause groups path
-act_cause cpus groups tasks triggers (act.Fork pid path cpu) = fork_cause cpus groups tasks pid.0 path cpu.0
-act_cause cpus groups tasks triggers (act.Wake pid cpu) = wake_cause cpus tasks pid.0 cpu.0
-act_cause cpus groups tasks triggers (act.Switch cpu next how) = switch_cause cpus tasks cpu.0 next how
-act_cause cpus groups tasks triggers (act.Stall pid) = stall_cause tasks pid.0
-act_cause cpus groups tasks triggers (act.Unstall pid) = unstall_cause tasks pid.0
-act_cause cpus groups tasks triggers (act.Migrate pid cpu) = migrate_cause cpus tasks pid.0 cpu.0
-act_cause cpus groups tasks triggers (act.Move pid path) = move_cause groups tasks pid.0 path
+act_cause cpus groups tasks triggers (act.Fork pid path cpu) = fork_cause cpus groups (tasks_by.len tasks) (task_of tasks pid.0) path cpu.0
+act_cause cpus groups tasks triggers (act.Wake pid cpu) = wake_cause cpus (task_of tasks pid.0) cpu.0
+act_cause cpus groups tasks triggers (act.Switch cpu next how) = switch_cause cpus cpu.0 next (next_task tasks next) how (running_on tasks cpu.0)
+act_cause cpus groups tasks triggers (act.Stall pid) = stall_cause (task_of tasks pid.0)
+act_cause cpus groups tasks triggers (act.Unstall pid) = unstall_cause (task_of tasks pid.0)
+act_cause cpus groups tasks triggers (act.Migrate pid cpu) = migrate_cause cpus (task_of tasks pid.0) cpu.0
+act_cause cpus groups tasks triggers (act.Move pid path) = move_cause groups (task_of tasks pid.0) path
 act_cause cpus groups tasks triggers (act.Mem path current swap scan) = path_cause groups path
 act_cause cpus groups tasks triggers (act.Host mem_total swap_total swap_free) = None
 act_cause cpus groups tasks triggers (act.Trigger path res level threshold_us window_us) = trigger_cause groups triggers path threshold_us window_us

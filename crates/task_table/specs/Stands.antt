@@ -1,12 +1,14 @@
 -- What a table stands for: its limits and a world, and what its indexes say.
-use Rattle.std.specs.Prelude.{◌≡◌, ℕ, ◌≤◌, ◌==◌, List, length, slice_index_or, Option, None, Some, Bool, false, refl}
+use Rattle.std.specs.Prelude.{◌≡◌, ℕ, ◌≤◌, ◌==◌, List, length, slice_index_or, Option, None, Some, Bool, if◌then◌else◌, refl}
 use Rattle.std.specs.FinMap as tasks_by
 use Rattle.std.specs.Coded.{Coded, code_by, coded×, coded_ℕ, coded_bool, coded_list}
 use Rattle.psi_spec.specs.declared.machine.GroupLife.{GroupLife}
 use Rattle.psi_spec.specs.declared.machine.Task.{Task}
 use Rattle.psi_spec.specs.contracts.machine.GroupLife as group_row
 use Rattle.psi_spec.specs.contracts.machine.Task as task_row
-use Rattle.psi_spec.specs.World.{World, Limits, Tasks, task_of, test_task, is_running_on}
+use Rattle.psi_base.specs.declared.event.Event.{Event}
+use Rattle.psi_spec.specs.World.{World, Limits, Tasks, after_event, task_of, is_running_on}
+use Rattle.psi_spec.specs.Refusal.{cause_of}
 use Rattle.psi_spec.specs.Counts.{how_many}
 use Rattle.psi_spec.specs.Legal.{IsLegalWorld}
 
@@ -15,18 +17,23 @@ pub record TableView : Type 0 where
   pub limits : Limits
   pub world : World
 
--- the task with this number runs on this processor
-abbrev pub runs_on : Tasks → ℕ → ℕ → Bool
-runs_on tasks pid cpu = test_task (task_of tasks pid) (is_running_on cpu)
+-- a task, if there is one and the test holds of it
+abbrev pub passing : (Task → Bool) → Option Task → Option Task
+passing test None = None
+passing test (Some task) = if test task then Some task else None
 
--- a place of the list of running tasks has this number
-abbrev pub is_pid : ℕ → Option ℕ → Bool
-is_pid pid (Some other) = other == pid
-is_pid pid None = false
+-- the task with this number, where it runs on this processor
+abbrev pub task_on : Tasks → ℕ → ℕ → Option Task
+task_on tasks pid cpu = passing (is_running_on cpu) (task_of tasks pid)
 
--- the list tells for each processor which task runs on it
-pub record IsIndex (running : List (Option ℕ)) (tasks : Tasks) : Type 0 where
-  pub each : (pid cpu : ℕ) → runs_on tasks pid cpu ≡ is_pid pid (slice_index_or running cpu None)
+-- the task in a place of the list of running tasks, where it has this number
+abbrev pub task_with : ℕ → Option (ℕ × Task) → Option Task
+task_with pid None = None
+task_with pid (Some running) = if running.0 == pid then Some running.1 else None
+
+-- the list has for each processor the task that runs on it, and no other runs there
+pub record IsIndex (running : List (Option (ℕ × Task))) (tasks : Tasks) : Type 0 where
+  pub each : (pid cpu : ℕ) → task_on tasks pid cpu ≡ task_with pid (slice_index_or running cpu None)
 
 -- the task is in this very group
 abbrev pub is_of : ℕ → Task → Bool
@@ -38,12 +45,22 @@ pub record AreMembers (members : List ℕ) (tasks : Tasks) : Type 0 where
 
 -- What is true of each table: its world is legal, it has a place for each processor, of which there are at most 64, and
 -- for each group, and the lists tell which tasks run and how many are in each group.
-pub record IsTable (table : TableView) (running : List (Option ℕ)) (members : List ℕ) : Type 0 where
+pub record IsTable (table : TableView) (running : List (Option (ℕ × Task))) (members : List ℕ) : Type 0 where
   pub legal : IsLegalWorld table.limits table.world
   pub index : IsIndex running table.world.tasks
   pub members_are : AreMembers members table.world.tasks
   pub cover : length table.world.groups ≤ length members
   pub cpus : length running ≤ 64
+
+-- An event was played on a table: it is legal in a legal world and not earlier than the last, and the world after it is
+-- the one that it makes, which is legal too.
+pub record IsPlayed (old : TableView) (event : Event) (new : TableView) : Type 0 where
+  pub limits : new.limits ≡ old.limits
+  pub legal : cause_of old.limits old.world event ≡ None
+  pub world : new.world ≡ after_event old.world event
+  pub legal_before : IsLegalWorld old.limits old.world
+  pub legal_after : IsLegalWorld new.limits new.world
+  pub forward : old.world.last ≤ new.world.last
 
 -- the value of a table with these fields
 abbrev pub table_of : ℕ → ℕ → Tasks → List GroupLife → ℕ → ℕ → ℕ → Bool → TableView

@@ -1,13 +1,14 @@
 //! Why an act is refused, asked in the order of causes.
-ghost use Rattle.std.specs.Prelude.{◌≡◌, if◌then◌else◌, nat_le, length, None, Some};
+ghost use Rattle.std.specs.Prelude.{◌≡◌, if◌then◌else◌, nat_le, length, slice_index_or, None, Some};
 ghost use Rattle.psi_base.specs.declared.event.Cause.TheVariants as cause;
 ghost use Rattle.psi_spec.specs.Refusal.{has_member, is_window};
 ghost use Rattle.psi_spec.specs.World.{Tasks, slot_of};
 ghost use Rattle.task_table.specs.Causes.{act_cause, empty_cause, fork_cause, how_cause, migrate_cause, move_cause, next_cause, path_cause, stall_cause, switch_cause, trigger_cause, unstall_cause, wake_cause};
+ghost use Rattle.task_table.specs.Named.{named_task};
 ghost use Rattle.task_table.specs.Stands.{AreMembers, IsIndex};
 
 use crate::members::Members;
-use crate::running::running_at;
+use crate::running::{Running, running_at};
 use crate::task_map::TaskMap;
 use group_tree::Tree;
 use psi_base::{Act, Cause, How, Path, Pid};
@@ -61,19 +62,19 @@ fn remove_refused(tree: &Tree, members: &Members, path: &Path) -> Option<Cause>
 /// Why a fork isn't legal.
 fn fork_refused(
     tree: &Tree,
-    tasks: &TaskMap,
+    live: usize,
     cpus: usize,
-    pid: u32,
+    task: Option<Task>,
     path: &Path,
     cpu: u32,
 ) -> Option<Cause>
-    ensures { result ≡ fork_cause cpus tree.now tasks.now pid path.now cpu }
+    ensures { result ≡ fork_cause cpus tree.now live task path.now cpu }
 {
-    if tasks.len() >= MOST_TASKS {
+    if live >= MOST_TASKS {
         Some(Cause::TooManyTasks)
     } else if tree.find(path).is_none() {
         Some(Cause::UnknownGroup)
-    } else if tasks.get(pid).is_some() {
+    } else if task.is_some() {
         Some(Cause::TaskExists)
     } else if cpus <= cpu as usize {
         Some(Cause::BadCpu)
@@ -83,10 +84,10 @@ fn fork_refused(
 }
 
 /// Why a wake isn't legal.
-fn wake_refused(tasks: &TaskMap, cpus: usize, pid: u32, cpu: u32) -> Option<Cause>
-    ensures { result ≡ wake_cause cpus tasks.now pid cpu }
+fn wake_refused(task: Option<Task>, cpus: usize, cpu: u32) -> Option<Cause>
+    ensures { result ≡ wake_cause cpus task cpu }
 {
-    let Some(task) = tasks.get(pid) else {
+    let Some(task) = task else {
         return Some(Cause::UnknownTask);
     };
     if cpus <= cpu as usize {
@@ -99,13 +100,13 @@ fn wake_refused(tasks: &TaskMap, cpus: usize, pid: u32, cpu: u32) -> Option<Caus
 }
 
 /// Why the next task, if there is one, can't run on this processor.
-fn next_refused(tasks: &TaskMap, cpus: usize, cpu: u32, next: Option<Pid>) -> Option<Cause>
-    ensures { result ≡ next_cause cpus tasks.now cpu next }
+fn next_refused(next: Option<Pid>, task: Option<Task>, cpus: usize, cpu: u32) -> Option<Cause>
+    ensures { result ≡ next_cause cpus cpu next task }
 {
-    let Some(pid) = next else {
+    if next.is_none() {
         return cpu_refused(cpus, cpu);
-    };
-    let Some(task) = tasks.get(pid.0) else {
+    }
+    let Some(task) = task else {
         return Some(Cause::UnknownTask);
     };
     if cpus <= cpu as usize {
@@ -128,7 +129,7 @@ fn cpu_refused(cpus: usize, cpu: u32) -> Option<Cause>
 }
 
 /// Why the running task can't leave so.
-fn how_refused(how: How, running: Option<(u32, Task)>) -> Option<Cause>
+fn how_refused(how: How, running: Running) -> Option<Cause>
     ensures { result ≡ how_cause how running }
 {
     match (how, running) {
@@ -142,26 +143,25 @@ fn how_refused(how: How, running: Option<(u32, Task)>) -> Option<Cause>
 
 /// Why a switch isn't legal.
 fn switch_refused(
-    tasks: &TaskMap,
-    running: &[Option<u32>],
+    running: &[Running],
     cpu: u32,
     next: Option<Pid>,
+    task: Option<Task>,
     how: How,
 ) -> Option<Cause>
-    requires index { IsIndex running.now tasks.now }
-    ensures { result ≡ switch_cause (length running.now) tasks.now cpu next how }
+    ensures { result ≡ switch_cause (length running.now) cpu next task how (slice_index_or running.now cpu None) }
 {
-    if let Some(cause) = next_refused(tasks, running.len(), cpu, next) {
+    if let Some(cause) = next_refused(next, task, running.len(), cpu) {
         return Some(cause);
     }
-    how_refused(how, running_at(tasks, running, cpu))
+    how_refused(how, running_at(running, cpu))
 }
 
 /// Why a stall can't begin.
-fn stall_refused(tasks: &TaskMap, pid: u32) -> Option<Cause>
-    ensures { result ≡ stall_cause tasks.now pid }
+fn stall_refused(task: Option<Task>) -> Option<Cause>
+    ensures { result ≡ stall_cause task }
 {
-    let Some(task) = tasks.get(pid) else {
+    let Some(task) = task else {
         return Some(Cause::UnknownTask);
     };
     if task.mode != Mode::Running {
@@ -174,10 +174,10 @@ fn stall_refused(tasks: &TaskMap, pid: u32) -> Option<Cause>
 }
 
 /// Why a stall can't end.
-fn unstall_refused(tasks: &TaskMap, pid: u32) -> Option<Cause>
-    ensures { result ≡ unstall_cause tasks.now pid }
+fn unstall_refused(task: Option<Task>) -> Option<Cause>
+    ensures { result ≡ unstall_cause task }
 {
-    let Some(task) = tasks.get(pid) else {
+    let Some(task) = task else {
         return Some(Cause::UnknownTask);
     };
     if task.mode != Mode::Running {
@@ -190,10 +190,10 @@ fn unstall_refused(tasks: &TaskMap, pid: u32) -> Option<Cause>
 }
 
 /// Why a task can't migrate.
-fn migrate_refused(tasks: &TaskMap, cpus: usize, pid: u32, cpu: u32) -> Option<Cause>
-    ensures { result ≡ migrate_cause cpus tasks.now pid cpu }
+fn migrate_refused(task: Option<Task>, cpus: usize, cpu: u32) -> Option<Cause>
+    ensures { result ≡ migrate_cause cpus task cpu }
 {
-    let Some(task) = tasks.get(pid) else {
+    let Some(task) = task else {
         return Some(Cause::UnknownTask);
     };
     if cpus <= cpu as usize {
@@ -206,12 +206,12 @@ fn migrate_refused(tasks: &TaskMap, cpus: usize, pid: u32, cpu: u32) -> Option<C
 }
 
 /// Why a task can't move.
-fn move_refused(tree: &Tree, tasks: &TaskMap, pid: u32, path: &Path) -> Option<Cause>
-    ensures { result ≡ move_cause tree.now tasks.now pid path.now }
+fn move_refused(tree: &Tree, task: Option<Task>, path: &Path) -> Option<Cause>
+    ensures { result ≡ move_cause tree.now task path.now }
 {
     if tree.find(path).is_none() {
         Some(Cause::UnknownGroup)
-    } else if tasks.get(pid).is_none() {
+    } else if task.is_none() {
         Some(Cause::UnknownTask)
     } else {
         None
@@ -249,32 +249,33 @@ fn trigger_refused(
     }
 }
 
-/// Why an act isn't legal.
+/// Why an act isn't legal. `named` is the task with the number that the act names.
 pub(crate) fn act_refused(
     tree: &Tree,
     tasks: &TaskMap,
-    running: &[Option<u32>],
+    running: &[Running],
     members: &Members,
     triggers: u32,
     act: &Act,
+    named: Option<Task>,
 ) -> Option<Cause>
     requires index { IsIndex running.now tasks.now }
     requires members { AreMembers members.now tasks.now }
+    requires named { named ≡ named_task tasks.now act.now }
     ensures { result ≡ act_cause (length running.now) tree.now tasks.now triggers act.now }
 {
+    let cpus = running.len();
     match act {
         Act::Group { path } => tree.add_cause(path),
         Act::Remove { path } => remove_refused(tree, members, path),
         Act::Prefer { path, .. } | Act::Mem { path, .. } => lacks_path(tree, path),
-        Act::Fork { pid, path, cpu } => {
-            fork_refused(tree, tasks, running.len(), pid.0, path, cpu.0)
-        }
-        Act::Wake { pid, cpu } => wake_refused(tasks, running.len(), pid.0, cpu.0),
-        Act::Switch { cpu, next, how } => switch_refused(tasks, running, cpu.0, *next, *how),
-        Act::Stall { pid } => stall_refused(tasks, pid.0),
-        Act::Unstall { pid } => unstall_refused(tasks, pid.0),
-        Act::Migrate { pid, cpu } => migrate_refused(tasks, running.len(), pid.0, cpu.0),
-        Act::Move { pid, path } => move_refused(tree, tasks, pid.0, path),
+        Act::Fork { path, cpu, .. } => fork_refused(tree, tasks.len(), cpus, named, path, cpu.0),
+        Act::Wake { cpu, .. } => wake_refused(named, cpus, cpu.0),
+        Act::Switch { cpu, next, how } => switch_refused(running, cpu.0, *next, named, *how),
+        Act::Stall { .. } => stall_refused(named),
+        Act::Unstall { .. } => unstall_refused(named),
+        Act::Migrate { cpu, .. } => migrate_refused(named, cpus, cpu.0),
+        Act::Move { path, .. } => move_refused(tree, named, path),
         Act::Trigger {
             path,
             threshold_us,

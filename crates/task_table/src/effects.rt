@@ -1,15 +1,18 @@
 //! What a legal act does to tasks and groups.
-ghost use Rattle.std.specs.Prelude.{◌≡◌, ◌≢◌, ℕ, ◌+◌, ◌<◌, ◌≤◌, ◌++◌, ◌||◌, if◌then◌else◌, List, [], ◌∷◌, Option, None, Some, IfSome, OnOk, OnErr, true, false, length, slice_index_or, unwrap_or};
+ghost use Rattle.std.specs.Prelude.{◌≡◌, ◌≢◌, ℕ, ◌+◌, ◌<◌, ◌≤◌, ◌++◌, ◌||◌, if◌then◌else◌, List, [], ◌∷◌, Option, None, Some, IfOk, IfSome, OnOk, OnErr, true, false, length, slice_index_or, unwrap_or};
 ghost use Rattle.std.specs.FinMap as tasks_by;
-ghost use Rattle.psi_spec.specs.World.{change, ends, groups_after, is_ready, is_running, is_trigger, leave, left_by, new_group, new_task, put, readied, running_on, slot_of, start, task_of, tasks_after, test_task};
+ghost use Rattle.psi_spec.specs.World.{change, ends, groups_after, is_ready, is_running, is_trigger, leave, left_by, new_group, new_task, put, readied, running_on, slot_of, start, task_of, task_part, tasks_after};
+ghost use Rattle.psi_spec.specs.Touch.{changed, left_if};
 ghost use Rattle.psi_spec.specs.Refusal.{is_wrong};
 ghost use Rattle.group_tree.specs.Tree.{add_cause};
 ghost use Rattle.task_table.specs.Causes.{act_cause, groups_cause, makes_group, switch_cause, takes_memory};
+ghost use Rattle.task_table.specs.Named.{IsChanged, MayReplaceIf, named_task, next_task};
 ghost use Rattle.task_table.specs.Stands.{AreMembers, IsIndex};
 ghost use Rattle.psi_base.specs.declared.event.How.TheVariants.{Idle};
 
+use crate::changed::Changed;
 use crate::members::Members;
-use crate::running::running_at;
+use crate::running::{Running, running_at, show};
 use crate::task_map::TaskMap;
 use group_tree::Tree;
 use psi_base::{Act, Cpu, How, NoMemory, Ns, Path, Pid, Slot};
@@ -41,7 +44,7 @@ pub(crate) fn triggers_with(before: u32, act: &Act) -> u32
 }
 
 /// A task that forked.
-pub(crate) fn forked(tree: &Tree, path: &Path, cpu: Cpu) -> Task
+fn forked(tree: &Tree, path: &Path, cpu: Cpu) -> Task
     ensures { result ≡ new_task tree.now path.now cpu.0 }
 {
     Task {
@@ -53,25 +56,48 @@ pub(crate) fn forked(tree: &Tree, path: &Path, cpu: Cpu) -> Task
 }
 
 /// The slot of the live group with this path, or the root's where there is none.
-pub(crate) fn slot_at(tree: &Tree, path: &Path) -> Slot
+fn slot_at(tree: &Tree, path: &Path) -> Slot
     ensures { result.0 ≡ unwrap_or (slot_of tree.now path.now) 0 }
 {
     tree.find(path).unwrap_or(Slot(0))
 }
 
-/// A task on the run queue of a processor. Its stall stays.
-pub(crate) fn readied(task: Task, cpu: Cpu) -> Task
-    ensures { result ≡ readied cpu.0 task }
+/// A task on the run queue of a processor, if there is one. Its stall stays.
+fn readied(task: Option<Task>, cpu: Cpu) -> Option<Task>
+    ensures { result ≡ changed (readied cpu.0) task }
 {
-    Task {
-        mode: Mode::Ready,
-        cpu,
-        ..task
+    match task {
+        Some(task) => Some(Task {
+            mode: Mode::Ready,
+            cpu,
+            ..task
+        }),
+        None => None,
+    }
+}
+
+/// A task in a memory stall or out of it, if there is one.
+fn with_stall(task: Option<Task>, stalled: bool) -> Option<Task>
+    ensures { result ≡ changed (λ t. record t { stalled = stalled }) task }
+{
+    match task {
+        Some(task) => Some(Task { stalled, ..task }),
+        None => None,
+    }
+}
+
+/// A task in a group, if there is one.
+fn moved(task: Option<Task>, slot: Slot) -> Option<Task>
+    ensures { result ≡ changed (λ t. record t { slot = slot }) task }
+{
+    match task {
+        Some(task) => Some(Task { slot, ..task }),
+        None => None,
     }
 }
 
 /// A running task after it left its processor, or none where it is gone.
-pub(crate) fn left(how: How, task: Task) -> Option<Task>
+fn left(how: How, task: Task) -> Option<Task>
     ensures task { result ≡ left_by how task }
     ensures off { how ≢ Idle → IfSome result (λ t. is_running t.mode ≡ false) }
     ensures slot { IfSome result (λ t. t.slot ≡ task.slot) }
@@ -94,14 +120,33 @@ pub(crate) fn left(how: How, task: Task) -> Option<Task>
     }
 }
 
+/// The task with the number that an act names.
+pub(crate) fn named_task(tasks: &TaskMap, act: &Act) -> Option<Task>
+    ensures { result ≡ named_task tasks.now act.now }
+{
+    match act {
+        Act::Fork { pid, .. }
+        | Act::Wake { pid, .. }
+        | Act::Switch {
+            next: Some(pid),
+            ..
+        }
+        | Act::Stall { pid }
+        | Act::Unstall { pid }
+        | Act::Migrate { pid, .. }
+        | Act::Move { pid, .. } => tasks.get(pid.0),
+        _ => None,
+    }
+}
+
 /// The running task of a processor leaves it.
 fn take_off(
     tasks: &mut TaskMap,
-    running: &mut [Option<u32>],
+    running: &mut [Running],
     members: &mut Members,
     cpu: u32,
     how: How,
-)
+) -> Changed
     requires index { IsIndex running.old tasks.old }
     requires members { AreMembers members.old tasks.old }
     requires room { cpu < length running.old }
@@ -112,26 +157,43 @@ fn take_off(
     ensures cover { length members.new ≡ length members.old }
     ensures length { length running.new ≡ length running.old }
     ensures free { slice_index_or running.new cpu None ≡ None }
+    ensures before { result.old ≡ task_part (running_on tasks.old cpu) }
+    ensures after { result.new ≡ left_if how (task_part (running_on tasks.old cpu)) }
 {
-    let Some((pid, task)) = running_at(tasks, running, cpu) else {
-        return;
+    let Some((pid, task)) = running_at(running, cpu) else {
+        return Changed {
+            old: None,
+            new: None,
+        };
     };
     running[cpu as usize] = None;
-    match left(how, task) {
+    let new = left(how, task);
+    match new {
         Some(after) => tasks.set(pid, after),
         None => {
             members.leave(task.slot);
             tasks.remove(pid);
         }
     }
+    Changed {
+        old: Some(task),
+        new,
+    }
 }
 
 /// A ready task starts on a processor on which none runs.
-fn put_on(tasks: &mut TaskMap, running: &mut [Option<u32>], cpu: u32, next: Option<Pid>)
+fn put_on(
+    tasks: &mut TaskMap,
+    running: &mut [Running],
+    cpu: u32,
+    next: Option<Pid>,
+    task: Option<Task>,
+)
     requires index { IsIndex running.old tasks.old }
     requires room { cpu < length running.old }
     requires free { slice_index_or running.old cpu None ≡ None }
-    requires ready { IfSome next (λ pid. IfSome (task_of tasks.old pid.0) (λ t. (t.cpu.0 ≡ cpu) × (is_ready t.mode ≡ true))) }
+    requires task { task ≡ next_task tasks.old next }
+    requires ready { IfSome task (λ t. (t.cpu.0 ≡ cpu) × (is_ready t.mode ≡ true)) }
     ensures tasks { tasks.new ≡ start next tasks.old }
     ensures index { IsIndex running.new tasks.new }
     ensures members { (members : List ℕ) → AreMembers members tasks.old → AreMembers members tasks.new }
@@ -140,60 +202,53 @@ fn put_on(tasks: &mut TaskMap, running: &mut [Option<u32>], cpu: u32, next: Opti
     let Some(pid) = next else {
         return;
     };
-    let Some(task) = tasks.get(pid.0) else {
+    let Some(task) = task else {
         return;
     };
-    tasks.set(
-        pid.0,
-        Task {
-            mode: Mode::Running,
-            ..task
-        },
-    );
-    running[cpu as usize] = Some(pid.0);
-}
-
-/// A task that doesn't run comes to the run queue of a processor.
-fn make_ready(tasks: &mut TaskMap, pid: u32, cpu: Cpu)
-    requires { test_task (task_of tasks.old pid) (λ task. is_running task.mode) ≡ false }
-    ensures tasks { tasks.new ≡ change tasks.old pid (readied cpu.0) }
-    ensures index { (running : List (Option ℕ)) → IsIndex running tasks.old → IsIndex running tasks.new }
-    ensures members { (members : List ℕ) → AreMembers members tasks.old → AreMembers members tasks.new }
-{
-    let Some(task) = tasks.get(pid) else {
-        return;
+    let after = Task {
+        mode: Mode::Running,
+        ..task
     };
-    tasks.set(pid, readied(task, cpu));
+    tasks.set(pid.0, after);
+    running[cpu as usize] = Some((pid.0, after));
 }
 
-/// A task's stall begins or ends.
-fn set_stall(tasks: &mut TaskMap, pid: u32, stalled: bool)
-    ensures tasks { tasks.new ≡ change tasks.old pid (λ task. record task { stalled = stalled }) }
-    ensures index { (running : List (Option ℕ)) → IsIndex running tasks.old → IsIndex running tasks.new }
-    ensures members { (members : List ℕ) → AreMembers members tasks.old → AreMembers members tasks.new }
-{
-    let Some(task) = tasks.get(pid) else {
-        return;
-    };
-    tasks.set(pid, Task { stalled, ..task });
-}
-
-/// A task comes into a group, from the one that it is in.
-fn move_to(tasks: &mut TaskMap, members: &mut Members, pid: u32, slot: Slot)
+/// A task takes the place of another with the same number, if there are both.
+// Inline, so that the two tasks needn't go through memory.
+#[inline(always)]
+fn replace(
+    tasks: &mut TaskMap,
+    running: &mut [Running],
+    members: &mut Members,
+    pid: u32,
+    old: Option<Task>,
+    new: Option<Task>,
+) -> Changed
+    requires index { IsIndex running.old tasks.old }
     requires members { AreMembers members.old tasks.old }
-    requires room { slot.0 < length members.old }
     requires few { tasks_by.len tasks.old ≤ 65536 }
-    ensures tasks { tasks.new ≡ change tasks.old pid (λ task. record task { slot = slot }) }
-    ensures index { (running : List (Option ℕ)) → IsIndex running tasks.old → IsIndex running tasks.new }
+    requires old { old ≡ task_of tasks.old pid }
+    requires new { MayReplaceIf (length members.old) old new }
+    ensures tasks { (f : Task → Task) → new ≡ changed f old → tasks.new ≡ change tasks.old pid f }
+    ensures index { IsIndex running.new tasks.new }
     ensures members { AreMembers members.new tasks.new }
     ensures cover { length members.new ≡ length members.old }
+    ensures length { length running.new ≡ length running.old }
+    ensures before { result.old ≡ old }
+    ensures after { result.new ≡ new }
 {
-    let Some(task) = tasks.get(pid) else {
-        return;
+    let changed = Changed { old, new };
+    let Some(old) = old else {
+        return changed;
     };
-    members.leave(task.slot);
-    members.join(slot);
-    tasks.set(pid, Task { slot, ..task });
+    let Some(new) = new else {
+        return changed;
+    };
+    members.leave(old.slot);
+    members.join(new.slot);
+    tasks.set(pid, new);
+    show(running, pid, new);
+    changed
 }
 
 /// A task comes. Where there is no memory for it, nothing changes.
@@ -202,7 +257,7 @@ fn add_task(
     members: &mut Members,
     pid: u32,
     task: Task,
-) -> Result<(), NoMemory>
+) -> Result<Changed, NoMemory>
     requires members { AreMembers members.old tasks.old }
     requires new { task_of tasks.old pid ≡ None }
     requires off { is_running task.mode ≡ false }
@@ -210,14 +265,18 @@ fn add_task(
     requires few { tasks_by.len tasks.old ≤ 65536 }
     ensures tasks { OnOk result (tasks.new ≡ put tasks.old pid task) }
     ensures err { OnErr result (tasks.new ≡ tasks.old) }
-    ensures index { (running : List (Option ℕ)) → IsIndex running tasks.old → IsIndex running tasks.new }
+    ensures index { (running : List (Option (ℕ × Task))) → IsIndex running tasks.old → IsIndex running tasks.new }
     ensures members { AreMembers members.new tasks.new }
     ensures cover { length members.new ≡ length members.old }
+    ensures changed { IfOk result (λ c. (c.old ≡ None) × (c.new ≡ Some task)) }
 {
     match tasks.add(pid, task) {
         Ok(()) => {
             members.join(task.slot);
-            Ok(())
+            Ok(Changed {
+                old: None,
+                new: Some(task),
+            })
         }
         Err(fault) => Err(fault),
     }
@@ -239,42 +298,51 @@ fn add_group(tree: &mut Tree, members: &mut Members, path: &Path, at: Ns) -> Res
     }
 }
 
-/// A legal switch, done.
+/// A legal switch, done. `task` is the one that runs next.
 fn switch(
     tasks: &mut TaskMap,
-    running: &mut [Option<u32>],
+    running: &mut [Running],
     members: &mut Members,
     cpu: u32,
     next: Option<Pid>,
+    task: Option<Task>,
     how: How,
-)
+) -> Changed
     requires index { IsIndex running.old tasks.old }
     requires members { AreMembers members.old tasks.old }
-    requires legal { switch_cause (length running.old) tasks.old cpu next how ≡ None }
+    requires task { task ≡ next_task tasks.old next }
+    requires legal { switch_cause (length running.old) cpu next task how (running_on tasks.old cpu) ≡ None }
     ensures tasks { tasks.new ≡ start next (leave how tasks.old (running_on tasks.old cpu)) }
     ensures index { IsIndex running.new tasks.new }
     ensures members { AreMembers members.new tasks.new }
     ensures cover { length members.new ≡ length members.old }
     ensures length { length running.new ≡ length running.old }
+    ensures before { result.old ≡ task_part (running_on tasks.old cpu) }
+    ensures after { result.new ≡ left_if how (task_part (running_on tasks.old cpu)) }
 {
-    take_off(tasks, running, members, cpu, how);
-    put_on(tasks, running, cpu, next);
+    let changed = take_off(tasks, running, members, cpu, how);
+    put_on(tasks, running, cpu, next, task);
+    changed
 }
 
-/// What a legal act does to tasks, done. Only a fork takes memory; where there is none, nothing changes.
+/// What a legal act does to tasks, done. `named` is the task with the number that the act names. Only a fork takes memory;
+/// where there is none, nothing changes.
 pub(crate) fn change_tasks(
     tasks: &mut TaskMap,
-    running: &mut [Option<u32>],
+    running: &mut [Running],
     members: &mut Members,
     tree: &Tree,
     act: &Act,
-) -> Result<(), NoMemory>
+    named: Option<Task>,
+) -> Result<Changed, NoMemory>
     requires index { IsIndex running.old tasks.old }
     requires members { AreMembers members.old tasks.old }
     requires cover { length tree.now ≤ length members.old }
     requires few { tasks_by.len tasks.old ≤ 65536 }
+    requires named { named ≡ named_task tasks.old act.now }
     requires legal { (triggers : ℕ) × (act_cause (length running.old) tree.now tasks.old triggers act.now ≡ None) }
     ensures tasks { OnOk result (tasks.new ≡ tasks_after tree.now tasks.old act.now) }
+    ensures changed { IfOk result (λ changed. IsChanged tree.now tasks.old act.now changed) }
     ensures err { OnErr result ((tasks.new ≡ tasks.old) × (takes_memory act.now ≡ true)) }
     ensures index { IsIndex running.new tasks.new }
     ensures members { AreMembers members.new tasks.new }
@@ -285,25 +353,24 @@ pub(crate) fn change_tasks(
         Act::Fork { pid, path, cpu } => {
             add_task(tasks, members, pid.0, forked(tree, path, *cpu))
         }
-        Act::Wake { pid, cpu } | Act::Migrate { pid, cpu } => {
-            make_ready(tasks, pid.0, *cpu);
-            Ok(())
-        }
         Act::Switch { cpu, next, how } => {
-            switch(tasks, running, members, cpu.0, *next, *how);
-            Ok(())
+            Ok(switch(tasks, running, members, cpu.0, *next, named, *how))
+        }
+        Act::Wake { pid, cpu } | Act::Migrate { pid, cpu } => {
+            let new = readied(named, *cpu);
+            Ok(replace(tasks, running, members, pid.0, named, new))
         }
         Act::Stall { pid } => {
-            set_stall(tasks, pid.0, true);
-            Ok(())
+            let new = with_stall(named, true);
+            Ok(replace(tasks, running, members, pid.0, named, new))
         }
         Act::Unstall { pid } => {
-            set_stall(tasks, pid.0, false);
-            Ok(())
+            let new = with_stall(named, false);
+            Ok(replace(tasks, running, members, pid.0, named, new))
         }
         Act::Move { pid, path } => {
-            move_to(tasks, members, pid.0, slot_at(tree, path));
-            Ok(())
+            let new = moved(named, slot_at(tree, path));
+            Ok(replace(tasks, running, members, pid.0, named, new))
         }
         Act::Group { .. }
         | Act::Remove { .. }
@@ -311,7 +378,10 @@ pub(crate) fn change_tasks(
         | Act::Mem { .. }
         | Act::Host { .. }
         | Act::Trigger { .. }
-        | Act::End => Ok(()),
+        | Act::End => Ok(Changed {
+            old: None,
+            new: None,
+        }),
     }
 }
 

@@ -2,6 +2,7 @@
 #![tactic(auto)]
 
 mod causes;
+mod changed;
 mod effects;
 mod members;
 mod running;

@@ -1,27 +1,25 @@
 //! The running task of each processor.
-ghost use Rattle.std.specs.Prelude.{◌≡◌, None, Some, IfSome, IfNone, slice_index_or};
-ghost use Rattle.psi_spec.specs.World.{task_of, running_on};
-ghost use Rattle.task_table.specs.Stands.{IsIndex};
+ghost use Rattle.std.specs.Prelude.{◌≡◌, None, Some, if◌then◌else◌, slice_index_or, slice_set, length, ◌<◌, true};
+ghost use Rattle.psi_spec.specs.World.{is_running};
 
-use crate::task_map::TaskMap;
-use psi_spec::Task;
+use psi_spec::{Mode, Task};
 
-/// The running task of a processor, with its number.
-pub(crate) fn running_at(tasks: &TaskMap, running: &[Option<u32>], cpu: u32) -> Option<(u32, Task)>
-    requires index { IsIndex running.now tasks.now }
-    ensures task { result ≡ running_on tasks.now cpu }
-    ensures place { IfSome result (λ e. slice_index_or running.now cpu None ≡ Some e.0) }
-    ensures found { IfSome result (λ e. task_of tasks.now e.0 ≡ Some e.1) }
-    ensures free { IfNone result (slice_index_or running.now cpu None ≡ None) }
+/// The running task of a processor with its number, or none where it idles.
+pub(crate) type Running = Option<(u32, Task)>;
+
+/// The running task of a processor.
+pub(crate) fn running_at(running: &[Running], cpu: u32) -> Running
+    ensures { result ≡ slice_index_or running.now cpu None }
 {
-    if running.len() <= cpu as usize {
-        return None;
+    running.get(cpu as usize).copied().unwrap_or(None)
+}
+
+/// Shows a task as it is now, if it runs.
+pub(crate) fn show(running: &mut [Running], pid: u32, task: Task)
+    requires { is_running task.mode ≡ true → task.cpu.0 < length running.old }
+    ensures { running.new ≡ (if is_running task.mode then slice_set running.old task.cpu.0 (Some (pid, task)) else running.old) }
+{
+    if task.mode == Mode::Running {
+        running[task.cpu.0 as usize] = Some((pid, task));
     }
-    let Some(pid) = running[cpu as usize] else {
-        return None;
-    };
-    let Some(task) = tasks.get(pid) else {
-        return None;
-    };
-    Some((pid, task))
 }

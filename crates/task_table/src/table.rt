@@ -1,19 +1,23 @@
 //! The table of tasks.
 ghost use Rattle.std.specs.Prelude.{◌≡◌, ◌<◌, ◌≤◌, IfNone, IfOk, OnErr, OnOk, MatchResult, None, length};
 ghost use Rattle.psi_spec.specs.World.{after_event, first_world};
-ghost use Rattle.psi_spec.specs.Touch.{IsTouch, AllTouched, HasSlotsBelow, IsOfOne};
+ghost use Rattle.psi_spec.specs.Touch.{AllTouched, HasSlotsBelow, IsOfOne, IsTouch, before};
 ghost use Rattle.psi_spec.specs.Refusal.{cause_of};
 ghost use Rattle.psi_spec.specs.Legal.{IsLegalWorld};
 ghost use Rattle.task_table.specs.Causes.{IsFault};
+ghost use Rattle.task_table.specs.Named.{IsChanged, named_task};
+ghost use Rattle.task_table.specs.Stands.{IsPlayed};
 
 use crate::causes::act_refused;
-use crate::effects::{change_groups, change_tasks, has_ended, triggers_with};
+use crate::changed::Changed;
+use crate::effects::{change_groups, change_tasks, has_ended, named_task, triggers_with};
 use crate::members::Members;
+use crate::running::{Running, running_at};
 use crate::task_map::TaskMap;
-use crate::touch::{task_after, task_before, touch_of};
+use crate::touch::touch_of;
 use group_tree::Tree;
-use psi_base::{Cause, Event, Fault, NoMemory, Ns};
-use psi_spec::Touch;
+use psi_base::{Act, Cause, Event, Fault, NoMemory, Ns};
+use psi_spec::{Task, Touch};
 use std::alloc::Global;
 use std::marker::Model;
 
@@ -26,8 +30,8 @@ pub struct Table {
     /// No event is later (ns).
     latest: Ns,
     tasks: TaskMap,
-    /// The number of the running task of each processor.
-    running: Vec<Option<u32>>,
+    /// The running task of each processor.
+    running: Vec<Running>,
     /// How many live tasks are in each group.
     members: Members,
     /// All groups ever made.
@@ -61,7 +65,7 @@ impl Table {
         requires few { cpus ≤ 64 }
         ensures { IfOk result (λ t. t ≡ record { limits = record { version = 1; cpus = cpus; latest = latest }; world = first_world }) }
     {
-        let mut running: Vec<Option<u32>> = Vec::new(alloc);
+        let mut running: Vec<Running> = Vec::new(alloc);
         for _ in 0..cpus {
             if running.push(None).is_err() {
                 return Err(NoMemory);
@@ -80,9 +84,10 @@ impl Table {
         })
     }
 
-    /// How many events there were.
+    /// How many events there were, 4,000,000 at most.
     pub fn lines(&self) -> u32
-        ensures { result ≡ self.now.world.lines }
+        ensures lines { result ≡ self.now.world.lines }
+        ensures few { result ≤ 4000000 }
     {
         self.lines
     }
@@ -108,9 +113,42 @@ impl Table {
         &self.tree
     }
 
+    /// All groups ever made, and nothing else.
+    pub fn into_groups(self) -> Tree
+        ensures { result ≡ self.world.groups }
+    {
+        self.tree
+    }
+
+    /// The one task whose counts an act changes, as it is before the act.
+    #[tactic(auto, using(crate::proofs::Index::running_told))]
+    pub fn task_before(&self, act: &Act) -> Option<Task>
+        ensures { result ≡ before self.now.world.tasks act.now }
+    {
+        match act {
+            Act::Switch { cpu, .. } => match running_at(&self.running, cpu.0) {
+                Some((_, task)) => Some(task),
+                None => None,
+            },
+            Act::Fork { .. } => None,
+            _ => named_task(&self.tasks, act),
+        }
+    }
+
     /// The first cause against the event, in this profile's order of causes, or none where it is legal.
-    #[tactic(auto, using(crate::proofs::CauseLaws::first_is, std::proofs::lemmas::Bool::Decides::nat_tests))]
     pub fn check(&self, event: &Event) -> Option<Cause>
+        ensures cause { result ≡ cause_of self.now.limits self.now.world event.now }
+        ensures room { IfNone result (self.now.world.lines < 4000000) }
+        ensures forward { IfNone result (self.now.world.last ≤ event.now.at) }
+        ensures early { IfNone result (event.now.at ≤ self.now.limits.latest) }
+    {
+        self.refused(event, named_task(&self.tasks, &event.act))
+    }
+
+    /// The first cause against an event whose act names this task.
+    #[tactic(auto, using(crate::proofs::CauseLaws::first_is, std::proofs::lemmas::Bool::Decides::nat_tests))]
+    fn refused(&self, event: &Event, named: Option<Task>) -> Option<Cause>
+        requires { named ≡ named_task self.now.world.tasks event.now.act }
         ensures cause { result ≡ cause_of self.now.limits self.now.world event.now }
         ensures room { IfNone result (self.now.world.lines < 4000000) }
         ensures forward { IfNone result (self.now.world.last ≤ event.now.at) }
@@ -135,6 +173,7 @@ impl Table {
             &self.members,
             self.triggers,
             &event.act,
+            named,
         )
     }
 
@@ -151,27 +190,7 @@ impl Table {
         ensures fault { MatchResult result (λ _. Unit {0}) (IsFault (cause_of self.old.limits self.old.world event.now) event.now.act) }
         ensures err { OnErr result (self.new ≡ self.old) }
     {
-        if let Some(cause) = self.check(event) {
-            return Err(Fault::Refused(cause));
-        }
-        let act = &event.act;
-        let changed = change_tasks(
-            &mut self.tasks,
-            &mut self.running,
-            &mut self.members,
-            &self.tree,
-            act,
-        );
-        if changed.is_err() {
-            return Err(Fault::NoMemory);
-        }
-        if change_groups(&mut self.tree, &mut self.members, event.at, act).is_err() {
-            return Err(Fault::NoMemory);
-        }
-        self.triggers = triggers_with(self.triggers, act);
-        self.lines += 1;
-        self.last = event.at;
-        self.ended = has_ended(self.ended, &event.act);
+        self.advance(event)?;
         Ok(())
     }
 
@@ -193,9 +212,39 @@ impl Table {
         ensures ones { IfOk result (λ touch. AllTouched (λ cpu change. IsOfOne change) touch) }
         ensures moment { IfOk result (λ touch. AllTouched (λ cpu change. change.at ≡ event.now.at) touch) }
     {
-        let old = task_before(&self.tasks, &self.running, &event.act);
-        let new = task_after(&self.tree, &event.act, old);
-        self.play(event)?;
-        Ok(touch_of(event.at, &event.act, old, new, &self.tasks, &self.running))
+        let changed = self.advance(event)?;
+        Ok(touch_of(event.at, &event.act, changed, &self.running))
+    }
+
+    /// The world after the event as [`Table::play`] makes it, and the task that the event changes.
+    fn advance(&mut self, event: &Event) -> Result<Changed, Fault<Cause>>
+        ensures played { OnOk result (IsPlayed self.old event.now self.new) }
+        ensures changed { IfOk result (λ c. IsChanged self.old.world.groups self.old.world.tasks event.now.act c) }
+        ensures fault { MatchResult result (λ _. Unit {0}) (IsFault (cause_of self.old.limits self.old.world event.now) event.now.act) }
+        ensures err { OnErr result (self.new ≡ self.old) }
+    {
+        let act = &event.act;
+        let named = named_task(&self.tasks, act);
+        if let Some(cause) = self.refused(event, named) {
+            return Err(Fault::Refused(cause));
+        }
+        let Ok(changed) = change_tasks(
+            &mut self.tasks,
+            &mut self.running,
+            &mut self.members,
+            &self.tree,
+            act,
+            named,
+        ) else {
+            return Err(Fault::NoMemory);
+        };
+        if change_groups(&mut self.tree, &mut self.members, event.at, act).is_err() {
+            return Err(Fault::NoMemory);
+        }
+        self.triggers = triggers_with(self.triggers, act);
+        self.lines += 1;
+        self.last = event.at;
+        self.ended = has_ended(self.ended, act);
+        Ok(changed)
     }
 }

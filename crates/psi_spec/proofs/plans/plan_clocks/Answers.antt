@@ -4,8 +4,8 @@ use Rattle.psi_spec.proofs.plans.plan_clocks.Goals as goal
 pub returns-clause-zero : goal.returns-clause-zero
 returns-clause-zero c = laws.zero_is_clock
 
-pub returns-clause-advanced : goal.returns-clause-advanced
-returns-clause-advanced c = laws.advanced_is_clock
+pub returns-clause-followed : goal.returns-clause-followed
+returns-clause-followed c = laws.followed_is_clock
 
 pub returns-clause-kept : goal.returns-clause-kept
 returns-clause-kept c = laws.kept_is_clock

@@ -1,29 +1,39 @@
-use Rattle.std.proofs.Common.{ℕ, List, ◌+◌, refl, arith, length, subst, sym, ◌∙◌}
+use Rattle.std.proofs.Common.{ℕ, List, ◌+◌, refl, arith, ap, length, subst, sym, ◌∙◌}
+use Rattle.std.specs.List.{flat_map, range_with_len}
 use Rattle.std.specs.Io.KnownBytes.{Appends}
-use Rattle.std.proofs.lemmas.List.{get_or_default}
-use Rattle.slot_clocks.specs.Clocks.{no_clocks}
+use Rattle.std.proofs.lemmas.List.{get_or_default, get_or-set_other, length-set}
 use Rattle.psi_base.proofs.Grows.{Appends-then, AppendsFront-then, PutsAll-failed}
 use Rattle.psi_base.specs.Outside.{AppendsFront}
-use Rattle.replay_core.specs.Sums.{clock_lines, view_at}
+use Rattle.psi_spec.specs.Plan.{no_plan}
+use Rattle.proc_plan.specs.Clocks.{OnPlan}
+use Rattle.proc_plan.specs.Plans.{plan_at}
+use Rattle.replay_core.specs.Lines.{plan_lines}
 use Rattle.replay_core.proofs.LineTexts.{piece_more, pieces_at}
 use Rattle.replay_core.proofs.lines.put_lines.Goals as goal
 
-pub returns-in_err-put_clocks-clause-bytes : goal.returns-in_err-put_clocks-clause-bytes
-returns-in_err-put_clocks-clause-bytes g c =
-    let lines : ℕ → List ℕ = λ cpu. clock_lines c.args.groups.now c.args.order.now c.args.last (view_at c.args.clocks.now cpu) cpu in
-    let view = get_or_default c.args.clocks.now c.cpus.place no_clocks c.index-clocks-place.result c.cpus-test.true ∙ sym c.index-clocks-place.is in
+pub returns-in_err-put_processor-clause-bytes : goal.returns-in_err-put_processor-clause-bytes
+returns-in_err-put_processor-clause-bytes g c =
+    let lines : ℕ → List ℕ = λ cpu. plan_lines c.args.plans.now.lives c.args.order.now c.args.last (plan_at c.args.plans.now cpu) cpu in
+    let facts = rw c.lives-groups.ensures at c.in_err-put_processor.ensures.bytes in
+    let here = get_or_default c.cpus.clocks c.cpus.place (record { plan = no_plan; made = 0 }) c.index-clocks-place.result (omega (arith, c.cpus-test.true, c.cpus.invariant.each)) in
+    let view = ap (λ (on : OnPlan). on.plan) (sym here ∙ c.cpus.invariant.fresh c.cpus.place (omega arith) (omega (arith, c.cpus-test.true, c.cpus.invariant.each))) in
     PutsAll-failed _ _ _ _ c.from_residual.ensures.0
-    (subst (AppendsFront (g.K.Sink.has c.args.out.now) (g.K.Sink.has c.put_clocks.new.out)) (sym (pieces_at lines (length c.args.clocks.now) c.cpus.place (omega arith)))
+    (subst (AppendsFront (g.K.Sink.has c.args.out.now) (g.K.Sink.has c.put_processor.new.out)) (sym (ap (λ n. flat_map lines (range_with_len 0 n)) (sym c.requires.each) ∙ pieces_at lines (length c.args.clocks.now) c.cpus.place (omega (arith, c.cpus-test.true))))
     (AppendsFront-then _ _ _ _ _ _ c.cpus.invariant.sent
-    (subst (λ v. AppendsFront (g.K.Sink.has c.cpus.out) (g.K.Sink.has c.put_clocks.new.out) (clock_lines c.args.groups.now c.args.order.now c.args.last v c.cpus.place)) (sym view) c.in_err-put_clocks.ensures.bytes)))
+    (subst (λ plan. AppendsFront (g.K.Sink.has c.cpus.out) (g.K.Sink.has c.put_processor.new.out) (plan_lines c.args.plans.now.lives c.args.order.now c.args.last plan c.cpus.place)) view facts)))
 
 pub cpus-preserved : goal.cpus-preserved
 cpus-preserved g c =
-    let lines : ℕ → List ℕ = λ cpu. clock_lines c.args.groups.now c.args.order.now c.args.last (view_at c.args.clocks.now cpu) cpu in
-    let view = get_or_default c.args.clocks.now c.cpus.place no_clocks c.index-clocks-place.result c.cpus-test.true ∙ sym c.index-clocks-place.is in
+    let lines : ℕ → List ℕ = λ cpu. plan_lines c.args.plans.now.lives c.args.order.now c.args.last (plan_at c.args.plans.now cpu) cpu in
+    let facts = rw c.lives-groups.ensures at c.in_ok-put_processor.ensures.bytes in
+    let here = get_or_default c.cpus.clocks c.cpus.place (record { plan = no_plan; made = 0 }) c.index-clocks-place.result (omega (arith, c.cpus-test.true, c.cpus.invariant.each)) in
+    let view = ap (λ (on : OnPlan). on.plan) (sym here ∙ c.cpus.invariant.fresh c.cpus.place (omega arith) (omega (arith, c.cpus-test.true, c.cpus.invariant.each))) in
+    let many = length-set c.cpus.clocks c.cpus.place c.put_processor.new.clocks in
     record {
-      sent = subst (Appends (g.K.Sink.has c.args.out.now) (g.K.Sink.has c.put_clocks.new.out)) (sym (piece_more lines c.cpus.place (c.cpus.place + 1) refl))
+      each = many ∙ c.cpus.invariant.each;
+      fresh = λ cpu from below. get_or-set_other c.cpus.clocks c.cpus.place cpu c.put_processor.new.clocks (record { plan = no_plan; made = 0 }) (λ same. omega (arith, same, from)) ∙ c.cpus.invariant.fresh cpu (omega (arith, from)) (omega (arith, below, many));
+      sent = subst (Appends (g.K.Sink.has c.args.out.now) (g.K.Sink.has c.put_processor.new.out)) (sym (piece_more lines c.cpus.place (c.cpus.place + 1) refl))
           (Appends-then _ _ _ _ _ c.cpus.invariant.sent
-          (subst (λ v. Appends (g.K.Sink.has c.cpus.out) (g.K.Sink.has c.put_clocks.new.out) (clock_lines c.args.groups.now c.args.order.now c.args.last v c.cpus.place)) (sym view) c.in_ok-put_clocks.ensures.bytes));
-      later = omega (arith, c.cpus.invariant.later, c.in_ok-put_clocks.ensures.cause);
+          (subst (λ plan. Appends (g.K.Sink.has c.cpus.out) (g.K.Sink.has c.put_processor.new.out) (plan_lines c.args.plans.now.lives c.args.order.now c.args.last plan c.cpus.place)) view facts));
+      later = omega (arith, c.cpus.invariant.later, c.in_ok-put_processor.ensures.cause);
     }

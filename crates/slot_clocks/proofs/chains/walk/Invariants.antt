@@ -1,4 +1,4 @@
-use Rattle.std.proofs.Common.{ℕ, ◌≤◌, length}
+use Rattle.std.proofs.Common.{◌≡◌, ℕ, ◌≤◌, length}
 use Rattle.slot_clocks.specs.Clocks.{cell_in, numbers_of}
 use Rattle.slot_clocks.specs.Walk.{chains_of, top}
 use Rattle.slot_clocks.proofs.WalkLaws.{IsWalked}
@@ -8,7 +8,7 @@ use Rattle.slot_clocks.proofs.chains.walk.Given as goal
 abbrev pub invariant-up : goal.invariant-up
 invariant-up l = record {
   slots : top l.chains ≤ length l.parents;
-  room : top l.chains ≤ length l.cells;
+  room : length l.cells ≡ length l.fn.cells;
   groups : (slot : ℕ) → IsWalked (numbers_of l.parents) l.change (chains_of l.fn.current l.change) l.chains slot (cell_in l.fn.cells slot) (cell_in l.cells slot);
 }
 

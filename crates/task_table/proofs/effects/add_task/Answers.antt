@@ -1,4 +1,4 @@
-use Rattle.std.proofs.Common.{arith}
+use Rattle.std.proofs.Common.{arith, Some}
 use Rattle.task_table.proofs.Index as index
 use Rattle.task_table.proofs.MemberLaws as members
 use Rattle.task_table.proofs.effects.add_task.Goals as goal
@@ -8,7 +8,7 @@ join-requires-clause-fits c = omega (arith, members.members_few c.args.members.n
 
 pub returns-in-Ok-clause-index : goal.returns-in-Ok-clause-index
 returns-in-Ok-clause-index c = λ running is.
-    rw c.in-Ok.ensures.ok (index.index_kept running c.args.tasks.now _ is c.args.pid (index.off_of_none c.args.tasks.now c.args.pid c.requires.new) (index.stops_put c.args.tasks.now c.args.pid c.args.task c.requires.off))
+    rw c.in-Ok.ensures.ok (index.index_kept running c.args.tasks.now is c.args.pid (Some c.args.task) (index.off_none _ c.requires.new) (index.off_task c.args.task c.requires.off))
 
 pub returns-in-Ok-clause-members : goal.returns-in-Ok-clause-members
 returns-in-Ok-clause-members c =

@@ -1,0 +1,73 @@
+-- The events of a trace, taken one after the other.
+use Rattle.std.proofs.Common.{◌≡◌, ◌≢◌, ℕ, zero, suc, ◌+◌, ◌≤◌, ◌<◌, List, [], ◌∷◌, ◌++◌, length, take, drop, refl, sym, ap, ◌∙◌, subst, arith, inl, inr, true}
+use Rattle.std.specs.Prelude.{slice_index_or, Ok, Err}
+use Rattle.std.proofs.lemmas.List.{take_all, take_more}
+use Rattle.psi_base.specs.declared.event.Cause.{Cause}
+use Rattle.psi_base.specs.declared.event.Cause.TheVariants as cause
+use Rattle.psi_base.specs.declared.event.Event.{Event}
+use Rattle.psi_base.specs.declared.event.Fault.{Fault}
+use Rattle.psi_base.specs.declared.event.Fault.TheVariants as fault
+use Rattle.psi_base.specs.declared.event.Refusal.{Refusal}
+use Rattle.psi_spec.specs.Grammar.{Fits}
+use Rattle.psi_spec.specs.Trace.{AllFit, EndsLast}
+use Rattle.psi_spec.specs.World.{World, Limits, first_world}
+use Rattle.psi_spec.proofs.Accepting.{last_end}
+use Rattle.proc_plan.specs.Plans.{HasTaken, IsFaultAt, IsRefusal, PlannerView, Takes}
+use Rattle.proc_plan.proofs.Taking.{lines_of}
+
+-- each event can be spelled where all can
+pub fit_at : (events : List Event) (i : ℕ) (d : Event) → AllFit events → i < length events → Fits (slice_index_or events i d)
+fit_at [] i d fit room = absurd (omega (arith, room))
+fit_at (event ∷ events) zero d fit room = fit.0
+fit_at (event ∷ events) (suc i) d fit room = fit_at events i d fit.1 (omega (arith, room))
+
+-- a list around one of its elements
+parted : (events : List Event) (i : ℕ) (d : Event) → i < length events → events ≡ take i events ++ slice_index_or events i d ∷ drop (suc i) events
+parted [] i d room = absurd (omega (arith, room))
+parted (event ∷ events) zero d room = refl
+parted (event ∷ events) (suc i) d room = ap (λ es. event ∷ es) (parted events i d (omega (arith, room)))
+
+-- a planner has taken the first events of all, where a fresh one was taken on from
+abbrev pub HasFirst : PlannerView → PlannerView → List Event → Type 0
+HasFirst old now events = (limits : Limits) → HasTaken old limits [] → HasTaken now limits events
+
+-- one event more of all
+pub took_next : (old now new : PlannerView) (events : List Event) (i : ℕ) (event : Event) (x : Unit {0}) → i < length events → event ≡ slice_index_or events i event → HasFirst old now (take i events) → Takes now new event (Ok x) → HasFirst old new (take (i + 1) events)
+took_next old now new events i event x room is before takes = λ limits fresh.
+    subst (HasTaken new limits) (sym (take_more events i event room ∙ ap (λ e. take i events ++ e ∷ []) (sym is))) (takes limits (take i events) (before limits fresh)).1
+
+-- an event that is refused is the first one
+pub refused_next : (old now new : PlannerView) (events : List Event) (i : ℕ) (event : Event) (why : Fault Cause) (line : ℕ) (at : Fault Refusal) → i < length events → event ≡ slice_index_or events i event → HasFirst old now (take i events) → Takes now new event (Err why) → line ≡ new.table.world.lines → IsFaultAt (line + 2) why at
+    → (limits : Limits) → HasTaken old limits [] → IsRefusal limits events at
+refused_next old now new events i event (fault.Refused why) line at room is before takes counted told = λ limits fresh.
+    let taken = before limits fresh in
+    let lines : line ≡ length (take i events) = counted ∙ ap (λ (p : PlannerView). p.table.world.lines) takes.0 ∙ ap (λ (w : World). w.lines) taken.world ∙ lines_of (take i events) in
+    subst (IsRefusal limits events) (sym told) (inl (record {
+      front = take i events;
+      event = event;
+      behind = drop (suc i) events;
+      events_are = parted events i event room ∙ ap (λ e. take i events ++ e ∷ drop (suc i) events) (sym is);
+      legal = taken.legal;
+      cause = takes.1 limits (take i events) taken;
+      line_is = omega (arith, lines);
+    }))
+refused_next old now new events i event fault.NoMemory line at room is before takes counted told = λ limits fresh. subst (IsRefusal limits events) (sym told) tt
+
+-- all events were taken, and the trace hasn't ended
+pub lacks_end : (old now : PlannerView) (events : List Event) (i line : ℕ) (at : Fault Refusal) → length events ≤ i → HasFirst old now (take i events) → now.table.world.ended ≢ true → line ≡ now.table.world.lines → IsFaultAt (line + 2) (fault.Refused cause.NoEnd) at
+    → (limits : Limits) → HasTaken old limits [] → IsRefusal limits events at
+lacks_end old now events i line at all before open_ counted told = λ limits fresh.
+    let taken = subst (HasTaken now limits) (take_all i events all) (before limits fresh) in
+    let lines : line ≡ length events = counted ∙ ap (λ (w : World). w.lines) taken.world ∙ lines_of events in
+    subst (IsRefusal limits events) (sym told) (inr (record {
+      legal = taken.legal;
+      open_ = λ ended. open_ (ap (λ (w : World). w.ended) taken.world ∙ ended);
+      cause = refl;
+      line_is = omega (arith, lines);
+    }))
+
+-- all events were taken, and the trace has ended
+pub all_taken : (old now : PlannerView) (events : List Event) (i : ℕ) → length events ≤ i → HasFirst old now (take i events) → now.table.world.ended ≡ true → (limits : Limits) → HasTaken old limits [] → HasTaken now limits events × EndsLast events
+all_taken old now events i all before ended = λ limits fresh.
+    let taken = subst (HasTaken now limits) (take_all i events all) (before limits fresh) in
+    (taken, last_end limits first_world events refl taken.legal (sym (ap (λ (w : World). w.ended) taken.world) ∙ ended))

@@ -1,0 +1,82 @@
+-- The plans of a planner stand for the events that it took.
+use Rattle.std.proofs.Common.{◌≡◌, ℕ, ◌<◌, List, [], ◌∷◌, length, map, refl, sym, ap, ◌∙◌, subst, arith}
+use Rattle.std.specs.Prelude.{Option, Some}
+use Rattle.std.specs.List.{All}
+use Rattle.std.proofs.lemmas.List.{get_or-map, get_or_default, length-map}
+use Rattle.psi_base.specs.declared.event.Event.{Event}
+use Rattle.psi_spec.specs.declared.machine.Change.{Change}
+use Rattle.psi_spec.specs.declared.machine.GroupLife.{GroupLife}
+use Rattle.psi_spec.specs.World.{World, Limits, after, first_world}
+use Rattle.psi_spec.specs.Legal.{changes_from}
+use Rattle.psi_spec.specs.Plan.{IsPlan, PlanView, no_plan, plan_of}
+use Rattle.psi_spec.specs.Stall.{parents_of}
+use Rattle.psi_spec.specs.Trace.{IsCpuCount}
+use Rattle.psi_spec.proofs.PlanLaws.{changes_are_numbered}
+use Rattle.psi_spec.proofs.PlanWhole.{are_of_one, plan_is_whole}
+use Rattle.proc_plan.specs.Plans.{ArePlans, HasTaken, IsKept, IsPlanner, PlannerView, PlansAreOfEvents, PlansView, StandFor, changes_at, plan_at, plan_over, plans_view}
+
+-- the plan that is made for a processor
+plan_is : (planner : PlannerView) (limits : Limits) (events : List Event) (groups : List GroupLife) (cpu : ℕ) → HasTaken planner limits events → groups ≡ planner.table.world.groups → cpu < limits.cpus → plan_over groups (changes_at planner cpu) ≡ plan_of cpu events
+plan_is planner limits events groups cpu taken same below =
+    ap (λ gs. plan_over gs (changes_at planner cpu)) (same ∙ ap (λ (w : World). w.groups) taken.world) ∙ ap (plan_over (after events).groups) (taken.changes cpu below)
+
+kept : (limits : Limits) (events : List Event) (planner : PlannerView) (cpu : ℕ) → HasTaken planner limits events → IsKept (plan_of cpu events)
+kept limits events planner cpu taken = record { whole = plan_is_whole limits events taken.legal taken.short cpu; ones = are_of_one limits events taken.legal cpu }
+
+-- each is kept
+pub all_kept : (planner : PlannerView) (limits : Limits) (events : List Event) (groups : List GroupLife) → IsPlanner planner → HasTaken planner limits events → groups ≡ planner.table.world.groups → All (λ changes. IsKept (plan_over groups changes)) planner.changes
+all_kept planner limits events groups is taken same = λ k d room.
+    let below : k < limits.cpus = omega (arith, room, is.each, ap (λ (l : Limits). l.cpus) taken.limits_are) in
+    subst (λ changes. IsKept (plan_over groups changes)) (get_or_default planner.changes k [] d room)
+    (subst IsKept (sym (plan_is planner limits events groups k taken same below)) (kept limits events planner k taken))
+
+-- what a planner gives at the end
+abbrev pub finished : PlannerView → List GroupLife → PlansView
+finished planner groups = plans_view (map (plan_over groups) planner.changes) groups planner.triggers planner.sides planner.table.world.last
+
+as_many : (planner : PlannerView) (limits : Limits) (events : List Event) (groups : List GroupLife) → IsPlanner planner → HasTaken planner limits events → length (finished planner groups).plans ≡ limits.cpus
+as_many planner limits events groups is taken = length-map planner.changes (plan_over groups) ∙ is.each ∙ ap (λ (l : Limits). l.cpus) taken.limits_are
+
+plan_made : (planner : PlannerView) (limits : Limits) (events : List Event) (groups : List GroupLife) (cpu : ℕ) → IsPlanner planner → HasTaken planner limits events → groups ≡ planner.table.world.groups → cpu < limits.cpus → plan_at (finished planner groups) cpu ≡ plan_of cpu events
+plan_made planner limits events groups cpu is taken same below =
+    get_or-map (plan_over groups) planner.changes cpu [] no_plan (omega (arith, below, is.each, ap (λ (l : Limits). l.cpus) taken.limits_are)) ∙ plan_is planner limits events groups cpu taken same below
+
+pub are_plans : (planner : PlannerView) (limits : Limits) (events : List Event) (groups : List GroupLife) → IsPlanner planner → HasTaken planner limits events → groups ≡ planner.table.world.groups → ArePlans (finished planner groups)
+are_plans planner limits events groups is taken same =
+    let many = as_many planner limits events groups is taken in
+    let made : (cpu : ℕ) → cpu < length (finished planner groups).plans → plan_at (finished planner groups) cpu ≡ plan_of cpu events = λ cpu room. plan_made planner limits events groups cpu is taken same (omega (arith, room, many)) in
+    record {
+      counted = subst IsCpuCount (sym many) taken.counted;
+      whole = λ cpu room. subst IsPlan (sym (made cpu room)) (kept limits events planner cpu taken).whole;
+      parents = λ cpu room. ap (λ (plan : PlanView). plan.parents) (made cpu room) ∙ sym (ap parents_of (same ∙ ap (λ (w : World). w.groups) taken.world));
+      small = is.small;
+    }
+
+pub they_stand : (planner : PlannerView) (limits : Limits) (events : List Event) (groups : List GroupLife) → IsPlanner planner → HasTaken planner limits events → groups ≡ planner.table.world.groups → StandFor (finished planner groups) limits.cpus events
+they_stand planner limits events groups is taken same = record {
+  each = as_many planner limits events groups is taken;
+  changes = λ cpu below. ap (λ (plan : PlanView). map (λ (change : Change). let o : Option Change = Some change in o) plan.changes) (plan_made planner limits events groups cpu is taken same below) ∙ (changes_are_numbered cpu events).0;
+  parents = λ cpu below. ap (λ (plan : PlanView). plan.parents) (plan_made planner limits events groups cpu is taken same below);
+  lives = same ∙ ap (λ (w : World). w.groups) taken.world;
+  triggers = taken.triggers;
+  sides = taken.sides;
+  finish = ap (λ (w : World). w.last) taken.world;
+}
+
+-- ---- what stands
+
+somes_same : (one other : List Change) → map (λ (change : Change). let o : Option Change = Some change in o) one ≡ map (λ (change : Change). let o : Option Change = Some change in o) other → one ≡ other
+somes_same [] [] same = refl
+somes_same [] (change ∷ other) same = absurd (cc same)
+somes_same (change ∷ one) [] same = absurd (cc same)
+somes_same (change ∷ one) (next ∷ other) same =
+    let here : change ≡ next = cc same in
+    let rest = somes_same one other (cc same) in
+    rw (here, rest) refl
+
+-- the plans that stand for events are those of the events
+pub standing_plans : PlansAreOfEvents
+standing_plans plans cpus events stand cpu below =
+    let changes = somes_same (plan_at plans cpu).changes (changes_from cpu first_world events) (stand.changes cpu below ∙ sym (changes_are_numbered cpu events).0) in
+    let parents = stand.parents cpu below in
+    ap (λ cs. let plan : PlanView = record { changes = cs; parents = (plan_at plans cpu).parents } in plan) changes ∙ ap (λ ps. let plan : PlanView = record { changes = changes_from cpu first_world events; parents = ps } in plan) parents

@@ -1,0 +1,5 @@
+pub mod Building
+pub mod ClockSteps
+pub mod Finishing
+pub mod PlanReads
+pub mod Taking

@@ -1,0 +1,72 @@
+-- What the readers of a plan tell.
+use Rattle.std.proofs.Common.{◌≡◌, ℕ, zero, suc, ◌+◌, ◌-◌, ◌≤◌, ◌<◌, List, length, refl, sym, ap, ◌∙◌, arith, true, false, Option, None, Some, IsSome}
+use Rattle.std.specs.Prelude.{nat_le, slice_index_or, ◌↔◌}
+use Rattle.std.specs.List.Sorted.{IsPartitionPoint, IsPartitionedBy}
+use Rattle.std.proofs.lemmas.Bool.Decides.{nat_tests}
+use Rattle.std.proofs.lemmas.List.{get_or-map}
+use Rattle.psi_base.specs.declared.event.Slot.{Slot}
+use Rattle.psi_spec.specs.declared.machine.Change.{Change}
+use Rattle.psi_spec.specs.Groups.{AreOlder, HaveParents}
+use Rattle.psi_spec.specs.Stall.{number_of_slot}
+use Rattle.psi_spec.specs.Plan.{AreInOrder, PlanView, changes_up_to, last_change}
+use Rattle.psi_spec.proofs.PlanSteps.{place_of_moment}
+
+-- ---- moments
+
+-- the moment of the change at a place
+pub moment_at : (plan : PlanView) (i : ℕ) (d : Change) → i < length plan.changes → (slice_index_or plan.changes i d).at ≡ last_change plan (i + 1)
+moment_at plan i d room =
+    let next : i + 1 ≡ suc i = omega arith in
+    sym (get_or-map (λ (change : Change). change.at) plan.changes i d 0 room) ∙ sym (ap (last_change plan) next)
+
+-- moments never fall from change to change
+rises : (plan : PlanView) → AreInOrder plan → (i n : ℕ) → i + n ≤ length plan.changes → last_change plan i ≤ last_change plan (i + n)
+rises plan order i zero room = let same : last_change plan i ≡ last_change plan (i + 0) = ap (last_change plan) (let e : i ≡ i + 0 = omega arith in e) in omega (arith, same)
+rises plan order i (suc n) room =
+    let front = rises plan order i n (omega (arith, room)) in
+    let step = order (i + n) (omega (arith, room)) in
+    let same : last_change plan (i + suc n) ≡ last_change plan (i + n + 1) = ap (last_change plan) (let e : i + suc n ≡ i + n + 1 = omega arith in e) in
+    omega (arith, front, step, same)
+
+earlier : (one other at : ℕ) → one ≤ other → nat_le other at ≡ true → nat_le one at ≡ true
+earlier one other at low is = grind (arith, nat_tests)
+
+-- those up to a moment come first
+pub come_first : (plan : PlanView) (at : ℕ) → AreInOrder plan → IsPartitionedBy (λ (change : Change). nat_le change.at at) plan.changes
+come_first plan at order i j d low room up =
+    let later = rises plan order (i + 1) (j - i) (omega (arith, low, room)) in
+    let same : last_change plan (i + 1 + (j - i)) ≡ last_change plan (j + 1) = ap (last_change plan) (let e : i + 1 + (j - i) ≡ j + 1 = omega (arith, low) in e) in
+    earlier (slice_index_or plan.changes i d).at (slice_index_or plan.changes j d).at at (omega (arith, later, same, moment_at plan i d (omega (arith, low, room)), moment_at plan j d room)) up
+
+is_early : (moment at : ℕ) → nat_le moment at ≡ true → moment ≤ at
+is_early moment at is = grind (arith, nat_tests)
+
+is_late : (moment at : ℕ) → nat_le moment at ≡ false → at < moment
+is_late moment at is = grind (arith, nat_tests)
+
+last_before : (plan : PlanView) (at k : ℕ) (d : Change) → k ≤ length plan.changes → ((j : ℕ) (e : Change) → 0 ≤ j → j < k → nat_le (slice_index_or plan.changes j e).at at ≡ true) → last_change plan k ≤ at
+last_before plan at zero d room early = omega arith
+last_before plan at (suc k) d room early =
+    let here = is_early (slice_index_or plan.changes k d).at at (early k d (omega arith) (omega arith)) in
+    let same : last_change plan (suc k) ≡ last_change plan (k + 1) = ap (last_change plan) (let e : suc k ≡ k + 1 = omega arith in e) in
+    omega (arith, here, same, moment_at plan k d (omega (arith, room)))
+
+-- the place behind them is how many come up to the moment
+pub point_counts : (plan : PlanView) (at k : ℕ) → AreInOrder plan → k ≤ length plan.changes → IsPartitionPoint (λ (change : Change). nat_le change.at at ≡ true) (λ (change : Change). nat_le change.at at ≡ false) plan.changes k → k ≡ changes_up_to plan at
+point_counts plan at k order room point =
+    let none : Change = record { at = 0; minus = None; plus = None; current = None } in
+    sym (place_of_moment plan order k at room (last_before plan at k none room point.0)
+    (λ more. let late = is_late (slice_index_or plan.changes k none).at at (point.1 k none (omega arith) more) in omega (arith, late, moment_at plan k none more)))
+
+-- ---- parents
+
+-- the root alone has no parent
+pub root_alone : (parents : List (Option ℕ)) (slot : ℕ) (parent : Option Slot) → AreOlder parents → HaveParents parents → slot < length parents → number_of_slot parent ≡ slice_index_or parents slot None → (parent ≡ None) ↔ (slot ≡ 0)
+root_alone parents zero None older parented room is = (λ none. refl, λ root. refl)
+root_alone parents zero (Some parent) older parented room is = absurd (let low = older 0 parent.0 (sym is) in omega (arith, low))
+root_alone parents (suc slot) None older parented room is = absurd (parentless (slice_index_or parents (suc slot) None) (parented (suc slot) (omega arith) room) (sym is))
+  where
+    parentless : (o : Option ℕ) → IsSome o → o ≡ None → ⊥
+    parentless None some is = cc some
+    parentless (Some n) some is = cc is
+root_alone parents (suc slot) (Some parent) older parented room is = (λ none. absurd (cc none), λ root. absurd (omega (arith, root)))

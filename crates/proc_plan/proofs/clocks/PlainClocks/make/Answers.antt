@@ -1,0 +1,11 @@
+use Rattle.std.proofs.Common.{ap, subst, sym, ◌∙◌}
+use Rattle.slot_clocks.specs.Clocks.{first_clocks}
+use Rattle.proc_plan.specs.Clocks.{AreClocks}
+use Rattle.proc_plan.proofs.ClockSteps.{first_are}
+use Rattle.proc_plan.proofs.clocks.PlainClocks.make.Goals as goal
+
+pub invariant_of-result : goal.invariant_of-result
+invariant_of-result c = (
+  subst (λ clocks. AreClocks c.args.plan.now clocks 0) (sym (c.in_ok-make.ensures ∙ ap first_clocks c.requires)) (first_are c.args.plan.now c.parents.ensures.kept),
+  c.parents.ensures.parents,
+)

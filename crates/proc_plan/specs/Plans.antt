@@ -1,0 +1,172 @@
+-- The plans of all processors, and for which events they stand.
+use Rattle.std.specs.Prelude.{◌≡◌, ◌≢◌, ◌⊎◌, ℕ, ◌+◌, ◌<◌, ◌≤◌, List, [], ◌∷◌, ◌++◌, length, map, slice_get, slice_index_or, Option, None, Some, Result, Ok, Err, ⊤, true, refl}
+use Rattle.std.specs.List.{All}
+use Rattle.psi_base.specs.declared.event.Cause.{Cause}
+use Rattle.psi_base.specs.declared.event.Cause.TheVariants as cause
+use Rattle.psi_base.specs.declared.event.Event.{Event}
+use Rattle.psi_base.specs.declared.event.Fault.{Fault}
+use Rattle.psi_base.specs.declared.event.Fault.TheVariants as fault
+use Rattle.psi_base.specs.declared.event.Refusal.{Refusal}
+use Rattle.psi_base.specs.declared.event.Slot.{Slot}
+use Rattle.psi_base.specs.declared.event.TriggerSpec.{TriggerSpec}
+use Rattle.psi_spec.specs.declared.machine.Change.{Change}
+use Rattle.psi_spec.specs.declared.machine.GroupLife.{GroupLife}
+use Rattle.psi_spec.specs.World.{Limits, after, first_world}
+use Rattle.psi_spec.specs.Refusal.{AreLegal, cause_of}
+use Rattle.psi_spec.specs.Stall.{parents_of}
+use Rattle.psi_spec.specs.Share.{last_moment}
+use Rattle.psi_spec.specs.Trace.{IsCpuCount}
+use Rattle.psi_spec.specs.Legal.{changes_from}
+use Rattle.psi_spec.specs.Touch.{IsOfOne}
+use Rattle.psi_spec.specs.Plan.{IsPlan, PlanView, change_at, changes_of, no_plan, plan_of}
+use Rattle.slot_clocks.specs.Clocks.{numbers_of}
+use Rattle.std.specs.Coded.{Coded, code_by, coded×, coded_list}
+use Rattle.psi_base.specs.contracts.event.TriggerSpec as trigger_row
+use Rattle.psi_spec.specs.contracts.machine.Change as change_row
+use Rattle.task_table.specs.Stands.{TableView, view_code}
+use Rattle.proc_plan.specs.contracts.side.Side as side_row
+use Rattle.proc_plan.specs.declared.side.Side.{Side}
+use Rattle.proc_plan.specs.Sides.{IsSmall, sides_of, triggers_of}
+
+-- ---- plans
+
+-- a plan of these changes and parents
+abbrev pub plan_view : List Change → List (Option Slot) → PlanView
+plan_view changes parents = record { changes = changes; parents = numbers_of parents }
+
+-- the plan that has the parents of groups, with these changes
+abbrev pub plan_over : List GroupLife → List Change → PlanView
+plan_over groups changes = record { changes = changes; parents = parents_of groups }
+
+-- each change of a plan takes and adds the counts of one task each
+abbrev pub IsOfOnes : PlanView → Type 0
+IsOfOnes plan = (k : ℕ) (change : Change) → slice_get plan.changes k ≡ Some change → IsOfOne change
+
+-- What holds of each plan: it is whole, and a change is of one task.
+pub record IsKept (plan : PlanView) : Type 0 where
+  pub whole : IsPlan plan
+  pub ones : IsOfOnes plan
+
+-- The plans of a trace: one for each processor, all groups ever made, the triggers, the sides, and the end moment (ns).
+pub record PlansView : Type 0 where
+  pub plans : List PlanView
+  pub lives : List GroupLife
+  pub triggers : List TriggerSpec
+  pub sides : List Side
+  pub finish : ℕ
+
+-- the plans of these parts
+abbrev pub plans_view : List PlanView → List GroupLife → List TriggerSpec → List Side → ℕ → PlansView
+plans_view plans lives triggers sides finish = record { plans = plans; lives = lives; triggers = triggers; sides = sides; finish = finish }
+
+-- the plan of a processor
+abbrev pub plan_at : PlansView → ℕ → PlanView
+plan_at plans cpu = slice_index_or plans.plans cpu no_plan
+
+-- bytes and counts of all sides are at most 2^60
+abbrev pub AreSmall : List Side → Type 0
+AreSmall sides = All (λ (side : Side). IsSmall side.what) sides
+
+-- What holds of all plans: there are 1 to 64 processors with one plan each, which is whole and knows the parents of the groups
+-- that were made, and the sides are small.
+pub record ArePlans (plans : PlansView) : Type 0 where
+  pub counted : IsCpuCount (length plans.plans)
+  pub whole : (cpu : ℕ) → cpu < length plans.plans → IsPlan (plan_at plans cpu)
+  pub parents : (cpu : ℕ) → cpu < length plans.plans → (plan_at plans cpu).parents ≡ parents_of plans.lives
+  pub small : AreSmall plans.sides
+
+-- Plans stand for events. Each processor's plan has the changes that the events of its numbers make, each with its moment,
+-- and the parents of all groups. The plans have the groups, the triggers and the sides of the events, in their order, and
+-- the end moment.
+pub record StandFor (plans : PlansView) (cpus : ℕ) (events : List Event) : Type 0 where
+  pub each : length plans.plans ≡ cpus
+  pub changes : (cpu : ℕ) → cpu < cpus → map (λ change. Some change) (plan_at plans cpu).changes ≡ map (change_at cpu events) (changes_of cpu events)
+  pub parents : (cpu : ℕ) → cpu < cpus → (plan_at plans cpu).parents ≡ parents_of (after events).groups
+  pub lives : plans.lives ≡ (after events).groups
+  pub triggers : plans.triggers ≡ triggers_of events
+  pub sides : plans.sides ≡ sides_of events
+  pub finish : plans.finish ≡ (after events).last
+
+-- The plans that stand for events are the plans of these events.
+abbrev pub PlansAreOfEvents : Type 0
+PlansAreOfEvents = (plans : PlansView) (cpus : ℕ) (events : List Event) → StandFor plans cpus events → (cpu : ℕ) → cpu < cpus → plan_at plans cpu ≡ plan_of cpu events
+
+-- ---- refusals
+
+-- events are refused at an event, whose line is by two behind the number of events before it, with its first cause: those
+-- before it are legal
+pub record IsRefusedAt (limits : Limits) (events : List Event) (line : ℕ) (why : Cause) : Type 0 where
+  pub front : List Event
+  pub event : Event
+  pub behind : List Event
+  pub events_are : events ≡ front ++ event ∷ behind
+  pub legal : AreLegal limits first_world front
+  pub cause : cause_of limits (after front) event ≡ Some why
+  pub line_is : line ≡ length front + 2
+
+-- events are refused behind the last of them, where all are legal and the last isn't the end
+pub record LacksEnd (limits : Limits) (events : List Event) (line : ℕ) (why : Cause) : Type 0 where
+  pub legal : AreLegal limits first_world events
+  pub open_ : (after events).ended ≢ true
+  pub cause : why ≡ cause.NoEnd
+  pub line_is : line ≡ length events + 2
+
+-- events are refused at a line with a cause; of want of memory nothing is said
+abbrev pub IsRefusal : Limits → List Event → Fault Refusal → Type 0
+IsRefusal limits events (fault.Refused refusal) = IsRefusedAt limits events refusal.line refusal.cause ⊎ LacksEnd limits events refusal.line refusal.cause
+IsRefusal limits events fault.NoMemory = ⊤
+
+-- ---- a trace that is taken apart
+
+-- A planner: the limits and the world of its table, the changes of each processor so far, the triggers and the sides.
+pub record PlannerView : Type 0 where
+  pub table : TableView
+  pub changes : List (List Change)
+  pub triggers : List TriggerSpec
+  pub sides : List Side
+
+-- the planner of these parts
+abbrev pub planner_view : TableView → List (List Change) → List TriggerSpec → List Side → PlannerView
+planner_view table changes triggers sides = record { table = table; changes = changes; triggers = triggers; sides = sides }
+
+-- a planner's value as nested pairs, by which proofs tell values apart
+abbrev pub planner_code : Coded PlannerView
+planner_code =
+    code_by (TableView × (List (List Change) × (List TriggerSpec × List Side))) (coded× view_code (coded× (coded_list (coded_list change_row.the_row.coded)) (coded× (coded_list trigger_row.the_row.coded) (coded_list side_row.the_row.coded))))
+    (λ p. (p.table, (p.changes, (p.triggers, p.sides)))) (λ p. planner_view p.0 p.1.0 p.1.1.0 p.1.1.1) (λ _. refl)
+
+-- the changes of a processor
+abbrev pub changes_at : PlannerView → ℕ → List Change
+changes_at planner cpu = slice_index_or planner.changes cpu []
+
+-- What holds of each planner: it has a list of changes for each processor, and its sides are small.
+pub record IsPlanner (planner : PlannerView) : Type 0 where
+  pub each : length planner.changes ≡ planner.table.limits.cpus
+  pub small : AreSmall planner.sides
+
+-- A planner has taken apart these events of a trace with these limits, all of them legal.
+pub record HasTaken (planner : PlannerView) (limits : Limits) (events : List Event) : Type 0 where
+  pub limits_are : planner.table.limits ≡ limits
+  pub counted : IsCpuCount limits.cpus
+  pub short : limits.latest ≤ last_moment
+  pub legal : AreLegal limits first_world events
+  pub world : planner.table.world ≡ after events
+  pub changes : (cpu : ℕ) → cpu < limits.cpus → changes_at planner cpu ≡ changes_from cpu first_world events
+  pub triggers : planner.triggers ≡ triggers_of events
+  pub sides : planner.sides ≡ sides_of events
+
+-- the fault of an event, at its line
+abbrev pub IsFaultAt : ℕ → Fault Cause → Fault Refusal → Type 0
+IsFaultAt line (fault.Refused why) at = at ≡ fault.Refused (record { line = line; cause = why })
+IsFaultAt line fault.NoMemory at = at ≡ fault.NoMemory
+
+-- a planner has taken some trace
+abbrev pub HasTrace : PlannerView → Type 0
+HasTrace planner = (limits : Limits) × (events : List Event) × HasTaken planner limits events
+
+-- What an event does to a planner: it is legal behind the events that were taken and taken with them, or it is refused with
+-- the first cause and nothing changes. Of want of memory nothing is said.
+abbrev pub Takes : PlannerView → PlannerView → Event → Result (Unit {0}) (Fault Cause) → Type 0
+Takes old new event (Ok x) = (limits : Limits) (events : List Event) → HasTaken old limits events → (cause_of limits (after events) event ≡ None) × HasTaken new limits (events ++ event ∷ []) × (length events < 4000000)
+Takes old new event (Err (fault.Refused why)) = (new ≡ old) × ((limits : Limits) (events : List Event) → HasTaken old limits events → cause_of limits (after events) event ≡ Some why)
+Takes old new event (Err fault.NoMemory) = ⊤

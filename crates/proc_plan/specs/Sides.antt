@@ -1,0 +1,91 @@
+-- What a trace tells beside the changes of processors: its triggers, and its sides, which are memory samples, preferences,
+-- the memory of the host, and the tasks that come into groups and leave them.
+use Rattle.std.specs.Prelude.{ℕ, ◌^◌, ◌≤◌, List, [], ◌∷◌, ◌++◌, ◌==◌, if◌then◌else◌, unwrap_or, Option, None, Some, pos, negsuc}
+use Rattle.psi_base.specs.declared.event.Slot.{Slot}
+use Rattle.psi_base.specs.declared.event.Act.{Act}
+use Rattle.psi_base.specs.declared.event.Act.TheVariants as act
+use Rattle.psi_base.specs.declared.event.Event.{Event}
+use Rattle.psi_base.specs.declared.event.TriggerSpec.{TriggerSpec}
+use Rattle.psi_spec.specs.declared.machine.Task.{Task}
+use Rattle.psi_spec.specs.declared.machine.GroupLife.{GroupLife}
+use Rattle.psi_spec.specs.World.{World, after_event, first_world, slot_of}
+use Rattle.psi_spec.specs.Touch.{before, after_of}
+use Rattle.proc_plan.specs.declared.side.Side.{Side}
+use Rattle.proc_plan.specs.declared.side.SideAct.{SideAct}
+use Rattle.proc_plan.specs.declared.side.SideAct.TheVariants as side
+
+-- ---- event by event
+
+-- what each event tells in the world before it, all together and in the order of the events, from a world on
+abbrev pub told_from : {A : Type 0} → (World → Event → List A) → World → List Event → List A
+told_from tells w [] = []
+told_from tells w (event ∷ events) = tells w event ++ told_from tells (after_event w event) events
+
+-- the slot of the live group with a path, and the root's where there is none
+abbrev pub slot_named : List GroupLife → List ℕ → Slot
+slot_named groups path = record { 0 = unwrap_or (slot_of groups path) 0 }
+
+-- what there is, as a list of one or none
+abbrev pub listed : {A : Type 0} → Option A → List A
+listed None = []
+listed (Some x) = x ∷ []
+
+-- ---- triggers
+
+-- the trigger that an act at a moment (ns) sets, if it sets one
+abbrev pub trigger_by : ℕ → List GroupLife → Act → List TriggerSpec
+trigger_by at groups (act.Trigger path res level threshold_us window_us) = record { at = at; slot = slot_named groups path; res = res; level = level; threshold_us = threshold_us; window_us = window_us } ∷ []
+trigger_by at groups _ = []
+
+-- the triggers of events in their order
+abbrev pub triggers_of : List Event → List TriggerSpec
+triggers_of events = told_from (λ w event. trigger_by event.at w.groups event.act) first_world events
+
+-- ---- sides
+
+-- one side, at a moment (ns)
+abbrev pub side_at : ℕ → SideAct → List Side
+side_at at what = record { at = at; what = what } ∷ []
+
+-- a task came into the very group of a slot
+abbrev pub came : ℕ → Slot → List Side
+came at slot = side_at at (side.Tasks slot (pos 1))
+
+-- a task left it
+abbrev pub went : ℕ → Slot → List Side
+went at slot = side_at at (side.Tasks slot (negsuc 0))
+
+-- A task that is in one group and then in another left the one and came into the other. One that stays in its group neither
+-- left nor came.
+abbrev pub passage : ℕ → Option Slot → Option Slot → List Side
+passage at None None = []
+passage at None (Some new) = came at new
+passage at (Some old) None = went at old
+passage at (Some old) (Some new) = if old.0 == new.0 then [] else went at old ++ came at new
+
+-- the group in which a task is, if there is one
+abbrev pub group_of : Option Task → Option Slot
+group_of None = None
+group_of (Some task) = Some task.slot
+
+-- the memory or the preference of which an act tells, if it tells of one
+abbrev pub sample_by : ℕ → List GroupLife → Act → List Side
+sample_by at groups (act.Mem path current swap scan) = side_at at (side.Mem (slot_named groups path) current swap scan)
+sample_by at groups (act.Prefer path preference) = side_at at (side.Prefer (slot_named groups path) preference)
+sample_by at groups (act.Host mem_total swap_total swap_free) = side_at at (side.Host mem_total swap_total swap_free)
+sample_by at groups _ = []
+
+-- the sides that an event tells: what it samples, and how the task that it changes came and went
+abbrev pub sides_by : World → Event → List Side
+sides_by w event = sample_by event.at w.groups event.act ++ passage event.at (group_of (before w.tasks event.act)) (group_of (after_of w.groups w.tasks event.act))
+
+-- the sides of events in their order
+abbrev pub sides_of : List Event → List Side
+sides_of events = told_from sides_by first_world events
+
+-- bytes and counts of a side are at most 2^60
+abbrev pub IsSmall : SideAct → Type 0
+IsSmall (side.Mem slot current swap scan) = (current ≤ 2 ^ 60) × (swap ≤ 2 ^ 60) × (scan ≤ 2 ^ 60)
+IsSmall (side.Prefer slot preference) = Unit {0}
+IsSmall (side.Host mem_total swap_total swap_free) = (mem_total ≤ 2 ^ 60) × (swap_total ≤ 2 ^ 60) × (swap_free ≤ 2 ^ 60)
+IsSmall (side.Tasks slot added) = Unit {0}

@@ -1,0 +1,95 @@
+//! Clocks that run on a plan.
+
+ghost use Rattle.std.specs.Prelude.{◌≡◌, ◌+◌, ◌<◌, ℕ, length, IfOk};
+ghost use Rattle.psi_spec.specs.Plan.{IsClock, PlanView};
+
+use crate::plan::Plan;
+use cpu_clock::Clock;
+use psi_base::{NoMemory, Slot};
+use slot_clocks::SlotClocks;
+use std::alloc::Global;
+use std::marker::Model;
+
+/// The clocks of all groups on one processor, which make the changes of its plan one after the other.
+pub trait ProcClocks {
+    /// The plan of the processor.
+    ghost plan: { Self → PlanView };
+
+    /// How many of its changes were made.
+    ghost made: { Self → ℕ };
+
+    /// How many changes were made.
+    fn count(&self) -> u64
+        ensures { result ≡ made self.now };
+
+    /// Makes the next change of the plan.
+    fn apply(&mut self)
+        requires { made self.old < length (plan self.old).changes }
+        ensures plan { plan self.new ≡ plan self.old }
+        ensures made { made self.new ≡ made self.old + 1 };
+
+    /// The clock of a slot after the changes that were made. It may have started earlier than the last of them, where they
+    /// left the slot's states as they were.
+    fn own(&mut self, slot: Slot) -> Clock
+        ensures plan { plan self.new ≡ plan self.old }
+        ensures made { made self.new ≡ made self.old }
+        ensures clock { IsClock result (plan self.old) slot.0 (made self.old) };
+}
+
+/// Clocks for one thread. Contracts see the plan and how many of its changes were made.
+#[derive(Drop)]
+pub struct PlainClocks<'a> {
+    plan: &'a Plan,
+    /// Of all slots, as the plan knows them.
+    parents: &'a [Option<Slot>],
+    clocks: SlotClocks,
+    count: u64,
+}
+
+impl<'a> Model for PlainClocks<'a> {
+    ghost use Rattle.std.specs.Prelude.{◌≡◌};
+    ghost use Rattle.slot_clocks.specs.Clocks.{numbers_of};
+    ghost use Rattle.proc_plan.specs.Clocks.{AreClocks, OnPlan};
+
+    ghost Value = { OnPlan };
+
+    ghost view = { λ c. record { plan = c.plan.now; made = c.count } };
+
+    ghost invariant = { λ c. AreClocks c.plan.now c.clocks c.count × (numbers_of c.parents.now ≡ c.plan.now.parents) };
+}
+
+impl<'a> PlainClocks<'a> {
+    /// The clocks before the first change of a plan that knows the parents of so many slots. It takes all memory that they
+    /// need.
+    pub fn make(alloc: Global, plan: &'a Plan, slots: u32) -> Result<PlainClocks<'a>, NoMemory>
+        requires { slots ≡ length plan.now.parents }
+        ensures { IfOk result (λ clocks. clocks ≡ record { plan = plan.now; made = 0 }) }
+    {
+        Ok(PlainClocks {
+            plan,
+            parents: plan.parents(),
+            clocks: SlotClocks::make(alloc, slots)?,
+            count: 0,
+        })
+    }
+}
+
+impl<'a> ProcClocks for PlainClocks<'a> {
+    ghost plan = { λ clocks. clocks.plan };
+
+    ghost made = { λ clocks. clocks.made };
+
+    fn count(&self) -> u64 {
+        self.count
+    }
+
+    fn apply(&mut self) {
+        let change = self.plan.change(self.count + 1);
+        self.clocks.apply(self.parents, change);
+        self.count += 1;
+    }
+
+    fn own(&mut self, slot: Slot) -> Clock {
+        self.clocks.clock(slot)
+    }
+}

@@ -1,0 +1,8 @@
+//! Laws of plans. Each function has an empty body: its contract is the law.
+
+ghost use Rattle.proc_plan.specs.Plans.{PlansAreOfEvents};
+
+/// The plans that stand for events are the plans of these events, of which the laws of plans speak.
+pub fn standing_plans()
+    ensures { PlansAreOfEvents }
+{}

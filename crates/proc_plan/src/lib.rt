@@ -1,0 +1,18 @@
+//! A trace taken apart by processor: the changes of each, and clocks that run on them.
+#![tactic(auto)]
+
+mod changes;
+mod clocks;
+mod laws;
+mod plan;
+mod planner;
+mod plans;
+mod side;
+mod sides;
+
+pub use clocks::{PlainClocks, ProcClocks};
+pub use laws::standing_plans;
+pub use plan::Plan;
+pub use planner::Planner;
+pub use plans::Plans;
+pub use side::{Side, SideAct};

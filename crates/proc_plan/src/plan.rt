@@ -1,0 +1,101 @@
+//! The changes of one processor.
+
+ghost use Rattle.std.specs.Prelude.{◌≡◌, ◌-◌, ◌<◌, ◌≤◌, ◌↔◌, length, nat_le, slice_get, slice_index_or, None, Some};
+ghost use Rattle.psi_spec.specs.Stall.{number_of_slot};
+ghost use Rattle.psi_spec.specs.Plan.{IsPlan, changes_up_to, last_change};
+ghost use Rattle.psi_spec.specs.Touch.{IsOfOne};
+ghost use Rattle.slot_clocks.specs.Clocks.{numbers_of};
+ghost use Rattle.proc_plan.specs.Plans.{IsKept, plan_view};
+
+use crate::changes::Changes;
+use psi_base::{Ns, Slot};
+use psi_spec::Change;
+use std::marker::Model;
+
+/// The changes of one processor in a trace, and the parents of all slots, by which a change reaches the groups above the
+/// slots that it names. Contracts see both as lists.
+///
+/// There are at most 4,000,000 changes. Their moments never fall and are at most 60,000,000 s. They name slots that there
+/// are, a parent has a smaller slot, and after any number of changes each count of each slot is from 0 to 65,536.
+#[derive(Drop)]
+pub struct Plan {
+    changes: Changes,
+    /// By slot; None for the root.
+    parents: Vec<Option<Slot>>,
+}
+
+impl Model for Plan {
+    ghost use Rattle.psi_spec.specs.Plan.{PlanView};
+    ghost use Rattle.proc_plan.specs.Plans.{IsKept, plan_view};
+
+    ghost Value = { PlanView };
+
+    ghost view = { λ plan. plan_view plan.changes plan.parents.items };
+
+    ghost invariant = { λ plan. IsKept (plan_view plan.changes plan.parents.items) };
+}
+
+impl Plan {
+    /// The plan of these changes and parents.
+    pub(crate) fn new(changes: Changes, parents: Vec<Option<Slot>>) -> Plan
+        requires { IsKept (plan_view changes parents.items) }
+        ensures { result ≡ plan_view changes parents.items }
+    {
+        Plan { changes, parents }
+    }
+
+    /// How many changes there are.
+    pub fn len(&self) -> u64
+        ensures len { result ≡ length self.now.changes }
+        ensures whole { IsPlan self.now }
+    {
+        self.changes.all().len() as u64
+    }
+
+    /// The change with a number from 1.
+    pub fn change(&self, k: u64) -> &Change
+        requires from { 1 ≤ k }
+        requires to { k ≤ length self.now.changes }
+        ensures change { slice_get self.now.changes (k - 1) ≡ Some result.now }
+        ensures one { IsOfOne result.now }
+    {
+        &self.changes.all()[k as usize - 1]
+    }
+
+    /// The moment (ns) of the change with a number from 1.
+    pub fn moment(&self, k: u64) -> Ns
+        requires from { 1 ≤ k }
+        requires to { k ≤ length self.now.changes }
+        ensures { result ≡ last_change self.now k }
+    {
+        self.change(k).at
+    }
+
+    /// How many changes come up to a moment (ns), those at the moment among them. It halves what is left at each step.
+    pub fn until(&self, at: Ns) -> u64
+        ensures { result ≡ changes_up_to self.now at }
+    {
+        self.changes.all().partition_point(
+            |change: &Change| -> bool
+                ensures { result ≡ nat_le change.now.at at }
+            { change.at <= at },
+        ) as u64
+    }
+
+    /// The parent of a slot that the plan knows. None for the root alone.
+    pub fn parent(&self, slot: Slot) -> Option<Slot>
+        requires made { slot.0 < length self.now.parents }
+        ensures parent { number_of_slot result ≡ slice_index_or self.now.parents slot.0 None }
+        ensures root { (result ≡ None) ↔ (slot.0 ≡ 0) }
+    {
+        self.parents[slot.0 as usize]
+    }
+
+    /// The parents of all slots, in the order of the slots.
+    pub(crate) fn parents(&self) -> &[Option<Slot>]
+        ensures parents { numbers_of result.now ≡ self.now.parents }
+        ensures kept { IsKept self.now }
+    {
+        &self.parents
+    }
+}

@@ -1,0 +1,169 @@
+//! The plans of all processors.
+
+ghost use Rattle.std.specs.Prelude.{◌≡◌, ◌<◌, ◌≤◌, List, [], length, IfErr, IfOk, OnOk};
+ghost use Rattle.psi_spec.specs.Plan.{IsPlan};
+ghost use Rattle.psi_spec.specs.Refusal.{AreLegal};
+ghost use Rattle.psi_spec.specs.Share.{last_moment};
+ghost use Rattle.psi_spec.specs.Trace.{AllFit, EndsLast, IsCpuCount};
+ghost use Rattle.psi_spec.specs.Stall.{parents_of};
+ghost use Rattle.psi_spec.specs.World.{Limits, first_world};
+ghost use Rattle.proc_plan.specs.Plans.{AreSmall, ArePlans, HasTaken, IsFaultAt, IsRefusal, StandFor, plan_at, plans_view};
+
+use crate::plan::Plan;
+use crate::planner::Planner;
+use crate::side::Side;
+use group_tree::Tree;
+use psi_base::{Cause, Cpu, Event, Fault, NoMemory, Ns, Refusal, TriggerSpec};
+use psi_spec::GroupLife;
+use std::alloc::Global;
+use std::marker::Model;
+
+/// A trace taken apart: the plan of each processor, and what it tells beside their changes. Contracts see all of it.
+#[derive(Drop)]
+pub struct Plans {
+    /// By processor.
+    plans: Vec<Plan>,
+    groups: Tree,
+    triggers: Vec<TriggerSpec>,
+    sides: Vec<Side>,
+    /// The moment of the end (ns).
+    finish: Ns,
+}
+
+impl Model for Plans {
+    ghost use Rattle.proc_plan.specs.Plans.{ArePlans, PlansView, plans_view};
+
+    ghost Value = { PlansView };
+
+    ghost view = { λ p. plans_view p.plans.items p.groups p.triggers.items p.sides.items p.finish };
+
+    ghost invariant = { λ p. ArePlans (plans_view p.plans.items p.groups p.triggers.items p.sides.items p.finish) };
+}
+
+// A fault of the event in this line.
+fn at_line(line: u32, fault: Fault<Cause>) -> Fault<Refusal>
+    ensures { IsFaultAt line fault result }
+{
+    match fault {
+        Fault::Refused(cause) => Fault::Refused(Refusal { line, cause }),
+        Fault::NoMemory => Fault::NoMemory,
+    }
+}
+
+// Takes all events of a trace apart.
+fn take_all(planner: &mut Planner, events: &[Event]) -> Result<(), Fault<Refusal>>
+    requires fit { AllFit events.now }
+    ensures taken { OnOk result ((limits : Limits) → HasTaken planner.old limits [] → HasTaken planner.new limits events.now × EndsLast events.now) }
+    ensures refused { (limits : Limits) → HasTaken planner.old limits [] → IfErr result (IsRefusal limits events.now) }
+{
+    'events: for event in events {
+        if let Err(fault) = planner.take(event) {
+            return Err(at_line(planner.lines() + 2, fault));
+        }
+    }
+    if !planner.is_ended() {
+        return Err(at_line(planner.lines() + 2, Fault::Refused(Cause::NoEnd)));
+    }
+    Ok(())
+}
+
+impl Plans {
+    /// The plans of these parts.
+    pub(crate) fn new(
+        plans: Vec<Plan>,
+        groups: Tree,
+        triggers: Vec<TriggerSpec>,
+        sides: Vec<Side>,
+        finish: Ns,
+    ) -> Plans
+        requires { ArePlans (plans_view plans.items groups triggers.items sides.items finish) }
+        ensures { result ≡ plans_view plans.items groups triggers.items sides.items finish }
+    {
+        Plans {
+            plans,
+            groups,
+            triggers,
+            sides,
+            finish,
+        }
+    }
+
+    /// Takes a trace of version 1 apart, with 1 to 64 processors, no event of which is later than `latest` (ns).
+    ///
+    /// Refused exactly at the first event that isn't legal, with its first cause; the event at the place `i` from 0 is at
+    /// line `i + 2`. Where all are legal and the last isn't the end, it is `NoEnd` at the line behind them.
+    pub fn build(
+        alloc: Global,
+        cpus: u32,
+        latest: Ns,
+        events: &[Event],
+    ) -> Result<Plans, Fault<Refusal>>
+        requires counted { IsCpuCount cpus }
+        requires short { latest ≤ last_moment }
+        requires fit { AllFit events.now }
+        ensures stand { IfOk result (λ plans. StandFor plans cpus events.now) }
+        ensures legal { OnOk result (AreLegal (record { version = 1; cpus = cpus; latest = latest }) first_world events.now) }
+        ensures ends { OnOk result (EndsLast events.now) }
+        ensures refused { IfErr result (IsRefusal (record { version = 1; cpus = cpus; latest = latest }) events.now) }
+    {
+        let mut planner = Planner::new(alloc, cpus, latest)?;
+        match take_all(&mut planner, events) {
+            Ok(()) => Ok(planner.finish(alloc)?),
+            Err(fault) => Err(fault),
+        }
+    }
+
+    /// How many processors there are, 1 to 64.
+    pub fn cpus(&self) -> u32
+        ensures cpus { result ≡ length self.now.plans }
+        ensures counted { IsCpuCount result }
+    {
+        self.plans.len() as u32
+    }
+
+    /// The end moment (ns).
+    pub fn finish(&self) -> Ns
+        ensures { result ≡ self.now.finish }
+    {
+        self.finish
+    }
+
+    /// The plan of a processor.
+    pub fn plan(&self, cpu: Cpu) -> &Plan
+        requires { cpu.0 < length self.now.plans }
+        ensures plan { result.now ≡ plan_at self.now cpu.0 }
+        ensures whole { IsPlan result.now }
+        ensures parents { result.now.parents ≡ parents_of self.now.lives }
+    {
+        &self.plans[cpu.0 as usize]
+    }
+
+    /// All groups ever made.
+    pub fn groups(&self) -> &Tree
+        ensures { result.now ≡ self.now.lives }
+    {
+        &self.groups
+    }
+
+    /// The lives of all groups ever made, in the order of their slots.
+    pub fn lives(&self) -> &[GroupLife]
+        ensures { result.now ≡ self.now.lives }
+    {
+        self.groups.lives()
+    }
+
+    /// The triggers, in the order of the trace.
+    pub fn triggers(&self) -> &[TriggerSpec]
+        ensures { result.now ≡ self.now.triggers }
+    {
+        &self.triggers
+    }
+
+    /// The sides, in the order of the trace. Bytes and counts are at most 2^60.
+    pub fn sides(&self) -> &[Side]
+        ensures sides { result.now ≡ self.now.sides }
+        ensures small { AreSmall result.now }
+    {
+        &self.sides
+    }
+}

@@ -1,0 +1,127 @@
+//! The triggers and the sides that one event tells.
+
+ghost use Rattle.std.specs.Prelude.{◌≡◌, ◌++◌, IfSome};
+ghost use Rattle.psi_spec.specs.Grammar.{ActFits};
+ghost use Rattle.psi_spec.specs.Touch.{before};
+ghost use Rattle.proc_plan.specs.Sides.{IsSmall, group_of, listed, passage, sample_by, sides_by, slot_named, trigger_by};
+
+use crate::side::{Side, SideAct};
+use group_tree::Tree;
+use psi_base::{Act, Event, How, Ns, Path, Slot, TriggerSpec};
+use task_table::Table;
+
+// The slot of the live group with this path, or the root's where there is none.
+fn slot_of(groups: &Tree, path: &Path) -> Slot
+    ensures { result ≡ slot_named groups.now path.now }
+{
+    groups.find(path).unwrap_or(Slot(0))
+}
+
+/// The trigger that an act at a moment (ns) sets, if it sets one.
+pub(crate) fn trigger_by(groups: &Tree, at: Ns, act: &Act) -> Option<TriggerSpec>
+    ensures { listed result ≡ trigger_by at groups.now act.now }
+{
+    match act {
+        Act::Trigger {
+            path,
+            res,
+            level,
+            threshold_us,
+            window_us,
+        } => Some(TriggerSpec {
+            at,
+            slot: slot_of(groups, path),
+            res: *res,
+            level: *level,
+            threshold_us: *threshold_us,
+            window_us: *window_us,
+        }),
+        _ => None,
+    }
+}
+
+// The memory or the preference of which an act tells, if it tells of one.
+fn sample_by(groups: &Tree, at: Ns, act: &Act) -> Option<Side>
+    requires { ActFits act.now }
+    ensures side { listed result ≡ sample_by at groups.now act.now }
+    ensures small { IfSome result (λ side. IsSmall side.what) }
+{
+    let what = match act {
+        Act::Mem {
+            path,
+            current,
+            swap,
+            scan,
+        } => SideAct::Mem {
+            slot: slot_of(groups, path),
+            current: *current,
+            swap: *swap,
+            scan: *scan,
+        },
+        Act::Prefer { path, preference } => SideAct::Prefer {
+            slot: slot_of(groups, path),
+            preference: *preference,
+        },
+        Act::Host {
+            mem_total,
+            swap_total,
+            swap_free,
+        } => SideAct::Host {
+            mem_total: *mem_total,
+            swap_total: *swap_total,
+            swap_free: *swap_free,
+        },
+        _ => return None,
+    };
+    Some(Side { at, what })
+}
+
+// How a task that is in one group and then in another, at a moment (ns), leaves the one and comes into the other.
+fn passage(at: Ns, old: Option<Slot>, new: Option<Slot>) -> (Option<Side>, Option<Side>)
+    ensures sides { listed result.0 ++ listed result.1 ≡ passage at old new }
+    ensures first { IfSome result.0 (λ side. IsSmall side.what) }
+    ensures second { IfSome result.1 (λ side. IsSmall side.what) }
+{
+    let side = |slot, added| Side {
+        at,
+        what: SideAct::Tasks { slot, added },
+    };
+    match (old, new) {
+        (Some(old), Some(new)) if old == new => (None, None),
+        (old, new) => (
+            old.map(|slot| side(slot, -1)),
+            new.map(|slot| side(slot, 1)),
+        ),
+    }
+}
+
+// The group in which the task that an act changes is before the act.
+fn group_before(table: &Table, act: &Act) -> Option<Slot>
+    ensures { result ≡ group_of (before table.now.world.tasks act.now) }
+{
+    match table.task_before(act) {
+        Some(task) => Some(task.slot),
+        None => None,
+    }
+}
+
+/// The sides that an event tells in their order, at most two.
+pub(crate) fn sides_by(table: &Table, event: &Event) -> (Option<Side>, Option<Side>)
+    requires { ActFits event.now.act }
+    ensures sides { listed result.0 ++ listed result.1 ≡ sides_by table.now.world event.now }
+    ensures first { IfSome result.0 (λ side. IsSmall side.what) }
+    ensures second { IfSome result.1 (λ side. IsSmall side.what) }
+{
+    let groups = table.groups();
+    let act = &event.act;
+    match act {
+        Act::Fork { path, .. } => passage(event.at, None, Some(slot_of(groups, path))),
+        Act::Switch { how: How::Exit, .. } => passage(event.at, group_before(table, act), None),
+        Act::Move { path, .. } => match group_before(table, act) {
+            Some(old) => passage(event.at, Some(old), Some(slot_of(groups, path))),
+            None => (None, None),
+        },
+        // At other acts a task stays in its group.
+        _ => (sample_by(groups, event.at, act), None),
+    }
+}

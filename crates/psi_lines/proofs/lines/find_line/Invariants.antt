@@ -1,0 +1,19 @@
+use Rattle.std.proofs.Common.{◌≡◌, ℕ, ◌-◌, ◌≤◌, [], length, List, ◌++◌, drop}
+use Rattle.std.specs.Prelude.{Some}
+use Rattle.psi_base.specs.Outside.{told, Lacks}
+use Rattle.psi_lines.specs.Next.{ReadsOn}
+use Rattle.psi_lines.proofs.lines.find_line.Given as goal
+
+abbrev pub invariant-reads : goal.invariant-reads
+invariant-reads g l = record {
+  kept : g.S.Shelf.holds l.shelf ≡ g.S.Shelf.holds l.fn.shelf;
+  on : ReadsOn l.fn.held l.fn.at l.held l.at;
+  short : length l.held ≤ 66048;
+  left : (bytes : List ℕ) → told (g.S.Shelf.holds l.fn.shelf) l.fn.name ≡ Some bytes → l.held ++ drop l.at bytes ≡ l.fn.held ++ drop l.fn.at bytes;
+  faults : g.S.Shelf.faults l.fn.shelf ≤ g.S.Shelf.faults l.shelf;
+  absent : g.S.Shelf.absent l.fn.shelf ≤ g.S.Shelf.absent l.shelf;
+  missing : l.fn.held ≡ [] → Lacks (g.S.Shelf.holds l.fn.shelf) l.fn.name → l.held ≡ [];
+}
+
+abbrev pub decreases-reads : goal.decreases-reads
+decreases-reads g l = 513 - length l.held

@@ -1,0 +1,46 @@
+-- The task whose number an act names, and the task that an act changes.
+use Rattle.std.specs.Prelude.{◌≡◌, ℕ, ◌<◌, List, Option, None, Some, IfSome}
+use Rattle.psi_base.specs.declared.event.Pid.{Pid}
+use Rattle.psi_base.specs.declared.event.Act.{Act}
+use Rattle.psi_base.specs.declared.event.Act.TheVariants as act
+use Rattle.psi_spec.specs.declared.machine.Change.{Change}
+use Rattle.psi_spec.specs.declared.machine.GroupLife.{GroupLife}
+use Rattle.psi_spec.specs.declared.machine.Task.{Task}
+use Rattle.psi_spec.specs.World.{Tasks, is_running_on, task_of}
+use Rattle.psi_spec.specs.Touch.{after_of, before, part, shown}
+use Rattle.task_table.specs.declared.changed.Changed.{Changed}
+
+-- the task that runs next, if one is named and lives
+abbrev pub next_task : Tasks → Option Pid → Option Task
+next_task tasks None = None
+next_task tasks (Some pid) = task_of tasks pid.0
+
+-- the live task with the number that an act names, also where that is the number of a new one or of the next to run
+abbrev pub named_task : Tasks → Act → Option Task
+named_task tasks (act.Fork pid path cpu) = task_of tasks pid.0
+named_task tasks (act.Wake pid cpu) = task_of tasks pid.0
+named_task tasks (act.Switch cpu next how) = next_task tasks next
+named_task tasks (act.Stall pid) = task_of tasks pid.0
+named_task tasks (act.Unstall pid) = task_of tasks pid.0
+named_task tasks (act.Migrate pid cpu) = task_of tasks pid.0
+named_task tasks (act.Move pid path) = task_of tasks pid.0
+named_task tasks _ = None
+
+-- the task whose counts an act changes is this before it, and this after it
+pub record IsChanged (groups : List GroupLife) (tasks : Tasks) (a : Act) (changed : Changed) : Type 0 where
+  pub old : changed.old ≡ before tasks a
+  pub new : changed.new ≡ after_of groups tasks a
+
+-- A task may take the place of another: it runs on the same processor, or on none as that one, and its slot is one of so
+-- many.
+pub record MayReplace (slots : ℕ) (old new : Task) : Type 0 where
+  pub runs : (cpu : ℕ) → is_running_on cpu new ≡ is_running_on cpu old
+  pub room : new.slot.0 < slots
+
+-- the same of tasks that may be missing
+abbrev pub MayReplaceIf : ℕ → Option Task → Option Task → Type 0
+MayReplaceIf slots old new = IfSome old (λ o. IfSome new (λ n. MayReplace slots o n))
+
+-- the change of a processor at a moment (ns), by the task that an act changes and the task that runs there afterwards
+abbrev pub change_by : ℕ → Changed → Option (ℕ × Task) → ℕ → Change
+change_by at changed running cpu = record { at = at; minus = part cpu changed.old; plus = part cpu changed.new; current = shown running }
