@@ -11,24 +11,20 @@ use Rattle.psi_base.specs.declared.event.Refusal.{Refusal}
 use Rattle.psi_base.specs.declared.event.Fault.{Fault}
 use Rattle.psi_base.specs.declared.event.Fault.TheVariants as fault
 use Rattle.psi_lines.specs.Lines.{BeginsWithLine, IsTooLong, IsCut}
-use Rattle.psi_spec.specs.World.{World, Limits, after, after_event, after_from, first_world}
+use Rattle.psi_spec.specs.World.{World, Limits, after, after_event, first_world}
 use Rattle.psi_spec.specs.Refusal.{cause_of}
 use Rattle.psi_spec.specs.Grammar.{event_of, header_of}
 use Rattle.psi_spec.specs.Trace.{Trace, line_event, rest_cause, then_legal, at_end, or_refused, followed, refused, first_line, first_rest, headed, with_events, trace_of, limits_of}
 use Rattle.psi_spec.proofs.Splitting.{Cut, cut}
 use Rattle.psi_spec.proofs.Reading.{Events, rest_from-line, rest_from-rest, nothing_left, followed-followed}
 use Rattle.psi_spec.proofs.Accepting.{trace_of-line, trace_of-rest}
+use Rattle.psi_spec.proofs.PlanLaws.{after-push}
 use Rattle.psi_base.specs.Gives.{Gives}
 use Rattle.replay_core.specs.Reads.{rest_from, FaultOf, IsFaultAt, NextGives, Plays, RestGives, TailGives, Takes, TakesLine, TracePlayed}
 use Rattle.replay_core.specs.declared.trace.TraceFault.{TraceFault}
 use Rattle.replay_core.specs.declared.trace.TraceFault.TheVariants.{Refused, NoFile, ReadFault, NoMemory}
 
 -- ---- events so far, and those behind them
-
--- the world after one event more
-pub after_from-push : (w : World) (events : List Event) (event : Event) → after_from w (events ++ event ∷ []) ≡ after_event (after_from w events) event
-after_from-push w [] event = refl
-after_from-push w (first ∷ events) event = after_from-push (after_event w first) events event
 
 followed-none : (rest : Events) → followed [] rest ≡ rest
 followed-none (Ok events) = refl
@@ -97,7 +93,7 @@ line_played Before After line part before behind known x takes begins = λ limit
       few = taken.3;
       read = λ bytes tells.
           line_taken limits (after events) line (before bytes) part (behind bytes) taken.0 (begins bytes tells) taken.1
-          ∙ ap (λ w. followed (taken.0 ∷ []) (rest_from limits w (line + 1) (behind bytes))) (sym (after_from-push first_world events taken.0));
+          ∙ ap (λ w. followed (taken.0 ∷ []) (rest_from limits w (line + 1) (behind bytes))) (sym (after-push events taken.0));
     }
 
 -- the fault of a line is that of the rest

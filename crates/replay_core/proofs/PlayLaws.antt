@@ -5,14 +5,14 @@ use Rattle.psi_base.specs.declared.event.Event.{Event}
 use Rattle.psi_base.specs.declared.event.Cause.{Cause}
 use Rattle.psi_base.specs.declared.event.Fault.{Fault}
 use Rattle.psi_base.specs.declared.event.Fault.TheVariants as fault
-use Rattle.psi_spec.specs.World.{World, Limits, after, after_event, first_world}
+use Rattle.psi_spec.specs.World.{World, Limits, after, after_event}
 use Rattle.psi_spec.specs.Refusal.{cause_of}
 use Rattle.task_table.specs.Causes.{IsFault}
 use Rattle.proc_plan.specs.Plans as plans
 use Rattle.proc_plan.specs.Plans.{HasTaken, PlannerView}
 use Rattle.proc_plan.proofs.Taking.{lines_of}
 use Rattle.replay_core.specs.Reads.{IsPlayed, Takes}
-use Rattle.replay_core.proofs.LineLaws.{after_from-push}
+use Rattle.psi_spec.proofs.PlanLaws.{after-push}
 
 -- ---- the table as a player
 
@@ -20,7 +20,7 @@ use Rattle.replay_core.proofs.LineLaws.{after_from-push}
 pub table_takes : (limits_now limits_after : Limits) (w w_after : World) (event : Event) (result : Result (Unit {0}) (Fault Cause)) → limits_after ≡ limits_now → OnOk result (cause_of limits_now w event ≡ None) → OnOk result (w_after ≡ after_event w event) → OnOk result (w_after.lines ≤ 4000000)
     → MatchResult result (λ _. Unit {0}) (IsFault (cause_of limits_now w event) event.act) → Takes (IsPlayed limits_now w) (IsPlayed limits_after w_after) event result
 table_takes limits_now limits_after w w_after event (Ok x) same legal next few fault = λ limits events played.
-    let world : w_after ≡ after (events ++ event ∷ []) = next ∙ ap (λ v. after_event v event) played.world ∙ sym (after_from-push first_world events event) in
+    let world : w_after ≡ after (events ++ event ∷ []) = next ∙ ap (λ v. after_event v event) played.world ∙ sym (after-push events event) in
     let lines : w_after.lines ≡ w.lines + 1 = ap (λ (v : World). v.lines) next in
     let before : w.lines ≡ length events = ap (λ (v : World). v.lines) played.world ∙ lines_of events in (
       subst (λ v. cause_of limits v event ≡ None) played.world (subst (λ l. cause_of l w event ≡ None) played.limits_are legal),
