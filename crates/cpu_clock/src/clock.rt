@@ -1,6 +1,6 @@
 //! One clock, and its words.
 
-ghost use Rattle.std.specs.Prelude.{◌≡◌};
+ghost use Rattle.std.specs.Prelude.{◌≡◌, if◌then◌else◌};
 ghost use Rattle.psi_spec.specs.Clock.{AreWordsOfClock, ClockFollows, IsInTime, advanced, opened, opened_time, words_of, zero_clock};
 
 use psi_base::{Ns, State};
@@ -39,6 +39,14 @@ const MASK_WORD: usize = 7;
 /// Where the start stands among a clock's words.
 const START_WORD: usize = 8;
 
+/// The time since a clock's start, in ns, if a state holds from there on. There is no branch on that: which states hold is
+/// hard to foresee.
+fn open_time(held: bool, time: u64) -> u64
+    ensures { result ≡ (if held then time else 0) }
+{
+    u64::from(held) * time
+}
+
 impl Clock {
     /// A clock at the moment 0, when no state held for any time and none holds.
     pub fn zero() -> Clock
@@ -56,12 +64,8 @@ impl Clock {
         requires { IsInTime self.now at }
         ensures { result ≡ opened_time self.now at state }
     {
-        let time = self.times[state as usize];
-        if self.mask.holds(state) {
-            time + (at - self.start)
-        } else {
-            time
-        }
+        let open = open_time(self.mask.holds(state), at - self.start);
+        self.times[state as usize] + open
     }
 
     /// The times at a moment, in ns, in the order of the states: where a state holds, the time since the start is

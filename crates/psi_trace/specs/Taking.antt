@@ -1,6 +1,8 @@
 -- What a call took from words, against what the definition takes from them.
 use Rattle.std.specs.Prelude.{◌≡◌, ℕ, List, [], ◌∷◌, Bool, true, false, Option, None, Some, Result, Ok, Err, ⊤}
+use Rattle.psi_base.specs.declared.event.Act.{Act}
 use Rattle.psi_base.specs.declared.event.Cause.{Cause}
+use Rattle.psi_base.specs.declared.event.Event.{Event}
 use Rattle.psi_base.specs.declared.event.Fault.{Fault}
 use Rattle.psi_base.specs.declared.event.Fault.TheVariants.{Refused, NoMemory}
 use Rattle.psi_spec.specs.Fields.{Kind, path}
@@ -16,6 +18,11 @@ abbrev pub TakesAny : {A W : Type 0} → Result A (Fault Cause) → W → Result
 TakesAny (Ok x) rest read = read ≡ Ok (x, rest)
 TakesAny (Err (Refused cause)) rest read = read ≡ Err cause
 TakesAny (Err NoMemory) rest read = ⊤
+
+-- the event at a time (ns) of an act that was read
+abbrev pub dated : ℕ → Result Act Cause → Result Event Cause
+dated at (Ok what) = Ok (record { at = at; act = what })
+dated at (Err why) = Err why
 
 -- one of the kinds is a path
 abbrev pub has_path : List Kind → Bool

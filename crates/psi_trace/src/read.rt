@@ -7,164 +7,183 @@ ghost use Rattle.psi_base.specs.declared.event.Fault.TheVariants as fault;
 ghost use Rattle.psi_spec.specs.Grammar as verb;
 ghost use Rattle.psi_spec.specs.Grammar.{Fits, IsCause, act_at, act_from, event_of, spelling};
 ghost use Rattle.psi_base.specs.Gives.{Gives};
-ghost use Rattle.psi_trace.specs.Taking.{names_path};
+ghost use Rattle.psi_trace.specs.Taking.{dated, names_path};
 
 use crate::field::{
     Words, amount_field, cpu_field, end_of, how_field, level_field, next_field, number_field,
     path_field, pid_field, preference_field, resource_field,
 };
-use psi_base::{Act, Cause, Event, Fault, Parts, read_number};
+use psi_base::{Act, Cause, Event, Fault, Ns, Parts, read_number};
 use std::alloc::Global;
 
-// The act of each verb from its fields. These functions are inlined: a call that stays would clear the place of its
-// answer for every line, whichever verb it has.
+// The event at a time (ns) of each verb, from its fields. Each makes the whole answer, so that nothing is copied from one
+// place to the next on the way out. These functions are inlined: a call that stays would clear the place of its answer for
+// every line, whichever verb it has.
 
 #[tactic(auto, unfolding(psi_spec::specs::Grammar::act_from))]
 #[inline(always)]
-fn switch_of(mut words: Words) -> Result<Act, Cause>
-    ensures { act_from verb.Switch words.entry ≡ result }
+fn switch_of(at: Ns, mut words: Words) -> Result<Event, Fault<Cause>>
+    ensures exact { Gives result (dated at (act_from verb.Switch words.entry)) }
+    ensures memory { result ≢ Err fault.NoMemory }
 {
     let cpu = cpu_field(&mut words, 1)?;
     let next = next_field(&mut words, 2)?;
     let how = how_field(&mut words, 3)?;
     end_of(&mut words, 4)?;
-    Ok(Act::Switch { cpu, next, how })
+    let act = Act::Switch { cpu, next, how };
+    Ok(Event { at, act })
 }
 
 #[tactic(auto, unfolding(psi_spec::specs::Grammar::act_from))]
 #[inline(always)]
-fn wake_of(mut words: Words) -> Result<Act, Cause>
-    ensures { act_from verb.Wake words.entry ≡ result }
+fn wake_of(at: Ns, mut words: Words) -> Result<Event, Fault<Cause>>
+    ensures exact { Gives result (dated at (act_from verb.Wake words.entry)) }
+    ensures memory { result ≢ Err fault.NoMemory }
 {
     let pid = pid_field(&mut words, 1)?;
     let cpu = cpu_field(&mut words, 2)?;
     end_of(&mut words, 3)?;
-    Ok(Act::Wake { pid, cpu })
+    let act = Act::Wake { pid, cpu };
+    Ok(Event { at, act })
 }
 
 #[tactic(auto, unfolding(psi_spec::specs::Grammar::act_from))]
 #[inline(always)]
-fn stall_of(mut words: Words) -> Result<Act, Cause>
-    ensures { act_from verb.Stall words.entry ≡ result }
+fn stall_of(at: Ns, mut words: Words) -> Result<Event, Fault<Cause>>
+    ensures exact { Gives result (dated at (act_from verb.Stall words.entry)) }
+    ensures memory { result ≢ Err fault.NoMemory }
 {
     let pid = pid_field(&mut words, 1)?;
     end_of(&mut words, 2)?;
-    Ok(Act::Stall { pid })
+    let act = Act::Stall { pid };
+    Ok(Event { at, act })
 }
 
 #[tactic(auto, unfolding(psi_spec::specs::Grammar::act_from))]
 #[inline(always)]
-fn unstall_of(mut words: Words) -> Result<Act, Cause>
-    ensures { act_from verb.Unstall words.entry ≡ result }
+fn unstall_of(at: Ns, mut words: Words) -> Result<Event, Fault<Cause>>
+    ensures exact { Gives result (dated at (act_from verb.Unstall words.entry)) }
+    ensures memory { result ≢ Err fault.NoMemory }
 {
     let pid = pid_field(&mut words, 1)?;
     end_of(&mut words, 2)?;
-    Ok(Act::Unstall { pid })
+    let act = Act::Unstall { pid };
+    Ok(Event { at, act })
 }
 
 #[tactic(auto, unfolding(psi_spec::specs::Grammar::act_from))]
 #[inline(always)]
-fn migrate_of(mut words: Words) -> Result<Act, Cause>
-    ensures { act_from verb.Migrate words.entry ≡ result }
+fn migrate_of(at: Ns, mut words: Words) -> Result<Event, Fault<Cause>>
+    ensures exact { Gives result (dated at (act_from verb.Migrate words.entry)) }
+    ensures memory { result ≢ Err fault.NoMemory }
 {
     let pid = pid_field(&mut words, 1)?;
     let cpu = cpu_field(&mut words, 2)?;
     end_of(&mut words, 3)?;
-    Ok(Act::Migrate { pid, cpu })
+    let act = Act::Migrate { pid, cpu };
+    Ok(Event { at, act })
 }
 
 #[tactic(auto, unfolding(psi_spec::specs::Grammar::act_from))]
 #[inline(always)]
-fn move_of(alloc: Global, mut words: Words) -> Result<Act, Fault<Cause>>
-    ensures { Gives result (act_from verb.Move words.entry) }
+fn move_of(alloc: Global, at: Ns, mut words: Words) -> Result<Event, Fault<Cause>>
+    ensures { Gives result (dated at (act_from verb.Move words.entry)) }
 {
     let pid = pid_field(&mut words, 1)?;
     let path = path_field(alloc, &mut words, 2)?;
     end_of(&mut words, 3)?;
-    Ok(Act::Move { pid, path })
+    let act = Act::Move { pid, path };
+    Ok(Event { at, act })
 }
 
 #[tactic(auto, unfolding(psi_spec::specs::Grammar::act_from))]
 #[inline(always)]
-fn fork_of(alloc: Global, mut words: Words) -> Result<Act, Fault<Cause>>
-    ensures { Gives result (act_from verb.Fork words.entry) }
+fn fork_of(alloc: Global, at: Ns, mut words: Words) -> Result<Event, Fault<Cause>>
+    ensures { Gives result (dated at (act_from verb.Fork words.entry)) }
 {
     let pid = pid_field(&mut words, 1)?;
     let path = path_field(alloc, &mut words, 2)?;
     let cpu = cpu_field(&mut words, 3)?;
     end_of(&mut words, 4)?;
-    Ok(Act::Fork { pid, path, cpu })
+    let act = Act::Fork { pid, path, cpu };
+    Ok(Event { at, act })
 }
 
 #[tactic(auto, unfolding(psi_spec::specs::Grammar::act_from))]
 #[inline(always)]
-fn mem_of(alloc: Global, mut words: Words) -> Result<Act, Fault<Cause>>
-    ensures { Gives result (act_from verb.Mem words.entry) }
+fn mem_of(alloc: Global, at: Ns, mut words: Words) -> Result<Event, Fault<Cause>>
+    ensures { Gives result (dated at (act_from verb.Mem words.entry)) }
 {
     let path = path_field(alloc, &mut words, 1)?;
     let current = amount_field(&mut words, 2)?;
     let swap = amount_field(&mut words, 3)?;
     let scan = amount_field(&mut words, 4)?;
     end_of(&mut words, 5)?;
-    Ok(Act::Mem {
+    let act = Act::Mem {
         path,
         current,
         swap,
         scan,
-    })
+    };
+    Ok(Event { at, act })
 }
 
 #[tactic(auto, unfolding(psi_spec::specs::Grammar::act_from))]
 #[inline(always)]
-fn host_of(mut words: Words) -> Result<Act, Cause>
-    ensures { act_from verb.Host words.entry ≡ result }
+fn host_of(at: Ns, mut words: Words) -> Result<Event, Fault<Cause>>
+    ensures exact { Gives result (dated at (act_from verb.Host words.entry)) }
+    ensures memory { result ≢ Err fault.NoMemory }
 {
     let mem_total = amount_field(&mut words, 1)?;
     let swap_total = amount_field(&mut words, 2)?;
     let swap_free = amount_field(&mut words, 3)?;
     end_of(&mut words, 4)?;
-    Ok(Act::Host {
+    let act = Act::Host {
         mem_total,
         swap_total,
         swap_free,
-    })
+    };
+    Ok(Event { at, act })
 }
 
 #[tactic(auto, unfolding(psi_spec::specs::Grammar::act_from))]
 #[inline(always)]
-fn group_of(alloc: Global, mut words: Words) -> Result<Act, Fault<Cause>>
-    ensures { Gives result (act_from verb.Group words.entry) }
+fn group_of(alloc: Global, at: Ns, mut words: Words) -> Result<Event, Fault<Cause>>
+    ensures { Gives result (dated at (act_from verb.Group words.entry)) }
 {
     let path = path_field(alloc, &mut words, 1)?;
     end_of(&mut words, 2)?;
-    Ok(Act::Group { path })
+    let act = Act::Group { path };
+    Ok(Event { at, act })
 }
 
 #[tactic(auto, unfolding(psi_spec::specs::Grammar::act_from))]
 #[inline(always)]
-fn rmgroup_of(alloc: Global, mut words: Words) -> Result<Act, Fault<Cause>>
-    ensures { Gives result (act_from verb.Remove words.entry) }
+fn rmgroup_of(alloc: Global, at: Ns, mut words: Words) -> Result<Event, Fault<Cause>>
+    ensures { Gives result (dated at (act_from verb.Remove words.entry)) }
 {
     let path = path_field(alloc, &mut words, 1)?;
     end_of(&mut words, 2)?;
-    Ok(Act::Remove { path })
+    let act = Act::Remove { path };
+    Ok(Event { at, act })
 }
 
 #[tactic(auto, unfolding(psi_spec::specs::Grammar::act_from))]
 #[inline(always)]
-fn prefer_of(alloc: Global, mut words: Words) -> Result<Act, Fault<Cause>>
-    ensures { Gives result (act_from verb.Prefer words.entry) }
+fn prefer_of(alloc: Global, at: Ns, mut words: Words) -> Result<Event, Fault<Cause>>
+    ensures { Gives result (dated at (act_from verb.Prefer words.entry)) }
 {
     let path = path_field(alloc, &mut words, 1)?;
     let preference = preference_field(&mut words, 2)?;
     end_of(&mut words, 3)?;
-    Ok(Act::Prefer { path, preference })
+    let act = Act::Prefer { path, preference };
+    Ok(Event { at, act })
 }
 
 #[tactic(auto, unfolding(psi_spec::specs::Grammar::act_from))]
 #[inline(always)]
-fn trigger_of(alloc: Global, mut words: Words) -> Result<Act, Fault<Cause>>
-    ensures { Gives result (act_from verb.Trigger words.entry) }
+fn trigger_of(alloc: Global, at: Ns, mut words: Words) -> Result<Event, Fault<Cause>>
+    ensures { Gives result (dated at (act_from verb.Trigger words.entry)) }
 {
     let path = path_field(alloc, &mut words, 1)?;
     let res = resource_field(&mut words, 2)?;
@@ -172,61 +191,64 @@ fn trigger_of(alloc: Global, mut words: Words) -> Result<Act, Fault<Cause>>
     let threshold_us = number_field(&mut words, 4)?;
     let window_us = number_field(&mut words, 5)?;
     end_of(&mut words, 6)?;
-    Ok(Act::Trigger {
+    let act = Act::Trigger {
         path,
         res,
         level,
         threshold_us,
         window_us,
-    })
+    };
+    Ok(Event { at, act })
 }
 
 #[tactic(auto, unfolding(psi_spec::specs::Grammar::act_from))]
 #[inline(always)]
-fn end_act(mut words: Words) -> Result<Act, Cause>
-    ensures { act_from verb.End words.entry ≡ result }
+fn end_of_trace(at: Ns, mut words: Words) -> Result<Event, Fault<Cause>>
+    ensures exact { Gives result (dated at (act_from verb.End words.entry)) }
+    ensures memory { result ≢ Err fault.NoMemory }
 {
     end_of(&mut words, 1)?;
-    Ok(Act::End)
+    let act = Act::End;
+    Ok(Event { at, act })
 }
 
-// The act of the verb that is the next part, and of its fields: the verbs that a trace has most of first.
+// The event at a time (ns) of the verb that is the next part, and of its fields: the verbs that a trace has most of first.
 #[tactic(auto, unfolding(psi_spec::specs::Grammar::act_at, psi_spec::specs::Grammar::verb_of))]
-fn act_in(alloc: Global, mut words: Words) -> Result<Act, Fault<Cause>>
-    ensures exact { Gives result (act_at words.entry) }
+fn event_at(alloc: Global, at: Ns, mut words: Words) -> Result<Event, Fault<Cause>>
+    ensures exact { Gives result (dated at (act_at words.entry)) }
     ensures memory { result ≡ Err fault.NoMemory → names_path words.entry ≡ true }
 {
     let Some(verb) = words.next_part() else {
         return Err(Fault::Refused(Cause::BadVerb));
     };
     if verb == b"switch".as_slice() {
-        Ok(switch_of(words)?)
+        switch_of(at, words)
     } else if verb == b"wake".as_slice() {
-        Ok(wake_of(words)?)
+        wake_of(at, words)
     } else if verb == b"stall".as_slice() {
-        Ok(stall_of(words)?)
+        stall_of(at, words)
     } else if verb == b"unstall".as_slice() {
-        Ok(unstall_of(words)?)
+        unstall_of(at, words)
     } else if verb == b"migrate".as_slice() {
-        Ok(migrate_of(words)?)
+        migrate_of(at, words)
     } else if verb == b"move".as_slice() {
-        move_of(alloc, words)
+        move_of(alloc, at, words)
     } else if verb == b"fork".as_slice() {
-        fork_of(alloc, words)
+        fork_of(alloc, at, words)
     } else if verb == b"mem".as_slice() {
-        mem_of(alloc, words)
+        mem_of(alloc, at, words)
     } else if verb == b"host".as_slice() {
-        Ok(host_of(words)?)
+        host_of(at, words)
     } else if verb == b"group".as_slice() {
-        group_of(alloc, words)
+        group_of(alloc, at, words)
     } else if verb == b"rmgroup".as_slice() {
-        rmgroup_of(alloc, words)
+        rmgroup_of(alloc, at, words)
     } else if verb == b"prefer".as_slice() {
-        prefer_of(alloc, words)
+        prefer_of(alloc, at, words)
     } else if verb == b"trigger".as_slice() {
-        trigger_of(alloc, words)
+        trigger_of(alloc, at, words)
     } else if verb == b"end".as_slice() {
-        Ok(end_act(words)?)
+        end_of_trace(at, words)
     } else {
         Err(Fault::Refused(Cause::BadVerb))
     }
@@ -245,8 +267,7 @@ fn event_in(alloc: Global, line: &[u8]) -> Result<Event, Fault<Cause>>
     let Some(at) = read_number(time) else {
         return Err(Fault::Refused(Cause::BadTime));
     };
-    let act = act_in(alloc, words)?;
-    Ok(Event { at, act })
+    event_at(alloc, at, words)
 }
 
 /// The event that a line spells, given without its newline; else the first cause against the line from the left:

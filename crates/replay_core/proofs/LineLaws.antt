@@ -1,5 +1,5 @@
 -- Reading a trace line by line, against the definition over its bytes.
-use Rattle.std.proofs.Common.{◌≡◌, ◌≢◌, ℕ, ◌+◌, ◌<◌, ◌≤◌, List, [], ◌∷◌, ◌++◌, length, get_or, refl, sym, ap, ◌∙◌, arith, ◌⊎◌, ⊎_elim, true, false, Bool}
+use Rattle.std.proofs.Common.{◌≡◌, ◌≢◌, ℕ, ◌+◌, ◌<◌, ◌≤◌, List, [], ◌∷◌, ◌++◌, length, get_or, refl, sym, ap, ◌∙◌, subst, arith, ◌⊎◌, ⊎_elim, true, false, Bool}
 use Rattle.std.specs.Prelude.{Result, Ok, Err, Option, None, Some, nat_lt, if◌then◌else◌}
 use Rattle.std.proofs.lemmas.List.{append-nil, length-append}
 use Rattle.std.proofs.Math.Seq.{get_or-append_seam}
@@ -20,7 +20,7 @@ use Rattle.psi_spec.proofs.Reading.{Events, rest_from-line, rest_from-rest, noth
 use Rattle.psi_spec.proofs.Accepting.{trace_of-line, trace_of-rest}
 use Rattle.psi_spec.proofs.PlanLaws.{after-push}
 use Rattle.psi_base.specs.Gives.{Gives}
-use Rattle.replay_core.specs.Reads.{rest_from, FaultOf, IsFaultAt, NextGives, Plays, RestGives, TailGives, Takes, TakesLine, TracePlayed}
+use Rattle.replay_core.specs.Reads.{rest_from, FaultOf, IsFaultAt, NextGives, Plays, RestGives, TailGives, Takes, TakesLine, TakesRead, TracePlayed}
 use Rattle.replay_core.specs.declared.trace.TraceFault.{TraceFault}
 use Rattle.replay_core.specs.declared.trace.TraceFault.TheVariants.{Refused, NoFile, ReadFault, NoMemory}
 
@@ -67,7 +67,7 @@ refused_line ended long read limits w event why running short is refused = rw (r
 unread_line : (ended long : Bool) (read : Result Event Cause) (limits : Limits) (w : World) (why : Cause) → ended ≡ false → long ≡ false → read ≡ Err why → (if ended then Err cause.AfterEnd else if long then Err cause.LineTooLong else then_legal limits w read) ≡ Err why
 unread_line ended long read limits w why running short is = rw (running, short, is) refl
 
-pub takes_event : (Before After : Plays) (line : List ℕ) (event : Event) (result : Result (Unit {0}) (Fault Cause)) → length line ≤ 512 → event_of line ≡ Ok event → Takes Before After event result → TakesLine Before After line result
+takes_event : (Before After : Plays) (line : List ℕ) (event : Event) (result : Result (Unit {0}) (Fault Cause)) → length line ≤ 512 → event_of line ≡ Ok event → Takes Before After event result → TakesLine Before After line result
 unfolding line_event
 takes_event Before After line event (Ok x) short is takes = λ limits events before running.
     let taken = takes limits events before in
@@ -76,11 +76,15 @@ takes_event Before After line event (Err (fault.Refused why)) short is takes = �
     refused_line (after events).ended (nat_lt 512 (length line)) (event_of line) limits (after events) event why running (not_long (length line) short) is (takes limits events before)
 takes_event Before After line event (Err fault.NoMemory) short is takes = tt
 
-pub takes_none : (Before After : Plays) (line : List ℕ) (why : Fault Cause) → length line ≤ 512 → Gives {A = Event} (Err why) (event_of line) → TakesLine Before After line (Err why)
+takes_none : (Before After : Plays) (line : List ℕ) (why : Fault Cause) → length line ≤ 512 → Gives {A = Event} (Err why) (event_of line) → TakesLine Before After line (Err why)
 unfolding line_event
 takes_none Before After line (fault.Refused why) short is = λ limits events before running.
     unread_line (after events).ended (nat_lt 512 (length line)) (event_of line) limits (after events) why running (not_long (length line) short) is
 takes_none Before After line fault.NoMemory short is = tt
+
+pub takes_read : (Before After : Plays) (line : List ℕ) (read : Result Event (Fault Cause)) (result : Result (Unit {0}) (Fault Cause)) → length line ≤ 512 → Gives read (event_of line) → TakesRead Before After read result → TakesLine Before After line result
+takes_read Before After line (Ok event) result short is takes = takes_event Before After line event result short is takes
+takes_read Before After line (Err why) result short is same = subst (TakesLine Before After line) (sym same) (takes_none Before After line why short is)
 
 -- the line's event was played, and the rest of the input is behind it
 pub line_played : (Before After : Plays) (line : ℕ) (part : List ℕ) (before behind : List ℕ → List ℕ) (known : Option (List ℕ)) (x : Unit {0}) → TakesLine Before After part (Ok x) → ((bytes : List ℕ) → known ≡ Some bytes → BeginsWithLine (before bytes) part (behind bytes))

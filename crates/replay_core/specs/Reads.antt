@@ -31,6 +31,11 @@ Takes Before After event (Ok x) = (limits : Limits) (events : List Event) → Be
 Takes Before After event (Err (fault.Refused why)) = (limits : Limits) (events : List Event) → Before limits events → cause_of limits (after events) event ≡ Some why
 Takes Before After event (Err fault.NoMemory) = ⊤
 
+-- what was read of a line does to a player: an event is taken, and a fault is handed on
+abbrev pub TakesRead : Plays → Plays → Result Event (Fault Cause) → Result (Unit {0}) (Fault Cause) → Type 0
+TakesRead Before After (Ok event) result = Takes Before After event result
+TakesRead Before After (Err why) result = result ≡ Err why
+
 -- ---- one line
 
 -- What a line does to a player that has played any events and whose trace hasn't ended: its event is played behind them,

@@ -11,18 +11,18 @@ use Rattle.psi_spec.specs.Touch.{Follows, is_current_in, is_current_stalled, no_
 use Rattle.psi_spec.proofs.PlanClocks.{clock_stays}
 use Rattle.slot_clocks.specs.declared.cell.Cell.{Cell}
 use Rattle.slot_clocks.specs.Clocks.{IsTold, IsUpTo}
-use Rattle.slot_clocks.specs.Walk.{IsTurned, counts_in, reaches, slot_in}
+use Rattle.slot_clocks.specs.Walk.{IsTurned, counts_in, height, reaches, slot_in}
 
 -- ---- sides of a change, by what is reached
 
 -- what counts on a chain are for a slot that is reached or isn't
-pub chain_is : (parents : List (Option ℕ)) (slot : ℕ) (side : Option (Slot × Counts)) (here : Bool) → reaches parents (slot_in side) slot ≡ here → on_chain parents slot side ≡ (if here then counts_in side else no_counts)
+pub chain_is : (parents : List (Option ℕ)) (slot : ℕ) (side : Option (Slot × Counts)) (here : Bool) → reaches parents (height (slot_in side)) slot ≡ here → on_chain parents slot side ≡ (if here then counts_in side else no_counts)
 chain_is parents slot None true reached = refl
 chain_is parents slot None false reached = refl
 chain_is parents slot (Some part) here reached = ap (λ b. if b then part.1 else no_counts) reached
 
 -- whether the running task is in a group that is reached or isn't
-pub current_is : (parents : List (Option ℕ)) (slot : ℕ) (current : Option (Slot × Bool)) (here : Bool) → reaches parents (slot_in current) slot ≡ here → is_current_in parents slot current ≡ here
+pub current_is : (parents : List (Option ℕ)) (slot : ℕ) (current : Option (Slot × Bool)) (here : Bool) → reaches parents (height (slot_in current)) slot ≡ here → is_current_in parents slot current ≡ here
 current_is parents slot None here reached = reached
 current_is parents slot (Some running) here reached = reached
 
@@ -42,8 +42,8 @@ follows_none : (counts : Counts) → Follows counts no_counts no_counts counts
 follows_none counts = record { io = refl; stalled = refl; running = refl; stalled_running = refl }
 
 -- a group that no chain of a change reaches stays as it is
-pub stays_turned : (parents : List (Option ℕ)) (current : Option (Slot × Bool)) (change : Change) (slot : ℕ) (cell : Cell) → reaches parents (slot_in change.minus) slot ≡ false → reaches parents (slot_in change.plus) slot ≡ false
-    → reaches parents (slot_in current) slot ≡ false → reaches parents (slot_in change.current) slot ≡ false → IsTold parents current slot cell → IsUpTo change.at cell.clock → IsTurned parents change slot cell cell
+pub stays_turned : (parents : List (Option ℕ)) (current : Option (Slot × Bool)) (change : Change) (slot : ℕ) (cell : Cell) → reaches parents (height (slot_in change.minus)) slot ≡ false → reaches parents (height (slot_in change.plus)) slot ≡ false
+    → reaches parents (height (slot_in current)) slot ≡ false → reaches parents (height (slot_in change.current)) slot ≡ false → IsTold parents current slot cell → IsUpTo change.at cell.clock → IsTurned parents change slot cell cell
 stays_turned parents current change slot cell minus plus before after told up_to =
     let taken : on_chain parents slot change.minus ≡ no_counts = chain_is parents slot change.minus false minus in
     let added : on_chain parents slot change.plus ≡ no_counts = chain_is parents slot change.plus false plus in

@@ -1,6 +1,6 @@
 -- The walk up the chains of a change, slot by slot.
-use Rattle.std.proofs.Common.{◌≡◌, ◌≢◌, ℕ, ◌+◌, ◌≤◌, ◌<◌, List, length, refl, sym, ap, ◌∙◌, subst, arith, Bool, true, false, max, ◌⊎◌, inl, inr, ⊎_elim, Option, None, Some}
-use Rattle.std.specs.Prelude.{slice_index_or, slice_set, if◌then◌else◌}
+use Rattle.std.proofs.Common.{◌≡◌, ◌≢◌, ℕ, ◌+◌, ◌≤◌, ◌<◌, List, length, refl, sym, ap, ◌∙◌, subst, arith, Bool, false, max, ◌⊎◌, inl, inr, ⊎_elim, Option, None}
+use Rattle.std.specs.Prelude.{slice_index_or, slice_set, ◌==◌, if◌then◌else◌}
 use Rattle.std.proofs.lemmas.List.{get_or-set_same, get_or-set_other, get_or_default}
 use Rattle.std.proofs.Math.ListN.{get_or-map}
 use Rattle.psi_base.specs.declared.event.Slot.{Slot}
@@ -14,8 +14,8 @@ use Rattle.psi_spec.specs.Touch.{Follows, is_current_in, is_current_stalled, no_
 use Rattle.slot_clocks.specs.declared.cell.Cell.{Cell}
 use Rattle.slot_clocks.specs.declared.chains.Chains.{Chains}
 use Rattle.slot_clocks.specs.Clocks.{CanFollow, IsTold, IsUpTo, cell_in, numbers_of, zero_cell}
-use Rattle.slot_clocks.specs.Walk.{IsTurned, all_passed, chains_of, counts_in, height, is_at, passed, reaches, top}
-use Rattle.slot_clocks.proofs.ChainLaws.{not_at, passed_height, reaches_at, reaches_passed, stands}
+use Rattle.slot_clocks.specs.Walk.{IsTurned, all_passed, chains_of, counts_in, height, passed, reaches, top}
+use Rattle.slot_clocks.proofs.ChainLaws.{ended, not_at, passed_height, reaches_at, reaches_passed, stands}
 use Rattle.slot_clocks.proofs.TurnLaws.{chain_is, current_is, stays_turned}
 
 -- ---- how far a walk is
@@ -46,10 +46,10 @@ none_walked parents change starts slot cell = inr (refl, record { minus = refl; 
 
 -- each chain is at most as high as the highest
 pub record AreWithin (chains : Chains) (limit : ℕ) : Type 0 where
-  pub minus : height chains.minus ≤ limit
-  pub plus : height chains.plus ≤ limit
-  pub before : height chains.before ≤ limit
-  pub after : height chains.after ≤ limit
+  pub minus : chains.minus ≤ limit
+  pub plus : chains.plus ≤ limit
+  pub before : chains.before ≤ limit
+  pub after : chains.after ≤ limit
 
 pub within_top : (chains : Chains) (limit : ℕ) → top chains ≡ limit → AreWithin chains limit
 within_top chains limit is = record { minus = omega (arith, is); plus = omega (arith, is); before = omega (arith, is); after = omega (arith, is) }
@@ -57,51 +57,49 @@ within_top chains limit is = record { minus = omega (arith, is); plus = omega (a
 some_top : (a b c d limit : ℕ) → max (max a b) (max c d) ≡ limit → (a ≡ limit) ⊎ ((b ≡ limit) ⊎ ((c ≡ limit) ⊎ (d ≡ limit)))
 some_top a b c d limit is = grind (arith, is)
 
-reached : (parents : List (Option ℕ)) (place : Option Slot) (slot : ℕ) → AreOlder parents → height place ≡ slot + 1 → reaches parents place slot ≡ true
-reached parents place slot older is = reaches_at parents place slot older (omega (arith, is)) ∙ stands place slot is
-
 -- the walk hasn't been at the highest slot
 not_behind : (parents : List (Option ℕ)) (chains : Chains) (slot : ℕ) → AreOlder parents → top chains ≡ slot + 1 → IsBehind parents chains slot → ⊥
 not_behind parents chains slot older is behind =
     ⊎_elim
-    (λ minus. cc (behind.minus, reached parents chains.minus slot older minus))
+    (λ minus. cc (behind.minus, stands parents chains.minus slot older minus))
     (λ others. ⊎_elim
-    (λ plus. cc (behind.plus, reached parents chains.plus slot older plus))
+    (λ plus. cc (behind.plus, stands parents chains.plus slot older plus))
     (λ running. ⊎_elim
-    (λ before. cc (behind.before, reached parents chains.before slot older before))
-    (λ after. cc (behind.after, reached parents chains.after slot older after))
+    (λ before. cc (behind.before, stands parents chains.before slot older before))
+    (λ after. cc (behind.after, stands parents chains.after slot older after))
     running)
     others)
-    (some_top (height chains.minus) (height chains.plus) (height chains.before) (height chains.after) (slot + 1) is)
+    (some_top chains.minus chains.plus chains.before chains.after (slot + 1) is)
 
 pub ahead_at_top : (parents : List (Option ℕ)) (change : Change) (starts chains : Chains) (slot : ℕ) (old now : Cell) → AreOlder parents → top chains ≡ slot + 1 → IsWalked parents change starts chains slot old now → (now ≡ old) × IsAhead parents starts chains slot
 ahead_at_top parents change starts chains slot old now older is (inl done) = absurd (not_behind parents chains slot older is done.1)
 ahead_at_top parents change starts chains slot old now older is (inr ahead) = ahead
 
--- what the change takes, adds and runs at the highest slot
-pub record IsShare (parents : List (Option ℕ)) (change : Change) (chains : Chains) (slot : ℕ) : Type 0 where
-  pub minus : on_chain parents slot change.minus ≡ (if is_at chains.minus slot then counts_in change.minus else no_counts)
-  pub plus : on_chain parents slot change.plus ≡ (if is_at chains.plus slot then counts_in change.plus else no_counts)
-  pub after : is_current_in parents slot change.current ≡ is_at chains.after slot
+-- what the change takes, adds and runs at the slot of a height
+pub record IsShare (parents : List (Option ℕ)) (change : Change) (chains : Chains) (here slot : ℕ) : Type 0 where
+  pub minus : on_chain parents slot change.minus ≡ (if chains.minus == here then counts_in change.minus else no_counts)
+  pub plus : on_chain parents slot change.plus ≡ (if chains.plus == here then counts_in change.plus else no_counts)
+  pub after : is_current_in parents slot change.current ≡ (chains.after == here)
 
-pub share_at_top : (parents : List (Option ℕ)) (current : Option (Slot × Bool)) (change : Change) (chains : Chains) (slot : ℕ) → AreOlder parents → top chains ≡ slot + 1 → IsAhead parents (chains_of current change) chains slot → IsShare parents change chains slot
-share_at_top parents current change chains slot older is ahead =
-    let within = within_top chains (slot + 1) is in
+pub share_at_top : (parents : List (Option ℕ)) (current : Option (Slot × Bool)) (change : Change) (chains : Chains) (here slot : ℕ) → AreOlder parents → here ≡ slot + 1 → top chains ≡ here → IsAhead parents (chains_of current change) chains slot → IsShare parents change chains here slot
+share_at_top parents current change chains here slot older at is ahead =
+    let within = within_top chains here is in
+    let stands_here : (place : ℕ) → place ≤ here → reaches parents place slot ≡ (place == here) = λ place low. reaches_at parents place slot older (omega (arith, low, at)) ∙ ap (λ h. place == h) (sym at) in
     record {
-      minus = chain_is parents slot change.minus (is_at chains.minus slot) (sym ahead.minus ∙ reaches_at parents chains.minus slot older within.minus);
-      plus = chain_is parents slot change.plus (is_at chains.plus slot) (sym ahead.plus ∙ reaches_at parents chains.plus slot older within.plus);
-      after = current_is parents slot change.current (is_at chains.after slot) (sym ahead.after ∙ reaches_at parents chains.after slot older within.after);
+      minus = chain_is parents slot change.minus (chains.minus == here) (sym ahead.minus ∙ stands_here chains.minus within.minus);
+      plus = chain_is parents slot change.plus (chains.plus == here) (sym ahead.plus ∙ stands_here chains.plus within.plus);
+      after = current_is parents slot change.current (chains.after == here) (sym ahead.after ∙ stands_here chains.after within.after);
     }
 
 -- ---- one step
 
 -- the highest slot is behind the walk once it was passed
-behind_passed : (parents : List (Option ℕ)) (chains : Chains) (parent : Option Slot) (slot : ℕ) → AreOlder parents → number_of_slot parent ≡ slice_index_or parents slot None → top chains ≡ slot + 1 → IsBehind parents (all_passed slot parent chains) slot
+behind_passed : (parents : List (Option ℕ)) (chains : Chains) (parent : Option Slot) (slot : ℕ) → AreOlder parents → number_of_slot parent ≡ slice_index_or parents slot None → top chains ≡ slot + 1 → IsBehind parents (all_passed (slot + 1) (height parent) chains) slot
 behind_passed parents chains parent slot older up is =
     let within = within_top chains (slot + 1) is in
-    let off : (place : Option Slot) → height place ≤ slot + 1 → reaches parents (passed slot parent place) slot ≡ false = λ place at.
+    let off : (place : ℕ) → place ≤ slot + 1 → reaches parents (passed (slot + 1) (height parent) place) slot ≡ false = λ place at.
     let low = passed_height parents place parent slot older up at in
-    reaches_at parents (passed slot parent place) slot older (omega (arith, low)) ∙ not_at (passed slot parent place) slot low in
+    reaches_at parents (passed (slot + 1) (height parent) place) slot older (omega (arith, low)) ∙ not_at (passed (slot + 1) (height parent) place) slot low in
     record {
       minus = off chains.minus within.minus;
       plus = off chains.plus within.plus;
@@ -111,7 +109,7 @@ behind_passed parents chains parent slot older up is =
 
 -- other slots are reached as before
 other_walked : (parents : List (Option ℕ)) (change : Change) (starts chains : Chains) (parent : Option Slot) (slot other : ℕ) (old now : Cell) → AreOlder parents → number_of_slot parent ≡ slice_index_or parents slot None → other ≢ slot
-    → IsWalked parents change starts chains other old now → IsWalked parents change starts (all_passed slot parent chains) other old now
+    → IsWalked parents change starts chains other old now → IsWalked parents change starts (all_passed (slot + 1) (height parent) chains) other old now
 other_walked parents change starts chains parent slot other old now older up apart (inl done) = inl (
   done.0,
   record {
@@ -134,33 +132,37 @@ other_walked parents change starts chains parent slot other old now older up apa
 same_or_other : (one other : ℕ) → (one ≡ other) ⊎ (one ≢ other)
 same_or_other one other = grind arith
 
--- all groups once the highest slot went through the change and was passed
-pub walked_on : (parents : List (Option ℕ)) (change : Change) (starts chains : Chains) (parent : Option Slot) (slot : ℕ) (olds nows : List Cell) (new : Cell) → AreOlder parents → number_of_slot parent ≡ slice_index_or parents slot None → top chains ≡ slot + 1 → slot < length nows
+walked_past : (parents : List (Option ℕ)) (change : Change) (starts chains : Chains) (parent : Option Slot) (slot : ℕ) (olds nows : List Cell) (new : Cell) → AreOlder parents → number_of_slot parent ≡ slice_index_or parents slot None → top chains ≡ slot + 1 → slot < length nows
     → IsTurned parents change slot (cell_in olds slot) new → ((other : ℕ) → IsWalked parents change starts chains other (cell_in olds other) (cell_in nows other))
-    → (other : ℕ) → IsWalked parents change starts (all_passed slot parent chains) other (cell_in olds other) (cell_in (slice_set nows slot new) other)
-walked_on parents change starts chains parent slot olds nows new older up is room turned walked other =
+    → (other : ℕ) → IsWalked parents change starts (all_passed (slot + 1) (height parent) chains) other (cell_in olds other) (cell_in (slice_set nows slot new) other)
+walked_past parents change starts chains parent slot olds nows new older up is room turned walked other =
     ⊎_elim
     (λ same.
     let here : cell_in (slice_set nows slot new) other ≡ new = ap (cell_in (slice_set nows slot new)) same ∙ get_or-set_same nows slot new zero_cell room in
-    subst (λ s. IsWalked parents change starts (all_passed slot parent chains) s (cell_in olds s) (cell_in (slice_set nows slot new) other)) (sym same)
-    (subst (IsWalked parents change starts (all_passed slot parent chains) slot (cell_in olds slot)) (sym here)
+    subst (λ s. IsWalked parents change starts (all_passed (slot + 1) (height parent) chains) s (cell_in olds s) (cell_in (slice_set nows slot new) other)) (sym same)
+    (subst (IsWalked parents change starts (all_passed (slot + 1) (height parent) chains) slot (cell_in olds slot)) (sym here)
     (inl (turned, behind_passed parents chains parent slot older up is))))
     (λ apart.
-    subst (IsWalked parents change starts (all_passed slot parent chains) other (cell_in olds other)) (sym (get_or-set_other nows slot other new zero_cell apart))
+    subst (IsWalked parents change starts (all_passed (slot + 1) (height parent) chains) other (cell_in olds other)) (sym (get_or-set_other nows slot other new zero_cell apart))
     (other_walked parents change starts chains parent slot other (cell_in olds other) (cell_in nows other) older up apart (walked other)))
     (same_or_other other slot)
 
+-- all groups once the one at the greatest height went through the change and was passed
+pub walked_on : (parents : List (Option ℕ)) (change : Change) (starts chains : Chains) (parent : Option Slot) (here slot : ℕ) (olds nows : List Cell) (new : Cell) → AreOlder parents → number_of_slot parent ≡ slice_index_or parents slot None → here ≡ slot + 1 → top chains ≡ here → slot < length nows
+    → IsTurned parents change slot (cell_in olds slot) new → ((other : ℕ) → IsWalked parents change starts chains other (cell_in olds other) (cell_in nows other))
+    → (other : ℕ) → IsWalked parents change starts (all_passed here (height parent) chains) other (cell_in olds other) (cell_in (slice_set nows slot new) other)
+walked_on parents change starts chains parent here slot olds nows new older up at is room turned walked other =
+    subst (λ h. IsWalked parents change starts (all_passed h (height parent) chains) other (cell_in olds other) (cell_in (slice_set nows slot new) other)) (sym at)
+    (walked_past parents change starts chains parent slot olds nows new older up (is ∙ at) room turned walked other)
+
 -- the chains are lower then
-pub top_passed : (parents : List (Option ℕ)) (chains : Chains) (parent : Option Slot) (slot : ℕ) → AreOlder parents → number_of_slot parent ≡ slice_index_or parents slot None → top chains ≡ slot + 1 → top (all_passed slot parent chains) ≤ slot
-top_passed parents chains parent slot older up is =
-    let within = within_top chains (slot + 1) is in
-    omega (arith, passed_height parents chains.minus parent slot older up within.minus, passed_height parents chains.plus parent slot older up within.plus, passed_height parents chains.before parent slot older up within.before, passed_height parents chains.after parent slot older up within.after)
+pub top_passed : (parents : List (Option ℕ)) (chains : Chains) (parent : Option Slot) (here slot : ℕ) → AreOlder parents → number_of_slot parent ≡ slice_index_or parents slot None → here ≡ slot + 1 → top chains ≡ here → top (all_passed here (height parent) chains) ≤ slot
+top_passed parents chains parent here slot older up at is =
+    let within = within_top chains (slot + 1) (is ∙ at) in
+    let low : top (all_passed (slot + 1) (height parent) chains) ≤ slot = omega (arith, passed_height parents chains.minus parent slot older up within.minus, passed_height parents chains.plus parent slot older up within.plus, passed_height parents chains.before parent slot older up within.before, passed_height parents chains.after parent slot older up within.after) in
+    subst (λ h. top (all_passed h (height parent) chains) ≤ slot) (sym at) low
 
 -- ---- the end
-
-ended : (parents : List (Option ℕ)) (place : Option Slot) (slot : ℕ) → height place ≤ 0 → reaches parents place slot ≡ false
-ended parents None slot low = refl
-ended parents (Some p) slot low = absurd (omega (arith, low))
 
 -- behind the roots each group went through the change
 pub all_walked : (parents : List (Option ℕ)) (current : Option (Slot × Bool)) (change : Change) (chains : Chains) (slot : ℕ) (old now : Cell) → top chains ≡ 0 → IsTold parents current slot old → IsUpTo change.at old.clock
@@ -170,10 +172,10 @@ all_walked parents current change chains slot old now is told up_to (inr ahead) 
     let within = within_top chains 0 is in
     subst (IsTurned parents change slot old) (sym ahead.0)
     (stays_turned parents current change slot old
-    (sym ahead.1.minus ∙ ended parents chains.minus slot within.minus)
-    (sym ahead.1.plus ∙ ended parents chains.plus slot within.plus)
-    (sym ahead.1.before ∙ ended parents chains.before slot within.before)
-    (sym ahead.1.after ∙ ended parents chains.after slot within.after)
+    (sym ahead.1.minus ∙ ended parents chains.minus slot (omega (arith, within.minus)))
+    (sym ahead.1.plus ∙ ended parents chains.plus slot (omega (arith, within.plus)))
+    (sym ahead.1.before ∙ ended parents chains.before slot (omega (arith, within.before)))
+    (sym ahead.1.after ∙ ended parents chains.after slot (omega (arith, within.after)))
     told up_to)
 
 -- ---- parents as numbers
@@ -188,22 +190,30 @@ cell_here cells slot other room = get_or_default cells slot other zero_cell room
 -- ---- a group that the walk comes to
 
 -- what a turn tells, by what the change takes, adds and runs there
-pub turned_here : (parents : List (Option ℕ)) (change : Change) (chains : Chains) (slot : ℕ) (old now new : Cell) → IsShare parents change chains slot → now ≡ old
-    → Follows now.counts (if is_at chains.minus slot then counts_in change.minus else no_counts) (if is_at chains.plus slot then counts_in change.plus else no_counts) new.counts
-    → ClockFollows now.clock change.at new.clock → IsUpTo change.at new.clock → ((state : State) → mask_holds new.clock.mask state ≡ tells state new.counts (is_at chains.after slot) (is_current_stalled change.current)) → IsTurned parents change slot old new
-turned_here parents change chains slot old now new share same counts clock up_to told = record {
+pub turned_here : (parents : List (Option ℕ)) (change : Change) (chains : Chains) (here slot : ℕ) (old now new : Cell) → IsShare parents change chains here slot → now ≡ old
+    → Follows now.counts (if chains.minus == here then counts_in change.minus else no_counts) (if chains.plus == here then counts_in change.plus else no_counts) new.counts
+    → ClockFollows now.clock change.at new.clock → IsUpTo change.at new.clock → ((state : State) → mask_holds new.clock.mask state ≡ tells state new.counts (chains.after == here) (is_current_stalled change.current)) → IsTurned parents change slot old new
+turned_here parents change chains here slot old now new share same counts clock up_to told = record {
   counts = subst (λ m. Follows old.counts m (on_chain parents slot change.plus) new.counts) (sym share.minus)
-      (subst (λ p. Follows old.counts (if is_at chains.minus slot then counts_in change.minus else no_counts) p new.counts) (sym share.plus)
-      (subst (λ (n : Cell). Follows n.counts (if is_at chains.minus slot then counts_in change.minus else no_counts) (if is_at chains.plus slot then counts_in change.plus else no_counts) new.counts) same counts));
+      (subst (λ p. Follows old.counts (if chains.minus == here then counts_in change.minus else no_counts) p new.counts) (sym share.plus)
+      (subst (λ (n : Cell). Follows n.counts (if chains.minus == here then counts_in change.minus else no_counts) (if chains.plus == here then counts_in change.plus else no_counts) new.counts) same counts));
   clock = subst (λ (n : Cell). ClockFollows n.clock change.at new.clock) same clock;
   up_to = up_to;
   told = λ state. told state ∙ ap (λ on. tells state new.counts on (is_current_stalled change.current)) (sym share.after);
 }
 
 -- its counts can follow
-pub can_turn : (parents : List (Option ℕ)) (change : Change) (chains : Chains) (slot : ℕ) (old now : Cell) → IsShare parents change chains slot → now ≡ old → CanFollow old.counts (on_chain parents slot change.minus) (on_chain parents slot change.plus)
-    → CanFollow now.counts (if is_at chains.minus slot then counts_in change.minus else no_counts) (if is_at chains.plus slot then counts_in change.plus else no_counts)
-can_turn parents change chains slot old now share same fits =
-    subst (λ (n : Cell). CanFollow n.counts (if is_at chains.minus slot then counts_in change.minus else no_counts) (if is_at chains.plus slot then counts_in change.plus else no_counts)) (sym same)
-    (subst (λ p. CanFollow old.counts (if is_at chains.minus slot then counts_in change.minus else no_counts) p) share.plus
+pub can_turn : (parents : List (Option ℕ)) (change : Change) (chains : Chains) (here slot : ℕ) (old now : Cell) → IsShare parents change chains here slot → now ≡ old → CanFollow old.counts (on_chain parents slot change.minus) (on_chain parents slot change.plus)
+    → CanFollow now.counts (if chains.minus == here then counts_in change.minus else no_counts) (if chains.plus == here then counts_in change.plus else no_counts)
+can_turn parents change chains here slot old now share same fits =
+    subst (λ (n : Cell). CanFollow n.counts (if chains.minus == here then counts_in change.minus else no_counts) (if chains.plus == here then counts_in change.plus else no_counts)) (sym same)
+    (subst (λ p. CanFollow old.counts (if chains.minus == here then counts_in change.minus else no_counts) p) share.plus
     (subst (λ m. CanFollow old.counts m (on_chain parents slot change.plus)) share.minus fits))
+
+-- its mask tells what its counts do once the change was made, where the running task stays
+pub told_here : (parents : List (Option ℕ)) (current : Option (Slot × Bool)) (change : Change) (chains : Chains) (here slot : ℕ) (old now : Cell) → IsShare parents change chains here slot → now ≡ old → IsTold parents current slot old → current ≡ change.current
+    → (state : State) → mask_holds now.clock.mask state ≡ tells state now.counts (chains.after == here) (is_current_stalled change.current)
+told_here parents current change chains here slot old now share same told stays =
+    let told_then : IsTold parents change.current slot old = subst (λ c. IsTold parents c slot old) stays told in
+    subst (λ (n : Cell). (state : State) → mask_holds n.clock.mask state ≡ tells state n.counts (chains.after == here) (is_current_stalled change.current)) (sym same)
+    (λ state. told_then state ∙ ap (λ on. tells state old.counts on (is_current_stalled change.current)) share.after)

@@ -1,5 +1,5 @@
 -- The walk up the chains of slots that a change concerns.
-use Rattle.std.specs.Prelude.{ℕ, ◌+◌, List, max, Bool, false, ◌==◌, if◌then◌else◌, Option, None, Some}
+use Rattle.std.specs.Prelude.{ℕ, zero, suc, List, max, Bool, false, ◌==◌, if◌then◌else◌, Option, None, Some}
 use Rattle.psi_base.specs.declared.event.Slot.{Slot}
 use Rattle.psi_spec.specs.declared.machine.Counts.{Counts}
 use Rattle.psi_spec.specs.declared.machine.Change.{Change}
@@ -20,37 +20,33 @@ abbrev pub counts_in : Option (Slot × Counts) → Counts
 counts_in None = no_counts
 counts_in (Some part) = part.1
 
--- one more than a place on a chain, and 0 behind its root
+-- How high a walk up the chain of a slot stands: one more than the slot where it is, and 0 behind the root, or where there is
+-- no slot.
 abbrev pub height : Option Slot → ℕ
 height None = 0
-height (Some place) = place.0 + 1
+height (Some slot) = suc slot.0
 
--- the chain stands at a slot
-abbrev pub is_at : Option Slot → ℕ → Bool
-is_at None slot = false
-is_at (Some place) slot = place.0 == slot
+-- a slot is on the rest of a chain, from a height on
+abbrev pub reaches : List (Option ℕ) → ℕ → ℕ → Bool
+reaches parents zero slot = false
+reaches parents (suc place) slot = is_under parents place slot
 
--- a slot is on the rest of a chain
-abbrev pub reaches : List (Option ℕ) → Option Slot → ℕ → Bool
-reaches parents None slot = false
-reaches parents (Some place) slot = is_under parents place.0 slot
-
--- the chains of a change: those of the counts that it takes and adds, and of the task that ran before and of the one that
--- runs after
+-- how high the walks up the chains of a change stand at first: the chains of the counts that it takes and adds, and of the
+-- task that ran before and of the one that runs after
 abbrev pub chains_of : Option (Slot × Bool) → Change → Chains
-chains_of current change = record { minus = slot_in change.minus; plus = slot_in change.plus; before = slot_in current; after = slot_in change.current }
+chains_of current change = record { minus = height (slot_in change.minus); plus = height (slot_in change.plus); before = height (slot_in current); after = height (slot_in change.current) }
 
--- a place on a chain after the walk passed a slot: the slot's parent, if the chain stood there
-abbrev pub passed : ℕ → Option Slot → Option Slot → Option Slot
-passed slot parent place = if is_at place slot then parent else place
+-- the height on a chain after the walk passed one: that of the parent, if the chain stood there
+abbrev pub passed : ℕ → ℕ → ℕ → ℕ
+passed here parent place = if place == here then parent else place
 
--- chains after the walk passed a slot
-abbrev pub all_passed : ℕ → Option Slot → Chains → Chains
-all_passed slot parent chains = record { minus = passed slot parent chains.minus; plus = passed slot parent chains.plus; before = passed slot parent chains.before; after = passed slot parent chains.after }
+-- chains after the walk passed a height
+abbrev pub all_passed : ℕ → ℕ → Chains → Chains
+all_passed here parent chains = record { minus = passed here parent chains.minus; plus = passed here parent chains.plus; before = passed here parent chains.before; after = passed here parent chains.after }
 
 -- the greatest height of four chains
 abbrev pub top : Chains → ℕ
-top chains = max (max (height chains.minus) (height chains.plus)) (max (height chains.before) (height chains.after))
+top chains = max (max chains.minus chains.plus) (max chains.before chains.after)
 
 -- a group after a change: its counts, its clock and its states
 pub record IsTurned (parents : List (Option ℕ)) (change : Change) (slot : ℕ) (old new : Cell) : Type 0 where

@@ -1,35 +1,64 @@
 //! The walk up the chains of groups that a change concerns.
 
-ghost use Rattle.std.specs.Prelude.{◌≡◌, ℕ, ◌+◌, ◌<◌, ◌≤◌, length, if◌then◌else◌};
+ghost use Rattle.std.specs.Prelude.{◌≡◌, ℕ, ◌+◌, ◌==◌, ◌<◌, ◌≤◌, length, true, if◌then◌else◌};
+ghost use Rattle.psi_base.specs.declared.event.State.{State};
+ghost use Rattle.psi_spec.specs.Clock.{ClockFollows};
+ghost use Rattle.psi_spec.specs.Counts.{mask_holds, tells};
 ghost use Rattle.psi_spec.specs.Groups.{AreOlder};
 ghost use Rattle.psi_spec.specs.Share.{last_moment};
-ghost use Rattle.psi_spec.specs.Touch.{is_current_stalled, no_counts, on_chain};
+ghost use Rattle.psi_spec.specs.Touch.{Follows, is_current_stalled, no_counts, on_chain};
 ghost use Rattle.slot_clocks.specs.Clocks.{CanFollow, IsTold, IsUpTo, cell_in, numbers_of};
-ghost use Rattle.slot_clocks.specs.Walk.{IsTurned, all_passed, chains_of, counts_in, height, is_at, passed, slot_in, top};
+ghost use Rattle.slot_clocks.specs.Walk.{IsTurned, all_passed, chains_of, counts_in, height, passed, slot_in, top};
 
-use crate::cell::{Cell, NO_COUNTS};
-use psi_base::Slot;
-use psi_spec::{Change, Counts};
+use crate::cell::Cell;
+use crate::part::Part;
+use psi_base::{Ns, Slot};
+use psi_spec::Change;
 
-/// Where a walk stands on the chain of each of the four slots that a change concerns, from the slot up to the root: None
-/// behind the root.
+/// How high the walks up the chains of the four slots stand that a change concerns. A height is one more than the slot, so
+/// that one comparison tells both whether a chain stands somewhere and where; it is 0 behind the root.
 #[derive(Clone, Copy)]
 pub(crate) struct Chains {
     /// Of the counts that are taken.
-    minus: Option<Slot>,
+    minus: u64,
     /// Of the counts that are added.
-    plus: Option<Slot>,
+    plus: u64,
     /// Of the task that ran up to the change.
-    before: Option<Slot>,
+    before: u64,
     /// Of the task that runs from the change on.
-    after: Option<Slot>,
+    after: u64,
 }
 
-// The counts of one side of a change.
-fn counts_of(part: Option<(Slot, Counts)>) -> Counts
-    ensures { result ≡ counts_in part }
+/// What a change means to each group on its chains.
+#[derive(Drop)]
+pub(crate) struct Sides {
+    /// When it is (ns).
+    at: Ns,
+    /// The counts that are taken.
+    minus: Part,
+    /// The counts that are added.
+    plus: Part,
+    /// The running task is in a memory stall from the change on.
+    stalled: bool,
+    /// The running task stays in its group and in its memory stall or out of it, or none runs before and after.
+    stays: bool,
+}
+
+// The height at which a walk up from a slot begins.
+fn height(slot: Option<Slot>) -> u64
+    ensures { result ≡ height slot }
 {
-    part.map_or(NO_COUNTS, |(_, counts)| counts)
+    match slot {
+        Some(slot) => u64::from(slot.0) + 1,
+        None => 0,
+    }
+}
+
+// The slot of the running task.
+fn slot_of(current: Option<(Slot, bool)>) -> Option<Slot>
+    ensures { result ≡ slot_in current }
+{
+    current.map(|(slot, _)| slot)
 }
 
 // The running task is in a memory stall.
@@ -39,33 +68,19 @@ fn is_stalled(current: Option<(Slot, bool)>) -> bool
     matches!(current, Some((_, true)))
 }
 
-// The chain stands at the slot.
-fn stands_at(place: Option<Slot>, slot: Slot) -> bool
-    ensures { result ≡ is_at place slot.0 }
+// What is told of the running task is the same.
+fn is_same(current: Option<(Slot, bool)>, other: Option<(Slot, bool)>) -> bool
+    ensures { result ≡ true → current ≡ other }
 {
-    place == Some(slot)
+    let in_one_group = height(slot_of(current)) == height(slot_of(other));
+    in_one_group & (is_stalled(current) == is_stalled(other))
 }
 
-// The counts for a slot, if their chain stands there.
-fn share(place: Option<Slot>, slot: Slot, counts: &Counts) -> Counts
-    ensures { result ≡ (if is_at place slot.0 then counts.now else no_counts) }
+// The height on a chain once the walk has passed one, behind which the parent is.
+fn pass(place: u64, here: u64, parent: u64) -> u64
+    ensures { result ≡ passed here parent place }
 {
-    if stands_at(place, slot) {
-        *counts
-    } else {
-        NO_COUNTS
-    }
-}
-
-// The place on a chain once the walk has passed the slot.
-fn pass(place: Option<Slot>, slot: Slot, parent: Option<Slot>) -> Option<Slot>
-    ensures { result ≡ passed slot.0 parent place }
-{
-    if stands_at(place, slot) {
-        parent
-    } else {
-        place
-    }
+    if place == here { parent } else { place }
 }
 
 impl Chains {
@@ -74,31 +89,76 @@ impl Chains {
         ensures { result ≡ chains_of current change.now }
     {
         Chains {
-            minus: change.minus.map(|(slot, _)| slot),
-            plus: change.plus.map(|(slot, _)| slot),
-            before: current.map(|(slot, _)| slot),
-            after: change.current.map(|(slot, _)| slot),
+            minus: height(change.minus.map(|(slot, _)| slot)),
+            plus: height(change.plus.map(|(slot, _)| slot)),
+            before: height(slot_of(current)),
+            after: height(slot_of(change.current)),
         }
     }
 
-    /// The greatest slot at which a chain stands.
-    pub(crate) fn top(&self) -> Option<Slot>
-        ensures { height result ≡ top self.now }
+    /// The greatest height at which a chain stands.
+    pub(crate) fn top(&self) -> u64
+        ensures { result ≡ top self.now }
     {
         let counted = self.minus.max(self.plus);
         let running = self.before.max(self.after);
         counted.max(running)
     }
 
-    // Takes the chains that stand at the slot to its parent.
-    fn pass(&mut self, slot: Slot, parent: Option<Slot>)
-        ensures { self.new ≡ all_passed slot.0 parent self.old }
+    // Takes the chains that stand at a height to that of the parent.
+    fn pass(&mut self, here: u64, parent: u64)
+        ensures { self.new ≡ all_passed here parent self.old }
     {
-        self.minus = pass(self.minus, slot, parent);
-        self.plus = pass(self.plus, slot, parent);
-        self.before = pass(self.before, slot, parent);
-        self.after = pass(self.after, slot, parent);
+        self.minus = pass(self.minus, here, parent);
+        self.plus = pass(self.plus, here, parent);
+        self.before = pass(self.before, here, parent);
+        self.after = pass(self.after, here, parent);
     }
+}
+
+impl Sides {
+    // What a change means, where this task ran up to it.
+    fn of(current: Option<(Slot, bool)>, change: &Change) -> Sides
+        ensures at { result.at ≡ change.now.at }
+        ensures minus { result.minus ≡ counts_in change.now.minus }
+        ensures plus { result.plus ≡ counts_in change.now.plus }
+        ensures stalled { result.stalled ≡ is_current_stalled change.now.current }
+        ensures stays { result.stays ≡ true → current ≡ change.now.current }
+    {
+        Sides {
+            at: change.at,
+            minus: Part::of(change.minus),
+            plus: Part::of(change.plus),
+            stalled: is_stalled(change.current),
+            stays: is_same(current, change.current),
+        }
+    }
+}
+
+// Takes the group at a height through a change. Where the change takes and adds nothing there, and the running task stays,
+// there is nothing to do: it is on the chain of that task alone.
+fn turn_at(cell: &mut Cell, sides: &Sides, chains: &Chains, here: u64)
+    requires fits { CanFollow cell.old.counts (if chains.now.minus == here then sides.now.minus else no_counts) (if chains.now.plus == here then sides.now.plus else no_counts) }
+    requires up_to { IsUpTo sides.now.at cell.old.clock }
+    requires early { sides.now.at ≤ last_moment }
+    requires told { sides.now.stays ≡ true → (state : State) → mask_holds cell.old.clock.mask state ≡ tells state cell.old.counts (chains.now.after == here) sides.now.stalled }
+    ensures counts { Follows cell.old.counts (if chains.now.minus == here then sides.now.minus else no_counts) (if chains.now.plus == here then sides.now.plus else no_counts) cell.new.counts }
+    ensures clock { ClockFollows cell.old.clock sides.now.at cell.new.clock }
+    ensures up_to { IsUpTo sides.now.at cell.new.clock }
+    ensures told { (state : State) → mask_holds cell.new.clock.mask state ≡ tells state cell.new.counts (chains.now.after == here) sides.now.stalled }
+{
+    let takes = chains.minus == here;
+    let adds = chains.plus == here;
+    if sides.stays & !takes & !adds {
+        return;
+    }
+    cell.turn(
+        sides.at,
+        &sides.minus.at(takes),
+        &sides.plus.at(adds),
+        chains.after == here,
+        sides.stalled,
+    );
 }
 
 /// Takes the groups on the chains of a change through it. A parent has a smaller number, so the chains are walked together,
@@ -119,19 +179,15 @@ pub(crate) fn walk(
     ensures turned { (slot : ℕ) → IsTurned (numbers_of parents.now) change.now slot (cell_in cells.old slot) (cell_in cells.new slot) }
     ensures room { length cells.new ≡ length cells.old }
 {
-    let minus = counts_of(change.minus);
-    let plus = counts_of(change.plus);
-    let stalled = is_stalled(change.current);
+    let sides = Sides::of(current, change);
     let mut chains = Chains::of(current, change);
-    'up: while let Some(slot) = chains.top() {
-        let place = slot.0 as usize;
-        cells[place].turn(
-            change.at,
-            &share(chains.minus, slot, &minus),
-            &share(chains.plus, slot, &plus),
-            stands_at(chains.after, slot),
-            stalled,
-        );
-        chains.pass(slot, parents[place]);
+    'up: loop {
+        let here = chains.top();
+        if here == 0 {
+            return;
+        }
+        let place = here as usize - 1;
+        turn_at(&mut cells[place], &sides, &chains, here);
+        chains.pass(here, height(parents[place]));
     }
 }

@@ -8,6 +8,7 @@ mod cell;
 mod chains;
 mod clocks;
 mod laws;
+mod part;
 
 pub use clocks::SlotClocks;
 pub use laws::first_clocks;

@@ -19,27 +19,21 @@ pub const STATES: [State; 7] = [
     State::Nonidle,
 ];
 
-/// Whether the state holds by these counts.
+/// Whether the state holds by these counts. There is no branch on them: which states hold is hard to foresee.
 fn told(state: State, counts: &Counts, on_cpu: bool, current_stalled: bool) -> bool
     ensures { result ≡ tells state counts.now on_cpu current_stalled }
 {
     match state {
         State::IoSome => counts.io > 0,
-        State::IoFull => counts.io > 0 && counts.running == 0,
+        State::IoFull => (counts.io > 0) & (counts.running == 0),
         State::MemSome => counts.stalled > 0,
         State::MemFull => {
-            (counts.stalled > 0 && counts.running == counts.stalled_running)
-                || (on_cpu && current_stalled)
+            let all_stalled = (counts.stalled > 0) & (counts.running == counts.stalled_running);
+            all_stalled | (on_cpu & current_stalled)
         }
-        State::CpuSome => {
-            if on_cpu {
-                counts.running > 1
-            } else {
-                counts.running > 0
-            }
-        }
-        State::CpuFull => counts.running > 0 && !on_cpu,
-        State::Nonidle => counts.io > 0 || counts.stalled > 0 || counts.running > 0,
+        State::CpuSome => counts.running > u32::from(on_cpu),
+        State::CpuFull => (counts.running > 0) & !on_cpu,
+        State::Nonidle => (counts.io > 0) | (counts.stalled > 0) | (counts.running > 0),
     }
 }
 

@@ -73,7 +73,7 @@ impl Table {
         }
         Ok(Table {
             latest,
-            tasks: TaskMap::new(alloc),
+            tasks: TaskMap::new(alloc)?,
             running,
             members: Members::new(alloc)?,
             tree: Tree::new(alloc)?,

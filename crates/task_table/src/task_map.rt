@@ -1,7 +1,8 @@
 //! Tasks by their numbers.
-ghost use Rattle.std.specs.Prelude.{◌≡◌, OnOk, OnErr, IsSome};
+ghost use Rattle.std.specs.Prelude.{◌≡◌, ◌≤◌, IfOk, OnOk, OnErr, IsSome, None, length, replicate};
 ghost use Rattle.psi_spec.specs.World.{no_tasks, task_of, put, remove};
 ghost use Rattle.std.specs.FinMap as tasks_by;
+ghost use Rattle.task_table.specs.Listed.{tasks_in};
 
 use psi_base::NoMemory;
 use psi_spec::Task;
@@ -9,61 +10,76 @@ use std::alloc::Global;
 use std::collections::HashMap;
 use std::marker::Model;
 
-/// The live tasks, found by number.
+/// How many numbers have a place in the list of tasks: as many as tasks may live at once.
+const PLACES: usize = 65_536;
+
+/// The live tasks, found by number. A list finds those with small numbers by one load, where a map needs three or four.
 #[derive(Drop)]
 pub(crate) struct TaskMap {
-    by_pid: HashMap<u32, Task>,
+    /// The tasks with the numbers below `PLACES`, each in the place with its number.
+    listed: Vec<Option<Task>>,
+    /// The tasks with the other numbers.
+    others: HashMap<u32, Task>,
+    /// How many tasks there are in both.
+    count: usize,
 }
 
 impl Model for TaskMap {
-    ghost use Rattle.std.specs.Prelude.{nat_eq};
+    ghost use Rattle.std.specs.Prelude.{◌≡◌};
     ghost use Rattle.std.specs.FinMap as tasks_by;
     ghost use Rattle.std.specs.Coded.{coded_ℕ};
-    ghost use Rattle.std.specs.HashMap.{IsUnique};
     ghost use Rattle.psi_spec.specs.World.{Tasks};
     ghost use Rattle.psi_spec.specs.contracts.machine.Task as task_row;
+    ghost use Rattle.task_table.specs.Listed.{tasks_in};
 
     ghost Value = { Tasks };
 
     ghost coded = { tasks_by.code coded_ℕ task_row.the_row.coded };
 
-    ghost view = { λ m. tasks_by.from_entries m.by_pid.entries };
+    ghost view = { λ m. tasks_in m.listed.items m.others.entries };
 
-    ghost invariant = { λ m. IsUnique nat_eq m.by_pid };
+    ghost invariant = { λ m. m.count ≡ tasks_by.len (tasks_in m.listed.items m.others.entries) };
 }
 
 impl TaskMap {
     /// No task.
-    pub(crate) fn new(alloc: Global) -> TaskMap
-        ensures { result ≡ no_tasks }
+    pub(crate) fn new(alloc: Global) -> Result<TaskMap, NoMemory>
+        ensures { IfOk result (λ tasks. tasks ≡ no_tasks) }
     {
-        TaskMap {
-            by_pid: HashMap::new(alloc),
-        }
+        Ok(TaskMap {
+            listed: empty_places(alloc, PLACES)?,
+            others: HashMap::new(alloc),
+            count: 0,
+        })
     }
 
     /// How many tasks there are.
     pub(crate) fn len(&self) -> usize
         ensures { result ≡ tasks_by.len self.now }
     {
-        self.by_pid.len()
+        self.count
     }
 
     /// The task with this number.
     pub(crate) fn get(&self, pid: u32) -> Option<Task>
         ensures { result ≡ task_of self.now pid }
     {
-        self.by_pid.get(&pid).copied()
+        match self.listed.get(pid as usize) {
+            Some(place) => *place,
+            None => self.others.get(&pid).copied(),
+        }
     }
 
     /// Puts a task under a number. Where there is no memory for it, nothing changes.
     pub(crate) fn add(&mut self, pid: u32, task: Task) -> Result<(), NoMemory>
+        requires few { tasks_by.len self.old ≤ 65536 }
         ensures ok { OnOk result (self.new ≡ put self.old pid task) }
         ensures err { OnErr result (self.new ≡ self.old) }
     {
-        let Ok(_) = self.by_pid.insert(pid, task) else {
-            return Err(NoMemory);
-        };
+        let old = put(&mut self.listed, &mut self.others, pid, task)?;
+        if old.is_none() {
+            self.count += 1;
+        }
         Ok(())
     }
 
@@ -72,16 +88,73 @@ impl TaskMap {
         requires { IsSome (task_of self.old pid) }
         ensures { self.new ≡ put self.old pid task }
     {
-        let Some(place) = self.by_pid.get_mut(&pid) else {
+        let place = pid as usize;
+        if place < self.listed.len() {
+            self.listed[place] = Some(task);
+            return;
+        }
+        let Some(other) = self.others.get_mut(&pid) else {
             return;
         };
-        *place = task;
+        *other = task;
     }
 
     /// Removes the task with this number, if there is one.
     pub(crate) fn remove(&mut self, pid: u32)
         ensures { self.new ≡ remove self.old pid }
     {
-        self.by_pid.remove(&pid);
+        let old = take(&mut self.listed, &mut self.others, pid);
+        if old.is_some() {
+            self.count -= 1;
+        }
     }
+}
+
+/// So many places without a task.
+fn empty_places(alloc: Global, count: usize) -> Result<Vec<Option<Task>>, NoMemory>
+    ensures { IfOk result (λ places. places.items ≡ replicate count None) }
+{
+    match vec![in alloc; None; count] {
+        Ok(places) => Ok(places),
+        Err(_) => Err(NoMemory),
+    }
+}
+
+/// Puts a task under a number, and gives the one that it had. Where there is no memory for it, nothing changes.
+fn put(
+    listed: &mut [Option<Task>],
+    others: &mut HashMap<u32, Task>,
+    pid: u32,
+    task: Task,
+) -> Result<Option<Task>, NoMemory>
+    ensures old { IfOk result (λ old. old ≡ task_of (tasks_in listed.old others.old.entries) pid) }
+    ensures ok { OnOk result (tasks_in listed.new others.new.entries ≡ put (tasks_in listed.old others.old.entries) pid task) }
+    ensures err { OnErr result ((listed.new ≡ listed.old) × (others.new.entries ≡ others.old.entries)) }
+    ensures length { length listed.new ≡ length listed.old }
+{
+    let place = pid as usize;
+    if place < listed.len() {
+        let old = listed[place];
+        listed[place] = Some(task);
+        return Ok(old);
+    }
+    match others.insert(pid, task) {
+        Ok(old) => Ok(old),
+        Err(_) => Err(NoMemory),
+    }
+}
+
+/// Takes the task with a number away, if there is one.
+fn take(listed: &mut [Option<Task>], others: &mut HashMap<u32, Task>, pid: u32) -> Option<Task>
+    ensures old { result ≡ task_of (tasks_in listed.old others.old.entries) pid }
+    ensures tasks { tasks_in listed.new others.new.entries ≡ remove (tasks_in listed.old others.old.entries) pid }
+    ensures length { length listed.new ≡ length listed.old }
+{
+    let place = pid as usize;
+    if place < listed.len() {
+        let old = listed[place];
+        listed[place] = None;
+        return old;
+    }
+    others.remove(&pid)
 }

@@ -8,7 +8,7 @@ use Rattle.task_table.proofs.table.Table.new.Goals as goal
 
 pub invariant_of-result : goal.invariant_of-result
 invariant_of-result c =
-    rw (c.new.ensures, c.in_ok-new.ensures, c.in_ok-new-2.ensures) (record {
+    rw (c.in_ok-new.ensures, c.in_ok-new-2.ensures, c.in_ok-new-3.ensures) (record {
       legal = legal_first _;
       index = index.index_first _ c.loop.invariant.none;
       members_are = members.no_members;
@@ -20,4 +20,4 @@ pub returns : goal.returns
 returns c =
     let same : length c.loop.running.items ≡ c.args.cpus = omega (arith, c.loop.invariant.count, c.loop-test.false, c.loop.auto.counter-end) in
     let view : ℕ → TableView = λ n. record { limits = record { version = 1; cpus = n; latest = c.args.latest }; world = first_world } in
-    rw (c.new.ensures, c.in_ok-new-2.ensures) (ap view same)
+    rw (c.in_ok-new.ensures, c.in_ok-new-3.ensures) (ap view same)
