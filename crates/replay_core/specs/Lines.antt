@@ -1,10 +1,10 @@
 -- The lines of `stall`, by the plans of processors.
-use Rattle.std.specs.Prelude.{ℕ, List, length, map, slice_index_or}
+use Rattle.std.specs.Prelude.{◌≡◌, ℕ, List, length, map, slice_index_or}
 use Rattle.std.specs.List.{flat_map, range_with_len}
 use Rattle.psi_base.specs.declared.event.Slot.{Slot}
 use Rattle.psi_spec.specs.declared.machine.GroupLife.{GroupLife}
 use Rattle.psi_spec.specs.Groups.{path_at}
-use Rattle.psi_spec.specs.Plan.{PlanView, no_plan, planned_time}
+use Rattle.psi_spec.specs.Plan.{IsPlan, PlanView, no_plan, planned_time}
 use Rattle.psi_spec.specs.Stall.{states}
 use Rattle.psi_spec.specs.Text.{stall_line}
 use Rattle.proc_plan.specs.Clocks.{OnPlan}
@@ -28,3 +28,9 @@ all_lines groups order last plans = flat_map (λ cpu. plan_lines groups order la
 -- the clocks of a processor, by its number
 abbrev pub clocks_at : List OnPlan → ℕ → OnPlan
 clocks_at clocks cpu = slice_index_or clocks cpu (record { plan = no_plan; made = 0 })
+
+-- the clocks of a processor made all changes of a whole plan
+pub record HasMadeAll (plan : PlanView) (clocks : OnPlan) : Type 0 where
+  pub same : clocks.plan ≡ plan
+  pub all : clocks.made ≡ length plan.changes
+  pub whole : IsPlan plan

@@ -45,12 +45,18 @@ fn fault_status(fault: TraceFault) -> Status
 }
 
 // Runs `stall` over a trace.
-fn run_stall<S: Shelf, K: Sink>(alloc: Global, name: &str, shelf: &mut S, out: &mut K) -> Status
+fn run_stall<R: Threads + Sync, S: Shelf, K: Sink>(
+    rt: &R,
+    alloc: Global,
+    name: &str,
+    shelf: &mut S,
+    out: &mut K,
+) -> Status
     ensures kept { S.holds shelf.new ≡ S.holds shelf.old }
     ensures runs { Runs (stall name.now) (S.holds shelf.old) (S.faults shelf.old) (S.faults shelf.new) (S.absent shelf.old) (S.absent shelf.new) (K.faults out.old) (K.faults out.new) (K.has out.old) (K.has out.new) result }
 {
     match play_trace::<S, Planner>(alloc, name, shelf, TICK) {
-        Ok(planner) => write_stalls(alloc, planner, out),
+        Ok(planner) => write_stalls(rt, alloc, planner, out),
         Err(fault) => fault_status(fault),
     }
 }
@@ -77,7 +83,8 @@ fn run_check<S: Shelf, K: Sink>(alloc: Global, name: &str, shelf: &mut S, out: &
 }
 
 // Runs a command, if there is one.
-fn run_command<S: Shelf, K: Sink>(
+fn run_command<R: Threads + Sync, S: Shelf, K: Sink>(
+    rt: &R,
     alloc: Global,
     command: Option<Request<'_>>,
     shelf: &mut S,
@@ -87,7 +94,7 @@ fn run_command<S: Shelf, K: Sink>(
     ensures runs { RunsWords (seen_all command.entry) (S.holds shelf.old) (S.faults shelf.old) (S.faults shelf.new) (S.absent shelf.old) (S.absent shelf.new) (K.faults out.old) (K.faults out.new) (K.has out.old) (K.has out.new) result }
 {
     match command {
-        Some(Request::Stall { trace }) => run_stall(alloc, trace, shelf, out),
+        Some(Request::Stall { trace }) => run_stall(rt, alloc, trace, shelf, out),
         Some(Request::Check { trace }) => run_check(alloc, trace, shelf, out),
         None => Status::Usage,
     }
@@ -97,7 +104,7 @@ fn run_command<S: Shelf, K: Sink>(
 /// line that tells of the status to `note`; of `Done` nothing is told. A fault of `note` changes no status. The gate
 /// isn't used yet.
 pub fn run<R: Threads + Sync, S: Shelf, K: Sink, N: Sink, G: Gate>(
-    _rt: &R,
+    rt: &R,
     alloc: Global,
     words: &[String],
     shelf: &mut S,
@@ -137,7 +144,7 @@ pub fn run<R: Threads + Sync, S: Shelf, K: Sink, N: Sink, G: Gate>(
     ensures note_front { AppendsFront (N.has note.old) (N.has note.new) (status_text (command_of (map string_bytes words.now)) result) }
 {
     let command = read_words(words);
-    let status = run_command(alloc, command, shelf, out);
+    let status = run_command(rt, alloc, command, shelf, out);
     let _ = put_status(note, command, status);
     status
 }

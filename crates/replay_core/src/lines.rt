@@ -9,7 +9,7 @@ ghost use Rattle.psi_spec.specs.Share.{last_moment};
 ghost use Rattle.psi_spec.specs.Text.{check_text};
 ghost use Rattle.psi_spec.specs.World.{Limits};
 ghost use Rattle.proc_plan.specs.Plans.{plan_at};
-ghost use Rattle.replay_core.specs.Lines.{all_lines, clocks_at, plan_line, plan_lines};
+ghost use Rattle.replay_core.specs.Lines.{HasMadeAll, all_lines, clocks_at, plan_line, plan_lines};
 ghost use Rattle.replay_core.specs.Reads.{IsPlayed};
 
 use crate::text::{write_check, write_stall};
@@ -17,18 +17,6 @@ use proc_plan::{PlainClocks, Plans, ProcClocks};
 use psi_base::{Cpu, Ns, Sink, Slot, WriteFailed};
 use psi_spec::GroupLife;
 use task_table::Table;
-
-// Makes all changes of a plan that are left.
-fn make_all<C: ProcClocks>(clocks: &mut C, changes: u64)
-    requires all { changes ≡ length (C.plan clocks.old).changes }
-    requires within { C.made clocks.old ≤ changes }
-    ensures plan { C.plan clocks.new ≡ C.plan clocks.old }
-    ensures made { C.made clocks.new ≡ changes }
-{
-    'changes: while clocks.count() < changes {
-        clocks.apply();
-    }
-}
 
 // Writes the line of a group on a processor at the last moment (ns) of a trace.
 fn put_group<K: Sink, C: ProcClocks>(
@@ -53,28 +41,24 @@ fn put_group<K: Sink, C: ProcClocks>(
     write_stall(out, cpu, path, clocks.own(slot).opened(last))
 }
 
-// Makes all changes of a processor's plan, and then writes its lines at the last moment (ns) of a trace, for groups in this
-// order.
+// Writes the lines of a processor at the last moment (ns) of a trace, for groups in this order.
 #[tactic(auto, using(psi_base::proofs::Grows::growth))]
 fn put_processor<K: Sink, C: ProcClocks>(
     out: &mut K,
     cpu: Cpu,
     clocks: &mut C,
-    changes: u64,
     groups: &[GroupLife],
     order: &[Slot],
     last: Ns,
 ) -> Result<(), WriteFailed>
     requires made { All (λ (slot : Slot). slot.0 < length groups.now) order.now }
     requires whole { IsPlan (C.plan clocks.old) }
-    requires all { changes ≡ length (C.plan clocks.old).changes }
-    requires within { C.made clocks.old ≤ changes }
-    requires later { last_change (C.plan clocks.old) changes ≤ last }
+    requires all { C.made clocks.old ≡ length (C.plan clocks.old).changes }
+    requires later { last_change (C.plan clocks.old) (length (C.plan clocks.old).changes) ≤ last }
     requires early { last ≤ last_moment }
     ensures bytes { PutsAll (K.has out.old) (K.has out.new) result (plan_lines groups.now order.now last (C.plan clocks.old) cpu.0) }
     ensures cause { HasCause (K.faults out.old) (K.faults out.new) result }
 {
-    make_all(clocks, changes);
     'groups: for slot in order {
         put_group(out, cpu, clocks, groups, *slot, last)?;
     }
@@ -82,7 +66,7 @@ fn put_processor<K: Sink, C: ProcClocks>(
 }
 
 /// Writes the lines of all processors at the last moment (ns) of a trace: those of each processor in turn, for groups in
-/// this order. The clocks are those of the plans, before the first change.
+/// this order. The clocks are those of the plans, after all changes.
 pub(crate) fn put_lines<K: Sink>(
     out: &mut K,
     plans: &Plans,
@@ -92,7 +76,7 @@ pub(crate) fn put_lines<K: Sink>(
 ) -> Result<(), WriteFailed>
     requires each { length clocks.old ≡ length plans.now.plans }
     requires few { length clocks.old ≤ 64 }
-    requires fresh { (cpu : ℕ) → cpu < length clocks.old → clocks_at clocks.old cpu ≡ record { plan = plan_at plans.now cpu; made = 0 } }
+    requires all { (cpu : ℕ) → cpu < length clocks.old → HasMadeAll (plan_at plans.now cpu) (clocks_at clocks.old cpu) }
     requires made { All (λ (slot : Slot). slot.0 < length plans.now.lives) order.now }
     requires later { (cpu : ℕ) → cpu < length clocks.old → last_change (plan_at plans.now cpu) (length (plan_at plans.now cpu).changes) ≤ last }
     requires early { last ≤ last_moment }
@@ -102,8 +86,7 @@ pub(crate) fn put_lines<K: Sink>(
     let groups = plans.lives();
     'cpus: for place in 0..clocks.len() {
         let cpu = Cpu(place as u32);
-        let changes = plans.plan(cpu).len();
-        put_processor(out, cpu, &mut clocks[place], changes, groups, order, last)?;
+        put_processor(out, cpu, &mut clocks[place], groups, order, last)?;
     }
     Ok(())
 }

@@ -7,7 +7,7 @@ use Rattle.replay_core.proofs.lines.put_processor.Given as goal
 abbrev pub invariant-groups : goal.invariant-groups
 invariant-groups g l = record {
   plan : g.C.ProcClocks.plan l.clocks ≡ g.C.ProcClocks.plan l.fn.clocks;
-  made : g.C.ProcClocks.made l.clocks ≡ l.fn.changes;
+  made : g.C.ProcClocks.made l.clocks ≡ g.C.ProcClocks.made l.fn.clocks;
   sent : Appends (g.K.Sink.has l.fn.out) (g.K.Sink.has l.out) (flat_map (plan_line l.cpu.0 l.fn.groups (g.C.ProcClocks.plan l.fn.clocks) l.last) (take l.slot-index l.order));
   later : g.K.Sink.faults l.fn.out ≤ g.K.Sink.faults l.out;
 }

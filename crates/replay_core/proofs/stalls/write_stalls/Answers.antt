@@ -1,9 +1,18 @@
-use Rattle.std.proofs.Common.{arith, subst, ap, ◌∙◌, length}
+use Rattle.std.proofs.Common.{◌≡◌, arith, subst, sym, ap, ◌∙◌, length, drop}
 use Rattle.std.specs.Io.KnownBytes.{Appends}
+use Rattle.std.proofs.Math.Seq.{take-append_seam}
 use Rattle.psi_base.specs.Outside.{AppendsFront}
 use Rattle.group_tree.specs.Tree.{live_slots}
+use Rattle.proc_plan.specs.Plans.{plan_at}
+use Rattle.replay_core.specs.Lines.{HasMadeAll, clocks_at}
 use Rattle.replay_core.proofs.LineTexts.{ends_later, live_below, printed_text}
 use Rattle.replay_core.proofs.stalls.write_stalls.Goals as goal
+
+pub put_lines-requires-clause-all : goal.put_lines-requires-clause-all
+put_lines-requires-clause-all g c = λ cpu below.
+    let size : c.in-Ok-first_clocks.clocks.len ≡ length c.make_each.new.clocks = omega (arith, c.make_each.ensures.each, c.deref_mut.ensures.len, ap length c.deref_mut.ensures.value) in
+    let same = c.deref_mut-2.ensures.value ∙ rw size (take-append_seam c.make_each.new.clocks (drop (length c.make_each.new.clocks) c.in-Ok-first_clocks.clocks.items)) in
+    subst (λ clocks. HasMadeAll (plan_at c.in-Ok.plans cpu) (clocks_at clocks cpu)) (sym same) (c.make_each.ensures.all cpu (omega (arith, below, ap length same, c.make_each.ensures.each)))
 
 pub put_lines-requires-clause-made : goal.put_lines-requires-clause-made
 put_lines-requires-clause-made g c =
