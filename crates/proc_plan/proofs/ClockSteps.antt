@@ -1,29 +1,28 @@
 -- The clocks of a processor over one change of its plan.
 use Rattle.std.proofs.Common.{◌≡◌, ℕ, ◌+◌, ◌≤◌, ◌<◌, ◌^◌, refl, sym, ap, ◌∙◌, subst, arith, length, List, zero, suc, Option, None, Some, IfSome, if◌then◌else◌, Bool, true, false}
 use Rattle.std.specs.Prelude.{slice_get, slice_index_or}
-use Rattle.std.proofs.lemmas.List.{length-replicate}
+use Rattle.std.proofs.lemmas.List.{length-map, length-replicate}
 use Rattle.std.proofs.lemmas.Option.{slice_get_within, slice_get-get_or}
 use Rattle.psi_base.specs.declared.event.Slot.{Slot}
 use Rattle.psi_spec.specs.declared.machine.Change.{Change}
 use Rattle.psi_spec.specs.declared.machine.Counts.{Counts}
 use Rattle.psi_spec.specs.Clock.{ClockFollows}
-use Rattle.psi_spec.specs.Stall.{is_under}
+use Rattle.psi_spec.specs.Stall.{is_under, number_of_slot}
 use Rattle.psi_spec.specs.Touch.{AreAtMost, Follows, no_counts, on_chain}
-use Rattle.psi_spec.specs.Plan.{IsClock, PlanView, counts_after, current_after, holds_after, last_change}
+use Rattle.psi_spec.specs.Plan.{IsClock, IsPlan, PlanView, counts_after, current_after, holds_after, last_change}
 use Rattle.psi_spec.proofs.PlanClocks.{followed_is_clock, zero_is_clock}
 use Rattle.psi_spec.proofs.PlanStates.{counts_are}
 use Rattle.psi_spec.proofs.PlanSteps.{counts_by_change, current_by_change, plan_counts_are_few}
-use Rattle.slot_clocks.specs.Clocks.{AllCanFollow, AllClocksFollow, AllFollow, AreTold, CanFollow, ClocksView, cell_at, first_clocks, zero_cell}
+use Rattle.slot_clocks.specs.Clocks.{AllCanFollow, AllClocksFollow, AllFollow, AreTold, CanFollow, ClocksView, cell_at, first_clocks, numbers_of, zero_cell}
 use Rattle.slot_clocks.specs.declared.cell.Cell.{Cell}
-use Rattle.proc_plan.specs.Plans.{IsKept}
 use Rattle.proc_plan.specs.Clocks.{AreClocks}
 
 -- ---- the first clocks
 
 -- they are those after no change
-pub first_are : (plan : PlanView) → IsKept plan → AreClocks plan (first_clocks (length plan.parents)) 0
-first_are plan kept = record {
-  kept = kept;
+pub first_are : (plan : PlanView) → IsPlan plan → AreClocks plan (first_clocks (length plan.parents)) 0
+first_are plan whole = record {
+  whole = whole;
   within = omega arith;
   room = omega (arith, length-replicate (length plan.parents) zero_cell);
   current = refl;
@@ -39,14 +38,18 @@ first_are plan kept = record {
 
 -- ---- before a change
 
+-- the clocks' own list of parents is as long as the plan's
+pub as_many_parents : (parents : List (Option Slot)) (plan : PlanView) → numbers_of parents ≡ plan.parents → length plan.parents ≡ length parents
+as_many_parents parents plan same = sym (ap length same) ∙ length-map parents number_of_slot
+
 -- the running task is in a slot that the plan knows
-pub current_below : (plan : PlanView) (k : ℕ) → IsKept plan → k ≤ length plan.changes → IfSome (current_after plan k) (λ running. running.0.0 < length plan.parents)
-current_below plan zero kept within = tt
-current_below plan (suc k) kept within =
+pub current_below : (plan : PlanView) (k : ℕ) → IsPlan plan → k ≤ length plan.changes → IfSome (current_after plan k) (λ running. running.0.0 < length plan.parents)
+current_below plan zero whole within = tt
+current_below plan (suc k) whole within =
     let none : Change = record { at = 0; minus = None; plus = None; current = None } in
     let is = slice_get-get_or plan.changes k none (omega (arith, within)) in
     let next : suc k ≡ k + 1 = omega arith in
-    subst (λ o. IfSome o (λ (running : Slot × Bool). running.0.0 < length plan.parents)) (sym (ap (current_after plan) next ∙ (current_by_change plan k (slice_index_or plan.changes k none) is).0)) (kept.whole.slots k (slice_index_or plan.changes k none) is).current
+    subst (λ o. IfSome o (λ (running : Slot × Bool). running.0.0 < length plan.parents)) (sym (ap (current_after plan) next ∙ (current_by_change plan k (slice_index_or plan.changes k none) is).0)) (whole.slots k (slice_index_or plan.changes k none) is).current
 
 -- each mask has the states that its counts tell
 pub told : (plan : PlanView) (clocks : ClocksView) (k : ℕ) → AreClocks plan clocks k → AreTold plan.parents clocks
@@ -70,9 +73,9 @@ fits_in old minus plus new is few one = (omega (arith, is), omega (arith, few, o
 -- the counts of each slot can follow the change
 pub can_follow : (plan : PlanView) (clocks : ClocksView) (k : ℕ) (change : Change) → AreClocks plan clocks k → slice_get plan.changes k ≡ Some change → AllCanFollow plan.parents change clocks
 can_follow plan clocks k change are is slot =
-    let next = counts_by_change plan are.kept.whole.fits slot k change is in
-    let few = plan_counts_are_few plan are.kept.whole.fits slot k are.within in
-    let one = one_more plan.parents slot change.plus (are.kept.ones k change is).plus in
+    let next = counts_by_change plan are.whole.fits slot k change is in
+    let few = plan_counts_are_few plan are.whole.fits slot k are.within in
+    let one = one_more plan.parents slot change.plus (are.whole.ones k change is).plus in
     subst (λ counts. CanFollow counts (on_chain plan.parents slot change.minus) (on_chain plan.parents slot change.plus)) (sym (are.counts slot))
     (record {
       io = fits_in _ _ _ _ next.io few.io one.io;
@@ -110,16 +113,16 @@ next_clocks plan old new k change are is made =
     let counts : (slot : ℕ) → (cell_at new slot).counts ≡ counts_after plan slot (k + 1) = λ slot.
     same_follow (counts_after plan slot k) (on_chain plan.parents slot change.minus) (on_chain plan.parents slot change.plus) (cell_at new slot).counts (counts_after plan slot (k + 1))
     (subst (λ n. Follows n (on_chain plan.parents slot change.minus) (on_chain plan.parents slot change.plus) (cell_at new slot).counts) (are.counts slot) (made.counts slot))
-    (counts_by_change plan are.kept.whole.fits slot k change is) in
+    (counts_by_change plan are.whole.fits slot k change is) in
     record {
-      kept = are.kept;
+      whole = are.whole;
       within = omega (arith, room);
       room = omega (arith, are.room, made.room);
       current = current;
       last = last;
       counts = counts;
       each = λ slot.
-          followed_is_clock (cell_at old slot).clock (cell_at new slot).clock plan slot k (are.each slot) room (are.kept.whole.order k room)
+          followed_is_clock (cell_at old slot).clock (cell_at new slot).clock plan slot k (are.each slot) room (are.whole.order k room)
           (subst (λ at. ClockFollows (cell_at old slot).clock at (cell_at new slot).clock) (sym shown.1) (made.clocks slot))
           (λ state. made.told slot state ∙ rw (counts slot, current) refl);
     }

@@ -12,23 +12,20 @@ use Rattle.psi_spec.specs.Plan.{IsPlan, PlanView, no_plan, plan_of}
 use Rattle.psi_spec.specs.Stall.{parents_of}
 use Rattle.psi_spec.specs.Trace.{IsCpuCount}
 use Rattle.psi_spec.proofs.PlanLaws.{changes_are_numbered}
-use Rattle.psi_spec.proofs.PlanWhole.{are_of_one, plan_is_whole}
-use Rattle.proc_plan.specs.Plans.{ArePlans, HasTaken, IsKept, IsPlanner, PlannerView, PlansAreOfEvents, PlansView, StandFor, changes_at, plan_at, plan_over, plans_view}
+use Rattle.psi_spec.proofs.PlanWhole.{plan_is_whole}
+use Rattle.proc_plan.specs.Plans.{ArePlans, HasTaken, IsPlanner, PlannerView, PlansAreOfEvents, PlansView, StandFor, changes_at, plan_at, plan_over, plans_view}
 
 -- the plan that is made for a processor
 plan_is : (planner : PlannerView) (limits : Limits) (events : List Event) (groups : List GroupLife) (cpu : ℕ) → HasTaken planner limits events → groups ≡ planner.table.world.groups → cpu < limits.cpus → plan_over groups (changes_at planner cpu) ≡ plan_of cpu events
 plan_is planner limits events groups cpu taken same below =
     ap (λ gs. plan_over gs (changes_at planner cpu)) (same ∙ ap (λ (w : World). w.groups) taken.world) ∙ ap (plan_over (after events).groups) (taken.changes cpu below)
 
-kept : (limits : Limits) (events : List Event) (planner : PlannerView) (cpu : ℕ) → HasTaken planner limits events → IsKept (plan_of cpu events)
-kept limits events planner cpu taken = record { whole = plan_is_whole limits events taken.legal taken.short cpu; ones = are_of_one limits events taken.legal cpu }
-
--- each is kept
-pub all_kept : (planner : PlannerView) (limits : Limits) (events : List Event) (groups : List GroupLife) → IsPlanner planner → HasTaken planner limits events → groups ≡ planner.table.world.groups → All (λ changes. IsKept (plan_over groups changes)) planner.changes
-all_kept planner limits events groups is taken same = λ k d room.
+-- each is whole
+pub all_whole : (planner : PlannerView) (limits : Limits) (events : List Event) (groups : List GroupLife) → IsPlanner planner → HasTaken planner limits events → groups ≡ planner.table.world.groups → All (λ changes. IsPlan (plan_over groups changes)) planner.changes
+all_whole planner limits events groups is taken same = λ k d room.
     let below : k < limits.cpus = omega (arith, room, is.each, ap (λ (l : Limits). l.cpus) taken.limits_are) in
-    subst (λ changes. IsKept (plan_over groups changes)) (get_or_default planner.changes k [] d room)
-    (subst IsKept (sym (plan_is planner limits events groups k taken same below)) (kept limits events planner k taken))
+    subst (λ changes. IsPlan (plan_over groups changes)) (get_or_default planner.changes k [] d room)
+    (subst IsPlan (sym (plan_is planner limits events groups k taken same below)) (plan_is_whole limits events taken.legal taken.short k))
 
 -- what a planner gives at the end
 abbrev pub finished : PlannerView → List GroupLife → PlansView
@@ -47,7 +44,7 @@ are_plans planner limits events groups is taken same =
     let made : (cpu : ℕ) → cpu < length (finished planner groups).plans → plan_at (finished planner groups) cpu ≡ plan_of cpu events = λ cpu room. plan_made planner limits events groups cpu is taken same (omega (arith, room, many)) in
     record {
       counted = subst IsCpuCount (sym many) taken.counted;
-      whole = λ cpu room. subst IsPlan (sym (made cpu room)) (kept limits events planner cpu taken).whole;
+      whole = λ cpu room. subst IsPlan (sym (made cpu room)) (plan_is_whole limits events taken.legal taken.short cpu);
       parents = λ cpu room. ap (λ (plan : PlanView). plan.parents) (made cpu room) ∙ sym (ap parents_of (same ∙ ap (λ (w : World). w.groups) taken.world));
       small = is.small;
     }

@@ -1,8 +1,7 @@
 -- Clocks that run on a plan.
 use Rattle.std.specs.Prelude.{◌≡◌, ℕ, ◌≤◌, length}
-use Rattle.psi_spec.specs.Plan.{IsClock, PlanView, counts_after, current_after, last_change}
+use Rattle.psi_spec.specs.Plan.{IsClock, IsPlan, PlanView, counts_after, current_after, last_change}
 use Rattle.slot_clocks.specs.Clocks.{ClocksView, cell_at}
-use Rattle.proc_plan.specs.Plans.{IsKept}
 
 -- clocks on a plan: the plan, and how many of its changes were made
 pub record OnPlan : Type 0 where
@@ -12,7 +11,7 @@ pub record OnPlan : Type 0 where
 -- The clocks of a processor are those of its plan after the first k changes: they show the running task and the moment of
 -- the k-th, and the counts and the clock of each slot are those after k changes.
 pub record AreClocks (plan : PlanView) (clocks : ClocksView) (k : ℕ) : Type 0 where
-  pub kept : IsKept plan
+  pub whole : IsPlan plan
   pub within : k ≤ length plan.changes
   pub room : length plan.parents ≤ length clocks.cells
   pub current : clocks.current ≡ current_after plan k

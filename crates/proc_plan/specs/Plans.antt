@@ -1,5 +1,5 @@
 -- The plans of all processors, and for which events they stand.
-use Rattle.std.specs.Prelude.{◌≡◌, ◌≢◌, ◌⊎◌, ℕ, ◌+◌, ◌<◌, ◌≤◌, List, [], ◌∷◌, ◌++◌, length, map, slice_get, slice_index_or, Option, None, Some, Result, Ok, Err, ⊤, true, refl}
+use Rattle.std.specs.Prelude.{◌≡◌, ◌≢◌, ◌⊎◌, ℕ, ◌+◌, ◌<◌, ◌≤◌, List, [], ◌∷◌, ◌++◌, length, map, slice_index_or, Option, None, Some, Result, Ok, Err, ⊤, true, refl}
 use Rattle.std.specs.List.{All}
 use Rattle.psi_base.specs.declared.event.Cause.{Cause}
 use Rattle.psi_base.specs.declared.event.Cause.TheVariants as cause
@@ -17,7 +17,6 @@ use Rattle.psi_spec.specs.Stall.{parents_of}
 use Rattle.psi_spec.specs.Share.{last_moment}
 use Rattle.psi_spec.specs.Trace.{IsCpuCount}
 use Rattle.psi_spec.specs.Legal.{changes_from}
-use Rattle.psi_spec.specs.Touch.{IsOfOne}
 use Rattle.psi_spec.specs.Plan.{IsPlan, PlanView, change_at, changes_of, no_plan, plan_of}
 use Rattle.slot_clocks.specs.Clocks.{numbers_of}
 use Rattle.std.specs.Coded.{Coded, code_by, coded×, coded_list}
@@ -37,15 +36,6 @@ plan_view changes parents = record { changes = changes; parents = numbers_of par
 -- the plan that has the parents of groups, with these changes
 abbrev pub plan_over : List GroupLife → List Change → PlanView
 plan_over groups changes = record { changes = changes; parents = parents_of groups }
-
--- each change of a plan takes and adds the counts of one task each
-abbrev pub IsOfOnes : PlanView → Type 0
-IsOfOnes plan = (k : ℕ) (change : Change) → slice_get plan.changes k ≡ Some change → IsOfOne change
-
--- What holds of each plan: it is whole, and a change is of one task.
-pub record IsKept (plan : PlanView) : Type 0 where
-  pub whole : IsPlan plan
-  pub ones : IsOfOnes plan
 
 -- The plans of a trace: one for each processor, all groups ever made, the triggers, the sides, and the end moment (ns).
 pub record PlansView : Type 0 where

@@ -3,9 +3,8 @@
 ghost use Rattle.std.specs.Prelude.{◌≡◌, ◌-◌, ◌<◌, ◌≤◌, ◌↔◌, length, nat_le, slice_get, slice_index_or, None, Some};
 ghost use Rattle.psi_spec.specs.Stall.{number_of_slot};
 ghost use Rattle.psi_spec.specs.Plan.{IsPlan, changes_up_to, last_change};
-ghost use Rattle.psi_spec.specs.Touch.{IsOfOne};
 ghost use Rattle.slot_clocks.specs.Clocks.{numbers_of};
-ghost use Rattle.proc_plan.specs.Plans.{IsKept, plan_view};
+ghost use Rattle.proc_plan.specs.Plans.{plan_view};
 
 use crate::changes::Changes;
 use psi_base::{Ns, Slot};
@@ -15,8 +14,9 @@ use std::marker::Model;
 /// The changes of one processor in a trace, and the parents of all slots, by which a change reaches the groups above the
 /// slots that it names. Contracts see both as lists.
 ///
-/// There are at most 4,000,000 changes. Their moments never fall and are at most 60,000,000 s. They name slots that there
-/// are, a parent has a smaller slot, and after any number of changes each count of each slot is from 0 to 65,536.
+/// There are at most 4,000,000 changes. Their moments never fall and are at most 60,000,000 s. Each takes and adds the counts
+/// of one task at most, and names slots that there are; a parent has a smaller slot; and after any number of changes each
+/// count of each slot is from 0 to 65,536.
 #[derive(Drop)]
 pub struct Plan {
     changes: Changes,
@@ -25,20 +25,20 @@ pub struct Plan {
 }
 
 impl Model for Plan {
-    ghost use Rattle.psi_spec.specs.Plan.{PlanView};
-    ghost use Rattle.proc_plan.specs.Plans.{IsKept, plan_view};
+    ghost use Rattle.psi_spec.specs.Plan.{IsPlan, PlanView};
+    ghost use Rattle.proc_plan.specs.Plans.{plan_view};
 
     ghost Value = { PlanView };
 
     ghost view = { λ plan. plan_view plan.changes plan.parents.items };
 
-    ghost invariant = { λ plan. IsKept (plan_view plan.changes plan.parents.items) };
+    ghost invariant = { λ plan. IsPlan (plan_view plan.changes plan.parents.items) };
 }
 
 impl Plan {
     /// The plan of these changes and parents.
     pub(crate) fn new(changes: Changes, parents: Vec<Option<Slot>>) -> Plan
-        requires { IsKept (plan_view changes parents.items) }
+        requires { IsPlan (plan_view changes parents.items) }
         ensures { result ≡ plan_view changes parents.items }
     {
         Plan { changes, parents }
@@ -56,8 +56,7 @@ impl Plan {
     pub fn change(&self, k: u64) -> &Change
         requires from { 1 ≤ k }
         requires to { k ≤ length self.now.changes }
-        ensures change { slice_get self.now.changes (k - 1) ≡ Some result.now }
-        ensures one { IsOfOne result.now }
+        ensures { slice_get self.now.changes (k - 1) ≡ Some result.now }
     {
         &self.changes.all()[k as usize - 1]
     }
@@ -94,7 +93,7 @@ impl Plan {
     /// The parents of all slots, in the order of the slots.
     pub(crate) fn parents(&self) -> &[Option<Slot>]
         ensures parents { numbers_of result.now ≡ self.now.parents }
-        ensures kept { IsKept self.now }
+        ensures whole { IsPlan self.now }
     {
         &self.parents
     }

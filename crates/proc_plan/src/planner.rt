@@ -6,12 +6,13 @@ ghost use Rattle.psi_base.specs.declared.event.Event.{Event};
 ghost use Rattle.psi_spec.specs.World.{Limits, after};
 ghost use Rattle.psi_spec.specs.Grammar.{Fits};
 ghost use Rattle.psi_spec.specs.Legal.{with_change};
+ghost use Rattle.psi_spec.specs.Plan.{IsPlan};
 ghost use Rattle.psi_spec.specs.Share.{last_moment};
 ghost use Rattle.psi_spec.specs.Stall.{parents_of};
 ghost use Rattle.psi_spec.specs.Touch.{told_first};
 ghost use Rattle.psi_spec.specs.Trace.{IsCpuCount};
 ghost use Rattle.slot_clocks.specs.Clocks.{numbers_of};
-ghost use Rattle.proc_plan.specs.Plans.{AreSmall, HasTaken, HasTrace, IsKept, StandFor, Takes, plan_over};
+ghost use Rattle.proc_plan.specs.Plans.{AreSmall, HasTaken, HasTrace, StandFor, Takes, plan_over};
 ghost use Rattle.proc_plan.specs.Sides.{IsSmall, listed};
 
 use crate::changes::Changes;
@@ -121,7 +122,7 @@ fn parents_of(alloc: Global, groups: &Tree) -> Result<Vec<Option<Slot>>, NoMemor
 
 // The plans of these changes, each with the parents of all groups.
 fn make_plans(alloc: Global, changes: Vec<Changes>, groups: &Tree) -> Result<Vec<Plan>, NoMemory>
-    requires { All (λ changes. IsKept (plan_over groups.now changes)) changes.items }
+    requires { All (λ changes. IsPlan (plan_over groups.now changes)) changes.items }
     ensures { IfOk result (λ plans. plans.items ≡ map (plan_over groups.now) changes.items) }
 {
     let mut plans = Vec::new(alloc);

@@ -11,7 +11,7 @@ use Rattle.psi_spec.specs.Groups.{AreOlder, HaveParents}
 use Rattle.psi_spec.specs.Share.{last_moment}
 use Rattle.psi_spec.specs.Touch.{HasSlotsBelow, IsOfOne}
 use Rattle.psi_spec.specs.Legal.{added, changes_from, taken}
-use Rattle.psi_spec.specs.Plan.{AreOfOne, EmptyIsPlan, FitsPlan, LeavesFew, no_plan, last_change, PlanIsWhole, until_change}
+use Rattle.psi_spec.specs.Plan.{EmptyIsPlan, FitsPlan, LeavesFew, no_plan, last_change, PlanIsWhole, until_change}
 use Rattle.psi_spec.proofs.LegalLaws.{parent_each, more_groups}
 use Rattle.psi_spec.proofs.PlanLaws.{after-push, as_many, by_last, changes_same, changes_grow, touched_or_not, until_is}
 use Rattle.psi_spec.proofs.PlanStalls.{plan_is_in_order}
@@ -76,9 +76,6 @@ all_good-push limits cpu events event before legal =
 all_good : (limits : Limits) (cpu : ℕ) (events : List Event) → AllGood limits cpu events
 all_good limits cpu events = by_last (AllGood limits cpu) (λ _. good_none 1) (all_good-push limits cpu) events
 
-pub are_of_one : AreOfOne
-are_of_one limits events legal cpu k change is = (all_good limits cpu events legal k change is).one
-
 -- ---- how many changes
 
 abbrev ChangesAreFew : ℕ → List Event → Type 0
@@ -107,6 +104,7 @@ plan_is_whole limits events legal latest cpu = record {
       let world = legal_after limits (until_change cpu events k) (until_legal limits cpu events k legal) in
       omega (arith, until.last, world.early, latest);
   fits = plan_fits limits events legal cpu;
+  ones = λ k change is. (all_good limits cpu events legal k change is).one;
   slots = λ k change is. subst (λ n. HasSlotsBelow n change) (sym (parent_each (after events).groups)) (all_good limits cpu events legal k change is).slots;
   older = (legal_after limits events legal).groups.older;
   parented = (legal_after limits events legal).groups.parented;
@@ -146,6 +144,7 @@ empty_is_plan = record {
   order = λ k low. absurd (no_step k low);
   early = empty_early;
   fits = empty_fits;
+  ones = λ k change is. absurd (no_change k change is);
   slots = λ k change is. absurd (no_change k change is);
   older = empty_older;
   parented = empty_parented;

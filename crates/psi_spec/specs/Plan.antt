@@ -128,13 +128,14 @@ abbrev pub AreInOrder : PlanView → Type 0
 AreInOrder plan = (k : ℕ) → k < length plan.changes → last_change plan k ≤ last_change plan (k + 1)
 
 -- What holds of each plan: it has at most 4,000,000 changes, as many as a trace may have events; their moments never fall and
--- are at most 60,000,000 s, the longest trace; the counts fit; changes name slots that there are; and each slot but the first
--- has a parent, which is older.
+-- are at most 60,000,000 s, the longest trace; the counts fit; each change takes and adds the counts of one task at most, and
+-- names slots that there are; and each slot but the first has a parent, which is older.
 pub record IsPlan (plan : PlanView) : Type 0 where
   pub few : length plan.changes ≤ 4000000
   pub order : AreInOrder plan
   pub early : (k : ℕ) → k ≤ length plan.changes → last_change plan k ≤ last_moment
   pub fits : FitsPlan plan
+  pub ones : (k : ℕ) (change : Change) → slice_get plan.changes k ≡ Some change → IsOfOne change
   pub slots : (k : ℕ) (change : Change) → slice_get plan.changes k ≡ Some change → HasSlotsBelow (length plan.parents) change
   pub older : AreOlder plan.parents
   pub parented : HaveParents plan.parents
@@ -223,10 +224,6 @@ CountsByPlan = (limits : Limits) (events : List Event) → AreLegal limits first
 -- A plan of legal events is so, where the latest moment allowed is no later than that.
 abbrev pub PlanIsWhole : Type 0
 PlanIsWhole = (limits : Limits) (events : List Event) → AreLegal limits first_world events → limits.latest ≤ last_moment → (cpu : ℕ) → IsPlan (plan_of cpu events)
-
--- Each of its changes takes and adds the counts of one task.
-abbrev pub AreOfOne : Type 0
-AreOfOne = (limits : Limits) (events : List Event) → AreLegal limits first_world events → (cpu k : ℕ) (change : Change) → slice_get (plan_of cpu events).changes k ≡ Some change → IsOfOne change
 
 -- Planned time grows by a change as a clock does: up to the change by those before it, and from it on where the state holds
 -- after it.

@@ -1,6 +1,6 @@
 //! Laws of plans: the changes of one processor, and the clocks that run on them alone. Each function has an empty body: its
 //! contract is the law.
-ghost use Rattle.psi_spec.specs.Plan.{AreOfOne, AsideStays, ChangesAreNumbered, ChangesUntil, ClockIsInTime, CountsByChange, CountsByPlan, CurrentByChange, EmptyIsPlan, FollowedIsClock, KeptIsClock, PlaceOfMoment, PlanCountsAreFew, PlanIsWhole, PlanTellsStates, PlannedByChange, PlannedIsStall, StallByOwnChanges, StallUpTo, StatesStay, ZeroIsClock};
+ghost use Rattle.psi_spec.specs.Plan.{AsideStays, ChangesAreNumbered, ChangesUntil, ClockIsInTime, CountsByChange, CountsByPlan, CurrentByChange, EmptyIsPlan, FollowedIsClock, KeptIsClock, PlaceOfMoment, PlanCountsAreFew, PlanIsWhole, PlanTellsStates, PlannedByChange, PlannedIsStall, StallByOwnChanges, StallUpTo, StatesStay, ZeroIsClock};
 
 /// A processor's changes are what the events change that touch it, in their order and at their moments. The events up to
 /// the k-th of these have the first k changes, and end with the k-th.
@@ -17,10 +17,9 @@ pub fn plan_states()
 {}
 
 /// The plan of legal events is whole: its changes aren't too many, their moments never fall and aren't too late, its counts
-/// fit, its changes name slots that there are, and parents are older. Each change is of one task. The empty plan is whole too.
+/// fit, each change is of one task and names slots that there are, and parents are older. The empty plan is whole too.
 pub fn whole_plans()
     ensures whole { PlanIsWhole }
-    ensures ones { AreOfOne }
     ensures empty { EmptyIsPlan }
 {}
 

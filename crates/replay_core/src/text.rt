@@ -9,7 +9,6 @@ use itoa::Buffer;
 use psi_base::{Cpu, Ns, Sink, WriteFailed, put_all, put_each};
 
 // Writes a number behind a space.
-
 fn put_spaced<K: Sink>(out: &mut K, number: u64) -> Result<(), WriteFailed>
     ensures bytes { PutsAll (K.has out.old) (K.has out.new) result (spaced number) }
     ensures cause { HasCause (K.faults out.old) (K.faults out.new) result }

@@ -10,7 +10,7 @@ use Rattle.psi_spec.specs.Legal.{IsLegalWorld}
 use Rattle.psi_spec.proofs.LegalLaws.{legal_kept}
 use Rattle.task_table.proofs.Index.{running_told}
 use Rattle.task_table.specs.declared.changed.Changed.{Changed}
-use Rattle.task_table.specs.Named.{IsChanged, change_by}
+use Rattle.task_table.specs.Named.{IsChanged, change_for}
 use Rattle.task_table.specs.Stands.{IsIndex, table_of}
 use Rattle.psi_spec.specs.Refusal.{cause_of}
 use Rattle.psi_spec.specs.Touch.{touched, change_of, told_of, IsBeside, IsTouch, AllTouched, HasSlotsBelow, IsOfOne, AreWithin}
@@ -18,7 +18,7 @@ use Rattle.psi_spec.proofs.TouchWithin.{changes_are_within, all_touched}
 
 -- a touch that is read off the task that an event changes, and off the tasks that run after it
 pub touch_is : (w : World) (event : Event) (tasks : Tasks) (changed : Changed) (running : List (Option (ℕ × Task))) (touch : Touch) → IsChanged w.groups w.tasks event.act changed → tasks ≡ tasks_after w.groups w.tasks event.act → IsIndex running tasks
-    → ((cpu : ℕ) → told_of touch cpu ≡ (if touched event.act changed.old cpu then Some (change_by event.at changed (slice_index_or running cpu None) cpu) else None)) → IsBeside touch.first touch.second → IsTouch w event touch
+    → ((cpu : ℕ) → told_of touch cpu ≡ (if touched event.act changed.old cpu then Some (change_for event.at changed (slice_index_or running cpu None) cpu) else None)) → IsBeside touch.first touch.second → IsTouch w event touch
 unfolding change_of
 touch_is w event tasks changed running touch is are index told beside = record {
   told = λ cpu. rw (← are, running_told running tasks index cpu, ← is.new, ← is.old) (told cpu);

@@ -42,5 +42,5 @@ abbrev pub MayReplaceIf : ℕ → Option Task → Option Task → Type 0
 MayReplaceIf slots old new = IfSome old (λ o. IfSome new (λ n. MayReplace slots o n))
 
 -- the change of a processor at a moment (ns), by the task that an act changes and the task that runs there afterwards
-abbrev pub change_by : ℕ → Changed → Option (ℕ × Task) → ℕ → Change
-change_by at changed running cpu = record { at = at; minus = part cpu changed.old; plus = part cpu changed.new; current = shown running }
+abbrev pub change_for : ℕ → Changed → Option (ℕ × Task) → ℕ → Change
+change_for at changed running cpu = record { at = at; minus = part cpu changed.old; plus = part cpu changed.new; current = shown running }

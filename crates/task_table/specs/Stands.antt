@@ -52,9 +52,9 @@ pub record IsTable (table : TableView) (running : List (Option (ℕ × Task))) (
   pub cover : length table.world.groups ≤ length members
   pub cpus : length running ≤ 64
 
--- An event was played on a table: it is legal in a legal world and not earlier than the last, and the world after it is
+-- A table has advanced by an event: it is legal in a legal world and not earlier than the last, and the world after it is
 -- the one that it makes, which is legal too.
-pub record IsPlayed (old : TableView) (event : Event) (new : TableView) : Type 0 where
+pub record IsAdvanced (old : TableView) (event : Event) (new : TableView) : Type 0 where
   pub limits : new.limits ≡ old.limits
   pub legal : cause_of old.limits old.world event ≡ None
   pub world : new.world ≡ after_event old.world event

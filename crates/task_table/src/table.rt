@@ -6,7 +6,7 @@ ghost use Rattle.psi_spec.specs.Refusal.{cause_of};
 ghost use Rattle.psi_spec.specs.Legal.{IsLegalWorld};
 ghost use Rattle.task_table.specs.Causes.{IsFault};
 ghost use Rattle.task_table.specs.Named.{IsChanged, named_task};
-ghost use Rattle.task_table.specs.Stands.{IsPlayed};
+ghost use Rattle.task_table.specs.Stands.{IsAdvanced};
 
 use crate::causes::act_refused;
 use crate::changed::Changed;
@@ -218,7 +218,7 @@ impl Table {
 
     /// The world after the event as [`Table::play`] makes it, and the task that the event changes.
     fn advance(&mut self, event: &Event) -> Result<Changed, Fault<Cause>>
-        ensures played { OnOk result (IsPlayed self.old event.now self.new) }
+        ensures advanced { OnOk result (IsAdvanced self.old event.now self.new) }
         ensures changed { IfOk result (λ c. IsChanged self.old.world.groups self.old.world.tasks event.now.act c) }
         ensures fault { MatchResult result (λ _. Unit {0}) (IsFault (cause_of self.old.limits self.old.world event.now) event.now.act) }
         ensures err { OnErr result (self.new ≡ self.old) }

@@ -3,7 +3,7 @@
 ghost use Rattle.std.specs.Prelude.{◌≡◌, ℕ, if◌then◌else◌, Some, None, [], ◌∷◌, slice_index_or};
 ghost use Rattle.psi_spec.specs.Counts.{counts_among};
 ghost use Rattle.psi_spec.specs.Touch.{touched, part, shown, told_of, IsBeside};
-ghost use Rattle.task_table.specs.Named.{change_by};
+ghost use Rattle.task_table.specs.Named.{change_for};
 
 use crate::changed::Changed;
 use crate::running::{Running, running_at};
@@ -59,7 +59,7 @@ fn current_on(running: &[Running], cpu: Cpu) -> Option<(Slot, bool)>
 
 /// The change of a processor at a moment (ns), by the task that an act changes and by the tasks that run after it.
 fn change_of(at: Ns, changed: Changed, running: &[Running], cpu: Cpu) -> Change
-    ensures { result ≡ change_by at changed (slice_index_or running.now cpu.0 None) cpu.0 }
+    ensures { result ≡ change_for at changed (slice_index_or running.now cpu.0 None) cpu.0 }
 {
     Change {
         at,
@@ -72,7 +72,7 @@ fn change_of(at: Ns, changed: Changed, running: &[Running], cpu: Cpu) -> Change
 /// The changes at a moment (ns) of the processors that an act touches, by the task that it changes and by the tasks that
 /// run after it. Where a task comes from another processor, that one is the second.
 pub(crate) fn touch_of(at: Ns, act: &Act, changed: Changed, running: &[Running]) -> Touch
-    ensures told { (cpu : ℕ) → told_of result cpu ≡ (if touched act.now changed.old cpu then Some (change_by at changed (slice_index_or running.now cpu None) cpu) else None) }
+    ensures told { (cpu : ℕ) → told_of result cpu ≡ (if touched act.now changed.old cpu then Some (change_for at changed (slice_index_or running.now cpu None) cpu) else None) }
     ensures beside { IsBeside result.first result.second }
 {
     match act {

@@ -4,8 +4,5 @@ use Rattle.psi_spec.proofs.plans.whole_plans.Goals as goal
 pub returns-clause-whole : goal.returns-clause-whole
 returns-clause-whole c = laws.plan_is_whole
 
-pub returns-clause-ones : goal.returns-clause-ones
-returns-clause-ones c = laws.are_of_one
-
 pub returns-clause-empty : goal.returns-clause-empty
 returns-clause-empty c = laws.empty_is_plan

@@ -11,7 +11,7 @@ use Rattle.replay_core.proofs.stalls.write_stalls.Goals as goal
 pub put_lines-requires-clause-all : goal.put_lines-requires-clause-all
 put_lines-requires-clause-all g c = λ cpu below.
     let size : c.in-Ok-first_clocks.clocks.len ≡ length c.make_each.new.clocks = omega (arith, c.make_each.ensures.each, c.deref_mut.ensures.len, ap length c.deref_mut.ensures.value) in
-    let same = c.deref_mut-2.ensures.value ∙ rw size (take-append_seam c.make_each.new.clocks (drop (length c.make_each.new.clocks) c.in-Ok-first_clocks.clocks.items)) in
+    let same : c.deref_mut-2.result.now ≡ c.make_each.new.clocks = c.deref_mut-2.ensures.value ∙ rw size (take-append_seam c.make_each.new.clocks (drop (length c.make_each.new.clocks) c.in-Ok-first_clocks.clocks.items)) in
     subst (λ clocks. HasMadeAll (plan_at c.in-Ok.plans cpu) (clocks_at clocks cpu)) (sym same) (c.make_each.ensures.all cpu (omega (arith, below, ap length same, c.make_each.ensures.each)))
 
 pub put_lines-requires-clause-made : goal.put_lines-requires-clause-made

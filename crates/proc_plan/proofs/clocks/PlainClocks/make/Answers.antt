@@ -6,6 +6,6 @@ use Rattle.proc_plan.proofs.clocks.PlainClocks.make.Goals as goal
 
 pub invariant_of-result : goal.invariant_of-result
 invariant_of-result c = (
-  subst (λ clocks. AreClocks c.args.plan.now clocks 0) (sym (c.in_ok-make.ensures ∙ ap first_clocks c.requires)) (first_are c.args.plan.now c.parents.ensures.kept),
+  subst (λ clocks. AreClocks c.args.plan.now clocks 0) (sym (c.in_ok-make.ensures ∙ ap first_clocks c.requires)) (first_are c.args.plan.now c.parents.ensures.whole),
   c.parents.ensures.parents,
 )

@@ -1,19 +1,25 @@
 use Rattle.std.proofs.Common.{arith, subst, sym, ◌≡◌, ◌≤◌, ◌<◌, ◌+◌, ◌-◌, length, ap, ◌∙◌, Bool}
 use Rattle.std.specs.Prelude.{IfSome}
-use Rattle.std.proofs.lemmas.List.{length-map}
 use Rattle.psi_base.specs.declared.event.Slot.{Slot}
-use Rattle.psi_spec.specs.Stall.{number_of_slot}
+use Rattle.psi_spec.specs.Touch.{HasSlotsBelow}
 use Rattle.psi_spec.proofs.PlanSteps.{current_by_change}
-use Rattle.proc_plan.proofs.ClockSteps.{AreMade, can_follow, current_below, next_clocks, told}
+use Rattle.proc_plan.proofs.ClockSteps.{AreMade, as_many_parents, can_follow, current_below, next_clocks, told}
 use Rattle.proc_plan.proofs.clocks.PlainClocksProcClocks.apply.Goals as goal
 
 pub apply-requires-clause-current : goal.apply-requires-clause-current
 apply-requires-clause-current c =
     let are = c.self.invariant.0 in
-    let known : length c.self.inside.plan.now.parents ≡ length c.self.inside.parents.now = sym (ap length c.self.invariant.1) ∙ length-map c.self.inside.parents.now number_of_slot in
-    let below = current_below c.self.inside.plan.now c.self.inside.count are.kept are.within in
+    let known = as_many_parents c.self.inside.parents.now c.self.inside.plan.now c.self.invariant.1 in
+    let below = current_below c.self.inside.plan.now c.self.inside.count are.whole are.within in
     subst (λ n. IfSome c.self.inside.clocks.current (λ (running : Slot × Bool). running.0.0 < n)) known
     (subst (λ o. IfSome o (λ (running : Slot × Bool). running.0.0 < length c.self.inside.plan.now.parents)) (sym are.current) below)
+
+pub apply-requires-clause-slots : goal.apply-requires-clause-slots
+apply-requires-clause-slots c =
+    let place : c.self.inside.count + 1 - 1 ≡ c.self.inside.count = omega arith in
+    let is = rw place at c.change-change.ensures in
+    let known = as_many_parents c.self.inside.parents.now c.self.inside.plan.now c.self.invariant.1 in
+    subst (λ n. HasSlotsBelow n c.change-change.result.now) known (c.self.invariant.0.whole.slots c.self.inside.count c.change-change.result.now is)
 
 pub apply-requires-clause-told : goal.apply-requires-clause-told
 apply-requires-clause-told c = rw c.self.invariant.1 (told c.self.inside.plan.now c.self.inside.clocks c.self.inside.count c.self.invariant.0)
@@ -21,29 +27,29 @@ apply-requires-clause-told c = rw c.self.invariant.1 (told c.self.inside.plan.no
 pub apply-requires-clause-fits : goal.apply-requires-clause-fits
 apply-requires-clause-fits c =
     let place : c.self.inside.count + 1 - 1 ≡ c.self.inside.count = omega arith in
-    let is = rw place at c.change-change.ensures.change in
+    let is = rw place at c.change-change.ensures in
     rw c.self.invariant.1 (can_follow c.self.inside.plan.now c.self.inside.clocks c.self.inside.count c.change-change.result.now c.self.invariant.0 is)
 
 pub apply-requires-clause-later : goal.apply-requires-clause-later
 apply-requires-clause-later c =
     let place : c.self.inside.count + 1 - 1 ≡ c.self.inside.count = omega arith in
-    let is = rw place at c.change-change.ensures.change in
+    let is = rw place at c.change-change.ensures in
     let are = c.self.invariant.0 in
     let room : c.self.inside.count < length c.self.inside.plan.now.changes = search (arith, c.requires, c.self.view_is) in
-    omega (arith, are.last, are.kept.whole.order c.self.inside.count room, (current_by_change c.self.inside.plan.now c.self.inside.count c.change-change.result.now is).1)
+    omega (arith, are.last, are.whole.order c.self.inside.count room, (current_by_change c.self.inside.plan.now c.self.inside.count c.change-change.result.now is).1)
 
 pub apply-requires-clause-early : goal.apply-requires-clause-early
 apply-requires-clause-early c =
     let place : c.self.inside.count + 1 - 1 ≡ c.self.inside.count = omega arith in
-    let is = rw place at c.change-change.ensures.change in
+    let is = rw place at c.change-change.ensures in
     let are = c.self.invariant.0 in
     let room : c.self.inside.count + 1 ≤ length c.self.inside.plan.now.changes = search (arith, c.requires, c.self.view_is) in
-    omega (arith, are.kept.whole.early (c.self.inside.count + 1) room, (current_by_change c.self.inside.plan.now c.self.inside.count c.change-change.result.now is).1)
+    omega (arith, are.whole.early (c.self.inside.count + 1) room, (current_by_change c.self.inside.plan.now c.self.inside.count c.change-change.result.now is).1)
 
 pub invariant_of-self : goal.invariant_of-self
 invariant_of-self c =
     let place : c.self.inside.count + 1 - 1 ≡ c.self.inside.count = omega arith in
-    let is = rw place at c.change-change.ensures.change in
+    let is = rw place at c.change-change.ensures in
     let e = rw c.self.invariant.1 at c.apply.ensures in
     let made : AreMade c.self.inside.plan.now c.change-change.result.now c.self.inside.clocks c.apply.new.self = record { room = e.room; counts = e.counts; clocks = e.clocks; told = e.told; current = e.current; last = e.last } in
     (next_clocks c.self.inside.plan.now c.self.inside.clocks c.apply.new.self c.self.inside.count c.change-change.result.now c.self.invariant.0 is made, c.self.invariant.1)

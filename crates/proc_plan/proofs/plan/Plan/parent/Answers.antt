@@ -12,4 +12,4 @@ returns-clause-root c =
     let room = subst (λ (p : PlanView). c.args.slot.0 < length p.parents) (sym c.self.view_is) c.requires.made in
     let inside : c.args.slot.0 < length c.self.inside.parents.items = omega (arith, room, length-map c.self.inside.parents.items number_of_slot) in
     let known : number_of_slot c.index.result.now ≡ slice_index_or (numbers_of c.self.inside.parents.items) c.args.slot.0 None = ap number_of_slot c.index.ensures ∙ sym (get_or-map number_of_slot c.self.inside.parents.items c.args.slot.0 c.index.result.now None inside) in
-    root_alone (numbers_of c.self.inside.parents.items) c.args.slot.0 c.index.result.now c.self.invariant.whole.older c.self.invariant.whole.parented room known
+    root_alone (numbers_of c.self.inside.parents.items) c.args.slot.0 c.index.result.now c.self.invariant.older c.self.invariant.parented room known

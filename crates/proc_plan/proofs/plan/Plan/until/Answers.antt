@@ -9,7 +9,7 @@ use Rattle.proc_plan.proofs.plan.Plan.until.Goals as goal
 pub returns : goal.returns
 returns c =
     let plan = plan_view c.self.inside.changes c.self.inside.parents.items in
-    let order = c.self.invariant.whole.order in
+    let order = c.self.invariant.order in
     let facts = rw c.all.ensures at c.partition_point.ensures in
     let point = facts.partitioned (λ (change : Change). nat_le change.at c.args.at) (always_returns_same _ _ _ (λ a r f called. search (rules, of_calls))) (come_first plan c.args.at order) in
     rw (← c.self.view_is) (point_counts plan c.args.at c.partition_point.result order facts.bound point)

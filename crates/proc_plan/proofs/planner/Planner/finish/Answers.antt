@@ -1,13 +1,13 @@
 use Rattle.std.proofs.Common.{subst, sym}
 use Rattle.proc_plan.specs.Plans.{HasTaken, planner_view}
-use Rattle.proc_plan.proofs.Finishing.{all_kept, are_plans, they_stand}
+use Rattle.proc_plan.proofs.Finishing.{all_whole, are_plans, they_stand}
 use Rattle.proc_plan.proofs.planner.Planner.finish.Goals as goal
 
 pub make_plans-requires : goal.make_plans-requires
 make_plans-requires c =
     let planner = planner_view c.self.inside.table c.self.inside.changes.items c.self.inside.triggers.items c.self.inside.sides.items in
     let trace = c.requires in
-    all_kept planner trace.0 trace.1 c.into_groups-groups.result c.self.invariant (subst (λ p. HasTaken p trace.0 trace.1) (sym c.self.view_is) trace.2) c.into_groups-groups.ensures
+    all_whole planner trace.0 trace.1 c.into_groups-groups.result c.self.invariant (subst (λ p. HasTaken p trace.0 trace.1) (sym c.self.view_is) trace.2) c.into_groups-groups.ensures
 
 pub new-requires : goal.new-requires
 new-requires c =

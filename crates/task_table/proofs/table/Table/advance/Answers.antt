@@ -16,8 +16,8 @@ change_groups-requires-clause-legal c =
     let legal = causes.let_through c.args.self.now.limits c.args.self.now.world c.args.event.now (sym c.in_default.ensures.cause) in
     causes.groups_through _ c.self.inside.tree _ _ c.args.event.now.act (rw (← c.self.view_is) at legal)
 
-pub returns-clause-played : goal.returns-clause-played
-returns-clause-played c =
+pub returns-clause-advanced : goal.returns-clause-advanced
+returns-clause-advanced c =
     let kept : take c.self.inside.running.len (c.change_tasks.new.running ++ drop (length c.change_tasks.new.running) c.self.inside.running.items) ≡ c.change_tasks.new.running = rw (let size : c.self.inside.running.len ≡ length c.change_tasks.new.running = search rules in size) (take-append_seam _ _) in
     let size : length c.change_tasks.new.running ≡ length c.self.inside.running.items = search rules in
     let tasks : c.change_tasks.new.tasks ≡ tasks_after c.self.inside.tree c.self.inside.tasks c.args.event.now.act = search rules in
