@@ -3,13 +3,13 @@ use psi_base::{
     Cpu, Gate, HonestShelf, HonestSink, MemShelf, MemSink, NoMemory, OpenGate, Shelf, ShelfFault,
     Text, WriteFailed, put_all, put_each, put_number,
 };
-use std::alloc::{AllocError, Global};
+use std::alloc::Global;
 use std::test::Fail;
 
 // One file, `f`.
 fn one_file(alloc: Global, bytes: &[u8]) -> Result<Vec<(Text, Text)>, NoMemory> {
     let file = (Text::make(alloc, b"f")?, Text::make(alloc, bytes)?);
-    Ok(vec![in alloc; file].map_err(AllocError::from)?)
+    Ok(vec![in alloc; file]?)
 }
 
 #[test]
@@ -51,6 +51,10 @@ fn sinks_keep_a_prefix(rt: HostRuntime) -> Result<(), Fail> {
     assert_eq!(rt; sink.bytes.as_slice(), b"abcdefghi".as_slice());
     assert_eq!(rt; put_all(&mut sink, b"j"), Err(WriteFailed));
     assert_eq!(rt; (sink.calls, sink.faults), (5, 2));
+    let mut short = MemSink::new(alloc, 9, 2, vec![in alloc; 1]?)?;
+    assert_eq!(rt; put_number(&mut short, 12345), Err(WriteFailed));
+    assert_eq!(rt; short.bytes.as_slice(), b"12".as_slice());
+    assert_eq!(rt; (short.calls, short.faults), (2, 1));
     let mut honest = HonestSink::new(alloc, 8)?;
     let pieces = [b"ab".as_slice(), b"".as_slice(), b"cde".as_slice()];
     assert_eq!(rt; put_each(&mut honest, &pieces), Ok(()));

@@ -3,7 +3,7 @@ ghost use Rattle.std.specs.Prelude.{◌+◌, ◌<◌, ◌≤◌, ◌^◌};
 
 use psi_base::{MemShelf, Shelf, Text};
 use psi_lines::{Line, LineFault, Lines};
-use std::alloc::{AllocError, Global};
+use std::alloc::Global;
 use std::process::Abort;
 use std::test::Fail;
 
@@ -12,7 +12,7 @@ fn shelf_of(alloc: Global, bytes: &[u8], most: usize, fails: u64) -> Result<MemS
     requires { 0 < most }
 {
     let file = (Text::make(alloc, b"f")?, Text::make(alloc, bytes)?);
-    let files = vec![in alloc; file].map_err(AllocError::from)?;
+    let files = vec![in alloc; file]?;
     Ok(MemShelf::new(files, most, vec![in alloc; fails]?))
 }
 

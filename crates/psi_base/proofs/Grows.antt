@@ -69,6 +69,12 @@ pub front_last : (had xs ys has : List ℕ) → has ≡ (had ++ xs) ++ take (len
 front_last had xs ys has grew =
     rw (sym (append-nil (xs ++ ys))) (front_after had xs ys [] has grew)
 
+-- what was sent first, and then a front of the rest, is a front of all
+pub AppendsFront-last : (old mid new : Option (List ℕ)) (xs ys : List ℕ) → Appends old mid xs → AppendsFront mid new ys → AppendsFront old new (xs ++ ys)
+AppendsFront-last old mid new xs ys a front =
+    let all : AppendsFront old new (xs ++ (ys ++ [])) = AppendsFront-then old mid new xs ys [] a front in
+    rw (append-nil ys) at all
+
 -- what a failed call leaves
 pub PutsAll-failed : {T E : Type 0} → (old new : Option (List ℕ)) (result : Result T E) (bytes : List ℕ) → IsErr result → AppendsFront old new bytes → PutsAll old new result bytes
 PutsAll-failed old new (Ok value) bytes failed front = cc

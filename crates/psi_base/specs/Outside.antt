@@ -1,5 +1,5 @@
 -- What the calls of a shelf and a sink answer, and what they do to what these hold.
-use Rattle.std.specs.Prelude.{◌≡◌, ◌⊎◌, ℕ, ◌+◌, ◌-◌, ◌^◌, ◌≤◌, ◌<◌, min, List, [], ◌∷◌, ◌++◌, length, take, drop, Option, None, Some, Result, OnErr, MatchResult, ⊤, if◌then◌else◌}
+use Rattle.std.specs.Prelude.{◌≡◌, ◌⊎◌, ℕ, ◌+◌, ◌-◌, ◌^◌, ◌≤◌, ◌<◌, min, List, [], ◌∷◌, ◌++◌, length, take, drop, Option, None, Some, Result, OnOk, OnErr, MatchResult, ⊤, if◌then◌else◌}
 use Rattle.std.specs.Str.{bytes_eq}
 use Rattle.std.specs.Io.KnownBytes.{Appends}
 
@@ -25,10 +25,11 @@ pub record CountsWhere (Happened : Type 0) (before now : ℕ) : Type 0 where
   pub counted : Happened → now ≡ one_more before
   pub same : ¬ Happened → now ≡ before
 
--- a count doesn't fall, and rose where the result is a failure
+-- a count doesn't fall: it rose where the result is a failure, and else is as it was
 pub record HasCause {T E : Type 0} (before now : ℕ) (result : Result T E) : Type 0 where
   pub later : before ≤ now
   pub failed : OnErr result (Rose before now)
+  pub same : OnOk result (now ≡ before)
 
 -- the bytes that a shelf tells of a name
 abbrev pub told : Option Files → List ℕ → Option (List ℕ)
@@ -40,18 +41,31 @@ abbrev pub Lacks : Option Files → List ℕ → Type 0
 Lacks None name = ⊥
 Lacks (Some files) name = bytes_of files name ≡ None
 
--- n bytes were read from this place on into this buffer, none only at the end
-pub record ReadsBytes (bytes : List ℕ) (at n : ℕ) (into : List ℕ) : Type 0 where
+-- n bytes were read from this place on into the front of this buffer, none only at the end
+pub record ReadsBytes (bytes : List ℕ) (at n : ℕ) (before into : List ℕ) : Type 0 where
   pub read : take n into ≡ take n (drop at bytes)
   pub inside : n ≤ length bytes - at
   pub end : n ≡ 0 → 0 < length into → length bytes ≤ at
+  pub rest : drop n into ≡ drop n before
 
--- A shelf's counts don't fall, and rose where a call says that a read failed or a name was missed.
-pub record HasCauses (faults_before faults_now absent_before absent_now : ℕ) (HasFailed HasMissed : Type 0) : Type 0 where
-  pub faults_later : faults_before ≤ faults_now
-  pub absent_later : absent_before ≤ absent_now
-  pub failed : HasFailed → Rose faults_before faults_now
-  pub missed : HasMissed → Rose absent_before absent_now
+-- the counts of a shelf: reads that failed, and names that weren't there
+pub record ShelfCounts : Type 0 where
+  pub faults : ℕ
+  pub absent : ℕ
+
+-- the counts of a shelf, from the two
+abbrev pub counts_of : ℕ → ℕ → ShelfCounts
+counts_of faults absent = record { faults = faults; absent = absent }
+
+-- A shelf's counts don't fall. The first rose where a call says that a read failed, the second where it says that a
+-- name was missed, and each is as it was where not.
+pub record HasCauses (before now : ShelfCounts) (HasFailed HasMissed : Type 0) : Type 0 where
+  pub faults_later : before.faults ≤ now.faults
+  pub absent_later : before.absent ≤ now.absent
+  pub failed : HasFailed → Rose before.faults now.faults
+  pub missed : HasMissed → Rose before.absent now.absent
+  pub faults_same : ¬ HasFailed → now.faults ≡ before.faults
+  pub absent_same : ¬ HasMissed → now.absent ≡ before.absent
 
 -- known bytes grew by a front of these: by as many of them as they grew
 abbrev pub AppendsFront : Option (List ℕ) → Option (List ℕ) → List ℕ → Type 0
@@ -60,5 +74,30 @@ AppendsFront (Some had) None bytes = ⊥
 AppendsFront (Some had) (Some has) bytes = has ≡ had ++ take (length has - length had) bytes
 
 -- known bytes grew by all the bytes, or at a failure by a front of them
-abbrev pub PutsAll : {T E : Type 0} → Option (List ℕ) → Option (List ℕ) → Result T E → List ℕ → Type 0
-PutsAll old new result bytes = MatchResult result (λ _. Appends old new bytes) (λ _. AppendsFront old new bytes)
+abbrev pub PutsAll :
+    {T E : Type 0} → Option (List ℕ) → Option (List ℕ) → Result T E → List ℕ → Type 0
+PutsAll old new result bytes =
+    MatchResult result (λ _. Appends old new bytes) (λ _. AppendsFront old new bytes)
+
+-- how many bytes are known
+abbrev pub known_count : Option (List ℕ) → ℕ
+known_count None = 0
+known_count (Some bytes) = length bytes
+
+-- what stands below a sink that sends its bytes on: the name of its borrow, and how many bytes it is known to have
+pub record Below : Type 0 where
+  pub name : ℕ
+  pub count : ℕ
+
+-- a sink stands below, under the name of its borrow, and has these bytes, where they are known
+abbrev pub below_of : ℕ → Option (List ℕ) → Below
+below_of name has = record { name = name; count = known_count has }
+
+-- nothing stands below
+abbrev pub nothing_below : Below
+nothing_below = below_of 0 None
+
+-- the same sink stands below as before, and has no fewer bytes
+pub record StaysOver (before now : Below) : Type 0 where
+  pub same : now.name ≡ before.name
+  pub more : before.count ≤ now.count

@@ -1,6 +1,7 @@
 //! What a trace tells: moments, tasks, processors and groups, what happened to them, and why a line is refused.
 use crate::path::Path;
 use crate::text::NoMemory;
+use std::alloc::{AllocError, AllocFailed};
 
 /// A moment, or a length of time, in nanoseconds (ns).
 pub type Ns = u64;
@@ -282,6 +283,29 @@ impl<E> From<NoMemory> for Fault<E> {
     ghost from_gives = { λ _ e. e ≡ fault.NoMemory };
 
     fn from(_: NoMemory) -> Self {
+        Fault::NoMemory
+    }
+}
+
+impl<E> From<AllocError> for Fault<E> {
+    ghost use Rattle.std.specs.Prelude.{◌≡◌};
+    ghost use Rattle.psi_base.specs.declared.event.Fault.TheVariants as fault;
+
+    ghost from_gives = { λ _ e. e ≡ fault.NoMemory };
+
+    fn from(_: AllocError) -> Self {
+        Fault::NoMemory
+    }
+}
+
+/// The value that found no place is let go.
+impl<E, T: Drop> From<AllocFailed<T>> for Fault<E> {
+    ghost use Rattle.std.specs.Prelude.{◌≡◌};
+    ghost use Rattle.psi_base.specs.declared.event.Fault.TheVariants as fault;
+
+    ghost from_gives = { λ _ e. e ≡ fault.NoMemory };
+
+    fn from(_failed: AllocFailed<T>) -> Self {
         Fault::NoMemory
     }
 }

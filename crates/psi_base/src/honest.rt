@@ -2,7 +2,7 @@
 ghost use Rattle.std.specs.Prelude.{◌≡◌, ◌⊎◌, ◌-◌, ◌<◌, ◌≤◌, ℕ, List, Result, Some, None, length, take, min, IfOk, IsErr, vec_capacity, vec_len, IsErrOf, ◌↔◌, []};
 ghost use Rattle.std.specs.Io.{WritesAtMost};
 ghost use Rattle.std.specs.Io.KnownBytes.{WriteAppends};
-ghost use Rattle.psi_base.specs.Outside.{CountsWhere, HasCause, HasCauses, Lacks, ReadsBytes, bytes_of, told};
+ghost use Rattle.psi_base.specs.Outside.{CountsWhere, HasCause, HasCauses, Lacks, ReadsBytes, StaysOver, bytes_of, counts_of, nothing_below, told};
 
 use crate::memory::{copy_part, find, finds_no_room, take_part};
 use crate::outside::{Shelf, ShelfFault, Sink, WriteFailed};
@@ -47,13 +47,20 @@ impl Shelf for HonestShelf {
     fn read_at(&mut self, name: &str, at: u64, into: &mut [u8]) -> Result<usize, ShelfFault>
         ensures kept { (self.new.files ≡ self.old.files) × (self.new.most ≡ self.old.most) }
         ensures bound { IfOk result (λ n. n ≤ length into.new) }
-        ensures bytes { (bytes : List ℕ) → told (Some self.old.files.items) name.now ≡ Some bytes → IfOk result (λ n. ReadsBytes bytes at n into.new) }
-        ensures cause { HasCauses 0 0 self.old.absent self.new.absent (IsErrOf result ShelfFault.Failed) (IsErrOf result ShelfFault.NoFile) }
-        ensures missed { IsErrOf result ShelfFault.NoFile → told (Some self.old.files.items) name.now ≡ None }
-        ensures lacking { Lacks (Some self.old.files.items) name.now → IsErrOf result ShelfFault.NoFile ⊎ IsErrOf result ShelfFault.Failed }
-        ensures held { (bytes : List ℕ) → bytes_of self.old.files.items name.now ≡ Some bytes → result ≡ Ok (min self.old.most (min (length into.new) (length bytes - at))) }
-        ensures lacked { bytes_of self.old.files.items name.now ≡ None → result ≡ Err ShelfFault.NoFile }
-        ensures absent { CountsWhere (IsErrOf result ShelfFault.NoFile) self.old.absent self.new.absent }
+        ensures bytes { (bytes : List ℕ) → told (Some self.old.files.items) name.now ≡ Some bytes
+            → IfOk result (λ n. ReadsBytes bytes at n into.old into.new) }
+        ensures cause { HasCauses (counts_of 0 self.old.absent) (counts_of 0 self.new.absent)
+            (IsErrOf result ShelfFault.Failed) (IsErrOf result ShelfFault.NoFile) }
+        ensures missed { IsErrOf result ShelfFault.NoFile
+            → told (Some self.old.files.items) name.now ≡ None }
+        ensures lacking { Lacks (Some self.old.files.items) name.now
+            → IsErrOf result ShelfFault.NoFile ⊎ IsErrOf result ShelfFault.Failed }
+        ensures held { (bytes : List ℕ) → bytes_of self.old.files.items name.now ≡ Some bytes
+            → result ≡ Ok (min self.old.most (min (length into.new) (length bytes - at))) }
+        ensures lacked { bytes_of self.old.files.items name.now ≡ None
+            → result ≡ Err ShelfFault.NoFile }
+        ensures absent { CountsWhere
+            (IsErrOf result ShelfFault.NoFile) self.old.absent self.new.absent }
     {
         match find(&self.files, name.as_bytes()) {
             Some(bytes) => Ok(copy_part(bytes, at, self.most, into)),
@@ -102,10 +109,14 @@ impl Sink for HonestSink {
         ensures kept { self.new.room ≡ self.old.room }
         ensures bound { WritesAtMost result piece.now }
         ensures progress { IfOk result (λ n. 0 < length piece.now → 0 < n) }
-        ensures bytes { WriteAppends (Some self.old.bytes.items) (Some self.new.bytes.items) result piece.now }
+        ensures bytes { WriteAppends (Some self.old.bytes.items)
+            (Some self.new.bytes.items) result piece.now }
         ensures cause { HasCause self.old.faults self.new.faults result }
-        ensures failed { IsErr result ↔ ((0 < length piece.now) × (vec_len self.old.bytes ≡ self.old.room)) }
-        ensures count { IfOk result (λ n. n ≡ min (length piece.now) (self.old.room - vec_len self.old.bytes)) }
+        ensures below { StaysOver nothing_below nothing_below }
+        ensures failed { IsErr result ↔ ((0 < length piece.now)
+            × (vec_len self.old.bytes ≡ self.old.room)) }
+        ensures count { IfOk result (λ n. n ≡ min (length piece.now)
+            (self.old.room - vec_len self.old.bytes)) }
         ensures faults { CountsWhere (IsErr result) self.old.faults self.new.faults }
     {
         if finds_no_room(&self.bytes, self.room, piece) {

@@ -2,10 +2,12 @@
 //!
 //! - What a trace tells ([`Event`], [`Act`]) and why a line of it is refused ([`Cause`], [`Refusal`], [`Fault`]).
 //! - The outside: [`Shelf`] (files by name), [`Sink`] (places to write to) and [`Gate`] (points at which a test may
-//!   hold a thread), with fakes in memory whose every answer is said by their clauses.
+//!   hold a thread), with fakes in memory whose every answer is said by their clauses, and [`BufferedSink`], which
+//!   collects bytes for another sink.
 //! - Texts: [`Path`], [`Text`], [`Parts`], [`read_number`], [`put_number`], [`put_all`] and [`put_each`].
 #![tactic(auto)]
 
+mod buffer;
 mod event;
 mod honest;
 mod memory;
@@ -16,6 +18,7 @@ mod path;
 mod put;
 mod text;
 
+pub use buffer::{BufferedSink, Pending};
 pub use event::{
     Act, Cause, Cpu, Event, Fault, How, Level, Ns, Pid, Preference, Refusal, Res, Slot, State,
     TriggerSpec,

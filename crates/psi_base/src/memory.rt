@@ -2,7 +2,7 @@
 ghost use Rattle.std.specs.Prelude.{◌≡◌, ◌⊎◌, ◌+◌, ◌-◌, ◌<◌, ◌≤◌, ℕ, List, Option, Result, Some, None, length, take, drop, min, IfOk, IsErr, IsTrue, MatchOption, vec_capacity, vec_len, Contains, IsErrOf, ◌↔◌, [], ◌++◌};
 ghost use Rattle.std.specs.Io.{WritesAtMost};
 ghost use Rattle.std.specs.Io.KnownBytes.{WriteAppends};
-ghost use Rattle.psi_base.specs.Outside.{CountsWhere, HasCause, HasCauses, Lacks, ReadsBytes, bytes_of, one_more, told};
+ghost use Rattle.psi_base.specs.Outside.{CountsWhere, HasCause, HasCauses, Lacks, ReadsBytes, StaysOver, bytes_of, counts_of, nothing_below, one_more, told};
 
 use crate::outside::{Shelf, ShelfFault, Sink, WriteFailed};
 use crate::text::{NoMemory, Text};
@@ -10,7 +10,8 @@ use std::alloc::Global;
 
 // The bytes of a name, where it is held.
 pub(crate) fn find<'a>(files: &'a [(Text, Text)], name: &[u8]) -> Option<&'a [u8]>
-    ensures { MatchOption result (bytes_of files.now name.now ≡ None) (λ found. bytes_of files.now name.now ≡ Some found.now) }
+    ensures { MatchOption result (bytes_of files.now name.now ≡ None)
+        (λ found. bytes_of files.now name.now ≡ Some found.now) }
 {
     for file in files {
         if file.0.bytes() == name {
@@ -24,6 +25,7 @@ pub(crate) fn find<'a>(files: &'a [(Text, Text)], name: &[u8]) -> Option<&'a [u8
 pub(crate) fn copy_part(bytes: &[u8], at: u64, most: usize, into: &mut [u8]) -> usize
     ensures count { result ≡ min most (min (length into.new) (length bytes.now - at)) }
     ensures bytes { take result into.new ≡ take result (drop at bytes.now) }
+    ensures rest { drop result into.new ≡ drop result into.old }
 {
     if at >= bytes.len() as u64 {
         return 0;
@@ -86,7 +88,8 @@ impl MemShelf {
     /// A shelf of these files, before its first call.
     pub fn new(files: Vec<(Text, Text)>, most: usize, fails: Vec<u64>) -> MemShelf
         requires { 0 < most }
-        ensures { (result.files ≡ files) × (result.most ≡ most) × (result.fails ≡ fails) × (result.calls ≡ 0) × (result.faults ≡ 0) × (result.absent ≡ 0) }
+        ensures { (result.files ≡ files) × (result.most ≡ most) × (result.fails ≡ fails)
+            × (result.calls ≡ 0) × (result.faults ≡ 0) × (result.absent ≡ 0) }
     {
         MemShelf {
             files,
@@ -109,18 +112,30 @@ impl Shelf for MemShelf {
     /// A call whose number is in `fails` fails. Else a name that isn't held is `NoFile`, and of one that is held come
     /// as many bytes as there are from `at` on, at most `most` and the length of `into`.
     fn read_at(&mut self, name: &str, at: u64, into: &mut [u8]) -> Result<usize, ShelfFault>
-        ensures kept { (self.new.files ≡ self.old.files) × (self.new.most ≡ self.old.most) × (self.new.fails ≡ self.old.fails) }
+        ensures kept { (self.new.files ≡ self.old.files) × (self.new.most ≡ self.old.most)
+            × (self.new.fails ≡ self.old.fails) }
         ensures bound { IfOk result (λ n. n ≤ length into.new) }
-        ensures bytes { (bytes : List ℕ) → told (Some self.old.files.items) name.now ≡ Some bytes → IfOk result (λ n. ReadsBytes bytes at n into.new) }
-        ensures cause { HasCauses self.old.faults self.new.faults self.old.absent self.new.absent (IsErrOf result ShelfFault.Failed) (IsErrOf result ShelfFault.NoFile) }
-        ensures missed { IsErrOf result ShelfFault.NoFile → (told (Some self.old.files.items) name.now ≡ None) × (self.new.faults ≡ self.old.faults) }
-        ensures lacking { Lacks (Some self.old.files.items) name.now → IsErrOf result ShelfFault.NoFile ⊎ IsErrOf result ShelfFault.Failed }
+        ensures bytes { (bytes : List ℕ) → told (Some self.old.files.items) name.now ≡ Some bytes
+            → IfOk result (λ n. ReadsBytes bytes at n into.old into.new) }
+        ensures cause { HasCauses (counts_of self.old.faults self.old.absent)
+            (counts_of self.new.faults self.new.absent)
+            (IsErrOf result ShelfFault.Failed) (IsErrOf result ShelfFault.NoFile) }
+        ensures missed { IsErrOf result ShelfFault.NoFile
+            → told (Some self.old.files.items) name.now ≡ None }
+        ensures lacking { Lacks (Some self.old.files.items) name.now
+            → IsErrOf result ShelfFault.NoFile ⊎ IsErrOf result ShelfFault.Failed }
         ensures calls { self.new.calls ≡ one_more self.old.calls }
-        ensures failed { IsErrOf result ShelfFault.Failed ↔ Contains self.old.fails.items self.old.calls }
-        ensures held { (bytes : List ℕ) → bytes_of self.old.files.items name.now ≡ Some bytes → ¬ Contains self.old.fails.items self.old.calls → result ≡ Ok (min self.old.most (min (length into.new) (length bytes - at))) }
-        ensures lacked { bytes_of self.old.files.items name.now ≡ None → ¬ Contains self.old.fails.items self.old.calls → result ≡ Err ShelfFault.NoFile }
-        ensures faults { CountsWhere (IsErrOf result ShelfFault.Failed) self.old.faults self.new.faults }
-        ensures absent { CountsWhere (IsErrOf result ShelfFault.NoFile) self.old.absent self.new.absent }
+        ensures failed { IsErrOf result ShelfFault.Failed
+            ↔ Contains self.old.fails.items self.old.calls }
+        ensures held { (bytes : List ℕ) → bytes_of self.old.files.items name.now ≡ Some bytes
+            → ¬ Contains self.old.fails.items self.old.calls
+            → result ≡ Ok (min self.old.most (min (length into.new) (length bytes - at))) }
+        ensures lacked { bytes_of self.old.files.items name.now ≡ None
+            → ¬ Contains self.old.fails.items self.old.calls → result ≡ Err ShelfFault.NoFile }
+        ensures faults { CountsWhere
+            (IsErrOf result ShelfFault.Failed) self.old.faults self.new.faults }
+        ensures absent { CountsWhere
+            (IsErrOf result ShelfFault.NoFile) self.old.absent self.new.absent }
     {
         let call = self.calls;
         self.calls = call.saturating_add(1);
@@ -167,7 +182,8 @@ impl MemSink {
         fails: Vec<u64>,
     ) -> Result<MemSink, NoMemory>
         requires { 0 < most }
-        ensures { IfOk result (λ s. (s.bytes.items ≡ []) × (s.room ≡ room) × (s.most ≡ most) × (s.fails ≡ fails) × (s.calls ≡ 0) × (s.faults ≡ 0)) }
+        ensures { IfOk result (λ s. (s.bytes.items ≡ []) × (s.room ≡ room) × (s.most ≡ most)
+            × (s.fails ≡ fails) × (s.calls ≡ 0) × (s.faults ≡ 0)) }
     {
         let bytes = Vec::with_capacity(alloc, room)?;
         Ok(MemSink {
@@ -189,14 +205,19 @@ impl Sink for MemSink {
     /// A call whose number is in `fails` fails, and so does one with a piece that isn't empty where the room is full.
     /// Else it takes what fits into the room, at most `most` bytes.
     fn write(&mut self, piece: &[u8]) -> Result<usize, WriteFailed>
-        ensures kept { (self.new.room ≡ self.old.room) × (self.new.most ≡ self.old.most) × (self.new.fails ≡ self.old.fails) }
+        ensures kept { (self.new.room ≡ self.old.room) × (self.new.most ≡ self.old.most)
+            × (self.new.fails ≡ self.old.fails) }
         ensures bound { WritesAtMost result piece.now }
         ensures progress { IfOk result (λ n. 0 < length piece.now → 0 < n) }
-        ensures bytes { WriteAppends (Some self.old.bytes.items) (Some self.new.bytes.items) result piece.now }
+        ensures bytes { WriteAppends (Some self.old.bytes.items)
+            (Some self.new.bytes.items) result piece.now }
         ensures cause { HasCause self.old.faults self.new.faults result }
+        ensures below { StaysOver nothing_below nothing_below }
         ensures calls { self.new.calls ≡ one_more self.old.calls }
-        ensures failed { IsErr result ↔ (Contains self.old.fails.items self.old.calls ⊎ ((0 < length piece.now) × (vec_len self.old.bytes ≡ self.old.room))) }
-        ensures count { IfOk result (λ n. n ≡ min self.old.most (min (length piece.now) (self.old.room - vec_len self.old.bytes))) }
+        ensures failed { IsErr result ↔ (Contains self.old.fails.items self.old.calls
+            ⊎ ((0 < length piece.now) × (vec_len self.old.bytes ≡ self.old.room))) }
+        ensures count { IfOk result (λ n. n ≡ min self.old.most
+            (min (length piece.now) (self.old.room - vec_len self.old.bytes))) }
         ensures faults { CountsWhere (IsErr result) self.old.faults self.new.faults }
     {
         let call = self.calls;

@@ -1,7 +1,7 @@
 //! Decimal numbers, in the one spelling.
 ghost use Rattle.std.specs.Prelude.{◌≡◌, ◌^◌, ◌<◌, ℕ, IfSome, IfNone, decimal};
 ghost use Rattle.psi_base.specs.Number.{number_of, digits_of};
-ghost use Rattle.psi_base.specs.Outside.{PutsAll, HasCause};
+ghost use Rattle.psi_base.specs.Outside.{HasCause, PutsAll, StaysOver};
 
 use crate::outside::{Sink, WriteFailed};
 use crate::put::put_all;
@@ -48,6 +48,7 @@ pub fn read_number(bytes: &[u8]) -> Option<u64>
 pub fn put_number<K: Sink>(out: &mut K, n: u64) -> Result<(), WriteFailed>
     ensures bytes { PutsAll (K.has out.old) (K.has out.new) result (decimal n) }
     ensures cause { HasCause (K.faults out.old) (K.faults out.new) result }
+    ensures below { StaysOver (K.below out.old) (K.below out.new) }
 {
     let mut buffer = itoa::Buffer::new();
     put_all(out, buffer.format(n).as_bytes())

@@ -2,7 +2,7 @@
 ghost use Rattle.std.specs.Prelude.{◌≡◌, ◌⊎◌, ℕ, List, Option, Some, None, length, IfOk, IsErrOf, ◌<◌, ◌≤◌};
 ghost use Rattle.std.specs.Io.KnownBytes.{WriteAppends};
 ghost use Rattle.std.specs.Io.{WritesAtMost};
-ghost use Rattle.psi_base.specs.Outside.{Files, told, Lacks, ReadsBytes, HasCauses, HasCause};
+ghost use Rattle.psi_base.specs.Outside.{Below, Files, HasCause, HasCauses, Lacks, ReadsBytes, StaysOver, counts_of, nothing_below, told};
 
 use crate::event::Cpu;
 
@@ -39,10 +39,14 @@ pub trait Shelf {
     fn read_at(&mut self, name: &str, at: u64, into: &mut [u8]) -> Result<usize, ShelfFault>
         ensures kept { holds self.new ≡ holds self.old }
         ensures bound { IfOk result (λ n. n ≤ length into.new) }
-        ensures bytes { (bytes : List ℕ) → told (holds self.old) name.now ≡ Some bytes → IfOk result (λ n. ReadsBytes bytes at n into.new) }
-        ensures cause { HasCauses (faults self.old) (faults self.new) (absent self.old) (absent self.new) (IsErrOf result ShelfFault.Failed) (IsErrOf result ShelfFault.NoFile) }
-        ensures missed { IsErrOf result ShelfFault.NoFile → (told (holds self.old) name.now ≡ None) × (faults self.new ≡ faults self.old) }
-        ensures lacking { Lacks (holds self.old) name.now → IsErrOf result ShelfFault.NoFile ⊎ IsErrOf result ShelfFault.Failed };
+        ensures bytes { (bytes : List ℕ) → told (holds self.old) name.now ≡ Some bytes
+            → IfOk result (λ n. ReadsBytes bytes at n into.old into.new) }
+        ensures cause { HasCauses (counts_of (faults self.old) (absent self.old))
+            (counts_of (faults self.new) (absent self.new))
+            (IsErrOf result ShelfFault.Failed) (IsErrOf result ShelfFault.NoFile) }
+        ensures missed { IsErrOf result ShelfFault.NoFile → told (holds self.old) name.now ≡ None }
+        ensures lacking { Lacks (holds self.old) name.now → IsErrOf result ShelfFault.NoFile
+            ⊎ IsErrOf result ShelfFault.Failed };
 }
 
 /// A place to write to. Its count has 64 bits, starts at 0, never falls, and stops at its last value.
@@ -53,13 +57,18 @@ pub trait Sink {
     /// How many writes have failed.
     ghost faults: { Self → ℕ };
 
+    /// What stands below a sink that sends its bytes on to one that it borrows. No call changes which one it is, and
+    /// none takes bytes away from it: so a caller knows what that one has in the end.
+    ghost below: { Self → Below } = { λ _. nothing_below };
+
     /// Takes bytes from the front of the piece, at least one where it isn't empty, and says how many. `WriteFailed`
     /// has taken nothing.
     fn write(&mut self, piece: &[u8]) -> Result<usize, WriteFailed>
         ensures bound { WritesAtMost result piece.now }
         ensures progress { IfOk result (λ n. 0 < length piece.now → 0 < n) }
         ensures bytes { WriteAppends (has self.old) (has self.new) result piece.now }
-        ensures cause { HasCause (faults self.old) (faults self.new) result };
+        ensures cause { HasCause (faults self.old) (faults self.new) result }
+        ensures below { StaysOver (below self.old) (below self.new) };
 }
 
 /// Points of a run at which a test may make one thread wait for another. No call changes an answer.

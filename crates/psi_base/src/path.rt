@@ -1,5 +1,5 @@
 //! Paths of control groups.
-ghost use Rattle.std.specs.Prelude.{◌≡◌, ℕ, List, IfOk, true, ◌∷◌, [], ◌==◌};
+ghost use Rattle.std.specs.Prelude.{◌≡◌, ℕ, List, IfOk, IsErr, true, ◌∷◌, [], ◌==◌};
 ghost use Rattle.std.proofs.Common.{rules};
 ghost use Rattle.std.specs.Cmp.{partial_order_from_own_ties};
 ghost use Rattle.std.specs.Cmp.Rules.{comparing};
@@ -99,9 +99,11 @@ impl Path {
         })
     }
 
-    /// The path that the bytes are. None exactly where they are no path.
+    /// The path that the bytes are. None exactly where they are no path; only a path takes memory.
     pub fn read(alloc: Global, bytes: &[u8]) -> Result<Option<Path>, NoMemory>
-        ensures { IfOk result (λ read. MatchOption read (is_path bytes.now ≡ false) (λ path. (is_path bytes.now ≡ true) × (path ≡ bytes.now))) }
+        ensures read { IfOk result (λ read. MatchOption read (is_path bytes.now ≡ false)
+            (λ path. (is_path bytes.now ≡ true) × (path ≡ bytes.now))) }
+        ensures memory { IsErr result → is_path bytes.now ≡ true }
     {
         if !is_path(bytes) {
             return Ok(None);

@@ -1,5 +1,6 @@
 -- What reading the next line gives.
-use Rattle.std.specs.Prelude.{◌≡◌, ℕ, ◌+◌, List, [], ◌++◌, drop, take, length, ◌<◌, ◌≤◌, slice_index, Option, None, Some, Result, Ok, Err, ⊤}
+use Rattle.std.specs.Prelude.{◌≡◌, ℕ, ◌+◌, List, [], ◌++◌, drop, take, length, ◌<◌, ◌≤◌, slice_index, Option, None, Some, Result, Ok, Err, IsErrOf, ⊤}
+use Rattle.psi_base.specs.Outside.{ShelfCounts, HasCauses}
 use Rattle.psi_lines.specs.Lines.{Reader, NoNewline, left, BeginsWithLine, IsTooLong, IsCut}
 use Rattle.psi_lines.specs.declared.lines.Line.{Line}
 use Rattle.psi_lines.specs.declared.lines.LineFault.{LineFault}
@@ -25,6 +26,11 @@ number_after number (Err fault) = number
 pub record FillsBytes (bytes : List ℕ) (at : ℕ) (old new : List ℕ) (n : ℕ) : Type 0 where
   pub left : new ++ drop (at + n) bytes ≡ old ++ drop at bytes
   pub end : n ≡ 0 → drop at bytes ≡ []
+
+-- A shelf counted this fault of reading and nothing else: a failed read, or a name that it hasn't.
+abbrev pub CausesFault : {T : Type 0} → ShelfCounts → ShelfCounts → Result T LineFault → Type 0
+CausesFault before now result =
+    HasCauses before now (IsErrOf result ReadFault) (IsErrOf result NoFile)
 
 -- a read has no fault but that there is no file, or that it failed
 abbrev pub IsReadFault : {T : Type 0} → Result T LineFault → Type 0

@@ -1,7 +1,7 @@
 //! The bytes that were read and not handed out.
 ghost use Rattle.std.specs.Prelude.{◌≡◌, ◌+◌, ◌-◌, ◌<◌, ◌≤◌, ◌⊎◌, [], ℕ, List, length, drop, take, IfOk, OnErr, IsErrOf, Some, None};
-ghost use Rattle.psi_base.specs.Outside.{told, Lacks, HasCauses, ReadsBytes};
-ghost use Rattle.psi_lines.specs.Next.{FillsBytes, IsReadFault};
+ghost use Rattle.psi_base.specs.Outside.{told, Lacks, ReadsBytes, counts_of};
+ghost use Rattle.psi_lines.specs.Next.{CausesFault, FillsBytes, IsReadFault};
 
 use crate::lines::LineFault;
 use psi_base::{NoMemory, Shelf, ShelfFault};
@@ -40,10 +40,13 @@ fn read_behind<S: Shelf>(
     ensures kept { S.holds shelf.new ≡ S.holds shelf.old }
     ensures front { take held bytes.new ≡ take held bytes.old }
     ensures bound { IfOk result (λ n. held + n ≤ length bytes.new) }
-    ensures bytes { (all : List ℕ) → told (S.holds shelf.old) name.now ≡ Some all → IfOk result (λ n. ReadsBytes all at n (drop held bytes.new)) }
-    ensures cause { HasCauses (S.faults shelf.old) (S.faults shelf.new) (S.absent shelf.old) (S.absent shelf.new) (IsErrOf result LineFault.ReadFault) (IsErrOf result LineFault.NoFile) }
-    ensures missed { IsErrOf result LineFault.NoFile → (told (S.holds shelf.old) name.now ≡ None) × (S.faults shelf.new ≡ S.faults shelf.old) }
-    ensures lacking { Lacks (S.holds shelf.old) name.now → IsErrOf result LineFault.NoFile ⊎ IsErrOf result LineFault.ReadFault }
+    ensures bytes { (all : List ℕ) → told (S.holds shelf.old) name.now ≡ Some all
+        → IfOk result (λ n. ReadsBytes all at n (drop held bytes.old) (drop held bytes.new)) }
+    ensures cause { CausesFault (counts_of (S.faults shelf.old) (S.absent shelf.old))
+        (counts_of (S.faults shelf.new) (S.absent shelf.new)) result }
+    ensures missed { IsErrOf result LineFault.NoFile → told (S.holds shelf.old) name.now ≡ None }
+    ensures lacking { Lacks (S.holds shelf.old) name.now → IsErrOf result LineFault.NoFile
+        ⊎ IsErrOf result LineFault.ReadFault }
     ensures faults { IsReadFault result }
 {
     match shelf.read_at(name, at, &mut bytes[held..]) {
@@ -69,7 +72,8 @@ impl Model for Buffer {
 
     ghost view = { λ b. take (b.end - b.start) (drop b.start b.bytes.items) };
 
-    ghost invariant = { λ b. (b.start ≤ b.end) × (b.end ≤ length b.bytes.items) × (length b.bytes.items ≡ 66048) };
+    ghost invariant = { λ b. (b.start ≤ b.end) × (b.end ≤ length b.bytes.items)
+        × (length b.bytes.items ≡ 66048) };
 }
 
 impl Buffer {
@@ -119,11 +123,15 @@ impl Buffer {
         ensures count { IfOk result (λ n. length self.new ≡ length self.old + n) }
         ensures room { length self.new ≤ ROOM }
         ensures front { take (length self.old) self.new ≡ self.old }
-        ensures bytes { (bytes : List ℕ) → told (S.holds shelf.old) name.now ≡ Some bytes → IfOk result (FillsBytes bytes at self.old self.new) }
+        ensures bytes { (bytes : List ℕ) → told (S.holds shelf.old) name.now ≡ Some bytes
+            → IfOk result (FillsBytes bytes at self.old self.new) }
         ensures err { OnErr result (self.new ≡ self.old) }
-        ensures cause { HasCauses (S.faults shelf.old) (S.faults shelf.new) (S.absent shelf.old) (S.absent shelf.new) (IsErrOf result LineFault.ReadFault) (IsErrOf result LineFault.NoFile) }
-        ensures missed { IsErrOf result LineFault.NoFile → (told (S.holds shelf.old) name.now ≡ None) × (S.faults shelf.new ≡ S.faults shelf.old) }
-        ensures lacking { Lacks (S.holds shelf.old) name.now → IsErrOf result LineFault.NoFile ⊎ IsErrOf result LineFault.ReadFault }
+        ensures cause { CausesFault (counts_of (S.faults shelf.old) (S.absent shelf.old))
+            (counts_of (S.faults shelf.new) (S.absent shelf.new)) result }
+        ensures missed { IsErrOf result LineFault.NoFile
+            → told (S.holds shelf.old) name.now ≡ None }
+        ensures lacking { Lacks (S.holds shelf.old) name.now → IsErrOf result LineFault.NoFile
+            ⊎ IsErrOf result LineFault.ReadFault }
         ensures faults { IsReadFault result }
     {
         let held = self.end - self.start;

@@ -1,8 +1,8 @@
 //! Lines of a name's bytes, however the shelf cuts them.
 ghost use Rattle.std.specs.Prelude.{◌≡◌, ◌≢◌, ◌+◌, ◌-◌, ◌*◌, ◌<◌, ◌≤◌, ◌^◌, ◌↔◌, ◌⊎◌, [], ◌++◌, ℕ, List, length, drop, take, IfOk, OnErr, IsErrOf, IsTrue, MatchOption, slice_index, Ok, Some, None, false};
-ghost use Rattle.psi_base.specs.Outside.{told, Lacks, HasCauses};
+ghost use Rattle.psi_base.specs.Outside.{told, Lacks, counts_of};
 ghost use Rattle.psi_lines.specs.Lines.{NoNewline, Reader, left};
-ghost use Rattle.psi_lines.specs.Next.{EndsAt, FindsLine, IsMissing, IsNumbered, IsReadFault, IsShortLine, NextOf, ReadsOn, number_after};
+ghost use Rattle.psi_lines.specs.Next.{CausesFault, EndsAt, FindsLine, IsMissing, IsNumbered, IsReadFault, IsShortLine, NextOf, ReadsOn, number_after};
 
 use crate::buffer::{Buffer, LINE, ROOM};
 use memchr::memchr;
@@ -77,12 +77,15 @@ impl Model for Lines {
 
     ghost view = { λ l. record { name = string_bytes l.name; number = l.number; held = l.held; at = l.at } };
 
-    ghost invariant = { λ l. (l.number ≤ 2 ^ 32) × (l.at ≤ 513 * l.number + length l.held) × (length l.held ≤ 66048) };
+    ghost invariant = { λ l. (l.number ≤ 2 ^ 32) × (l.at ≤ 513 * l.number + length l.held)
+        × (length l.held ≤ 66048) };
 }
 
 // Where the first newline stands among the bytes that a line and its newline can have.
 fn newline_in(held: &[u8]) -> Option<usize>
-    ensures { MatchOption result ((k : ℕ) → k < length held.now → k < LINE → slice_index held.now k ≢ 10) (λ i. (i < length held.now) × (i < LINE) × (slice_index held.now i ≡ 10) × NoNewline held.now i) }
+    ensures { MatchOption result ((k : ℕ) → k < length held.now → k < LINE
+        → slice_index held.now k ≢ 10) (λ i. (i < length held.now) × (i < LINE)
+        × (slice_index held.now i ≡ 10) × NoNewline held.now i) }
 {
     memchr(b'\n', &held[..held.len().min(LINE)])
 }
@@ -101,12 +104,16 @@ fn find_line<S: Shelf>(
     ensures kept { S.holds shelf.new ≡ S.holds shelf.old }
     ensures on { ReadsOn held.old at.old held.new at.new }
     ensures short { length held.new ≤ ROOM }
-    ensures left { (bytes : List ℕ) → told (S.holds shelf.old) name.now ≡ Some bytes → held.new ++ drop at.new bytes ≡ held.old ++ drop at.old bytes }
+    ensures left { (bytes : List ℕ) → told (S.holds shelf.old) name.now ≡ Some bytes
+        → held.new ++ drop at.new bytes ≡ held.old ++ drop at.old bytes }
     ensures found { FindsLine number held.new result }
-    ensures end { (bytes : List ℕ) → told (S.holds shelf.old) name.now ≡ Some bytes → EndsAt bytes at.new result }
-    ensures cause { HasCauses (S.faults shelf.old) (S.faults shelf.new) (S.absent shelf.old) (S.absent shelf.new) (IsErrOf result LineFault.ReadFault) (IsErrOf result LineFault.NoFile) }
+    ensures end { (bytes : List ℕ) → told (S.holds shelf.old) name.now ≡ Some bytes
+        → EndsAt bytes at.new result }
+    ensures cause { CausesFault (counts_of (S.faults shelf.old) (S.absent shelf.old))
+        (counts_of (S.faults shelf.new) (S.absent shelf.new)) result }
     ensures missed { IsErrOf result LineFault.NoFile → told (S.holds shelf.old) name.now ≡ None }
-    ensures missing { held.old ≡ [] → Lacks (S.holds shelf.old) name.now → (held.new ≡ []) × (at.new ≡ at.old) × IsMissing result }
+    ensures missing { held.old ≡ [] → Lacks (S.holds shelf.old) name.now → (held.new ≡ [])
+        × (at.new ≡ at.old) × IsMissing result }
 {
     'reads: loop {
         let line = held.held();
@@ -158,13 +165,17 @@ impl Lines {
         ensures kept { S.holds shelf.new ≡ S.holds shelf.old }
         ensures name { self.new.name ≡ self.old.name }
         ensures number { self.new.number ≡ number_after self.old.number result }
-        ensures line { (bytes : List ℕ) → told (S.holds shelf.old) self.old.name ≡ Some bytes → NextOf bytes self.old self.new result }
+        ensures line { (bytes : List ℕ) → told (S.holds shelf.old) self.old.name ≡ Some bytes
+            → NextOf bytes self.old self.new result }
         ensures numbered { IsNumbered self.old.number result }
         ensures short { IsShortLine result }
         ensures fault { OnErr result (ReadsOn self.old.held self.old.at self.new.held self.new.at) }
-        ensures cause { HasCauses (S.faults shelf.old) (S.faults shelf.new) (S.absent shelf.old) (S.absent shelf.new) (IsErrOf result LineFault.ReadFault) (IsErrOf result LineFault.NoFile) }
-        ensures missed { IsErrOf result LineFault.NoFile → told (S.holds shelf.old) self.old.name ≡ None }
-        ensures missing { self.old.held ≡ [] → Lacks (S.holds shelf.old) self.old.name → (self.new.held ≡ []) × (self.new.at ≡ self.old.at) × IsMissing result }
+        ensures cause { CausesFault (counts_of (S.faults shelf.old) (S.absent shelf.old))
+            (counts_of (S.faults shelf.new) (S.absent shelf.new)) result }
+        ensures missed { IsErrOf result LineFault.NoFile
+            → told (S.holds shelf.old) self.old.name ≡ None }
+        ensures missing { self.old.held ≡ [] → Lacks (S.holds shelf.old) self.old.name
+            → (self.new.held ≡ []) × (self.new.at ≡ self.old.at) × IsMissing result }
     {
         let number = self.number as u32;
         let found = find_line(
@@ -188,12 +199,16 @@ impl Lines {
     pub fn next_bytes<S: Shelf>(&mut self, shelf: &mut S) -> Result<Option<&[u8]>, LineFault>
         requires { self.old.number < 2 ^ 32 }
         ensures kept { S.holds shelf.new ≡ S.holds shelf.old }
-        ensures* rest { sem 𝓛 (Rests the_row self.entry (λ new. LendsLine (S.holds shelf.old) self.old new result)) }
+        ensures* rest { sem 𝓛 (Rests the_row self.entry (λ new. LendsLine
+            (S.holds shelf.old) self.old new result)) }
         ensures numbered { IsNumbered self.old.number (lent_line self.old.number result) }
         ensures short { IsShortLine (lent_line self.old.number result) }
-        ensures cause { HasCauses (S.faults shelf.old) (S.faults shelf.new) (S.absent shelf.old) (S.absent shelf.new) (IsErrOf result LineFault.ReadFault) (IsErrOf result LineFault.NoFile) }
-        ensures missed { IsErrOf result LineFault.NoFile → told (S.holds shelf.old) self.old.name ≡ None }
-        ensures missing { self.old.held ≡ [] → Lacks (S.holds shelf.old) self.old.name → IsMissing result }
+        ensures cause { CausesFault (counts_of (S.faults shelf.old) (S.absent shelf.old))
+            (counts_of (S.faults shelf.new) (S.absent shelf.new)) result }
+        ensures missed { IsErrOf result LineFault.NoFile
+            → told (S.holds shelf.old) self.old.name ≡ None }
+        ensures missing { self.old.held ≡ [] → Lacks (S.holds shelf.old) self.old.name
+            → IsMissing result }
         ensures memory { IsErrOf result LineFault.NoMemory → ⊥ }
     {
         let number = self.number as u32;
@@ -216,14 +231,20 @@ impl Lines {
     pub fn is_at_end<S: Shelf>(&mut self, shelf: &mut S) -> Result<bool, LineFault>
         ensures kept { S.holds shelf.new ≡ S.holds shelf.old }
         ensures same { (self.new.name ≡ self.old.name) × (self.new.number ≡ self.old.number) }
-        ensures held { self.old.held ≢ [] → (result ≡ Ok false) × (self.new ≡ self.old) × (shelf.new ≡ shelf.old) }
+        ensures held { self.old.held ≢ [] → (result ≡ Ok false) × (self.new ≡ self.old)
+            × (shelf.new ≡ shelf.old) }
         ensures end { IfOk result (λ b. IsTrue b ↔ (self.new.held ≡ [])) }
-        ensures left { (bytes : List ℕ) → told (S.holds shelf.old) self.old.name ≡ Some bytes → (left self.new bytes ≡ left self.old bytes) × IfOk result (λ b. IsTrue b ↔ (left self.old bytes ≡ [])) }
+        ensures left { (bytes : List ℕ) → told (S.holds shelf.old) self.old.name ≡ Some bytes
+            → (left self.new bytes ≡ left self.old bytes)
+            × IfOk result (λ b. IsTrue b ↔ (left self.old bytes ≡ [])) }
         ensures on { ReadsOn self.old.held self.old.at self.new.held self.new.at }
         ensures faults { IsReadFault result }
-        ensures cause { HasCauses (S.faults shelf.old) (S.faults shelf.new) (S.absent shelf.old) (S.absent shelf.new) (IsErrOf result LineFault.ReadFault) (IsErrOf result LineFault.NoFile) }
-        ensures missed { IsErrOf result LineFault.NoFile → (told (S.holds shelf.old) self.old.name ≡ None) × (S.faults shelf.new ≡ S.faults shelf.old) }
-        ensures missing { self.old.held ≡ [] → Lacks (S.holds shelf.old) self.old.name → (self.new.held ≡ []) × (self.new.at ≡ self.old.at) × IsMissing result }
+        ensures cause { CausesFault (counts_of (S.faults shelf.old) (S.absent shelf.old))
+            (counts_of (S.faults shelf.new) (S.absent shelf.new)) result }
+        ensures missed { IsErrOf result LineFault.NoFile
+            → told (S.holds shelf.old) self.old.name ≡ None }
+        ensures missing { self.old.held ≡ [] → Lacks (S.holds shelf.old) self.old.name
+            → (self.new.held ≡ []) × (self.new.at ≡ self.old.at) × IsMissing result }
     {
         if !self.held.held().is_empty() {
             return Ok(false);

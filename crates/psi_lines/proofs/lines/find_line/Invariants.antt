@@ -10,8 +10,8 @@ invariant-reads g l = record {
   on : ReadsOn l.fn.held l.fn.at l.held l.at;
   short : length l.held ≤ 66048;
   left : (bytes : List ℕ) → told (g.S.Shelf.holds l.fn.shelf) l.fn.name ≡ Some bytes → l.held ++ drop l.at bytes ≡ l.fn.held ++ drop l.fn.at bytes;
-  faults : g.S.Shelf.faults l.fn.shelf ≤ g.S.Shelf.faults l.shelf;
-  absent : g.S.Shelf.absent l.fn.shelf ≤ g.S.Shelf.absent l.shelf;
+  faults : g.S.Shelf.faults l.shelf ≡ g.S.Shelf.faults l.fn.shelf;
+  absent : g.S.Shelf.absent l.shelf ≡ g.S.Shelf.absent l.fn.shelf;
   missing : l.fn.held ≡ [] → Lacks (g.S.Shelf.holds l.fn.shelf) l.fn.name → l.held ≡ [];
 }
 

@@ -1,0 +1,18 @@
+use Rattle.std.proofs.Common.{◌++◌, decimal, arith, rules}
+use Rattle.psi_base.proofs.Grows.{Appends-then, AppendsFront-last}
+use Rattle.psi_base.proofs.Buffered.{put_failed, puts_flushed}
+use Rattle.base_tests.proofs.buffered.put_buffered.Goals as goal
+
+pub returns-in_err-put_number-clause-bytes : goal.returns-in_err-put_number-clause-bytes
+returns-in_err-put_number-clause-bytes g c =
+    let made = c.new-buffered.ensures.made in
+    let front = rw (made.0, made.1) at (AppendsFront-last _ _ _ _ _ c.in_ok-put_all.ensures.bytes c.in_err-put_number.ensures.bytes) in
+    let h = put_failed _ _ _ _ front (grind arith) in
+    search (rules, h)
+
+pub returns-clause-bytes : goal.returns-clause-bytes
+returns-clause-bytes g c =
+    let made = c.new-buffered.ensures.made in
+    let put = rw (made.0, made.1) at (Appends-then _ _ _ _ _ c.in_ok-put_all.ensures.bytes c.in_ok-put_number.ensures.bytes) in
+    let h = puts_flushed _ _ _ _ _ _ c.flush.result put c.flush.ensures.bytes c.flush.ensures.all (grind arith) in
+    search (rules, h)
