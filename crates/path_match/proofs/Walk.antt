@@ -4,7 +4,7 @@ use Rattle.std.specs.Prelude.{Option, None, Some, ◌==◌, ◌&&◌, ◌||◌, 
 use Rattle.std.specs.List.{list_all}
 use Rattle.std.proofs.lemmas.Bool.{and_parts, or_cases, or_left, or_right, eq-eqb, ne_eqb, cases_lt}
 use Rattle.std.proofs.lemmas.List.{drop_more, drop-drop, drop_all, length-drop, get_or-drop}
-use Rattle.psi_spec.specs.Match.{is_component_match, some_end, begins}
+use Rattle.path_match.specs.Match.{is_component_match, some_end, begins}
 use Rattle.path_match.specs.declared.component.LastStar.{LastStar}
 
 -- only stars are left, where no byte is

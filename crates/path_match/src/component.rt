@@ -2,7 +2,7 @@
 ghost use Rattle.std.specs.Prelude.{◌≡◌, ◌==◌};
 ghost use Rattle.std.specs.List.{list_all};
 ghost use Rattle.psi_base.specs.Path.{parts_at};
-ghost use Rattle.psi_spec.specs.Match.{are_matches, components, is_component_match};
+ghost use Rattle.path_match.specs.Match.{are_matches, components, is_component_match};
 
 use crate::form::behind_slash;
 use psi_base::Parts;
@@ -76,7 +76,7 @@ fn matches_components(pattern: &[u8], path: &[u8]) -> bool
 }
 
 /// Whether a pattern, given by its text, matches a path. The root has no components.
-#[tactic(auto, unfolding(psi_spec::specs::Match::components))]
+#[tactic(auto, unfolding(crate::specs::Match::components))]
 pub fn matches_pattern(pattern: &[u8], path: &[u8]) -> bool
     ensures { result ≡ are_matches (components pattern.now) (components path.now) }
 {

@@ -2,7 +2,7 @@
 ghost use Rattle.std.specs.Prelude.{◌≡◌, [], length, nat_le};
 ghost use Rattle.std.specs.List.{list_all};
 ghost use Rattle.psi_base.specs.Path.{parts_at};
-ghost use Rattle.psi_spec.specs.Match.{behind_slash, is_pattern, is_pattern_byte, is_pattern_component};
+ghost use Rattle.path_match.specs.Match.{behind_slash, is_pattern, is_pattern_byte, is_pattern_component};
 
 use psi_base::Parts;
 
@@ -57,7 +57,7 @@ pub fn behind_slash(text: &[u8]) -> &[u8]
 }
 
 // The root, or components with or without a slash before the first.
-#[tactic(auto, unfolding(psi_spec::specs::Match::components))]
+#[tactic(auto, unfolding(crate::specs::Match::components))]
 fn is_pattern(text: &[u8]) -> bool
     ensures { result ≡ is_pattern text.now }
 {

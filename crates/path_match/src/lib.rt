@@ -3,7 +3,8 @@
 
 mod component;
 mod form;
+mod matches;
 mod patterns;
 
+pub use matches::{PatternFault, matching, reading_patterns};
 pub use patterns::Patterns;
-pub use psi_spec::PatternFault;

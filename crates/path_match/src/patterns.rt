@@ -2,13 +2,13 @@
 ghost use Rattle.std.specs.Prelude.{◌≡◌, ◌↔◌, Err, IsTrue, IsOk, IfOk, map};
 ghost use Rattle.psi_base.specs.declared.event.Fault.TheVariants as fault;
 ghost use Rattle.psi_base.specs.Path.{parts_at};
-ghost use Rattle.psi_spec.specs.Match.{ArePatterns, MatchesSome, components, is_match, patterns_of};
+ghost use Rattle.path_match.specs.Match.{ArePatterns, MatchesSome, components, is_match, patterns_of};
 ghost use Rattle.psi_base.specs.Gives.{Gives};
 
 use crate::component::matches_pattern;
 use crate::form::{are_few, are_patterns};
+use crate::matches::PatternFault;
 use psi_base::{Fault, NoMemory, Parts, Path, Text};
-use psi_spec::PatternFault;
 use std::alloc::Global;
 use std::marker::Model;
 
@@ -24,7 +24,7 @@ pub struct Patterns {
 impl Model for Patterns {
     ghost use Rattle.std.specs.Prelude.{◌≡◌, List, ℕ, Ok, map};
     ghost use Rattle.psi_base.specs.Path.{parts_at};
-    ghost use Rattle.psi_spec.specs.Match.{components, patterns_of};
+    ghost use Rattle.path_match.specs.Match.{components, patterns_of};
 
     ghost Value = { List (List (List ℕ)) };
 
@@ -34,7 +34,7 @@ impl Model for Patterns {
 }
 
 // Whether some pattern of the text, between commas, matches the path.
-#[tactic(auto, unfolding(psi_spec::specs::Match::is_match))]
+#[tactic(auto, unfolding(crate::specs::Match::is_match))]
 fn some_matches(text: &[u8], path: &[u8]) -> bool
     ensures { result ≡ is_match (map components (parts_at 44 text.now)) path.now }
 {
@@ -51,7 +51,7 @@ impl Patterns {
     /// The patterns of a text, which stand between commas. A pattern is `/`, which is the root, or components with `/`
     /// between them, with or without one `/` before the first. `BadPattern` exactly where some part between commas is
     /// no pattern, else `TooMany` exactly where there are more than 16. `NoMemory` comes only where there are patterns.
-    #[tactic(auto, unfolding(psi_spec::specs::Match::patterns_of))]
+    #[tactic(auto, unfolding(crate::specs::Match::patterns_of))]
     pub fn read(alloc: Global, text: &str) -> Result<Patterns, Fault<PatternFault>>
         ensures exact { Gives result (patterns_of text.now) }
         ensures memory { result ≡ Err fault.NoMemory → IsOk (patterns_of text.now) }

@@ -129,9 +129,11 @@ line_accepted tick part behind trace none is =
       text = heads part behind (header 1 all.0) (lines_of all.2.0) first.0 rest.text;
       version = refl;
       cpus = first.1;
-      fit = rest.fit;
-      legal = rest.legal;
-      ends = last_end (limits_of tick all.0) first_world all.2.0 refl rest.legal rest.ended;
+      accepted = record {
+        fit = rest.fit;
+        legal = rest.legal;
+        ends = last_end (limits_of tick all.0) first_world all.2.0 refl rest.legal rest.ended;
+      };
     })
 
 is_accepted : (tick : ℕ) (bytes : List ℕ) (trace : Trace) → trace_of tick bytes ≡ Ok trace → IsTrace tick bytes trace
@@ -149,13 +151,13 @@ rest_of_all limits w line events fit legal ended =
 
 are_accepted : (tick : ℕ) (bytes : List ℕ) (trace : Trace) → IsTrace tick bytes trace → trace_of tick bytes ≡ Ok trace
 are_accepted tick bytes trace is =
-    let ended = ended_last first_world trace.events is.ends in
+    let ended = ended_last first_world trace.events is.accepted.ends in
     let text : bytes ≡ header 1 trace.cpus ++ 10 ∷ lines_of trace.events = is.text ∙ ap (λ v. header v trace.cpus ++ 10 ∷ lines_of trace.events) is.version in
     let same : made trace.cpus trace.events ≡ trace = ap (λ v. let t : Trace = record { version = v; cpus = trace.cpus; events = trace.events } in t) (sym is.version) in
     ap (trace_of tick) text
     ∙ trace_of-line tick (header 1 trace.cpus) (lines_of trace.events) (whole_header trace.cpus is.cpus)
     ∙ ap (λ first. headed tick first (parts_at 10 (lines_of trace.events))) (first_back trace.cpus is.cpus)
-    ∙ ap (with_events trace.cpus) (rest_of_all (limits_of tick trace.cpus) first_world 2 trace.events is.fit is.legal ended)
+    ∙ ap (with_events trace.cpus) (rest_of_all (limits_of tick trace.cpus) first_world 2 trace.events is.accepted.fit is.accepted.legal ended)
     ∙ ap (λ t. let r : Whole = Ok t in r) same
 
 pub accepted : Accepted

@@ -16,7 +16,7 @@ use Rattle.psi_spec.specs.World.{World, Limits, root, is_live, is_root, slot_fro
 use Rattle.psi_spec.specs.Refusal.{cause_of, stands, order, has_child, has_member}
 use Rattle.psi_spec.specs.Stall.{number_of_slot, parents_of, climbs, is_under}
 use Rattle.psi_spec.specs.Groups.{AreOlder, HaveParents, path_at, AreAbove, IsOneLive, AreGroups, leads_to, new_parents, AreGroupsFirst, AreGroupsKept, ParentsKept, ClimbsKept, UnderByStep, AncestorsAreOlder, RootIsAbove}
-use Rattle.psi_spec.proofs.TouchLaws.{is_none, passed, second_true}
+use Rattle.psi_spec.proofs.RefusalLaws.{is_none, passed, second_true}
 
 -- ---- the groups above a group
 

@@ -1,5 +1,9 @@
 -- What holds of the groups of each legal world, and how the groups above a group are told step by step.
-use Rattle.std.specs.Prelude.{◌≡◌, ℕ, ◌<◌, ◌≤◌, List, [], ◌∷◌, ◌++◌, length, map, take, slice_get, slice_index_or, ◌==◌, ◌||◌, Bool, true, false, Option, None, Some, IsSome}
+use Rattle.std.specs.Prelude.{◌≡◌, ℕ, ◌+◌, if◌then◌else◌, ◌<◌, ◌≤◌, List, [], ◌∷◌, ◌++◌, length, map, take, slice_get, slice_index_or, nat_le, not, ◌==◌, ◌&&◌, ◌||◌, Bool, true, false, Option, None, Some, IsSome, IsPermutation, IsSortedByKey}
+use Rattle.std.specs.List.{range_with_len}
+use Rattle.std.specs.Ordering.{nat_cmp}
+use Rattle.std.specs.Cmp.Lexicographic.{slice_cmp}
+use Rattle.std.specs.FinMap as entries
 use Rattle.psi_base.specs.declared.event.Act.{Act}
 use Rattle.psi_base.specs.declared.event.Act.TheVariants as act
 use Rattle.psi_base.specs.declared.event.Event.{Event}
@@ -39,6 +43,42 @@ pub record AreGroups (groups : List GroupLife) : Type 0 where
   pub parented : HaveParents (parents_of groups)
   pub above : AreAbove groups
   pub one_live : IsOneLive groups
+
+-- ---- live groups at a moment
+
+-- a moment (ns) at which a group went, if it went, has come
+abbrev pub is_gone_by : Option ℕ → ℕ → Bool
+is_gone_by None at = false
+is_gone_by (Some gone) at = nat_le gone at
+
+-- A group is live at a moment (ns): it was made by then, and hasn't gone by then.
+abbrev pub is_live_at : GroupLife → ℕ → Bool
+is_live_at life at = nat_le life.made at && not (is_gone_by life.gone at)
+
+-- a test of a group that may be missing: a missing one passes none
+abbrev pub test_life : Option GroupLife → (GroupLife → Bool) → Bool
+test_life None test = false
+test_life (Some life) test = test life
+
+-- the group in a slot is live, if there is one
+abbrev pub is_live_in : List GroupLife → ℕ → Bool
+is_live_in groups slot = test_life (slice_get groups slot) is_live
+
+-- ---- live groups in the order in which they are printed
+
+-- the paths of the live groups, each with its slot, where slots are counted from this one on
+abbrev pub live_from : ℕ → List GroupLife → List (List ℕ × ℕ)
+live_from slot [] = []
+live_from slot (group ∷ groups) = if is_live group then (group.path, slot) ∷ live_from (slot + 1) groups else live_from (slot + 1) groups
+
+-- pairs in the byte order of their paths
+abbrev pub in_order : List (List ℕ × ℕ) → List (List ℕ × ℕ)
+in_order [] = []
+in_order (pair ∷ pairs) = entries.put (slice_cmp nat_cmp) pair.0 pair.1 (in_order pairs)
+
+-- the live groups in the byte order of their paths
+abbrev pub live_groups : List GroupLife → List (List ℕ × ℕ)
+live_groups groups = in_order (live_from 0 groups)
 
 -- ---- the groups above a group
 
@@ -93,3 +133,11 @@ AncestorsAreOlder = (parents : List (Option ℕ)) (low high : ℕ) → AreOlder 
 -- Each group is the root or has it among its ancestors.
 abbrev pub RootIsAbove : Type 0
 RootIsAbove = (groups : List GroupLife) (slot : ℕ) → AreGroups groups → slot < length groups → is_under (parents_of groups) slot 0 ≡ true
+
+-- ---- an order of all slots
+
+-- An order of slots by path: each slot that there is stands in it once, and the paths come in byte order. Slots of one path
+-- stand in any order.
+pub record IsPathOrder (groups : List GroupLife) (order : List ℕ) : Type 0 where
+  pub each : IsPermutation (range_with_len 0 (length groups)) order
+  pub sorted : IsSortedByKey (path_at groups) (slice_cmp nat_cmp) order

@@ -17,9 +17,17 @@ pub record Trace : Type 0 where
   pub cpus : ℕ
   pub events : List Event
 
+-- the last moment (ns) that a trace may reach: a million of the longest ticks; no total is longer
+abbrev pub last_moment : ℕ
+last_moment = 60000000000000000
+
+-- the longest tick (ns), a minute; no time of an interval is longer
+abbrev pub longest_tick : ℕ
+longest_tick = 60000000000
+
 -- what a trace of so many processors can name at a tick length (ns): moments up to a million ticks
 abbrev pub limits_of : ℕ → ℕ → Limits
-limits_of tick cpus = record { version = 1; cpus = cpus; latest = 1000000 * tick }
+limits_of tick cpus = record { cpus = cpus; latest = 1000000 * tick }
 
 -- ---- the text of a trace
 
@@ -39,6 +47,12 @@ AllFit (event ∷ events) = Fits event × AllFit events
 -- the last event is the end
 abbrev pub EndsLast : List Event → Type 0
 EndsLast events = (front : List Event) × (at : ℕ) × (events ≡ front ++ record { at = at; act = act.End } ∷ [])
+
+-- Events make up a trace within limits: each can be spelled, each is legal in its turn, and the end is the last.
+pub record IsAccepted (limits : Limits) (events : List Event) : Type 0 where
+  pub fit : AllFit events
+  pub legal : AreLegal limits first_world events
+  pub ends : EndsLast events
 
 -- ---- one line
 
@@ -127,15 +141,13 @@ trace_of tick bytes = trace_of_parts tick (parts_at 10 bytes)
 abbrev pub IsCpuCount : ℕ → Type 0
 IsCpuCount cpus = (1 ≤ cpus) × (cpus ≤ 64)
 
--- what makes bytes a trace, with no reader in sight: they are its text, its header is known, each event can be spelled
--- and is legal in its turn, and the end is the last
+-- what makes bytes a trace, with no reader in sight: they are its text, its header is known, and its events make up a
+-- trace
 pub record IsTrace (tick : ℕ) (bytes : List ℕ) (trace : Trace) : Type 0 where
   pub text : bytes ≡ text_of trace
   pub version : trace.version ≡ 1
   pub cpus : IsCpuCount trace.cpus
-  pub fit : AllFit trace.events
-  pub legal : AreLegal (limits_of tick trace.cpus) first_world trace.events
-  pub ends : EndsLast trace.events
+  pub accepted : IsAccepted (limits_of tick trace.cpus) trace.events
 
 -- bytes are accepted as a trace exactly where they are one
 abbrev pub Accepted : Type 0

@@ -1,5 +1,5 @@
 -- The tasks and groups of a machine, and what an event does to them.
-use Rattle.std.specs.Prelude.{ℕ, ◌+◌, List, [], ◌∷◌, ◌++◌, map, ◌==◌, ◌&&◌, ◌||◌, not, Bool, true, false, if◌then◌else◌, codes, Option, None, Some, is_some, find, unwrap_or}
+use Rattle.std.specs.Prelude.{ℕ, ◌+◌, List, [], ◌∷◌, ◌++◌, map, filter, nat_le, ◌==◌, ◌&&◌, ◌||◌, not, Bool, true, false, if◌then◌else◌, codes, Option, None, Some, is_some, find, unwrap_or}
 use Rattle.std.specs.List.{list_any}
 use Rattle.std.specs.Str.{bytes_eq}
 use Rattle.std.specs.Ordering.{nat_cmp}
@@ -137,9 +137,8 @@ without path at group = if is_live group && bytes_eq group.path path then record
 
 -- ---- the world
 
--- what a trace can name: its version, how many processors there are, and the latest moment (ns)
+-- what a trace can name: how many processors there are, and the latest moment (ns)
 pub record Limits : Type 0 where
-  pub version : ℕ
   pub cpus : ℕ
   pub latest : ℕ
 
@@ -262,3 +261,7 @@ after_from w (event ∷ events) = after_from (after_event w event) events
 -- the world after the events of a trace
 abbrev pub after : List Event → World
 after events = after_from first_world events
+
+-- the events up to a moment (ns), those at the moment among them
+abbrev pub up_to : List Event → ℕ → List Event
+up_to events at = filter (λ (event : Event). nat_le event.at at) events

@@ -1,28 +1,17 @@
-//! The definitions that the contracts of several crates cite, the types that they speak of, and laws about them.
+//! What a trace means: the definitions that the contracts of all crates above cite, the types that they speak of, and laws
+//! about them.
+//!
+//! In `specs/`, in the order of reading: `Fields` and `Grammar` (which bytes spell an event), `World` (tasks and groups, and
+//! what an event does to them), `Refusal` (which events are legal, and the first cause against others), `Groups`, `Stall`
+//! (when a group is in a state, and for how long), `Trace` (which bytes are a trace).
 #![tactic(auto)]
 
-mod arithmetic;
-mod clocks;
 mod grammar;
 mod groups;
 mod laws;
-mod legal;
 mod machine;
-mod matches;
-mod plans;
-mod touches;
 
-pub use arithmetic::{averages, fixed_point, shares, signals};
-pub use clocks::{clock_times, clock_words, masks, same_clocks, states_by_counts};
 pub use grammar::{event_lines, header_lines};
 pub use groups::{ancestors, kept_parents, legal_groups};
 pub use laws::{stall_time, traces};
-pub use legal::{legal_counts, legal_worlds};
-pub use machine::{Change, Counts, GroupLife, Mode, Task, Touch};
-pub use matches::{PatternFault, matching, reading_patterns};
-pub use plans::{
-    numbered_changes, own_changes, plan_clocks, plan_states, plan_steps, planned_times, whole_plans,
-};
-pub use touches::{
-    change_tells, changes_are_within, counts_follow, current_tells, runs_once, touched, within,
-};
+pub use machine::{GroupLife, Mode, Task};

@@ -1,9 +1,9 @@
 -- The arguments of plugins: of what kind each is, what its text means, and what stands where it isn't there.
 use Rattle.std.specs.Prelude.{ℕ, List, [], ◌∷◌, Bool, true, false, codes, decimal, Option, None, Some, option_and_then, Result, Ok, Err}
 use Rattle.psi_base.specs.declared.event.Res.{Res}
-use Rattle.psi_spec.specs.Match.{patterns_of}
-use Rattle.psi_spec.specs.declared.matches.PatternFault.{PatternFault}
-use Rattle.psi_spec.specs.declared.matches.PatternFault.TheVariants as pattern
+use Rattle.path_match.specs.Match.{patterns_of}
+use Rattle.path_match.specs.declared.matches.PatternFault.{PatternFault}
+use Rattle.path_match.specs.declared.matches.PatternFault.TheVariants as pattern
 use Rattle.serde_json.specs.Data.{Num, unsigned, Data, boolean, number as numeric, string}
 use Rattle.serde_json.specs.Find.{get}
 use Rattle.ruleset_json.specs.declared.types.Size.{Size}

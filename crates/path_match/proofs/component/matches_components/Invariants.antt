@@ -1,6 +1,6 @@
 use Rattle.std.proofs.Common.{◌≡◌, length}
 use Rattle.psi_base.specs.Path.{parts_at}
-use Rattle.psi_spec.specs.Match.{are_matches}
+use Rattle.path_match.specs.Match.{are_matches}
 use Rattle.path_match.proofs.component.matches_components.Given as goal
 
 abbrev pub invariant-parts : goal.invariant-parts

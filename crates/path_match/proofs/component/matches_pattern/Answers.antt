@@ -2,8 +2,8 @@ use Rattle.std.proofs.Common.{◌≡◌, sym, ap, ◌∙◌}
 use Rattle.std.specs.Prelude.{codes}
 use Rattle.std.specs.Str.{bytes_eq}
 use Rattle.std.proofs.lemmas.Slice.Eq.{bytes_eq-Decides}
-use Rattle.psi_spec.specs.Match.{are_matches, components}
-use Rattle.psi_spec.proofs.MatchLaws.{components-root, root_matched, root_matches}
+use Rattle.path_match.specs.Match.{are_matches, components}
+use Rattle.path_match.proofs.MatchLaws.{components-root, root_matched, root_matches}
 use Rattle.path_match.proofs.component.matches_pattern.Goals as goal
 
 pub returns-then-eq : goal.returns-then-eq

@@ -1,7 +1,7 @@
 use Rattle.std.proofs.Common.{◌≡◌, length}
 use Rattle.std.specs.List.{list_all}
 use Rattle.psi_base.specs.Path.{parts_at}
-use Rattle.psi_spec.specs.Match.{is_pattern_component}
+use Rattle.path_match.specs.Match.{is_pattern_component}
 use Rattle.path_match.proofs.form.are_components.Given as goal
 
 abbrev pub invariant-parts : goal.invariant-parts

@@ -1,7 +1,7 @@
 use Rattle.std.proofs.Common.{◌≡◌, length}
 use Rattle.std.specs.Prelude.{map}
 use Rattle.psi_base.specs.Path.{parts_at}
-use Rattle.psi_spec.specs.Match.{components, is_match}
+use Rattle.path_match.specs.Match.{components, is_match}
 use Rattle.path_match.proofs.patterns.some_matches.Given as goal
 
 abbrev pub invariant-parts : goal.invariant-parts

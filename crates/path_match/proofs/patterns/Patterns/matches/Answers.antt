@@ -1,7 +1,7 @@
 use Rattle.std.proofs.Common.{◌≡◌, rules}
-use Rattle.psi_spec.specs.Match.{is_match}
-use Rattle.psi_spec.proofs.MatchLaws.{told}
-use Rattle.psi_spec.proofs.PatternLaws.{reads_patterns}
+use Rattle.path_match.specs.Match.{is_match}
+use Rattle.path_match.proofs.MatchLaws.{told}
+use Rattle.path_match.proofs.PatternLaws.{reads_patterns}
 use Rattle.path_match.proofs.patterns.Patterns.matches.Goals as goal
 
 pub returns-clause-relation : goal.returns-clause-relation

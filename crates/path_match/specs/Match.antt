@@ -1,0 +1,140 @@
+-- Patterns of paths, as a rules file has them: components in which stars may stand.
+use Rattle.std.specs.Prelude.{◌≡◌, ◌↔◌, ◌≢◌, ◌⊎◌, ℕ, ◌≤◌, List, [], ◌∷◌, ◌++◌, length, map, nat_lt, nat_le, ◌==◌, ◌&&◌, ◌||◌, not, Bool, true, false, All, Any, MatchBool, if◌then◌else◌, codes, Result, Ok, Err}
+use Rattle.std.specs.List.{join_with_byte, list_all, list_any, zip}
+use Rattle.std.specs.Str.{bytes_eq}
+use Rattle.psi_base.specs.Path.{parts_at, is_path, is_path_byte}
+use Rattle.path_match.specs.declared.matches.PatternFault.{PatternFault}
+use Rattle.path_match.specs.declared.matches.PatternFault.TheVariants.{BadPattern, TooMany}
+
+-- a pattern, by its components
+abbrev pub Pattern : Type 0
+Pattern = List (List ℕ)
+
+-- the text behind the one slash that may stand first
+abbrev pub behind_slash : List ℕ → List ℕ
+behind_slash [] = []
+behind_slash (byte ∷ bytes) = if byte == 47 then bytes else byte ∷ bytes
+
+-- the components of a path or of a pattern: the root has none, else they stand between slashes
+unfoldable pub components : List ℕ → List (List ℕ)
+components text = if bytes_eq text (codes "/") then [] else parts_at 47 (behind_slash text)
+
+-- a byte of a path's component, or a star
+abbrev pub is_pattern_byte : ℕ → Bool
+is_pattern_byte c = is_path_byte c || c == 42
+
+-- one or more such bytes, and neither `.` nor `..`
+abbrev pub is_pattern_component : List ℕ → Bool
+is_pattern_component part = nat_lt 0 (length part) && list_all is_pattern_byte part && not (bytes_eq part (codes ".")) && not (bytes_eq part (codes ".."))
+
+-- a text is a pattern: the root, or components, with or without a slash before the first
+abbrev pub is_pattern : List ℕ → Bool
+is_pattern text = list_all is_pattern_component (components text)
+
+-- the patterns of a text, each by its components: those of the parts between commas, where all parts are patterns and
+-- there are at most 16
+unfoldable pub patterns_of : List ℕ → Result (List Pattern) PatternFault
+patterns_of text = if list_all is_pattern (parts_at 44 text) then (if nat_le (length (parts_at 44 text)) 16 then Ok (map components (parts_at 44 text)) else Err TooMany) else Err BadPattern
+
+-- a component of a pattern matches one of a path: a star any run of bytes, the empty one too, and any other byte itself
+abbrev pub MatchesComponent : List ℕ → List ℕ → Type 0
+MatchesComponent [] bytes = bytes ≡ []
+MatchesComponent (c ∷ pattern) bytes = MatchBool (c == 42)
+    ((run rest : List ℕ) × (bytes ≡ run ++ rest) × MatchesComponent pattern rest)
+    ((rest : List ℕ) × (bytes ≡ c ∷ rest) × MatchesComponent pattern rest)
+
+-- a pattern matches a path with equally many components, each matched
+pub record Matches (pattern : Pattern) (path : List ℕ) : Type 0 where
+  pub equally_many : length pattern ≡ length (components path)
+  pub each : All (λ pair. MatchesComponent pair.0 pair.1) (zip pattern (components path))
+
+-- some pattern matches
+abbrev pub MatchesSome : List Pattern → List ℕ → Type 0
+MatchesSome patterns path = Any (λ pattern. Matches pattern path) patterns
+
+-- one to 16 patterns of such components
+pub record ArePatterns (patterns : List Pattern) : Type 0 where
+  pub some : 1 ≤ length patterns
+  pub few : length patterns ≤ 16
+  pub formed : list_all (λ pattern. list_all is_pattern_component pattern) patterns ≡ true
+
+-- ---- the same as tests
+
+-- some end of the bytes, the whole and the empty one among them, passes
+abbrev pub some_end : (List ℕ → Bool) → List ℕ → Bool
+some_end test [] = test []
+some_end test (byte ∷ bytes) = test (byte ∷ bytes) || some_end test bytes
+
+-- the bytes begin with this one, and those behind it pass
+abbrev pub begins : ℕ → (List ℕ → Bool) → List ℕ → Bool
+begins c test [] = false
+begins c test (byte ∷ bytes) = c == byte && test bytes
+
+-- whether a component of a pattern matches one of a path
+abbrev pub is_component_match : List ℕ → List ℕ → Bool
+is_component_match [] [] = true
+is_component_match [] (byte ∷ bytes) = false
+is_component_match (c ∷ pattern) bytes = if c == 42 then some_end (is_component_match pattern) bytes else begins c (is_component_match pattern) bytes
+
+-- whether components of a pattern match those of a path
+abbrev pub are_matches : Pattern → List (List ℕ) → Bool
+are_matches [] [] = true
+are_matches [] (part ∷ parts) = false
+are_matches (component ∷ pattern) [] = false
+are_matches (component ∷ pattern) (part ∷ parts) = is_component_match component part && are_matches pattern parts
+
+-- whether some pattern matches a path
+unfoldable pub is_match : List Pattern → List ℕ → Bool
+is_match patterns path = list_any (λ pattern. are_matches pattern (components path)) patterns
+
+-- ---- texts
+
+-- the text of a pattern: `/` for the root, else its components with a slash between them
+abbrev pub pattern_text : Pattern → List ℕ
+pattern_text [] = codes "/"
+pattern_text (component ∷ pattern) = join_with_byte 47 (component ∷ pattern)
+
+-- the text of patterns, with a comma between them
+abbrev pub patterns_text : List Pattern → List ℕ
+patterns_text patterns = join_with_byte 44 (map pattern_text patterns)
+
+-- a text spells a pattern: it is the pattern's own, or that behind a slash where the pattern isn't the root's
+abbrev pub Spells : List ℕ → Pattern → Type 0
+Spells text pattern = (text ≡ pattern_text pattern) ⊎ ((pattern ≢ []) × (text ≡ 47 ∷ pattern_text pattern))
+
+-- a text spells patterns: it has as many parts between commas, each of which spells its pattern
+pub record SpellsEach (text : List ℕ) (patterns : List Pattern) : Type 0 where
+  pub parts : List (List ℕ)
+  pub joined : text ≡ join_with_byte 44 parts
+  pub as_many : length parts ≡ length patterns
+  pub each : All (λ pair. Spells pair.0 pair.1) (zip parts patterns)
+
+-- ---- laws
+
+-- The test says whether some pattern matches.
+abbrev pub TestTells : Type 0
+TestTells = (patterns : List Pattern) (path : List ℕ) → (is_match patterns path ≡ true) ↔ MatchesSome patterns path
+
+-- The root's pattern matches the root alone.
+abbrev pub RootAlone : Type 0
+RootAlone = (path : List ℕ) → Matches [] path ↔ (path ≡ codes "/")
+
+-- A path, read as a pattern, matches itself and no other path.
+abbrev pub PathMatchesItself : Type 0
+PathMatchesItself = (text path : List ℕ) → is_path text ≡ true → is_path path ≡ true → Matches (components text) path ↔ (path ≡ text)
+
+-- A star alone matches any component.
+abbrev pub StarMatchesAny : Type 0
+StarMatchesAny = (bytes : List ℕ) → MatchesComponent (codes "*") bytes
+
+-- Patterns are read from a text exactly where it spells them, and they are one to 16, each well formed.
+abbrev pub ReadsSpelled : Type 0
+ReadsSpelled = (text : List ℕ) (patterns : List Pattern) → (patterns_of text ≡ Ok patterns) ↔ (ArePatterns patterns × SpellsEach text patterns)
+
+-- Patterns are read again from their text.
+abbrev pub ReadAgain : Type 0
+ReadAgain = (patterns : List Pattern) → ArePatterns patterns → patterns_of (patterns_text patterns) ≡ Ok patterns
+
+-- A slash before the first component changes no pattern.
+abbrev pub SlashIsFree : Type 0
+SlashIsFree = (byte : ℕ) (bytes : List ℕ) → byte ≢ 47 → components (47 ∷ byte ∷ bytes) ≡ components (byte ∷ bytes)

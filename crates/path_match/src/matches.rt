@@ -1,0 +1,28 @@
+//! Patterns of paths: why a text has none, and laws of `Match`.
+ghost use Rattle.path_match.specs.Match.{PathMatchesItself, ReadAgain, ReadsSpelled, RootAlone, SlashIsFree, StarMatchesAny, TestTells};
+
+/// Why a text is no list of patterns.
+#[derive(Clone, Copy, Debug, PartialEq, Eq)]
+pub enum PatternFault {
+    /// Some part between commas is no pattern.
+    BadPattern,
+    /// There are more than 16 patterns.
+    TooMany,
+}
+
+/// Laws of matching: the test says what the relation says, the root's pattern matches the root alone, a path matches
+/// itself alone, and a star matches any component.
+pub fn matching()
+    ensures tells { TestTells }
+    ensures root { RootAlone }
+    ensures itself { PathMatchesItself }
+    ensures star { StarMatchesAny }
+{}
+
+/// Laws of reading patterns: they are read from the texts that spell them, one to 16 of them, each well formed; they are
+/// read again from their own text; and a slash before the first component changes none.
+pub fn reading_patterns()
+    ensures spelled { ReadsSpelled }
+    ensures again { ReadAgain }
+    ensures slash { SlashIsFree }
+{}

@@ -1,0 +1,4 @@
+pub mod AverageLaws
+pub mod ShareLaws
+pub mod SignalLaws
+pub mod SampleLaws

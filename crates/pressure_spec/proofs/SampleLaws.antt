@@ -1,0 +1,401 @@
+-- How one more tick changes the samples of a group, its totals and averages, and its triggers.
+use Rattle.std.proofs.Common.{◌≡◌, ℕ, zero, suc, ◌+◌, ◌-◌, ◌*◌, ◌≤◌, ◌<◌, List, [], ◌∷◌, ◌++◌, length, get_or, refl, sym, ap, ◌∙◌, arith, true, false, append_assoc, ◌⊎◌, ⊎_elim}
+use Rattle.std.specs.Prelude.{All, Bool, map, filter, nat_le, nat_lt, sum_by, if◌then◌else◌, ◌&&◌}
+use Rattle.std.proofs.lemmas.List.{get_or_past, get_or-replicate, get_or_at, get_or-append-add, length-append, map-append, append-nil, length-map, get_or-append_right, get_or_default}
+use Rattle.std.proofs.lemmas.List.Sums.{fold-append, sum_by-append}
+use Rattle.std.proofs.lemmas.List.Folds.{fold-map}
+use Rattle.std.proofs.lemmas.Bool.{false≢true}
+use Rattle.std.proofs.lemmas.List.Elements.{All-cons, All-nil, filter-append}
+use Rattle.std.proofs.lemmas.List.FromFn.{get_or-map-range_with_len, length-map-range_with_len}
+use Rattle.std.specs.List.Sorted.{IsNonDecreasingBy}
+use Rattle.psi_base.specs.declared.event.TriggerSpec.{TriggerSpec}
+use Rattle.psi_spec.specs.declared.machine.GroupLife.{GroupLife}
+use Rattle.psi_spec.specs.Groups.{is_live_at}
+use Rattle.pressure_spec.specs.Ticks.{Tick, no_row, no_tick, last_tick, IsNextTick, AreNextTicks}
+use Rattle.pressure_spec.specs.Share.{at_state, no_totals, plus, pressure_places, shares, totals_of, zip_with}
+use Rattle.pressure_spec.specs.Average.{AverageState, IsAverageState, average_of, average_step, averages_from, averages_after, last_totals, HasTotals}
+use Rattle.pressure_spec.specs.Signal.{TriggerState, new_trigger, trigger_step, trigger_after, fired_after, fires}
+use Rattle.pressure_spec.specs.Samples.{life_of, row_at, growths, samples_from, group_samples, totals_after, with_totals, history_of, group_averages, watched_state, first_value, seen_by, trigger_over, has_fired, TotalIsSum, TotalsNeverFall, GroupsAtMostHundred, FiredApart}
+use Rattle.pressure_spec.proofs.ShareLaws.{totals_grow}
+use Rattle.pressure_spec.proofs.AverageLaws.{at_most_hundred}
+use Rattle.pressure_spec.proofs.SignalLaws.{signals_apart}
+
+-- ---- samples
+
+-- the times of a group at the last of ticks, and those before them where there is none
+abbrev pub last_row : ℕ → List (List ℕ) → List Tick → List (List ℕ)
+last_row slot before [] = before
+last_row slot before (tick ∷ ticks) = last_row slot (row_at tick slot) ticks
+
+-- ticks sample what ticks before them sample, and then what they do after them
+pub samples_from-append : (life : GroupLife) (slot : ℕ) (before : List (List ℕ)) (ticks more : List Tick) →
+    samples_from life slot before (ticks ++ more) ≡ samples_from life slot before ticks ++ samples_from life slot (last_row slot before ticks) more
+samples_from-append life slot before [] more = refl
+samples_from-append life slot before (tick ∷ ticks) more =
+    let rest = samples_from-append life slot (row_at tick slot) ticks more in
+    elim (is_live_at life tick.at) as (λ live.
+    (if live then (tick.at, shares (growths before (row_at tick slot))) ∷ samples_from life slot (row_at tick slot) (ticks ++ more) else samples_from life slot (row_at tick slot) (ticks ++ more))
+    ≡ (if live then (tick.at, shares (growths before (row_at tick slot))) ∷ samples_from life slot (row_at tick slot) ticks else samples_from life slot (row_at tick slot) ticks) ++ samples_from life slot (last_row slot (row_at tick slot) ticks) more)
+    [ true ↦ ap (λ rows. (tick.at, shares (growths before (row_at tick slot))) ∷ rows) rest | false ↦ rest ]
+
+-- the sample that a tick takes of a group that is live at it
+abbrev pub sample_at : ℕ → List Tick → ℕ → Tick → ℕ × List ℕ
+sample_at cpus ticks slot tick = (tick.at, shares (growths (last_row slot (no_row cpus) ticks) (row_at tick slot)))
+
+pub samples_live : (cpus : ℕ) (lives : List GroupLife) (ticks : List Tick) (tick : Tick) (slot : ℕ) → is_live_at (life_of lives slot) tick.at ≡ true →
+    group_samples cpus lives (ticks ++ tick ∷ []) slot ≡ group_samples cpus lives ticks slot ++ sample_at cpus ticks slot tick ∷ []
+samples_live cpus lives ticks tick slot live = samples_from-append (life_of lives slot) slot (no_row cpus) ticks (tick ∷ []) ∙ ap (λ rows. group_samples cpus lives ticks slot ++ rows) (rw live refl)
+
+pub samples_gone : (cpus : ℕ) (lives : List GroupLife) (ticks : List Tick) (tick : Tick) (slot : ℕ) → is_live_at (life_of lives slot) tick.at ≡ false →
+    group_samples cpus lives (ticks ++ tick ∷ []) slot ≡ group_samples cpus lives ticks slot
+samples_gone cpus lives ticks tick slot gone =
+    samples_from-append (life_of lives slot) slot (no_row cpus) ticks (tick ∷ []) ∙ ap (λ rows. group_samples cpus lives ticks slot ++ rows) (rw gone refl) ∙ append-nil (group_samples cpus lives ticks slot)
+
+-- ---- totals
+
+pub length-shares : (rows : List (List ℕ)) → length (shares rows) ≡ length pressure_places
+unfolding shares
+length-shares rows = refl
+
+-- the shares of samples
+abbrev pub shares_of : List (ℕ × List ℕ) → List (List ℕ)
+shares_of samples = map (λ (sample : ℕ × List ℕ). sample.1) samples
+
+totals_at : (cpus : ℕ) (lives : List GroupLife) (ticks : List Tick) (tick : Tick) (slot : ℕ) → is_live_at (life_of lives slot) tick.at ≡ true →
+    totals_after cpus lives (ticks ++ tick ∷ []) slot ≡ totals_of (shares_of (group_samples cpus lives ticks slot) ++ (sample_at cpus ticks slot tick).1 ∷ [])
+unfolding totals_after
+totals_at cpus lives ticks tick slot live =
+    ap (λ samples. totals_of (shares_of samples)) (samples_live cpus lives ticks tick slot live)
+    ∙ ap totals_of (map-append (λ (sample : ℕ × List ℕ). sample.1) (group_samples cpus lives ticks slot) (sample_at cpus ticks slot tick ∷ []))
+
+pub totals_live : (cpus : ℕ) (lives : List GroupLife) (ticks : List Tick) (tick : Tick) (slot : ℕ) → is_live_at (life_of lives slot) tick.at ≡ true →
+    totals_after cpus lives (ticks ++ tick ∷ []) slot ≡ plus (totals_after cpus lives ticks slot) (sample_at cpus ticks slot tick).1
+unfolding totals_after
+totals_live cpus lives ticks tick slot live =
+    totals_at cpus lives ticks tick slot live ∙ totals_grow (shares_of (group_samples cpus lives ticks slot)) (sample_at cpus ticks slot tick).1 (length-shares _)
+
+pub totals_gone : (cpus : ℕ) (lives : List GroupLife) (ticks : List Tick) (tick : Tick) (slot : ℕ) → is_live_at (life_of lives slot) tick.at ≡ false →
+    totals_after cpus lives (ticks ++ tick ∷ []) slot ≡ totals_after cpus lives ticks slot
+unfolding totals_after
+totals_gone cpus lives ticks tick slot gone = ap (λ samples. totals_of (shares_of samples)) (samples_gone cpus lives ticks tick slot gone)
+
+-- ---- histories
+
+with_totals-append : (before : List (List ℕ)) (samples more : List (ℕ × List ℕ)) → with_totals before (samples ++ more) ≡ with_totals before samples ++ with_totals (before ++ shares_of samples) more
+with_totals-append before [] more = ap (λ shares. with_totals shares more) (sym (append-nil before))
+with_totals-append before (sample ∷ samples) more =
+    ap (λ rest. (sample.0, totals_of (before ++ sample.1 ∷ [])) ∷ rest)
+    (with_totals-append (before ++ sample.1 ∷ []) samples more
+    ∙ ap (λ shares. with_totals (before ++ sample.1 ∷ []) samples ++ with_totals shares more) (append_assoc before (sample.1 ∷ []) (shares_of samples)))
+
+-- the entry of a tick in the history of a group that is live at it
+abbrev pub entry_at : ℕ → List GroupLife → List Tick → Tick → ℕ → ℕ × List ℕ
+entry_at cpus lives ticks tick slot = (tick.at, totals_after cpus lives (ticks ++ tick ∷ []) slot)
+
+pub history_live : (cpus : ℕ) (lives : List GroupLife) (ticks : List Tick) (tick : Tick) (slot : ℕ) → is_live_at (life_of lives slot) tick.at ≡ true →
+    history_of cpus lives (ticks ++ tick ∷ []) slot ≡ history_of cpus lives ticks slot ++ entry_at cpus lives ticks tick slot ∷ []
+unfolding totals_after
+history_live cpus lives ticks tick slot live =
+    let samples = group_samples cpus lives ticks slot in
+    let more = samples_live cpus lives ticks tick slot live in
+    let shares_more : shares_of (group_samples cpus lives (ticks ++ tick ∷ []) slot) ≡ shares_of samples ++ (sample_at cpus ticks slot tick).1 ∷ [] =
+    ap shares_of more ∙ map-append (λ (sample : ℕ × List ℕ). sample.1) samples (sample_at cpus ticks slot tick ∷ []) in
+    ap (with_totals []) more ∙ with_totals-append [] samples (sample_at cpus ticks slot tick ∷ [])
+    ∙ ap (λ shares. with_totals [] samples ++ (tick.at, totals_of shares) ∷ []) (sym shares_more)
+
+pub history_gone : (cpus : ℕ) (lives : List GroupLife) (ticks : List Tick) (tick : Tick) (slot : ℕ) → is_live_at (life_of lives slot) tick.at ≡ false →
+    history_of cpus lives (ticks ++ tick ∷ []) slot ≡ history_of cpus lives ticks slot
+history_gone cpus lives ticks tick slot gone = ap (with_totals []) (samples_gone cpus lives ticks tick slot gone)
+
+-- ---- averages
+
+pub averages_live : (cpus : ℕ) (lives : List GroupLife) (ticks : List Tick) (tick : Tick) (slot : ℕ) → is_live_at (life_of lives slot) tick.at ≡ true →
+    group_averages cpus lives (ticks ++ tick ∷ []) slot ≡ average_step (group_averages cpus lives ticks slot) tick.at (totals_after cpus lives (ticks ++ tick ∷ []) slot)
+unfolding group_averages
+averages_live cpus lives ticks tick slot live =
+    ap (averages_after (life_of lives slot).made) (history_live cpus lives ticks tick slot live)
+    ∙ fold-append (λ (state : AverageState) (at : ℕ × List ℕ). average_step state at.0 at.1) _ (history_of cpus lives ticks slot) (entry_at cpus lives ticks tick slot ∷ [])
+
+pub averages_gone : (cpus : ℕ) (lives : List GroupLife) (ticks : List Tick) (tick : Tick) (slot : ℕ) → is_live_at (life_of lives slot) tick.at ≡ false →
+    group_averages cpus lives (ticks ++ tick ∷ []) slot ≡ group_averages cpus lives ticks slot
+unfolding group_averages
+averages_gone cpus lives ticks tick slot gone = ap (averages_after (life_of lives slot).made) (history_gone cpus lives ticks tick slot gone)
+
+-- ---- the last totals
+
+pub last_totals-append : (before : List ℕ) (history more : List (ℕ × List ℕ)) → last_totals before (history ++ more) ≡ last_totals (last_totals before history) more
+last_totals-append before [] more = refl
+last_totals-append before (entry ∷ history) more = last_totals-append entry.1 history more
+
+with_totals_last : (before : List (List ℕ)) (samples : List (ℕ × List ℕ)) → last_totals (totals_of before) (with_totals before samples) ≡ totals_of (before ++ shares_of samples)
+with_totals_last before [] = ap totals_of (sym (append-nil before))
+with_totals_last before (sample ∷ samples) = with_totals_last (before ++ sample.1 ∷ []) samples ∙ ap totals_of (append_assoc before (sample.1 ∷ []) (shares_of samples))
+
+no_totals_is : no_totals ≡ totals_of []
+unfolding totals_of
+no_totals_is = refl
+
+-- the last totals in a group's history are its totals
+pub history_last : (cpus : ℕ) (lives : List GroupLife) (ticks : List Tick) (slot : ℕ) → last_totals no_totals (history_of cpus lives ticks slot) ≡ totals_after cpus lives ticks slot
+unfolding totals_after
+history_last cpus lives ticks slot =
+    ap (λ totals. last_totals totals (history_of cpus lives ticks slot)) no_totals_is ∙ with_totals_last [] (group_samples cpus lives ticks slot)
+
+-- ---- triggers
+
+-- the moments of a history aren't before this one
+abbrev pub NotBefore : ℕ → List (ℕ × List ℕ) → Type 0
+NotBefore at history = All (λ (entry : ℕ × List ℕ). at ≤ entry.0) history
+
+-- the moments of a history are before this one
+abbrev pub Before : ℕ → List (ℕ × List ℕ) → Type 0
+Before at history = All (λ (entry : ℕ × List ℕ). entry.0 < at) history
+
+-- a test that all elements fail keeps none of them, and one that all pass keeps each
+pub filter_none : {X : Type 0} (p : X → Bool) → (xs : List X) → All (λ x. p x ≡ false) xs → filter p xs ≡ []
+filter_none p [] all = refl
+filter_none p (x ∷ xs) all = rw (all 0 x (omega arith)) (filter_none p xs (λ k d below. all (suc k) d (omega arith)))
+
+pub filter_all : {X : Type 0} (p : X → Bool) → (xs : List X) → All (λ x. p x ≡ true) xs → filter p xs ≡ xs
+filter_all p [] all = refl
+filter_all p (x ∷ xs) all = rw (all 0 x (omega arith)) (ap (λ rest. x ∷ rest) (filter_all p xs (λ k d below. all (suc k) d (omega arith))))
+
+is_late : (a b : ℕ) → b ≤ a → nat_lt a b ≡ false
+is_late a b late = grind arith
+
+-- a moment that isn't after another, as a test
+pub is_there : (a b : ℕ) → a ≤ b → nat_le a b ≡ true
+is_there a b there = grind arith
+
+pub from_there : (a b : ℕ) → nat_le a b ≡ true → a ≤ b
+from_there a b there = grind (arith, there)
+
+is_early : (a b : ℕ) → a < b → nat_lt a b ≡ true
+is_early a b early = grind arith
+
+is_ahead : (a b : ℕ) → b < a → nat_le a b ≡ false
+is_ahead a b ahead = grind arith
+
+-- what a trigger begins with is settled before its line
+first_value-append : (trigger : TriggerSpec) (history more : List (ℕ × List ℕ)) → NotBefore trigger.at more → first_value trigger (history ++ more) ≡ first_value trigger history
+first_value-append trigger history more late =
+    let test = λ (entry : ℕ × List ℕ). nat_lt entry.0 trigger.at in
+    let none : filter test more ≡ [] = filter_none test more (λ k d below. is_late (get_or more k d).0 trigger.at (late k d below)) in
+    ap (λ entries. at_state (last_totals no_totals entries) (watched_state trigger)) (filter-append test history more ∙ ap (λ rest. filter test history ++ rest) none ∙ append-nil (filter test history))
+
+-- what a trigger sees of a history
+abbrev pub values_of : TriggerSpec → List (ℕ × List ℕ) → List (ℕ × ℕ)
+values_of trigger history = map (λ (entry : ℕ × List ℕ). (entry.0, at_state entry.1 (watched_state trigger))) history
+
+seen_by-append : (trigger : TriggerSpec) (history more : List (ℕ × List ℕ)) → NotBefore trigger.at more → seen_by trigger (history ++ more) ≡ seen_by trigger history ++ values_of trigger more
+seen_by-append trigger history more late =
+    let test = λ (entry : ℕ × List ℕ). nat_le trigger.at entry.0 in
+    let value : ℕ × List ℕ → ℕ × ℕ = λ entry. (entry.0, at_state entry.1 (watched_state trigger)) in
+    let all : filter test more ≡ more = filter_all test more (λ k d below. is_there trigger.at (get_or more k d).0 (late k d below)) in
+    ap (map value) (filter-append test history more ∙ ap (λ rest. filter test history ++ rest) all) ∙ map-append value (filter test history) more
+
+-- the step of a trigger at a tick
+abbrev pub trigger_fold : TriggerState → ℕ × ℕ → TriggerState
+trigger_fold state tick = trigger_step state tick.0 tick.1
+
+-- a trigger over a longer history, whose rest isn't before its line
+pub trigger_over-append : (trigger : TriggerSpec) (history more : List (ℕ × List ℕ)) → NotBefore trigger.at more →
+    trigger_over trigger (history ++ more) ≡ trigger_after (trigger_over trigger history) (values_of trigger more)
+trigger_over-append trigger history more late =
+    let first = new_trigger trigger.at (first_value trigger history) trigger.threshold_us trigger.window_us in
+    ap (λ value. trigger_after (new_trigger trigger.at value trigger.threshold_us trigger.window_us) (seen_by trigger (history ++ more))) (first_value-append trigger history more late)
+    ∙ ap (trigger_after first) (seen_by-append trigger history more late)
+    ∙ fold-append trigger_fold first (seen_by trigger history) (values_of trigger more)
+
+-- a trigger over a history that is all before its line is new
+pub trigger_over_first : (trigger : TriggerSpec) (history : List (ℕ × List ℕ)) → Before trigger.at history →
+    trigger_over trigger history ≡ new_trigger trigger.at (at_state (last_totals no_totals history) (watched_state trigger)) trigger.threshold_us trigger.window_us
+trigger_over_first trigger history early =
+    let before = λ (entry : ℕ × List ℕ). nat_lt entry.0 trigger.at in
+    let since = λ (entry : ℕ × List ℕ). nat_le trigger.at entry.0 in
+    let all : filter before history ≡ history = filter_all before history (λ k d below. is_early (get_or history k d).0 trigger.at (early k d below)) in
+    let none : filter since history ≡ [] = filter_none since history (λ k d below. is_ahead trigger.at (get_or history k d).0 (early k d below)) in
+    ap (λ entries. trigger_after (new_trigger trigger.at (first_value trigger history) trigger.threshold_us trigger.window_us) (values_of trigger entries)) none
+    ∙ ap (λ entries. new_trigger trigger.at (at_state (last_totals no_totals entries) (watched_state trigger)) trigger.threshold_us trigger.window_us) all
+
+-- ---- moments of a history
+
+-- the samples of ticks that aren't before a moment aren't either
+samples_not_before : (life : GroupLife) (slot : ℕ) (before : List (List ℕ)) (ticks : List Tick) (at : ℕ) → All (λ (tick : Tick). at ≤ tick.at) ticks → All (λ (sample : ℕ × List ℕ). at ≤ sample.0) (samples_from life slot before ticks)
+samples_not_before life slot before [] at all = All-nil _
+samples_not_before life slot before (tick ∷ ticks) at all =
+    let rest = samples_not_before life slot (row_at tick slot) ticks at (λ k d below. all (suc k) d (omega arith)) in
+    elim (is_live_at life tick.at) as (λ live. All (λ (sample : ℕ × List ℕ). at ≤ sample.0) (if live then (tick.at, shares (growths before (row_at tick slot))) ∷ samples_from life slot (row_at tick slot) ticks else samples_from life slot (row_at tick slot) ticks))
+    [ true ↦ All-cons (λ (sample : ℕ × List ℕ). at ≤ sample.0) (tick.at, shares (growths before (row_at tick slot))) (samples_from life slot (row_at tick slot) ticks) (all 0 tick (omega arith)) rest | false ↦ rest ]
+
+samples_before : (life : GroupLife) (slot : ℕ) (before : List (List ℕ)) (ticks : List Tick) (at : ℕ) → All (λ (tick : Tick). tick.at < at) ticks → All (λ (sample : ℕ × List ℕ). sample.0 < at) (samples_from life slot before ticks)
+samples_before life slot before [] at all = All-nil _
+samples_before life slot before (tick ∷ ticks) at all =
+    let rest = samples_before life slot (row_at tick slot) ticks at (λ k d below. all (suc k) d (omega arith)) in
+    elim (is_live_at life tick.at) as (λ live. All (λ (sample : ℕ × List ℕ). sample.0 < at) (if live then (tick.at, shares (growths before (row_at tick slot))) ∷ samples_from life slot (row_at tick slot) ticks else samples_from life slot (row_at tick slot) ticks))
+    [ true ↦ All-cons (λ (sample : ℕ × List ℕ). sample.0 < at) (tick.at, shares (growths before (row_at tick slot))) (samples_from life slot (row_at tick slot) ticks) (all 0 tick (omega arith)) rest | false ↦ rest ]
+
+-- a history has the moments of its samples
+with_totals_moments : (P : ℕ → Type 0) (before : List (List ℕ)) (samples : List (ℕ × List ℕ)) → All (λ (sample : ℕ × List ℕ). P sample.0) samples → All (λ (entry : ℕ × List ℕ). P entry.0) (with_totals before samples)
+with_totals_moments P before [] all = All-nil _
+with_totals_moments P before (sample ∷ samples) all =
+    All-cons (λ (entry : ℕ × List ℕ). P entry.0) (sample.0, totals_of (before ++ sample.1 ∷ [])) (with_totals (before ++ sample.1 ∷ []) samples) (all 0 sample (omega arith))
+    (with_totals_moments P (before ++ sample.1 ∷ []) samples (λ k d below. all (suc k) d (omega arith)))
+
+-- the history of ticks before a moment is before it
+pub history_before : (cpus : ℕ) (lives : List GroupLife) (ticks : List Tick) (slot at : ℕ) → All (λ (tick : Tick). tick.at < at) ticks → Before at (history_of cpus lives ticks slot)
+history_before cpus lives ticks slot at all = with_totals_moments (λ moment. moment < at) [] (group_samples cpus lives ticks slot) (samples_before (life_of lives slot) slot (no_row cpus) ticks at all)
+
+-- a longer history goes on where the ticks before it end
+history_of-append : (cpus : ℕ) (lives : List GroupLife) (ticks more : List Tick) (slot : ℕ) →
+    history_of cpus lives (ticks ++ more) slot ≡ history_of cpus lives ticks slot ++ with_totals (shares_of (group_samples cpus lives ticks slot)) (samples_from (life_of lives slot) slot (last_row slot (no_row cpus) ticks) more)
+history_of-append cpus lives ticks more slot =
+    ap (with_totals []) (samples_from-append (life_of lives slot) slot (no_row cpus) ticks more)
+    ∙ with_totals-append [] (group_samples cpus lives ticks slot) (samples_from (life_of lives slot) slot (last_row slot (no_row cpus) ticks) more)
+
+-- ---- laws
+
+pub total_is_sum : TotalIsSum
+unfolding totals_after totals_of
+total_is_sum cpus lives ticks slot i below =
+    let samples = group_samples cpus lives ticks slot in
+    let sums = λ (i : ℕ). sum_by (λ (row : List ℕ). get_or row i 0) (shares_of samples) in
+    get_or-map-range_with_len sums 0 6 i i 0 below (omega arith) ∙ fold-map (λ (sum : ℕ) (row : List ℕ). sum + get_or row i 0) (λ (sample : ℕ × List ℕ). sample.1) 0 samples
+
+totals_never_fall_at : (cpus : ℕ) (lives : List GroupLife) (ticks more : List Tick) (slot i : ℕ) → i < length pressure_places → get_or (totals_after cpus lives ticks slot) i 0 ≤ get_or (totals_after cpus lives (ticks ++ more) slot) i 0
+totals_never_fall_at cpus lives ticks more slot i below =
+    let samples = group_samples cpus lives ticks slot in
+    let rest = samples_from (life_of lives slot) slot (last_row slot (no_row cpus) ticks) more in
+    let f = λ (sample : ℕ × List ℕ). get_or sample.1 i 0 in
+    let before : get_or (totals_after cpus lives ticks slot) i 0 ≡ sum_by f samples = total_is_sum cpus lives ticks slot i below in
+    let after : get_or (totals_after cpus lives (ticks ++ more) slot) i 0 ≡ sum_by f (group_samples cpus lives (ticks ++ more) slot) = total_is_sum cpus lives (ticks ++ more) slot i below in
+    let all : sum_by f (group_samples cpus lives (ticks ++ more) slot) ≡ sum_by f (samples ++ rest) = ap (sum_by f) (samples_from-append (life_of lives slot) slot (no_row cpus) ticks more) in
+    omega (arith, before, after, all, sum_by-append f samples rest)
+
+-- there are totals of the pressure quantities
+pub length-totals_after : (cpus : ℕ) (lives : List GroupLife) (ticks : List Tick) (slot : ℕ) → length (totals_after cpus lives ticks slot) ≡ length pressure_places
+unfolding totals_after totals_of
+length-totals_after cpus lives ticks slot = refl
+
+pub totals_never_fall : TotalsNeverFall
+totals_never_fall cpus lives ticks more slot i =
+    let long = length-totals_after cpus lives ticks slot in
+    let inside : i < length pressure_places → get_or (totals_after cpus lives ticks slot) i 0 ≤ get_or (totals_after cpus lives (ticks ++ more) slot) i 0 = totals_never_fall_at cpus lives ticks more slot i in
+    let past : length pressure_places ≤ i → get_or (totals_after cpus lives ticks slot) i 0 ≤ get_or (totals_after cpus lives (ticks ++ more) slot) i 0 = λ above. rw (get_or_past (totals_after cpus lives ticks slot) i 0 (omega (arith, long))) (omega arith) in
+    let case : (i < length pressure_places) ⊎ (length pressure_places ≤ i) = grind arith in
+    ⊎_elim inside past case
+
+-- a history has totals of the pressure quantities
+with_totals_has : (before : List (List ℕ)) (samples : List (ℕ × List ℕ)) → HasTotals (with_totals before samples)
+unfolding totals_of
+with_totals_has before [] = All-nil _
+with_totals_has before (sample ∷ samples) =
+    All-cons (λ (entry : ℕ × List ℕ). length entry.1 ≡ length pressure_places) (sample.0, totals_of (before ++ sample.1 ∷ [])) (with_totals (before ++ sample.1 ∷ []) samples) refl
+    (with_totals_has (before ++ sample.1 ∷ []) samples)
+
+-- a group's averages are averages
+pub group_averages_are : (cpus : ℕ) (lives : List GroupLife) (ticks : List Tick) (slot : ℕ) → IsAverageState (group_averages cpus lives ticks slot)
+unfolding group_averages
+group_averages_are cpus lives ticks slot = at_most_hundred (life_of lives slot).made (history_of cpus lives ticks slot) (with_totals_has [] (group_samples cpus lives ticks slot))
+
+-- no average of averages is above 100 percent
+average_most : (s : AverageState) (place factor : ℕ) → IsAverageState s → average_of s place factor ≤ 204800
+average_most s place factor is =
+    let row = get_or s.averages place [] in
+    let in_row : place < length s.averages → factor < length row → get_or row factor 0 ≤ 204800 = λ below inside. (is.each place [] below).most factor 0 inside in
+    let past_row : length row ≤ factor → get_or row factor 0 ≤ 204800 = λ above. rw (get_or_past row factor 0 above) (omega arith) in
+    let no_row : length s.averages ≤ place → get_or row factor 0 ≤ 204800 = λ above. rw (get_or_past s.averages place [] above) (omega arith) in
+    let rows : (place < length s.averages) ⊎ (length s.averages ≤ place) = grind arith in
+    let factors : (factor < length row) ⊎ (length row ≤ factor) = grind arith in
+    ⊎_elim (λ below. ⊎_elim (in_row below) past_row factors) no_row rows
+
+pub groups_at_most_hundred : GroupsAtMostHundred
+groups_at_most_hundred cpus lives ticks slot place factor = average_most (group_averages cpus lives ticks slot) place factor (group_averages_are cpus lives ticks slot)
+
+-- what it takes for a trigger to have fired
+pub record HasFired (cpus : ℕ) (lives : List GroupLife) (ticks : List Tick) (tick : Tick) (trigger : TriggerSpec) : Type 0 where
+  pub live : is_live_at (life_of lives trigger.slot.0) tick.at ≡ true
+  pub begun : trigger.at ≤ tick.at
+  pub fired : fires (trigger_over trigger (history_of cpus lives ticks trigger.slot.0)) tick.at (at_state (totals_after cpus lives (ticks ++ tick ∷ []) trigger.slot.0) (watched_state trigger)) ≡ true
+
+and_left : (a b : Bool) → (a && b) ≡ true → a ≡ true
+and_left true b both = refl
+and_left false b both = both
+
+and_right : (a b : Bool) → (a && b) ≡ true → b ≡ true
+and_right true b both = both
+and_right false b both = absurd (false≢true both)
+
+has_fired_parts : (cpus : ℕ) (lives : List GroupLife) (ticks : List Tick) (tick : Tick) (trigger : TriggerSpec) → has_fired cpus lives ticks tick trigger ≡ true → HasFired cpus lives ticks tick trigger
+unfolding has_fired
+has_fired_parts cpus lives ticks tick trigger is =
+    let live = is_live_at (life_of lives trigger.slot.0) tick.at in
+    let signals = fires (trigger_over trigger (history_of cpus lives ticks trigger.slot.0)) tick.at (at_state (totals_after cpus lives (ticks ++ tick ∷ []) trigger.slot.0) (watched_state trigger)) in
+    let both : (live && nat_le trigger.at tick.at) ≡ true = and_left (live && nat_le trigger.at tick.at) signals is in
+    let there : nat_le trigger.at tick.at ≡ true = and_right live (nat_le trigger.at tick.at) both in
+    record { live = and_left live (nat_le trigger.at tick.at) both; begun = grind (arith, there); fired = and_right (live && nat_le trigger.at tick.at) signals is }
+
+-- later ticks come no earlier
+later_ticks : (before between : List Tick) (first : Tick) (at : ℕ) → IsNonDecreasingBy (λ (tick : Tick). tick.at) (before ++ first ∷ between) → at ≤ first.at → All (λ (tick : Tick). at ≤ tick.at) (first ∷ between)
+later_ticks before between first at rises from = λ k d below.
+    let ticks = before ++ first ∷ between in
+    let n = length before in
+    let long = length-append before (first ∷ between) in
+    let order = rises n (n + k) d (omega arith) (omega (arith, long)) in
+    let here : get_or ticks n d ≡ first = get_or_at before first between d n refl in
+    let there : get_or ticks (n + k) d ≡ get_or (first ∷ between) k d = get_or-append-add before (first ∷ between) k d in
+    omega (arith, order, ap (λ (tick : Tick). tick.at) here, ap (λ (tick : Tick). tick.at) there)
+
+pub fired_apart : FiredApart
+fired_apart cpus lives trigger before between first second rises fired again =
+    let slot = trigger.slot.0 in
+    let one = has_fired_parts cpus lives before first trigger fired in
+    let two = has_fired_parts cpus lives (before ++ first ∷ between) second trigger again in
+    let history = history_of cpus lives before slot in
+    let value = at_state (totals_after cpus lives (before ++ first ∷ []) slot) (watched_state trigger) in
+    let later = at_state (totals_after cpus lives (before ++ first ∷ between ++ second ∷ []) slot) (watched_state trigger) in
+    let samples = shares_of (group_samples cpus lives before slot) in
+    let more = with_totals samples (samples_from (life_of lives slot) slot (last_row slot (no_row cpus) before) (first ∷ between)) in
+    let late : NotBefore trigger.at more =
+    with_totals_moments (λ moment. trigger.at ≤ moment) samples _ (samples_not_before (life_of lives slot) slot (last_row slot (no_row cpus) before) (first ∷ between) trigger.at (later_ticks before between first trigger.at rises one.begun)) in
+    let start = new_trigger trigger.at (first_value trigger history) trigger.threshold_us trigger.window_us in
+    let rest = values_of trigger (with_totals (samples ++ (sample_at cpus before slot first).1 ∷ []) (samples_from (life_of lives slot) slot (row_at first slot) between)) in
+    let seen : values_of trigger more ≡ (first.at, value) ∷ rest = rw one.live (ap (λ totals. (first.at, at_state totals (watched_state trigger)) ∷ rest) (sym (totals_at cpus lives before first slot one.live))) in
+    let whole : trigger_over trigger (history_of cpus lives (before ++ first ∷ between) slot) ≡ trigger_after start (seen_by trigger history ++ (first.at, value) ∷ rest) =
+    ap (trigger_over trigger) (history_of-append cpus lives before (first ∷ between) slot) ∙ trigger_over-append trigger history more late
+    ∙ sym (fold-append trigger_fold start (seen_by trigger history) (values_of trigger more)) ∙ ap (λ values. trigger_after start (seen_by trigger history ++ values)) seen in
+    signals_apart trigger.at (first_value trigger history) trigger.threshold_us trigger.window_us (seen_by trigger history) rest (first.at, value) (second.at, later) one.fired
+    (rw whole at two.fired)
+
+-- ---- ticks that come one after another
+
+-- the last of more ticks
+pub last_tick-push : (before : Tick) (ticks : List Tick) (tick : Tick) → last_tick before (ticks ++ tick ∷ []) ≡ tick
+last_tick-push before [] tick = refl
+last_tick-push before (first ∷ ticks) tick = last_tick-push first ticks tick
+
+-- the row of a group at the last of ticks
+pub last_row_is : (slot : ℕ) (before : Tick) (ticks : List Tick) → last_row slot (row_at before slot) ticks ≡ row_at (last_tick before ticks) slot
+last_row_is slot before [] = refl
+last_row_is slot before (tick ∷ ticks) = last_row_is slot tick ticks
+
+pub no_tick_row : (cpus slots slot : ℕ) → slot < slots → row_at (no_tick cpus slots) slot ≡ no_row cpus
+no_tick_row cpus slots slot below = get_or-replicate slots slot (no_row cpus) [] below
+
+-- the row of a group at the last of ticks of so many groups
+pub last_row_at : (cpus slots slot : ℕ) (ticks : List Tick) → slot < slots → last_row slot (no_row cpus) ticks ≡ row_at (last_tick (no_tick cpus slots) ticks) slot
+last_row_at cpus slots slot ticks below = ap (λ row. last_row slot row ticks) (sym (no_tick_row cpus slots slot below)) ∙ last_row_is slot (no_tick cpus slots) ticks
+
+-- the next tick keeps them in order
+pub are_next_push : (before : Tick) (ticks : List Tick) (tick : Tick) → AreNextTicks before ticks → IsNextTick (last_tick before ticks) tick → AreNextTicks before (ticks ++ tick ∷ [])
+are_next_push before [] tick all next = (next, tt)
+are_next_push before (first ∷ ticks) tick all next = (all.0, are_next_push first ticks tick all.1 next)
+
+-- no tick is later than the last
+last_is_latest : (before : Tick) (ticks : List Tick) → AreNextTicks before ticks → before.at ≤ (last_tick before ticks).at
+last_is_latest before [] all = omega arith
+last_is_latest before (tick ∷ ticks) all = let rest = last_is_latest tick ticks all.1 in omega (arith, all.0.later, rest)
+
+pub none_is_later : (before : Tick) (ticks : List Tick) → AreNextTicks before ticks → All (λ (tick : Tick). tick.at ≤ (last_tick before ticks).at) ticks
+none_is_later before [] all = All-nil _
+none_is_later before (tick ∷ ticks) all = All-cons (λ (other : Tick). other.at ≤ (last_tick tick ticks).at) tick ticks (last_is_latest tick ticks all.1) (none_is_later tick ticks all.1)

@@ -1,0 +1,14 @@
+use Rattle.pressure_spec.proofs.SampleLaws as laws
+use Rattle.pressure_spec.proofs.arithmetic.law_ticks.Goals as goal
+
+pub returns-clause-sum : goal.returns-clause-sum
+returns-clause-sum c = laws.total_is_sum
+
+pub returns-clause-kept : goal.returns-clause-kept
+returns-clause-kept c = laws.totals_never_fall
+
+pub returns-clause-most : goal.returns-clause-most
+returns-clause-most c = laws.groups_at_most_hundred
+
+pub returns-clause-apart : goal.returns-clause-apart
+returns-clause-apart c = laws.fired_apart

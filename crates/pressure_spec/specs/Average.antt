@@ -1,0 +1,188 @@
+-- The averages over 10, 60 and 300 seconds: the kernel's calc_load, fixed_power_int, update_averages and calc_avgs.
+-- They are fixed-point numbers with 11 fraction bits: 2048 is 1, and 204800 is 100 percent.
+use Rattle.std.specs.Prelude.{◌≡◌, ℕ, zero, suc, ◌+◌, ◌-◌, ◌*◌, ◌/◌, ◌%◌, ◌<◌, ◌≤◌, min, List, [], ◌∷◌, length, map, fold, slice_index, slice_index_or, nat_le, nat_lt, ◌==◌, if◌then◌else◌, All}
+use Rattle.pressure_spec.specs.Share.{zip_with, pressure_places}
+
+-- the time (ns) from one update of the averages to the next: two seconds
+abbrev pub period : ℕ
+period = 2000000000
+
+-- by how much an average over 10, 60 and 300 seconds decays in a period, in parts of 2048
+abbrev pub factors : List ℕ
+factors = 1677 ∷ 1981 ∷ 2034 ∷ []
+
+-- an average that decays by a factor and is loaded with what was active, rounded up where it doesn't fall
+abbrev pub load : ℕ → ℕ → ℕ → ℕ
+load average factor active = (average * factor + active * (2048 - factor) + (if nat_le average active then 2047 else 0)) / 2048
+
+-- the product of two fixed-point numbers, rounded to the nearest
+abbrev pub product : ℕ → ℕ → ℕ
+product x y = (x * y + 1024) / 2048
+
+-- a result times x to the n, by the binary digits of n from the lowest on, of which at most so many are taken
+abbrev pub power_within : ℕ → ℕ → ℕ → ℕ → ℕ
+power_within zero result x n = result
+power_within (suc digits) result x n =
+    if n == 0 then result else
+    if n % 2 == 1 then power_within digits (product result x) (product x x) (n / 2) else power_within digits result (product x x) (n / 2)
+
+-- a result times x to the n: n has at most n binary digits
+unfoldable pub power_from : ℕ → ℕ → ℕ → ℕ
+power_from result x n = power_within n result x n
+
+-- x to the n
+abbrev pub power : ℕ → ℕ → ℕ
+power x n = power_from 2048 x n
+
+-- The averages of a group: the moment (ns) of the last update and that from which the next is due, how much (ns) of
+-- the total of each pressure quantity was sampled so far, and the three averages of each.
+pub record AverageState : Type 0 where
+  pub last : ℕ
+  pub next : ℕ
+  pub sampled : List ℕ
+  pub averages : List (List ℕ)
+
+-- the averages of a group that is made at a moment
+abbrev pub new_averages : ℕ → AverageState
+new_averages at = record {
+  last = at;
+  next = at + period;
+  sampled = map (λ place. 0) pressure_places;
+  averages = map (λ place. map (λ factor. 0) factors) pressure_places;
+}
+
+-- how many whole periods went by at a moment since an update was due
+abbrev pub missed : AverageState → ℕ → ℕ
+missed old now = (now - old.next) / period
+
+-- the time (ns) that an update at a moment samples: that since the last one, less the periods that were missed
+abbrev pub sampled_time : AverageState → ℕ → ℕ
+sampled_time old now = now - (old.last + missed old now * period)
+
+-- what is sampled (ns) of a total: what wasn't yet, and at most the time; the rest waits for a later update
+abbrev pub sample_of : ℕ → ℕ → ℕ → ℕ
+sample_of time sampled total = min (total - sampled) time
+
+-- a sample in whole percent of the time
+abbrev pub percent_of : ℕ → ℕ → ℕ
+percent_of time sample = sample * 100 / time
+
+-- an average after an update: over the missed periods it decays with nothing active, then it is loaded with the sample
+abbrev pub average_after : ℕ → ℕ → ℕ → ℕ → ℕ
+average_after missed_periods percent average factor =
+    load (if nat_lt 0 missed_periods then load average (power factor missed_periods) 0 else average) factor (percent * 2048)
+
+-- the three averages of a quantity after an update
+abbrev pub row_after : ℕ → ℕ → List ℕ → ℕ → List ℕ
+row_after missed_periods time averages sample = zip_with (average_after missed_periods (percent_of time sample)) averages factors
+
+-- the samples (ns) of the pressure quantities
+abbrev pub samples_of : ℕ → List ℕ → List ℕ → List ℕ
+samples_of time sampled totals = zip_with (sample_of time) sampled totals
+
+-- the averages after an update at a moment, with the totals (ns) of the pressure quantities
+abbrev pub updated : AverageState → ℕ → List ℕ → AverageState
+updated old now totals = record {
+  last = now;
+  next = old.next + (1 + missed old now) * period;
+  sampled = zip_with (λ sampled sample. sampled + sample) old.sampled (samples_of (sampled_time old now) old.sampled totals);
+  averages = zip_with (row_after (missed old now) (sampled_time old now)) old.averages (samples_of (sampled_time old now) old.sampled totals);
+}
+
+-- the averages after a tick: an update where one is due
+unfoldable pub average_step : AverageState → ℕ → List ℕ → AverageState
+average_step old now totals = if nat_lt now old.next then old else updated old now totals
+
+-- the averages after ticks, each a moment (ns) and the totals (ns) of the pressure quantities at it
+abbrev pub averages_from : AverageState → List (ℕ × List ℕ) → AverageState
+averages_from old ticks = fold (λ state tick. average_step state tick.0 tick.1) old ticks
+
+-- the averages of a group made at a moment, after ticks
+abbrev pub averages_after : ℕ → List (ℕ × List ℕ) → AverageState
+averages_after at ticks = averages_from (new_averages at) ticks
+
+-- ---- what is true of averages
+
+-- three averages of at most 100 percent
+pub record IsRow (row : List ℕ) : Type 0 where
+  pub three : length row ≡ 3
+  pub most : All (λ average. average ≤ 204800) row
+
+-- The next update is due after the last one and at most a period after it, there are a sample and a row of three
+-- averages for each pressure quantity, and no average is above 100 percent.
+pub record IsAverageState (s : AverageState) : Type 0 where
+  pub later : s.last < s.next
+  pub soon : s.next ≤ s.last + period
+  pub sampled : length s.sampled ≡ length pressure_places
+  pub rows : length s.averages ≡ length pressure_places
+  pub each : All (λ row. IsRow row) s.averages
+
+-- an average by the places of its quantity and of its factor
+abbrev pub average_of : AverageState → ℕ → ℕ → ℕ
+average_of s place factor = slice_index (slice_index_or s.averages place []) factor
+
+-- how much (ns) of the total of a quantity was sampled, by its place
+abbrev pub sampled_of : AverageState → ℕ → ℕ
+sampled_of s place = slice_index s.sampled place
+
+-- each tick has a total of each pressure quantity
+abbrev pub HasTotals : List (ℕ × List ℕ) → Type 0
+HasTotals ticks = All (λ tick. length tick.1 ≡ length pressure_places) ticks
+
+-- no total falls from one tick to the next
+abbrev pub NeverFalls : List ℕ → List (ℕ × List ℕ) → Type 0
+NeverFalls before [] = Unit {0}
+NeverFalls before (tick ∷ ticks) = ((place : ℕ) → slice_index before place ≤ slice_index tick.1 place) × NeverFalls tick.1 ticks
+
+-- the totals at the last of these ticks, or those before it where there is none
+abbrev pub last_totals : List ℕ → List (ℕ × List ℕ) → List ℕ
+last_totals before [] = before
+last_totals before (tick ∷ ticks) = last_totals tick.1 ticks
+
+-- ---- laws
+
+-- Of the powers by halves: x to the 0 is the result so far; an odd number takes one x, and a number halves as x squares.
+pub record PowerHalves : Type 0 where
+  pub zero : (result x : ℕ) → power_from result x 0 ≡ result
+  pub even : (result x n : ℕ) → power_from result x (2 * n) ≡ power_from result (product x x) n
+  pub odd : (result x n : ℕ) → power_from result x (2 * n + 1) ≡ power_from (product result x) (product x x) n
+
+-- An average goes toward what is active and never past it. It stands still only there, where the factor is below one.
+pub record LoadApproaches : Type 0 where
+  pub up : (average factor active : ℕ) → factor ≤ 2048 → average ≤ active → (average ≤ load average factor active) × (load average factor active ≤ active)
+  pub down : (average factor active : ℕ) → factor ≤ 2048 → active ≤ average → (active ≤ load average factor active) × (load average factor active ≤ average)
+  pub rises : (average factor active : ℕ) → factor < 2048 → average < active → average < load average factor active
+  pub falls : (average factor active : ℕ) → factor < 2048 → active < average → load average factor active < average
+
+-- After every list of ticks no average is above 100 percent, and the next update is due within a period.
+abbrev pub AtMostHundred : Type 0
+AtMostHundred = (at : ℕ) (ticks : List (ℕ × List ℕ)) → HasTotals ticks → IsAverageState (averages_after at ticks)
+
+-- An update in which no period was missed and all of the time was stalled raises each average of the quantity toward 100
+-- percent, and not past it.
+abbrev pub RisesWhenStalled : Type 0
+RisesWhenStalled = (old : AverageState) (now : ℕ) (totals : List ℕ) (place factor : ℕ) →
+    IsAverageState old → length totals ≡ length pressure_places → place < length pressure_places → factor < 3 →
+    old.next ≤ now → now < old.next + period → sampled_of old place + sampled_time old now ≤ slice_index totals place →
+    (average_of old place factor ≤ average_of (average_step old now totals) place factor)
+    × (average_of (average_step old now totals) place factor ≤ 204800)
+    × (average_of old place factor < 204800 → average_of old place factor < average_of (average_step old now totals) place factor)
+
+-- An update in which nothing was stalled lowers each average of the quantity toward 0.
+abbrev pub FallsWhenFree : Type 0
+FallsWhenFree = (old : AverageState) (now : ℕ) (totals : List ℕ) (place factor : ℕ) →
+    IsAverageState old → length totals ≡ length pressure_places → place < length pressure_places → factor < 3 →
+    old.next ≤ now → slice_index totals place ≤ sampled_of old place →
+    (average_of (average_step old now totals) place factor ≤ average_of old place factor)
+    × (0 < average_of old place factor → average_of (average_step old now totals) place factor < average_of old place factor)
+
+-- What an update can't sample is carried to a later one: it takes what waits, and at most the time.
+abbrev pub CarriesTheRest : Type 0
+CarriesTheRest = (old : AverageState) (now : ℕ) (totals : List ℕ) (place : ℕ) →
+    IsAverageState old → length totals ≡ length pressure_places → place < length pressure_places → old.next ≤ now →
+    sampled_of (average_step old now totals) place ≡ sampled_of old place + min (slice_index totals place - sampled_of old place) (sampled_time old now)
+
+-- No more is sampled than there was: what was sampled and what waits are together the total.
+abbrev pub SamplesWithinTotal : Type 0
+SamplesWithinTotal = (at : ℕ) (ticks : List (ℕ × List ℕ)) (place : ℕ) → HasTotals ticks → NeverFalls [] ticks → place < length pressure_places →
+    sampled_of (averages_after at ticks) place ≤ slice_index (last_totals [] ticks) place

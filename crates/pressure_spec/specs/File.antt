@@ -1,0 +1,73 @@
+-- The pressure files io.pressure, memory.pressure and cpu.pressure of a group, as Documentation/accounting/psi.rst has them.
+use Rattle.std.specs.Prelude.{◌≡◌, ℕ, ◌+◌, ◌*◌, ◌/◌, ◌%◌, ◌^◌, ◌≤◌, ◌<◌, All, length, List, [], ◌∷◌, ◌++◌, slice_index, slice_index_or, codes, decimal, ◌&&◌, Bool, true, false, if◌then◌else◌}
+use Rattle.psi_base.specs.declared.event.Res.{Res}
+use Rattle.psi_base.specs.declared.event.Res.TheVariants.{Io, Memory, Cpu}
+use Rattle.psi_base.specs.declared.event.Level.{Level}
+use Rattle.psi_base.specs.declared.event.Level.TheVariants.{SomeStalled, FullStalled}
+use Rattle.psi_spec.specs.Fields.{level_word}
+use Rattle.psi_spec.specs.Stall.{number_of}
+use Rattle.pressure_spec.specs.Samples.{state_of}
+
+-- a number below 100 in two digits
+abbrev pub two_digits : ℕ → List ℕ
+two_digits n = decimal (n / 10) ++ decimal (n % 10)
+
+-- an average (2048 is 1 percent) in hundredths of a percent, rounded down
+abbrev pub hundredths : ℕ → ℕ
+hundredths average = (average % 2048) * 100 / 2048
+
+-- an average in percent, with two digits behind the point: the kernel's LOAD_INT and LOAD_FRAC
+abbrev pub percent_text : ℕ → List ℕ
+percent_text average = decimal (average / 2048) ++ codes "." ++ two_digits (hundredths average)
+
+-- a line of a pressure file: the three averages over 10, 60 and 300 seconds, and the total in whole microseconds, of one in ns
+abbrev pub file_line : Level → List ℕ → ℕ → List ℕ
+file_line level averages total =
+    level_word level ++ codes " avg10=" ++ percent_text (slice_index averages 0)
+    ++ codes " avg60=" ++ percent_text (slice_index averages 1)
+    ++ codes " avg300=" ++ percent_text (slice_index averages 2)
+    ++ codes " total=" ++ decimal (total / 1000) ++ codes "\n"
+
+-- the line of a resource on some or all tasks, by the totals (ns) and averages of the states
+abbrev pub state_line : Res → Level → List ℕ → List (List ℕ) → List ℕ
+state_line res level totals averages =
+    file_line level (slice_index_or averages (number_of (state_of res level)) []) (slice_index totals (number_of (state_of res level)))
+
+-- the resource is the processor
+abbrev pub is_cpu : Res → Bool
+is_cpu Io = false
+is_cpu Memory = false
+is_cpu Cpu = true
+
+-- the line of a resource on all tasks; that of the processor of the whole machine has zeros, as the kernel's has
+abbrev pub full_line : Res → Bool → List ℕ → List (List ℕ) → List ℕ
+full_line res is_root totals averages =
+    if is_root && is_cpu res then file_line FullStalled [] 0 else state_line res FullStalled totals averages
+
+-- a pressure file: the line on some tasks and the line on all
+unfoldable pub file_text : Res → Bool → List ℕ → List (List ℕ) → List ℕ
+file_text res is_root totals averages = state_line res SomeStalled totals averages ++ full_line res is_root totals averages
+
+-- ---- what a pressure file tells
+
+-- an average (2048 is 1 percent) in whole hundredths of a percent
+abbrev pub in_hundredths : ℕ → ℕ
+in_hundredths average = average / 2048 * 100 + hundredths average
+
+-- hundredths of a percent as text: the whole percent, a point and two digits
+abbrev pub hundredths_text : ℕ → List ℕ
+hundredths_text n = decimal (n / 100) ++ codes "." ++ two_digits (n % 100)
+
+-- the line that tells averages over 10, 60 and 300 seconds in hundredths of a percent, and a total in us
+abbrev pub told_line : Level → List ℕ → ℕ → List ℕ
+told_line level averages total =
+    level_word level ++ codes " avg10=" ++ hundredths_text (slice_index averages 0)
+    ++ codes " avg60=" ++ hundredths_text (slice_index averages 1)
+    ++ codes " avg300=" ++ hundredths_text (slice_index averages 2)
+    ++ codes " total=" ++ decimal total ++ codes "\n"
+
+-- a line can tell these: three averages, each from 0.00 to 100.00 percent, and a total of 64 bits
+pub record CanTell (averages : List ℕ) (total : ℕ) : Type 0 where
+  pub three : length averages ≡ 3
+  pub most : All (λ average. average ≤ 10000) averages
+  pub fits : total < 2 ^ 64

@@ -1,0 +1,91 @@
+-- The moments at which pressure is sampled, and the tables of times that a trace gives at them. All groups are sampled on one
+-- grid of moments, which is this profile's; the kernel samples each group by a timer of its own.
+use Rattle.std.specs.Prelude.{ℕ, ◌+◌, ◌-◌, ◌*◌, ◌/◌, ◌<◌, ◌≤◌, List, [], ◌∷◌, length, map, replicate, slice_index, slice_index_or, nat_lt, ◌==◌, ◌&&◌, ◌||◌, Bool}
+use Rattle.std.specs.List.{range_with_len}
+use Rattle.psi_base.specs.declared.event.Event.{Event}
+use Rattle.psi_spec.specs.World.{after, up_to}
+use Rattle.psi_spec.specs.Stall.{stall, states}
+use Rattle.psi_spec.specs.Trace.{last_moment, longest_tick}
+
+-- ---- ticks
+
+-- the moment (ns) of the tick with a number from 1, and 0 for 0
+abbrev pub tick_moment : ℕ → ℕ → ℕ
+tick_moment length i = i * length
+
+-- how many ticks come up to an end (ns), one at the end among them
+abbrev pub ticks_until : ℕ → ℕ → ℕ
+ticks_until length end = end / length
+
+-- a multiple of a period (ns) lies after the tick before and not after this one
+abbrev pub is_due : ℕ → ℕ → ℕ → Bool
+is_due period length i = nat_lt (tick_moment length (i - 1) / period) (tick_moment length i / period)
+
+-- a tick is an evaluation of rules where the interval (ns) is due
+abbrev pub is_evaluation : ℕ → ℕ → ℕ → Bool
+is_evaluation interval length i = is_due interval length i
+
+-- a tick is reported where the period (ns) of reports is due, if there is one; the last tick always is
+abbrev pub is_report : ℕ → ℕ → ℕ → ℕ → Bool
+is_report period length last i = i == last || (nat_lt 0 period && is_due period length i)
+
+-- ---- tables
+
+-- A tick: its moment (ns), and the times (ns) in the seven states up to it, of each group on each processor: a table by slot,
+-- by processor and by state.
+pub record Tick : Type 0 where
+  pub at : ℕ
+  pub table : List (List (List ℕ))
+
+-- the stall times (ns) of a group on a processor up to a moment, in the order of the states
+abbrev pub times_until : ℕ → ℕ → List Event → ℕ → List ℕ
+times_until cpu slot events at = map (λ state. stall state cpu slot (up_to events at) at) states
+
+-- the times (ns) of a group on each of so many processors
+abbrev pub row_until : ℕ → ℕ → List Event → ℕ → List (List ℕ)
+row_until cpus slot events at = map (λ cpu. times_until cpu slot events at) (range_with_len 0 cpus)
+
+-- the times (ns) of all groups that a trace ever makes
+abbrev pub table_until : ℕ → List Event → ℕ → List (List (List ℕ))
+table_until cpus events at = map (λ slot. row_until cpus slot events at) (range_with_len 0 (length (after events).groups))
+
+-- the tick of a trace with a number from 1
+abbrev pub tick_of : ℕ → List Event → ℕ → ℕ → Tick
+tick_of cpus events length i = record { at = tick_moment length i; table = table_until cpus events (tick_moment length i) }
+
+-- the first so many ticks of a trace
+unfoldable pub ticks_of : ℕ → List Event → ℕ → ℕ → List Tick
+ticks_of cpus events length count = map (tick_of cpus events length) (range_with_len 1 count)
+
+-- ---- one tick after another
+
+-- before the first tick no time has passed on any of so many processors
+abbrev pub no_row : ℕ → List (List ℕ)
+no_row cpus = replicate cpus (map (λ _. 0) states)
+
+-- before the first tick: the moment 0, and no time has passed in any of so many groups on so many processors
+abbrev pub no_tick : ℕ → ℕ → Tick
+no_tick cpus slots = record { at = 0; table = replicate slots (no_row cpus) }
+
+-- the last of ticks, and the one before them where there is none
+abbrev pub last_tick : Tick → List Tick → Tick
+last_tick before [] = before
+last_tick before (tick ∷ ticks) = last_tick tick ticks
+
+-- the time (ns) at a place of a table, and 0 where it has no such place
+abbrev pub time_in : List (List (List ℕ)) → ℕ → ℕ → ℕ → ℕ
+time_in table slot cpu place = slice_index (slice_index_or (slice_index_or table slot []) cpu []) place
+
+-- A tick comes next after another: it is later, by at most the longest tick, and within the last moment; and no time fell
+-- since then, or grew by more than the time in between.
+pub record IsNextTick (last tick : Tick) : Type 0 where
+  pub later : last.at < tick.at
+  pub soon : tick.at ≤ last.at + longest_tick
+  pub early : tick.at ≤ last_moment
+  pub kept : (slot cpu place : ℕ) → time_in last.table slot cpu place ≤ time_in tick.table slot cpu place
+  pub grown : (slot cpu place : ℕ) → time_in tick.table slot cpu place ≤ time_in last.table slot cpu place + (tick.at - last.at)
+
+-- ticks come one after another, the first of them after the one before them
+abbrev pub AreNextTicks : Tick → List Tick → Type 0
+AreNextTicks before [] = Unit {0}
+AreNextTicks before (tick ∷ ticks) = IsNextTick before tick × AreNextTicks tick ticks

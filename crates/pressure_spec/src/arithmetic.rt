@@ -1,0 +1,50 @@
+//! Laws of the arithmetic of pressure: of averages, shares and triggers. Each function has an empty body: its contract
+//! is the law.
+
+ghost use Rattle.pressure_spec.specs.Share.{IdleHasNone, ShareIsMean, SharesWithin, TotalsGrow};
+ghost use Rattle.pressure_spec.specs.Samples.{FiredApart, GroupsAtMostHundred, TotalIsSum, TotalsNeverFall};
+ghost use Rattle.pressure_spec.specs.Signal.{PendingIsSignalled, QuietWhenStill, RemembersLast, SignalsApart};
+ghost use Rattle.pressure_spec.specs.Average.{AtMostHundred, CarriesTheRest, FallsWhenFree, LoadApproaches, PowerHalves, RisesWhenStalled, SamplesWithinTotal};
+
+/// Fixed-point numbers: powers are taken by halves, and an average goes toward what is active and never past it.
+pub fn fixed_point()
+    ensures power { PowerHalves }
+    ensures load { LoadApproaches }
+{}
+
+/// The averages of a group: never above 100 percent, up while all time is stalled and down while none is. What an
+/// update can't sample waits for a later one.
+pub fn averages()
+    ensures most { AtMostHundred }
+    ensures rises { RisesWhenStalled }
+    ensures falls { FallsWhenFree }
+    ensures carries { CarriesTheRest }
+    ensures within { SamplesWithinTotal }
+{}
+
+/// The signals of a trigger: two are at least its window apart, a pending event is signalled as soon as that lets it,
+/// and there is none while nothing is stalled.
+pub fn signals()
+    ensures apart { SignalsApart }
+    ensures pending { PendingIsSignalled }
+    ensures remembers { RemembersLast }
+    ensures quiet { QuietWhenStill }
+{}
+
+/// The shares of an interval: a mean of the processors' times, and nothing where the group was idle. The totals are
+/// their sums.
+pub fn shares()
+    ensures mean { ShareIsMean }
+    ensures within { SharesWithin }
+    ensures idle { IdleHasNone }
+    ensures totals { TotalsGrow }
+{}
+
+/// Groups over any list of ticks: a total is the sum of its shares and so never falls, no average is above 100 percent,
+/// and two signals of a trigger are at least its window apart.
+pub fn law_ticks()
+    ensures sum { TotalIsSum }
+    ensures kept { TotalsNeverFall }
+    ensures most { GroupsAtMostHundred }
+    ensures apart { FiredApart }
+{}

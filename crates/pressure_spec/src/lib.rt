@@ -1,0 +1,8 @@
+//! What pressure is: shares of an interval and totals, averages, and the signals of triggers.
+//!
+//! In `specs/`: `Share`, `Average`, `Signal`, `Ticks`, `Samples` and `File`.
+#![tactic(auto)]
+
+mod arithmetic;
+
+pub use arithmetic::{averages, fixed_point, law_ticks, shares, signals};

@@ -1,0 +1,23 @@
+-- The planned times up to a moment, as stall times.
+use Rattle.std.proofs.Common.{◌≡◌, ℕ, List, [], ◌∷◌, map, refl, sym, ap, ◌∙◌}
+use Rattle.psi_base.specs.declared.event.State.{State}
+use Rattle.psi_base.specs.declared.event.Event.{Event}
+use Rattle.psi_spec.specs.World.{up_to}
+use Rattle.psi_spec.specs.Stall.{stall, states}
+use Rattle.psi_laws.specs.Plan.{PlannedUntil, changes_up_to, count_at, plan_of, planned_time}
+use Rattle.psi_laws.proofs.PlanStalls.{planned_is_stall}
+use Rattle.psi_laws.proofs.PlanUpTo.{counts_by_plan, stall_up_to}
+
+-- times that are the same state by state
+same_times : (one other : State → ℕ) (states : List State) → ((state : State) → one state ≡ other state) → map one states ≡ map other states
+same_times one other [] same = refl
+same_times one other (state ∷ states) same = ap (λ time. time ∷ map one states) (same state) ∙ ap (λ times. other state ∷ times) (same_times one other states same)
+
+pub planned_until : PlannedUntil
+planned_until limits events legal cpu slot at =
+    let count = counts_by_plan limits events legal cpu at in
+    same_times (λ state. planned_time state (plan_of cpu events) slot (changes_up_to (plan_of cpu events) at) at) (λ state. stall state cpu slot (up_to events at) at) states
+    (λ state.
+    ap (λ k. planned_time state (plan_of cpu events) slot k at) (sym count.0)
+    ∙ planned_is_stall limits events legal state cpu slot (count_at cpu events at) at count.1 count.2
+    ∙ sym (stall_up_to limits events legal state cpu slot at))

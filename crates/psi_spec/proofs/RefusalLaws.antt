@@ -1,0 +1,67 @@
+-- What the absence of a cause says of an event, and small laws of tests.
+use Rattle.std.proofs.Common.{◌≡◌, ℕ, zero, suc, List, [], ◌∷◌, refl, subst, Bool, true, false, cond, Option, None, Some}
+use Rattle.std.specs.Prelude.{find, ◌&&◌, not, is_some, slice_get}
+use Rattle.psi_base.specs.declared.event.Event.{Event}
+use Rattle.psi_base.specs.declared.event.Cause.{Cause}
+use Rattle.psi_base.specs.declared.event.Cause.TheVariants as cause
+use Rattle.psi_spec.specs.World.{World, Limits}
+use Rattle.psi_spec.specs.Refusal.{cause_of, stands, order}
+
+-- ---- what the absence of a cause says
+
+-- a cause that a search passes doesn't stand
+pub passed : (test : Cause → Bool) (causes : List Cause) (at : ℕ) (why : Cause) → find test causes ≡ None → slice_get causes at ≡ Some why → test why ≡ false
+passed test [] at why none is = absurd (cc is)
+passed test (first ∷ causes) zero why none is =
+    elim (test first) as (λ b. test first ≡ b → cond b (Some first) (find test causes) ≡ None → test why ≡ false) [
+      | true ↦ λ _ i. absurd (cc i)
+      | false ↦ λ off _. let same : first ≡ why = cc is in subst (λ c. test c ≡ false) same off
+    ] refl none
+passed test (first ∷ causes) (suc at) why none is =
+    elim (test first) as (λ b. cond b (Some first) (find test causes) ≡ None → test why ≡ false) [
+      | true ↦ λ i. absurd (cc i)
+      | false ↦ λ i. passed test causes at why i is
+    ] none
+
+-- causes that don't stand against a legal event
+pub record NoneStands (limits : Limits) (w : World) (event : Event) : Type 0 where
+  pub unknown_group : stands cause.UnknownGroup limits w event ≡ false
+  pub unknown_task : stands cause.UnknownTask limits w event ≡ false
+  pub task_exists : stands cause.TaskExists limits w event ≡ false
+  pub bad_cpu : stands cause.BadCpu limits w event ≡ false
+  pub not_ready : stands cause.NotReady limits w event ≡ false
+  pub wrong_how : stands cause.WrongHow limits w event ≡ false
+
+-- no cause stands against a legal event
+pub none_stands : (limits : Limits) (w : World) (event : Event) → cause_of limits w event ≡ None → NoneStands limits w event
+unfolding cause_of
+none_stands limits w event legal =
+    let off : (at : ℕ) (why : Cause) → slice_get order at ≡ Some why → stands why limits w event ≡ false = λ at why is. passed (λ why. stands why limits w event) order at why legal is in
+    record {
+      unknown_group = off 7 cause.UnknownGroup refl;
+      unknown_task = off 11 cause.UnknownTask refl;
+      task_exists = off 12 cause.TaskExists refl;
+      bad_cpu = off 14 cause.BadCpu refl;
+      not_ready = off 16 cause.NotReady refl;
+      wrong_how = off 18 cause.WrongHow refl;
+    }
+
+-- a negation that fails
+pub not_false : (b : Bool) → not b ≡ false → b ≡ true
+not_false true h = refl
+not_false false h = cc h
+
+-- no value, by its test
+pub is_none : {A : Type 0} (o : Option A) → is_some o ≡ false → o ≡ None
+is_none None h = refl
+is_none (Some x) h = cc h
+
+-- the first of two tests that hold
+pub first_true : (a b : Bool) → (a && b) ≡ true → a ≡ true
+first_true true b h = refl
+first_true false b h = h
+
+-- the second of two tests that hold
+pub second_true : (a b : Bool) → (a && b) ≡ true → b ≡ true
+second_true true b h = h
+second_true false b h = cc h

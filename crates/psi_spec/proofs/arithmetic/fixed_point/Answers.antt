@@ -1,8 +1,0 @@
-use Rattle.psi_spec.proofs.AverageLaws as laws
-use Rattle.psi_spec.proofs.arithmetic.fixed_point.Goals as goal
-
-pub returns-clause-power : goal.returns-clause-power
-returns-clause-power c = laws.power_halves
-
-pub returns-clause-load : goal.returns-clause-load
-returns-clause-load c = laws.load_approaches

@@ -1,0 +1,469 @@
+-- How words may be spelled otherwise, with the same command.
+use Rattle.std.proofs.Common.{◌≡◌, ◌≢◌, ℕ, ◌∷◌, ◌++◌, ◌||◌, ◌∙◌, List, [], Bool, true, false, not}
+use Rattle.std.proofs.Common.{Option, Some, None, length, drop, refl, sym, ap, subst, true≢false}
+use Rattle.std.proofs.Common.{arith, if◌then◌else◌}
+use Rattle.std.proofs.Math.Seq.{take-append_seam, take-length, drop-append-add}
+use Rattle.std.specs.Prelude.{find, codes, is_some, nat_eq, ⊤}
+use Rattle.std.specs.List.{list_any, position_or_len, before_first, after_first, starts_with}
+use Rattle.std.specs.Str.{bytes_eq}
+use Rattle.std.proofs.lemmas.Slice.Eq.{bytes_eq-Decides}
+use Rattle.run_spec.specs.declared.command.Command.{Command}
+use Rattle.run_spec.specs.Words.{◌>>=◌, Word, assigned, opened, end, plain, unknown, is_dashed}
+use Rattle.run_spec.specs.Words.{is_among, is_equals, option_of, word_of, Given, value_of}
+use Rattle.run_spec.specs.Words.{with_option, with_positional, positionals, then_word, parted}
+use Rattle.run_spec.specs.Words.{options_of, shape_of, stall_of, check_of, replay_of, gen_of}
+use Rattle.run_spec.specs.Words.{stress_of, Form, forms, built_forms, command_of, assigned_word}
+use Rattle.run_spec.specs.Words.{HasNoEquals, OrderIsFree, ValueMayFollow}
+use Rattle.run_spec.proofs.RangeLaws.{OfEach, each_built, each_found}
+
+-- ---- texts
+
+pub same_text : (xs ys : List ℕ) → bytes_eq xs ys ≡ true → xs ≡ ys
+same_text xs ys is = (bytes_eq-Decides xs ys).0 is
+
+pub text_itself : (xs : List ℕ) → bytes_eq xs xs ≡ true
+text_itself xs = (bytes_eq-Decides xs xs).1 refl
+
+pub other_text : (xs ys : List ℕ) → xs ≢ ys → bytes_eq xs ys ≡ false
+other_text xs ys differ = go (bytes_eq xs ys) (same_text xs ys)
+  where
+    go : (b : Bool) → (b ≡ true → xs ≡ ys) → b ≡ false
+    go true same = absurd (differ (same refl))
+    go false same = refl
+
+pub or_false : (a b : Bool) → a || b ≡ false → (a ≡ false) × (b ≡ false)
+or_false false b is = (refl, is)
+or_false true b is = absurd (true≢false is)
+
+-- the first `=` stands behind a text that has none
+first_equals : (name value : List ℕ) → HasNoEquals name
+    → position_or_len is_equals (name ++ 61 ∷ value) ≡ length name
+first_equals [] value none = refl
+first_equals (byte ∷ name) value none =
+    let both = or_false (is_equals byte) (list_any is_equals name) none in
+    let rest = first_equals name value both.1 in
+    rw (both.0, rest) (omega arith)
+
+no_equals : (name : List ℕ) → HasNoEquals name → position_or_len is_equals name ≡ length name
+no_equals [] none = refl
+no_equals (byte ∷ name) none =
+    let both = or_false (is_equals byte) (list_any is_equals name) none in
+    let rest = no_equals name both.1 in
+    rw (both.0, rest) (omega arith)
+
+name_before : (name value : List ℕ) → HasNoEquals name
+    → before_first is_equals (name ++ 61 ∷ value) ≡ name
+name_before name value none = rw (first_equals name value none) (take-append_seam name (61 ∷ value))
+
+value_after : (name value : List ℕ) → HasNoEquals name
+    → after_first is_equals (name ++ 61 ∷ value) ≡ value
+value_after name value none =
+    rw (first_equals name value none) (drop-append-add name (61 ∷ value) 1)
+
+has_equals : (name value : List ℕ) → list_any is_equals (name ++ 61 ∷ value) ≡ true
+has_equals [] value = refl
+has_equals (byte ∷ name) value = rw (has_equals name value) (or_true (is_equals byte))
+  where
+    or_true : (b : Bool) → b || true ≡ true
+    or_true true = refl
+    or_true false = refl
+
+name_alone : (name : List ℕ) → HasNoEquals name → before_first is_equals name ≡ name
+name_alone name none = rw (no_equals name none) (take-length name)
+
+-- ---- an option's word
+
+longer : (name rest : List ℕ) (byte : ℕ)
+    → bytes_eq (codes "--" ++ (name ++ byte ∷ rest)) (codes "--") ≡ false
+longer [] rest byte = refl
+longer (first ∷ name) rest byte = refl
+
+-- what `--name=value` is
+abbrev pub assigned_among : Bool → List ℕ → List ℕ → Word
+assigned_among known name value = if known then assigned name value else unknown
+
+option_is : (names : List (List ℕ)) (name value : List ℕ) → HasNoEquals name
+    → option_of names (name ++ 61 ∷ value) ≡ assigned_among (is_among name names) name value
+option_is names name value none = go (is_among name names) refl
+  where
+    go : (b : Bool) → is_among name names ≡ b
+        → option_of names (name ++ 61 ∷ value) ≡ assigned_among b name value
+    go true is =
+        rw (name_before name value none, is, has_equals name value, value_after name value none)
+        refl
+    go false is = rw (name_before name value none, is) refl
+
+pub assigned_is : (names : List (List ℕ)) (name value : List ℕ) → HasNoEquals name
+    → word_of names (assigned_word name value) ≡ assigned_among (is_among name names) name value
+assigned_is names name value none = rw (longer name value 61) (option_is names name value none)
+
+-- ---- what says the same
+
+-- each option has the same value in both, and so has the positional
+pub record SaysSame (one other : Given) : Type 0 where
+  pub values : (name : List ℕ) → value_of name one ≡ value_of name other
+  pub positional : one.positional ≡ other.positional
+
+-- both are refused, or say the same
+abbrev pub Same : Option Given → Option Given → Type 0
+Same None None = ⊤
+Same None (Some other) = ⊥
+Same (Some one) None = ⊥
+Same (Some one) (Some other) = SaysSame one other
+
+same_itself : (r : Option Given) → Same r r
+same_itself None = tt
+same_itself (Some given) = record { values = λ name. refl; positional = refl }
+
+same_if : (one other : Option Given) → one ≡ other → Same one other
+same_if one other is = subst (Same one) is (same_itself one)
+
+value_under : (name value key : List ℕ) (given : Given) (b : Bool) → bytes_eq name key ≡ b
+    → value_of key (record given { options = (name, value) ∷ given.options })
+    ≡ (if b then Some value else value_of key given)
+value_under name value key given true is = rw is refl
+value_under name value key given false is = rw is refl
+
+same_more : (name value : List ℕ) (one other : Given) → SaysSame one other
+    → SaysSame (record one { options = (name, value) ∷ one.options })
+    (record other { options = (name, value) ∷ other.options })
+same_more name value one other same = record {
+  values = λ key. value_under name value key one (bytes_eq name key) refl
+      ∙ (ap (λ v. if bytes_eq name key then Some value else v) (same.values key)
+      ∙ sym (value_under name value key other (bytes_eq name key) refl));
+  positional = same.positional;
+}
+
+with_option_same : (name value : List ℕ) (r s : Option Given) → Same r s
+    → Same (r >>= with_option name value) (s >>= with_option name value)
+with_option_same name value None None same = tt
+with_option_same name value None (Some other) same = absurd same
+with_option_same name value (Some one) None same = absurd same
+with_option_same name value (Some one) (Some other) same =
+    go (is_some (value_of name one)) refl (sym (ap is_some (same.values name)))
+  where
+    go : (b : Bool) → is_some (value_of name one) ≡ b
+        → is_some (value_of name other) ≡ is_some (value_of name one)
+        → Same (with_option name value one) (with_option name value other)
+    go true is is_other = rw (is_other, is) tt
+    go false is is_other = rw (is_other, is) (same_more name value one other same)
+
+with_positional_same : (word : List ℕ) (r s : Option Given) → Same r s
+    → Same (r >>= with_positional word) (s >>= with_positional word)
+with_positional_same word None None same = tt
+with_positional_same word None (Some other) same = absurd same
+with_positional_same word (Some one) None same = absurd same
+with_positional_same word (Some one) (Some other) same =
+    go (is_some one.positional) refl (sym (ap is_some same.positional))
+  where
+    go : (b : Bool) → is_some one.positional ≡ b → is_some other.positional ≡ is_some one.positional
+        → Same (with_positional word one) (with_positional word other)
+    go true is is_other = rw (is_other, is) tt
+    go false is is_other = rw (is_other, is) (record { values = same.values; positional = refl })
+
+-- two options of different names go in either order
+swapped : (name value other another : List ℕ) → name ≢ other → (r : Option Given)
+    → Same ((r >>= with_option other another) >>= with_option name value)
+    ((r >>= with_option name value) >>= with_option other another)
+swapped name value other another differ None = tt
+swapped name value other another differ (Some given) =
+    go (is_some (value_of name given)) (is_some (value_of other given)) refl refl
+  where
+    first : (bytes_eq name other ≡ false)
+    first = other_text name other differ
+
+    second : (bytes_eq other name ≡ false)
+    second = other_text other name (λ is. differ (sym is))
+
+    go : (b d : Bool) → is_some (value_of name given) ≡ b → is_some (value_of other given) ≡ d
+        → Same (with_option other another given >>= with_option name value)
+        (with_option name value given >>= with_option other another)
+    go true true is is_other = rw (is, is_other) tt
+    go true false is is_other = rw (is, is_other, second, is) tt
+    go false true is is_other = rw (is, is_other, first, is_other) tt
+    go false false is is_other =
+        rw (is, is_other, first, second, is, is_other)
+        (record {
+          values = λ key. both key (bytes_eq name key) (bytes_eq other key) refl refl;
+          positional = refl;
+        })
+      where
+        both : (key : List ℕ) (b d : Bool) → bytes_eq name key ≡ b → bytes_eq other key ≡ d
+            → value_of key (record given {
+              options = (name, value) ∷ (other, another) ∷
+                  given.options;
+            }) ≡ value_of key
+            (record given { options = (other, another) ∷ (name, value) ∷ given.options })
+        both key true true is_name is_other =
+            absurd (differ (same_text name key is_name ∙ sym (same_text other key is_other)))
+        both key true false is_name is_other = rw (is_name, is_other) refl
+        both key false true is_name is_other = rw (is_name, is_other) refl
+        both key false false is_name is_other = rw (is_name, is_other) refl
+
+-- ---- two options in either order
+
+-- two words are too many where none is an option
+two_positionals : (one other : List ℕ) (r : Option Given)
+    → (r >>= with_positional other) >>= with_positional one ≡ None
+two_positionals one other None = refl
+two_positionals one other (Some given) = go (is_some given.positional) refl
+  where
+    go : (b : Bool) → is_some given.positional ≡ b
+        → with_positional other given >>= with_positional one ≡ None
+    go true is = rw is refl
+    go false is = rw is refl
+
+both_positional : (before after : List (List ℕ)) (one other : List ℕ)
+    → positionals (before ++ one ∷ other ∷ after) ≡ positionals (before ++ other ∷ one ∷ after)
+both_positional [] after one other =
+    two_positionals one other (positionals after)
+    ∙ sym (two_positionals other one (positionals after))
+both_positional (word ∷ before) after one other =
+    ap (λ r. r >>= with_positional word) (both_positional before after one other)
+
+abbrev SameEither : List (List ℕ) → List (List ℕ) → List (List ℕ) → Type 0
+SameEither names one other =
+    (waiting : Option (List ℕ)) → Same (parted names waiting one) (parted names waiting other)
+
+none_waits : (names : List (List ℕ)) (name word : List ℕ) (rest : List (List ℕ))
+    → is_dashed word ≡ true → parted names (Some name) (word ∷ rest) ≡ None
+none_waits names name word rest dashed = rw dashed refl
+
+-- at two words that are options, known or not
+options_either : (names after : List (List ℕ)) (name value other another : List ℕ) (b d : Bool)
+    → name ≢ other
+    → word_of names (assigned_word name value) ≡ assigned_among b name value
+    → word_of names (assigned_word other another) ≡ assigned_among d other another
+    → Same (parted names None (assigned_word name value ∷ assigned_word other another ∷ after))
+    (parted names None (assigned_word other another ∷ assigned_word name value ∷ after))
+options_either names after name value other another true true differ is is_other =
+    rw (is, is_other) (swapped name value other another differ (parted names None after))
+options_either names after name value other another true false differ is is_other =
+    rw (is, is_other) tt
+options_either names after name value other another false true differ is is_other =
+    rw (is, is_other) tt
+options_either names after name value other another false false differ is is_other =
+    rw (is, is_other) tt
+
+-- behind a word, what says the same goes on so
+word_either : (names : List (List ℕ)) (word : List ℕ) (one other : List (List ℕ))
+    → SameEither names one other → positionals one ≡ positionals other
+    → SameEither names (word ∷ one) (word ∷ other)
+word_either names word one other same plainly (Some name) = go (is_dashed word)
+  where
+    go : (b : Bool) → Same (if b then None else parted names None one >>= with_option name word)
+        (if b then None else parted names None other >>= with_option name word)
+    go true = tt
+    go false =
+        with_option_same name word (parted names None one) (parted names None other) (same None)
+word_either names word one other same plainly None = go (word_of names word)
+  where
+    go : (w : Word) → Same (then_word w word one (parted names None one)
+        (λ name. parted names (Some name) one))
+        (then_word w word other (parted names None other) (λ name. parted names (Some name) other))
+    go (assigned name value) =
+        with_option_same name value (parted names None one) (parted names None other) (same None)
+    go (opened name) = same (Some name)
+    go end = same_if _ _ plainly
+    go plain =
+        with_positional_same word (parted names None one) (parted names None other) (same None)
+    go unknown = tt
+
+all_either : (names before after : List (List ℕ)) (name value other another : List ℕ)
+    → HasNoEquals name → HasNoEquals other → name ≢ other
+    → SameEither names (before ++ assigned_word name value ∷ assigned_word other another ∷ after)
+    (before ++ assigned_word other another ∷ assigned_word name value ∷ after)
+all_either names [] after name value other another none none_other differ None =
+    options_either names after name value other another (is_among name names) (is_among other names)
+    differ (assigned_is names name value none) (assigned_is names other another none_other)
+all_either names [] after name value other another none none_other differ (Some waiting) = tt
+all_either names (word ∷ before) after name value other another none none_other differ waiting =
+    word_either names word _ _ (all_either names before after name value other another none
+    none_other differ) (both_positional before after (assigned_word name value)
+    (assigned_word other another)) waiting
+
+-- ---- the tables look at what is said alone
+
+abbrev pub Respects : (Given → Option Command) → Type 0
+Respects read = (one other : Given) → SaysSame one other → read one ≡ read other
+
+stall_respects : Respects stall_of
+unfolding stall_of
+stall_respects one other same = rw (same.positional) refl
+
+check_respects : Respects check_of
+unfolding check_of
+check_respects one other same = rw (same.positional, same.values (codes "tick-ms")) refl
+
+options_respects : (one other : Given) → SaysSame one other → options_of one ≡ options_of other
+unfolding options_of
+options_respects one other same =
+    rw (
+      same.values (codes "rules"),
+      same.values (codes "tick-ms"),
+      same.values
+          (codes "interval-s"),
+      same.values (codes "report-s"),
+      same.values (codes "workers"),
+      same.values (codes "live"),
+      same.values (codes "live-count"),
+    ) refl
+
+replay_respects : Respects replay_of
+unfolding replay_of
+replay_respects one other same = rw (options_respects one other same, same.positional) refl
+
+shape_respects : (one other : Given) → SaysSame one other → shape_of one ≡ shape_of other
+unfolding shape_of
+shape_respects one other same = go (is_some one.positional) refl (sym (ap is_some same.positional))
+  where
+    go : (b : Bool) → is_some one.positional ≡ b → is_some other.positional ≡ is_some one.positional
+        → shape_of one ≡ shape_of other
+    go true is is_other = rw (is_other, is) refl
+    go false is is_other =
+        rw (
+          is_other,
+          is,
+          same.values (codes "seed"),
+          same.values (codes "cpus"),
+          same.values
+              (codes "groups"),
+          same.values (codes "events"),
+        ) refl
+
+gen_respects : Respects gen_of
+unfolding gen_of
+gen_respects one other same = rw (shape_respects one other same) refl
+
+stress_respects : Respects stress_of
+unfolding stress_of
+stress_respects one other same =
+    rw (shape_respects one other same, same.values (codes "workers")) refl
+
+all_respect : OfEach Respects forms
+all_respect =
+    (stall_respects, (check_respects, (replay_respects, (gen_respects, (stress_respects, tt)))))
+
+same_read : (read : Given → Option Command) (r s : Option Given) → Respects read → Same r s
+    → r >>= read ≡ s >>= read
+same_read read None None respects same = refl
+same_read read None (Some other) respects same = absurd same
+same_read read (Some one) None respects same = absurd same
+same_read read (Some one) (Some other) respects same = respects one other same
+
+-- what is behind the command's word decides by what it says
+same_command : (first : List ℕ) (one other : List (List ℕ))
+    → ((names : List (List ℕ)) → Same (parted names None one) (parted names None other))
+    → command_of (first ∷ one) ≡ command_of (first ∷ other)
+unfolding command_of
+same_command first one other same =
+    go (find (λ (form : Form). bytes_eq first form.word) built_forms) refl
+  where
+    go : (r : Option Form) → find (λ (form : Form). bytes_eq first form.word) built_forms ≡ r
+        → (r >>= λ form. parted form.options None one >>= λ given. form.command given)
+        ≡ (r >>= λ form. parted form.options None other >>= λ given. form.command given)
+    go None is = refl
+    go (Some form) is =
+        same_read form.command (parted form.options None one) (parted form.options None other)
+        (each_found Respects first built_forms form (each_built Respects forms all_respect) is)
+        (same form.options)
+
+pub order_is_free : OrderIsFree
+unfolding command_of
+order_is_free [] after name value other another none none_other differ = refl
+order_is_free (first ∷ before) after name value other another none none_other differ =
+    same_command first (before ++ assigned_word name value ∷ assigned_word other another ∷ after)
+    (before ++ assigned_word other another ∷ assigned_word name value ∷ after)
+    (λ names. all_either names before after name value other another none none_other differ None)
+
+-- ---- a value in a word of its own
+
+-- what `--name` is
+opened_is : (names : List (List ℕ)) (name : List ℕ) → HasNoEquals name → name ≢ []
+    → word_of names (codes "--" ++ name) ≡ (if is_among name names then opened name else unknown)
+opened_is names [] none some = absurd (some refl)
+opened_is names (byte ∷ name) none some = go (is_among (byte ∷ name) names) refl
+  where
+    go : (b : Bool) → is_among (byte ∷ name) names ≡ b
+        → option_of names (byte ∷ name) ≡ (if b then opened (byte ∷ name) else unknown)
+    go true is = rw (name_alone (byte ∷ name) none, is, none) refl
+    go false is = rw (name_alone (byte ∷ name) none, is) refl
+
+abbrev is_end : Word → Bool
+is_end end = true
+is_end _ = false
+
+-- a word that isn't `--` doesn't end the options
+not_end : (names : List (List ℕ)) (word : List ℕ) → bytes_eq word (codes "--") ≡ false
+    → is_end (word_of names word) ≡ false
+not_end names word other =
+    rw other (go (is_dashed word) (starts_with nat_eq word (codes "--"))
+    (is_among (before_first is_equals (drop 2 word)) names) (list_any is_equals (drop 2 word)) _
+    _ _)
+  where
+    go : (a b d e : Bool) (name value text : List ℕ)
+        → is_end (if not a then plain else if b then
+        (if not d then unknown else if e then assigned name value else opened text) else
+        unknown) ≡ false
+    go false b d e name value text = refl
+    go true false d e name value text = refl
+    go true true false e name value text = refl
+    go true true true true name value text = refl
+    go true true true false name value text = refl
+
+abbrev Equal : List (List ℕ) → List (List ℕ) → List (List ℕ) → Type 0
+Equal names one other =
+    (waiting : Option (List ℕ)) → parted names waiting one ≡ parted names waiting other
+
+-- behind a word that isn't `--`, what says the same goes on so
+word_equal : (names : List (List ℕ)) (word : List ℕ) (one other : List (List ℕ))
+    → bytes_eq word (codes "--") ≡ false → Equal names one other
+    → Equal names (word ∷ one) (word ∷ other)
+word_equal names word one other differs same (Some name) =
+    ap (λ r. if is_dashed word then None else r >>= with_option name word) (same None)
+word_equal names word one other differs same None =
+    go (word_of names word) (not_end names word differs)
+  where
+    go : (w : Word) → is_end w ≡ false
+        → then_word w word one (parted names None one) (λ name. parted names (Some name) one)
+        ≡ then_word w word other (parted names None other) (λ name. parted names (Some name) other)
+    go (assigned name value) is = ap (λ r. r >>= with_option name value) (same None)
+    go (opened name) is = same (Some name)
+    go end is = absurd (true≢false is)
+    go plain is = ap (λ r. r >>= with_positional word) (same None)
+    go unknown is = refl
+
+value_here : (names after : List (List ℕ)) (name value : List ℕ) (b : Bool)
+    → is_dashed value ≡ false
+    → word_of names (assigned_word name value) ≡ assigned_among b name value
+    → word_of names (codes "--" ++ name) ≡ (if b then opened name else unknown)
+    → parted names None (assigned_word name value ∷ after)
+    ≡ parted names None ((codes "--" ++ name) ∷ value ∷ after)
+value_here names after name value true bare is is_opened = rw (is, is_opened, bare) refl
+value_here names after name value false bare is is_opened = rw (is, is_opened) refl
+
+dashed_name : (name : List ℕ) → is_dashed (codes "--" ++ name) ≡ true
+dashed_name name = refl
+
+value_after_all : (names before after : List (List ℕ)) (name value : List ℕ) → HasNoEquals name
+    → name ≢ [] → is_dashed value ≡ false → is_among (codes "--") before ≡ false
+    → Equal names (before ++ assigned_word name value ∷ after)
+    (before ++ (codes "--" ++ name) ∷ value ∷ after)
+value_after_all names [] after name value none some bare free None =
+    value_here names after name value (is_among name names) bare (assigned_is names name value none)
+    (opened_is names name none some)
+value_after_all names [] after name value none some bare free (Some waiting) = refl
+value_after_all names (word ∷ before) after name value none some bare free waiting =
+    let both = or_false (bytes_eq word (codes "--")) (is_among (codes "--") before) free in
+    word_equal names word _ _ both.0
+    (value_after_all names before after name value none some bare both.1) waiting
+
+pub value_may_follow : ValueMayFollow
+unfolding command_of
+value_may_follow [] after name value none some bare free = refl
+value_may_follow (first ∷ before) after name value none some bare free =
+    let both = or_false (bytes_eq first (codes "--")) (is_among (codes "--") before) free in
+    same_command first (before ++ assigned_word name value ∷ after)
+    (before ++ (codes "--" ++ name) ∷ value ∷ after)
+    (λ names. same_if _ _ (value_after_all names before after name value none some bare both.1
+    None))

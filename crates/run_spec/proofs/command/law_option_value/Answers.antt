@@ -1,0 +1,5 @@
+use Rattle.run_spec.proofs.WordLaws.{value_may_follow}
+use Rattle.run_spec.proofs.command.law_option_value.Goals as goal
+
+pub returns : goal.returns
+returns c = value_may_follow

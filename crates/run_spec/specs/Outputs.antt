@@ -1,0 +1,54 @@
+-- Which files a command reads, how long its ticks are, and what it prints of an accepted trace.
+use Rattle.std.specs.Prelude.{◌≡◌, ℕ, ◌*◌, List, Option, None, Some}
+use Rattle.psi_spec.specs.Trace.{Trace}
+use Rattle.run_spec.specs.declared.command.Command.{Command}
+use Rattle.run_spec.specs.declared.command.Command.TheVariants.{Stall, Check, Replay, Gen, Stress}
+use Rattle.run_spec.specs.declared.command.Options.{Options}
+use Rattle.run_spec.specs.declared.status.Which.{Which}
+use Rattle.run_spec.specs.declared.status.Which.TheVariants.{RulesFile, TraceFile}
+use Rattle.run_spec.specs.Text.{check_text, stall_text}
+use Rattle.run_spec.specs.Replay.{Pace, nothing_beside, replay_text}
+
+-- the name of the trace that a command reads, if it reads one
+abbrev pub trace_name : Command → Option (List ℕ)
+trace_name (Stall trace) = Some trace
+trace_name (Check trace tick_ms) = Some trace
+trace_name (Replay trace options) = Some trace
+trace_name (Gen shape) = None
+trace_name (Stress shape workers) = None
+
+-- the name of the rules file that a command reads, if it reads one
+abbrev pub rules_name : Command → Option (List ℕ)
+rules_name (Replay trace options) = options.rules
+rules_name _ = None
+
+-- the name of a command's file of this kind, if it reads one
+abbrev pub file_of : Command → Which → Option (List ℕ)
+file_of command RulesFile = rules_name command
+file_of command TraceFile = trace_name command
+
+-- a number of ms in ns
+abbrev pub of_ms : ℕ → ℕ
+of_ms n = n * 1000000
+
+-- a number of seconds in ns
+abbrev pub of_s : ℕ → ℕ
+of_s n = n * 1000000000
+
+-- the length of a tick (ns), and so the latest moment of a trace, which is a million ticks
+abbrev pub tick_length : Command → ℕ
+tick_length (Check trace tick_ms) = of_ms tick_ms
+tick_length (Replay trace options) = of_ms options.tick_ms
+tick_length _ = of_s 2
+
+-- how options have a trace replayed
+abbrev pub pace_of : Options → Pace
+pace_of options = record { length = of_ms options.tick_ms; report = of_s options.report_s }
+
+-- A text is the whole output of a command for an accepted trace. Of commands that aren't built yet nothing is one.
+abbrev pub IsOutput : Command → Trace → List ℕ → Type 0
+IsOutput (Stall name) trace text = text ≡ stall_text trace
+IsOutput (Check name tick_ms) trace text = text ≡ check_text trace
+IsOutput (Replay name options) trace text = text ≡ replay_text trace (pace_of options) nothing_beside
+IsOutput (Gen shape) trace text = ⊥
+IsOutput (Stress shape workers) trace text = ⊥

@@ -1,0 +1,103 @@
+-- What `replay` prints: at each tick the signals of triggers and, where it is due, the pressure files of all live groups.
+use Rattle.std.specs.Prelude.{ℕ, ◌-◌, List, [], ◌++◌, length, sum_by, ◌==◌, Option, None, Some, if◌then◌else◌, slice_get}
+use Rattle.std.specs.List.{flat_map, range_with_len}
+use Rattle.psi_base.specs.declared.event.Event.{Event}
+use Rattle.psi_base.specs.declared.event.Res.{Res}
+use Rattle.psi_base.specs.declared.event.TriggerSpec.{TriggerSpec}
+use Rattle.psi_spec.specs.declared.machine.GroupLife.{GroupLife}
+use Rattle.psi_spec.specs.Fields.{resources}
+use Rattle.psi_spec.specs.World.{after, up_to}
+use Rattle.psi_spec.specs.Groups.{live_groups, path_at}
+use Rattle.psi_spec.specs.Told.{triggers_of}
+use Rattle.psi_spec.specs.Trace.{Trace}
+use Rattle.pressure_spec.specs.Ticks.{is_report, tick_moment, tick_of, ticks_of, ticks_until}
+use Rattle.pressure_spec.specs.Samples.{fired_at, group_averages, totals_after}
+use Rattle.run_spec.specs.Lines.{end_line, event_line, report_text}
+use Rattle.run_spec.specs.Text.{end_of}
+
+-- How a trace is replayed: the length of a tick (ns), and the period of reports (ns), 0 for none.
+pub record Pace : Type 0 where
+  pub length : ℕ
+  pub report : ℕ
+
+-- What live samples and rules put into the output beside: their lines at the tick with a number, and how many kills there are.
+pub record Beside : Type 0 where
+  pub live : ℕ → List ℕ
+  pub kills : ℕ → List ℕ
+  pub killed : ℕ
+
+-- neither live samples nor rules
+abbrev pub nothing_beside : Beside
+nothing_beside = record { live = λ _. []; kills = λ _. []; killed = 0 }
+
+-- how many ticks a trace has
+abbrev pub tick_count : Trace → Pace → ℕ
+tick_count trace pace = ticks_until pace.length (end_of trace.events)
+
+-- all groups that a trace ever makes
+abbrev pub lives_of : Trace → List GroupLife
+lives_of trace = (after trace.events).groups
+
+-- ---- signals
+
+-- the numbers of the triggers that signal at a tick
+abbrev pub fired_in : Trace → Pace → ℕ → List ℕ
+fired_in trace pace i =
+    fired_at trace.cpus (lives_of trace) (triggers_of trace.events) (ticks_of trace.cpus trace.events pace.length (i - 1)) (tick_of trace.cpus trace.events pace.length i)
+
+-- the line of a trigger that signals at a moment (ns), if there is such a trigger
+abbrev pub signal_line : ℕ → List GroupLife → ℕ → Option TriggerSpec → List ℕ
+signal_line at lives number None = []
+signal_line at lives number (Some trigger) = event_line at number (path_at lives trigger.slot.0) trigger
+
+-- the lines of signals at a moment (ns): of the triggers with these numbers
+abbrev pub signal_lines : ℕ → List GroupLife → List TriggerSpec → List ℕ → List ℕ
+signal_lines at lives triggers numbers = flat_map (λ number. signal_line at lives number (slice_get triggers number)) numbers
+
+-- how many signals there are at the first so many ticks
+abbrev pub signals_until : Trace → Pace → ℕ → ℕ
+signals_until trace pace count = sum_by (λ i. length (fired_in trace pace i)) (range_with_len 1 count)
+
+-- ---- reports
+
+-- the pressure files of a group at a moment (ns), by its totals (ns) and averages
+abbrev pub files_text : ℕ → List ℕ → ℕ → List ℕ → List (List ℕ) → List ℕ
+files_text at path slot totals averages = flat_map (λ res. report_text at path res (slot == 0) totals averages) resources
+
+-- the report of a group at a tick
+abbrev pub group_report : Trace → Pace → ℕ → List ℕ × ℕ → List ℕ
+group_report trace pace i group =
+    files_text (tick_moment pace.length i) group.0 group.1
+    (totals_after trace.cpus (lives_of trace) (ticks_of trace.cpus trace.events pace.length i) group.1)
+    (group_averages trace.cpus (lives_of trace) (ticks_of trace.cpus trace.events pace.length i) group.1).averages
+
+-- the groups that are live at a tick, in the byte order of their paths, each with its slot
+abbrev pub groups_at : Trace → Pace → ℕ → List (List ℕ × ℕ)
+groups_at trace pace i = live_groups (after (up_to trace.events (tick_moment pace.length i))).groups
+
+-- the reports of all groups that are live at a tick
+abbrev pub reports : Trace → Pace → ℕ → List ℕ
+reports trace pace i = flat_map (group_report trace pace i) (groups_at trace pace i)
+
+-- ---- the whole output
+
+-- the lines of a tick: of live samples, of signals, of kills, and of the report where it is due
+unfoldable pub tick_text : Trace → Pace → Beside → ℕ → List ℕ
+tick_text trace pace beside i =
+    beside.live i
+    ++ signal_lines (tick_moment pace.length i) (lives_of trace) (triggers_of trace.events) (fired_in trace pace i)
+    ++ beside.kills i
+    ++ (if is_report pace.report pace.length (tick_count trace pace) i then reports trace pace i else [])
+
+-- the lines of the first so many ticks
+abbrev pub ticks_text : Trace → Pace → Beside → ℕ → List ℕ
+ticks_text trace pace beside count = flat_map (tick_text trace pace beside) (range_with_len 1 count)
+
+-- the last line: the end moment (ns), and how many ticks, signals and kills there were
+abbrev pub last_line : Trace → Pace → Beside → List ℕ
+last_line trace pace beside =
+    end_line (end_of trace.events) (tick_count trace pace) (signals_until trace pace (tick_count trace pace)) beside.killed
+
+-- the text of `replay`
+unfoldable pub replay_text : Trace → Pace → Beside → List ℕ
+replay_text trace pace beside = ticks_text trace pace beside (tick_count trace pace) ++ last_line trace pace beside

@@ -1,0 +1,43 @@
+-- The codes of statuses, and the text that tells of each.
+use Rattle.std.specs.Prelude.{ℕ, List, [], ◌++◌, codes, decimal, Option, None, Some}
+use Rattle.psi_base.specs.declared.event.Cause.{Cause}
+use Rattle.run_spec.specs.declared.command.Command.{Command}
+use Rattle.run_spec.specs.declared.status.Status.{Status}
+use Rattle.run_spec.specs.declared.status.Status.TheVariants as status
+use Rattle.run_spec.specs.declared.status.Which.{Which}
+use Rattle.run_spec.specs.Outputs.{file_of}
+use Rattle.run_spec.specs.Text.{cause_text}
+
+-- the exit status
+abbrev pub code_of : Status → ℕ
+code_of status.Done = 0
+code_of status.Usage = 1
+code_of (status.Trace line why) = 2
+code_of (status.NoFile which) = 4
+code_of status.ReadFault = 5
+code_of status.WriteFault = 6
+code_of status.NoMemory = 7
+
+-- a name, if there is one
+abbrev pub name_or_none : Option (List ℕ) → List ℕ
+name_or_none None = []
+name_or_none (Some name) = name
+
+-- the name of a command's file of this kind
+abbrev pub name_text : Option Command → Which → List ℕ
+name_text None which = []
+name_text (Some command) which = name_or_none (file_of command which)
+
+-- the line that tells of a refused line of a trace
+abbrev pub refusal_text : ℕ → Cause → List ℕ
+refusal_text line why = codes "trace line " ++ (decimal line ++ (codes ": " ++ (cause_text why ++ codes "\n")))
+
+-- the line that tells of a status, with its newline; of Done nothing is told
+abbrev pub status_text : Option Command → Status → List ℕ
+status_text command status.Done = []
+status_text command status.Usage = codes "usage: psi_oomd stall or check or replay or gen or stress\n"
+status_text command (status.Trace line why) = refusal_text line why
+status_text command (status.NoFile which) = codes "no file: " ++ (name_text command which ++ codes "\n")
+status_text command status.ReadFault = codes "read fault\n"
+status_text command status.WriteFault = codes "write fault\n"
+status_text command status.NoMemory = codes "out of memory\n"

@@ -1,0 +1,81 @@
+-- What the commands print as a whole, byte for byte.
+use Rattle.std.specs.Prelude.{ℕ, List, [], ◌++◌, length, map, Option, None, Some, codes, decimal}
+use Rattle.std.specs.List.{flat_map, range_with_len}
+use Rattle.psi_base.specs.declared.event.Event.{Event}
+use Rattle.psi_base.specs.declared.event.Cause.{Cause}
+use Rattle.psi_base.specs.declared.event.Cause.TheVariants as cause
+use Rattle.psi_spec.specs.World.{after}
+use Rattle.psi_spec.specs.Groups.{live_groups}
+use Rattle.psi_spec.specs.Stall.{stall, states}
+use Rattle.psi_spec.specs.Trace.{Trace}
+use Rattle.run_spec.specs.Lines.{check_line, stall_line}
+
+-- ---- stall sums
+
+-- the moment of the last event (ns), which ends a trace
+abbrev pub end_of : List Event → ℕ
+end_of events = (after events).last
+
+-- the stall times (ns) of a group on a processor at the end
+abbrev pub stall_times : ℕ → ℕ → List Event → List ℕ
+stall_times cpu slot events = map (λ state. stall state cpu slot events (end_of events)) states
+
+-- the lines of a processor
+abbrev pub stall_lines : ℕ → List Event → List ℕ
+stall_lines cpu events = flat_map (λ (pair : List ℕ × ℕ). stall_line cpu pair.0 (stall_times cpu pair.1 events)) (live_groups (after events).groups)
+
+-- the text of `stall`: the lines of all processors
+unfoldable pub stall_text : Trace → List ℕ
+stall_text trace = flat_map (λ cpu. stall_lines cpu trace.events) (range_with_len 0 trace.cpus)
+
+-- ---- checks
+
+-- the text of `check`
+abbrev pub check_text : Trace → List ℕ
+check_text trace = check_line (length trace.events) (end_of trace.events)
+
+-- ---- causes
+
+-- the name of a cause
+abbrev pub cause_name : Cause → List ℕ
+cause_name cause.BadHeader = codes "BadHeader"
+cause_name cause.LineTooLong = codes "LineTooLong"
+cause_name cause.BadTime = codes "BadTime"
+cause_name cause.BadVerb = codes "BadVerb"
+cause_name (cause.BadField field) = codes "BadField"
+cause_name cause.TimeBack = codes "TimeBack"
+cause_name cause.TimeTooLate = codes "TimeTooLate"
+cause_name cause.TooManyEvents = codes "TooManyEvents"
+cause_name cause.UnknownGroup = codes "UnknownGroup"
+cause_name cause.GroupExists = codes "GroupExists"
+cause_name cause.NoParent = codes "NoParent"
+cause_name cause.GroupBusy = codes "GroupBusy"
+cause_name cause.TooManyGroups = codes "TooManyGroups"
+cause_name cause.UnknownTask = codes "UnknownTask"
+cause_name cause.TaskExists = codes "TaskExists"
+cause_name cause.TooManyTasks = codes "TooManyTasks"
+cause_name cause.BadCpu = codes "BadCpu"
+cause_name cause.NotRunning = codes "NotRunning"
+cause_name cause.NotReady = codes "NotReady"
+cause_name cause.NotBlocked = codes "NotBlocked"
+cause_name cause.WrongHow = codes "WrongHow"
+cause_name cause.InStall = codes "InStall"
+cause_name cause.NotInStall = codes "NotInStall"
+cause_name cause.TooManyTriggers = codes "TooManyTriggers"
+cause_name cause.BadWindow = codes "BadWindow"
+cause_name cause.AfterEnd = codes "AfterEnd"
+cause_name cause.NoEnd = codes "NoEnd"
+
+-- the number, from 1, of the field that a cause speaks of, if it speaks of one
+abbrev pub field_number : Cause → Option ℕ
+field_number (cause.BadField field) = Some field
+field_number _ = None
+
+-- a number behind a space, or nothing
+abbrev pub field_text : Option ℕ → List ℕ
+field_text None = []
+field_text (Some field) = codes " " ++ decimal field
+
+-- a cause as it is told: its name, and the number of the field that it speaks of
+abbrev pub cause_text : Cause → List ℕ
+cause_text why = cause_name why ++ field_text (field_number why)

@@ -1,0 +1,362 @@
+-- The command that words spell: the words are parted into options and a positional, and then each
+-- command has one table.
+use Rattle.std.specs.Prelude.{◌≡◌, ◌≢◌, ℕ, ◌-◌, ◌^◌, ◌≤◌, ◌<◌, List, [], ◌∷◌, ◌++◌, length, drop}
+use Rattle.std.specs.Prelude.{map, filter, find, nat_eq, nat_lt, nat_le, ◌==◌, ◌&&◌, not, Bool}
+use Rattle.std.specs.Prelude.{true, false, if◌then◌else◌, codes, Option, None, Some, IfSome}
+use Rattle.std.specs.Prelude.{option_map, is_some}
+use Rattle.std.specs.List.{list_any, before_first, after_first, starts_with}
+use Rattle.std.specs.Str.{bytes_eq}
+use Rattle.psi_base.specs.Number.{number_of}
+use Rattle.psi_base.specs.Path.{is_path}
+use Rattle.run_spec.specs.declared.command.Command.{Command}
+use Rattle.run_spec.specs.declared.command.Command.TheVariants.{Stall, Check, Replay, Gen, Stress}
+use Rattle.run_spec.specs.declared.command.Options.{Options}
+use Rattle.run_spec.specs.declared.command.Shape.{Shape}
+
+-- a step of reading after another, unless that one found nothing
+infixl 10 ◌>>=◌
+abbrev pub ◌>>=◌ : {A B : Type 0} → Option A → (A → Option B) → Option B
+None >>= f = None
+(Some x) >>= f = f x
+
+-- ---- one word
+
+-- what a word of the command line is by itself
+pub data Word : Type 0 where
+  -- `--name=value`, an option's name and its value
+  assigned : List ℕ → List ℕ → Word
+  -- `--name`, an option whose value is the next word
+  opened : List ℕ → Word
+  -- `--`, behind which no word is an option
+  end : Word
+  -- a word that doesn't begin with `-`, or is `-` itself
+  plain : Word
+  -- any other word that begins with `-`
+  unknown : Word
+
+-- the word begins with `-` (45), and isn't `-` itself
+abbrev pub is_dashed : List ℕ → Bool
+is_dashed [] = false
+is_dashed (first ∷ []) = false
+is_dashed (first ∷ second ∷ rest) = first == 45
+
+-- a text is one of these
+abbrev pub is_among : List ℕ → List (List ℕ) → Bool
+is_among text texts = list_any (λ other. bytes_eq other text) texts
+
+-- a byte is `=`
+abbrev pub is_equals : ℕ → Bool
+is_equals byte = byte == 61
+
+-- the option that stands behind `--`, where options have these names: the first `=` ends its name
+abbrev pub option_of : List (List ℕ) → List ℕ → Word
+option_of names text =
+    if not (is_among (before_first is_equals text) names) then unknown
+    else if list_any is_equals text
+    then assigned (before_first is_equals text) (after_first is_equals text)
+    else opened (before_first is_equals text)
+
+-- what a word is, where options have these names
+abbrev pub word_of : List (List ℕ) → List ℕ → Word
+word_of names word =
+    if not (is_dashed word) then plain
+    else if bytes_eq word (codes "--") then end
+    else if starts_with nat_eq word (codes "--") then option_of names (drop 2 word)
+    else unknown
+
+-- ---- all words
+
+-- what words say: the names of options with their values, and the positional if there is one
+pub record Given : Type 0 where
+  pub options : List (List ℕ × List ℕ)
+  pub positional : Option (List ℕ)
+
+-- what no words say
+abbrev pub nothing : Given
+nothing = record { options = []; positional = None }
+
+-- the value that an option of this name has
+abbrev pub value_of : List ℕ → Given → Option (List ℕ)
+value_of name given =
+    option_map (λ option. option.1) (find (λ option. bytes_eq option.0 name) given.options)
+
+-- an option ahead of the others: it comes once, so they don't have it
+abbrev pub with_option : List ℕ → List ℕ → Given → Option Given
+with_option name value given =
+    if is_some (value_of name given) then None
+    else Some (record given { options = (name, value) ∷ given.options })
+
+-- the positional ahead of the others: there is one at most, so they have none
+abbrev pub with_positional : List ℕ → Given → Option Given
+with_positional word given =
+    if is_some given.positional then None else Some (record given { positional = Some word })
+
+-- what words say of which none is an option
+abbrev pub positionals : List (List ℕ) → Option Given
+positionals [] = Some nothing
+positionals (word ∷ words) = positionals words >>= with_positional word
+
+-- what a word and those behind it say: `rest` is what those say by themselves, and `rest_from` what
+-- they say where the first of them is the value of an option
+abbrev pub then_word : Word → List ℕ → List (List ℕ) → Option Given → (List ℕ → Option Given)
+    → Option Given
+then_word (assigned name value) word words rest rest_from = rest >>= with_option name value
+then_word (opened name) word words rest rest_from = rest_from name
+then_word end word words rest rest_from = positionals words
+then_word plain word words rest rest_from = rest >>= with_positional word
+then_word unknown word words rest rest_from = None
+
+-- what words say, where options have these names, and one of them may wait for its value, which is
+-- then the first word
+abbrev pub parted : List (List ℕ) → Option (List ℕ) → List (List ℕ) → Option Given
+parted names None [] = Some nothing
+parted names (Some name) [] = None
+parted names (Some name) (word ∷ words) =
+    if is_dashed word then None else parted names None words >>= with_option name word
+parted names None (word ∷ words) =
+    then_word (word_of names word) word words (parted names None words)
+    (λ name. parted names (Some name) words)
+
+-- ---- values
+
+-- a number in its one spelling, from the least to the most
+abbrev pub number_within : ℕ → ℕ → List ℕ → Option ℕ
+number_within least most text = do
+  number ← number_of text
+  if nat_le least number && nat_le number most then Some number else None
+
+-- such a number, or where the option isn't given its default
+abbrev pub number_or : ℕ → ℕ → ℕ → Option (List ℕ) → Option ℕ
+number_or default least most None = Some default
+number_or default least most (Some text) = number_within least most text
+
+-- such a number, where the option is needed
+abbrev pub needed : ℕ → ℕ → Option (List ℕ) → Option ℕ
+needed least most None = None
+needed least most (Some text) = number_within least most text
+
+-- a file's name: it isn't empty
+abbrev pub is_name : List ℕ → Bool
+is_name name = nat_lt 0 (length name)
+
+-- the name of the trace's file, which may be `-`, the standard input
+abbrev pub trace_of : Given → Option (List ℕ)
+trace_of given = do
+  name ← given.positional
+  if is_name name then Some name else None
+
+-- the name of the rules file, which isn't `-`, or that there is none
+abbrev pub rules_of : Option (List ℕ) → Option (Option (List ℕ))
+rules_of None = Some None
+rules_of (Some name) =
+    if is_name name && not (bytes_eq name (codes "-")) then Some (Some name) else None
+
+-- a group's path, or that there is none
+abbrev pub live_of : Option (List ℕ) → Option (Option (List ℕ))
+live_of None = Some None
+live_of (Some path) = if is_path path then Some (Some path) else None
+
+-- ---- one table a command
+
+-- the length of a tick in ms
+abbrev pub tick_of : Given → Option ℕ
+tick_of given = number_or 2000 1 60000 (value_of (codes "tick-ms") given)
+
+-- how many threads replay
+abbrev pub workers_of : Given → Option ℕ
+workers_of given = number_or 64 1 64 (value_of (codes "workers") given)
+
+-- `stall` needs a trace
+unfoldable pub stall_of : Given → Option Command
+stall_of given = do
+  trace ← trace_of given
+  Some (Stall trace)
+
+-- `check` needs a trace, and has the length of a tick
+unfoldable pub check_of : Given → Option Command
+check_of given = do
+  trace ← trace_of given
+  tick_ms ← tick_of given
+  Some (Check trace tick_ms)
+
+-- what the options of `replay` say, with the default of each
+unfoldable pub options_of : Given → Option Options
+options_of given = do
+  rules ← rules_of (value_of (codes "rules") given)
+  tick_ms ← tick_of given
+  interval_s ← number_or 5 1 3600 (value_of (codes "interval-s") given)
+  report_s ← number_or 10 0 3600 (value_of (codes "report-s") given)
+  workers ← workers_of given
+  live ← live_of (value_of (codes "live") given)
+  live_count ← number_or 1 1 16 (value_of (codes "live-count") given)
+  Some (record {
+    rules = rules;
+    tick_ms = tick_ms;
+    interval_s = interval_s;
+    report_s = report_s;
+    workers = workers;
+    live = live;
+    live_count = live_count;
+  })
+
+-- `replay` needs a trace, and has its options
+unfoldable pub replay_of : Given → Option Command
+replay_of given = do
+  trace ← trace_of given
+  options ← options_of given
+  Some (Replay trace options)
+
+-- what is generated: no positional is given, and each of these options is
+unfoldable pub shape_of : Given → Option Shape
+shape_of given = do
+  options ← if is_some given.positional then None else Some given
+  seed ← needed 0 (2 ^ 64 - 1) (value_of (codes "seed") options)
+  cpus ← needed 1 64 (value_of (codes "cpus") options)
+  groups ← needed 0 1000 (value_of (codes "groups") options)
+  events ← needed 0 3900000 (value_of (codes "events") options)
+  Some (record { seed = seed; cpus = cpus; groups = groups; events = events })
+
+-- `gen` needs what is generated
+unfoldable pub gen_of : Given → Option Command
+gen_of given = do
+  shape ← shape_of given
+  Some (Gen shape)
+
+-- `stress` needs what is generated, and has the number of threads
+unfoldable pub stress_of : Given → Option Command
+stress_of given = do
+  shape ← shape_of given
+  workers ← workers_of given
+  Some (Stress shape workers)
+
+-- how a command is spelled: its own word, the names of its options, and its table, which gives the
+-- command by what the words behind its own say
+pub record Form : Type 0 where
+  pub word : List ℕ
+  pub options : List (List ℕ)
+  pub command : Given → Option Command
+
+-- `stall TRACE`
+abbrev pub stall_form : Form
+stall_form = record { word = codes "stall"; options = []; command = stall_of }
+
+-- `check TRACE`, with one option
+abbrev pub check_form : Form
+check_form = record { word = codes "check"; options = codes "tick-ms" ∷ []; command = check_of }
+
+-- the names of the options of `replay`
+abbrev pub replay_options : List (List ℕ)
+replay_options =
+    codes "rules" ∷ codes "tick-ms" ∷ codes "interval-s" ∷ codes "report-s"
+    ∷ codes "workers" ∷ codes "live" ∷ codes "live-count" ∷ []
+
+-- `replay TRACE`, with options
+abbrev pub replay_form : Form
+replay_form = record { word = codes "replay"; options = replay_options; command = replay_of }
+
+-- the names of the options that say what is generated
+abbrev pub shape_options : List (List ℕ)
+shape_options = codes "seed" ∷ codes "cpus" ∷ codes "groups" ∷ codes "events" ∷ []
+
+-- `gen`, with four options
+abbrev pub gen_form : Form
+gen_form = record { word = codes "gen"; options = shape_options; command = gen_of }
+
+-- the names of the options of `stress`
+abbrev pub stress_options : List (List ℕ)
+stress_options = codes "workers" ∷ shape_options
+
+-- `stress`, with four options and one more
+abbrev pub stress_form : Form
+stress_form = record { word = codes "stress"; options = stress_options; command = stress_of }
+
+-- all commands
+abbrev pub forms : List Form
+forms = stall_form ∷ check_form ∷ replay_form ∷ gen_form ∷ stress_form ∷ []
+
+-- the words of commands and the names of options that are built today
+abbrev pub is_built : List ℕ → Bool
+is_built name = is_among name
+    (codes "stall" ∷ codes "check" ∷ codes "replay" ∷ codes "tick-ms" ∷ codes "report-s" ∷ [])
+
+-- a command with those of its options that are built
+abbrev pub with_built_options : Form → Form
+with_built_options form = record form { options = filter is_built form.options }
+
+-- the commands that are built: once all are, with all their options, `forms` stands in its place
+abbrev pub built_forms : List Form
+built_forms = map with_built_options (filter (λ form. is_built form.word) forms)
+
+-- the command of this form that the words behind its own spell
+abbrev pub spelled : Form → List (List ℕ) → Option Command
+spelled form words = do
+  given ← parted form.options None words
+  form.command given
+
+-- the command that words spell, or none: the first word is the command's own
+unfoldable pub command_of : List (List ℕ) → Option Command
+command_of [] = None
+command_of (first ∷ words) = do
+  form ← find (λ form. bytes_eq first form.word) built_forms
+  spelled form words
+
+-- ---- what holds of every command that words spell
+
+-- a number is from the least to the most
+abbrev pub IsWithin : ℕ → ℕ → ℕ → Type 0
+IsWithin least most number = (least ≤ number) × (number ≤ most)
+
+-- what the options of `replay` say is in range
+pub record AreOptions (options : Options) : Type 0 where
+  pub rules : IfSome options.rules (λ name. (name ≢ []) × (name ≢ codes "-"))
+  pub tick_ms : IsWithin 1 60000 options.tick_ms
+  pub interval_s : IsWithin 1 3600 options.interval_s
+  pub report_s : options.report_s ≤ 3600
+  pub workers : IsWithin 1 64 options.workers
+  pub live : IfSome options.live (λ path. is_path path ≡ true)
+  pub live_count : IsWithin 1 16 options.live_count
+
+-- what is generated is in range
+pub record IsShape (shape : Shape) : Type 0 where
+  pub seed : shape.seed < 2 ^ 64
+  pub cpus : IsWithin 1 64 shape.cpus
+  pub groups : shape.groups ≤ 1000
+  pub events : shape.events ≤ 3900000
+
+-- all that a command says is in range, and the trace's name isn't empty
+abbrev pub IsCommand : Command → Type 0
+IsCommand (Stall trace) = trace ≢ []
+IsCommand (Check trace tick_ms) = (trace ≢ []) × IsWithin 1 60000 tick_ms
+IsCommand (Replay trace options) = (trace ≢ []) × AreOptions options
+IsCommand (Gen shape) = IsShape shape
+IsCommand (Stress shape workers) = IsShape shape × IsWithin 1 64 workers
+
+-- ---- laws
+
+-- the command that words spell is in range
+abbrev pub SpelledInRange : Type 0
+SpelledInRange = (words : List (List ℕ)) (command : Command)
+    → command_of words ≡ Some command → IsCommand command
+
+-- `--name=value`
+abbrev pub assigned_word : List ℕ → List ℕ → List ℕ
+assigned_word name value = codes "--" ++ name ++ 61 ∷ value
+
+-- a text has no `=`
+abbrev pub HasNoEquals : List ℕ → Type 0
+HasNoEquals text = list_any is_equals text ≡ false
+
+-- two options of different names may change places
+abbrev pub OrderIsFree : Type 0
+OrderIsFree = (before after : List (List ℕ)) (name value other another : List ℕ)
+    → HasNoEquals name → HasNoEquals other → name ≢ other
+    → command_of (before ++ assigned_word name value ∷ assigned_word other another ∷ after)
+    ≡ command_of (before ++ assigned_word other another ∷ assigned_word name value ∷ after)
+
+-- where no `--` came before, an option's value may be a word of its own, if it isn't taken for an
+-- option
+abbrev pub ValueMayFollow : Type 0
+ValueMayFollow = (before after : List (List ℕ)) (name value : List ℕ)
+    → HasNoEquals name → name ≢ [] → is_dashed value ≡ false → is_among (codes "--") before ≡ false
+    → command_of (before ++ assigned_word name value ∷ after)
+    ≡ command_of (before ++ (codes "--" ++ name) ∷ value ∷ after)

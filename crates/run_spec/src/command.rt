@@ -1,0 +1,90 @@
+//! What the command line asks for.
+ghost use Rattle.run_spec.specs.Words.{OrderIsFree, SpelledInRange, ValueMayFollow};
+
+use psi_base::{Path, Text};
+
+/// A command with all that its words say: what words don't say has its default.
+#[derive(Drop)]
+pub enum Command {
+    /// Print for how long each state held.
+    Stall {
+        /// The name of the trace's file, or `-` for standard input.
+        trace: Text,
+    },
+    /// Print whether the trace is accepted.
+    Check {
+        /// The name of the trace's file, or `-` for standard input.
+        trace: Text,
+        /// The length of a tick in ms, which bounds the moments of a trace: 1 to 60,000, by default
+        /// 2,000.
+        tick_ms: u32,
+    },
+    /// Replay the trace tick by tick.
+    Replay {
+        /// The name of the trace's file, or `-` for standard input.
+        trace: Text,
+        /// What the options say.
+        options: Options,
+    },
+    /// Print a generated trace.
+    Gen {
+        /// What is generated.
+        shape: Shape,
+    },
+    /// Replay a generated trace, which is stored nowhere.
+    Stress {
+        /// What is generated.
+        shape: Shape,
+        /// How many threads replay at most: 1 to 64, by default 64.
+        workers: u32,
+    },
+}
+
+/// What the options of `replay` say.
+#[derive(Drop)]
+pub struct Options {
+    /// The name of the rules file, by default none.
+    pub rules: Option<Text>,
+    /// The length of a tick in ms: 1 to 60,000, by default 2,000.
+    pub tick_ms: u32,
+    /// How many seconds lie between two evaluations of the rules: 1 to 3,600, by default 5.
+    pub interval_s: u32,
+    /// How many seconds lie between two reports: 0 to 3,600, by default 10. With 0 the last tick
+    /// alone has one.
+    pub report_s: u32,
+    /// How many threads replay at most: 1 to 64, by default 64.
+    pub workers: u32,
+    /// The group whose clocks are sampled while the replay runs, by default none.
+    pub live: Option<Path>,
+    /// How many samples are taken of each processor in each interval: 1 to 16, by default 1.
+    pub live_count: u32,
+}
+
+/// What trace is generated.
+#[derive(Clone, Copy, Debug, PartialEq, Eq)]
+pub struct Shape {
+    /// Where the random numbers begin: any number of 64 bits.
+    pub seed: u64,
+    /// How many processors the machine has: 1 to 64.
+    pub cpus: u32,
+    /// How many groups there are beside the root: 0 to 1,000.
+    pub groups: u32,
+    /// How many events follow those that make the groups and tasks: 0 to 3,900,000.
+    pub events: u32,
+}
+
+/// What words spell is in range: each number is within its bounds, and no name is empty.
+pub fn law_ranges()
+    ensures { SpelledInRange }
+{}
+
+/// Options may stand in any order: two neighbours of different names may change places.
+pub fn law_option_order()
+    ensures { OrderIsFree }
+{}
+
+/// `--name=value` may be two words, where no `--` came before and the value isn't taken for an
+/// option.
+pub fn law_option_value()
+    ensures { ValueMayFollow }
+{}

@@ -1,0 +1,11 @@
+//! What a run of the program promises: its command words, what each command prints, and what each status says.
+//!
+//! In `specs/`, in the order of reading: `Words` (which words are a command), `Lines`, `Text` and `Replay` (what is printed),
+//! `Outputs` (which files a command reads, and its whole output), `Status` (exit status and note), `Run` (what a run promises).
+#![tactic(auto)]
+
+mod command;
+mod status;
+
+pub use command::{Command, Options, Shape, law_option_order, law_option_value, law_ranges};
+pub use status::{Status, Which};

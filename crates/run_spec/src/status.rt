@@ -1,0 +1,50 @@
+//! How a run ends.
+ghost use Rattle.std.specs.Prelude.{◌≡◌};
+ghost use Rattle.run_spec.specs.Status.{code_of};
+
+use psi_base::Cause;
+
+/// Which file of a command a name stood for.
+#[derive(Clone, Copy, Debug, PartialEq, Eq)]
+pub enum Which {
+    /// The rules.
+    RulesFile,
+    /// The trace.
+    TraceFile,
+}
+
+/// How a run ended.
+#[derive(Clone, Copy, Debug, PartialEq, Eq)]
+pub enum Status {
+    /// The whole output was written.
+    Done,
+    /// The words aren't those of a command.
+    Usage,
+    /// The trace is refused at this line, counted from 1, for this cause.
+    Trace { line: u32, cause: Cause },
+    /// There is no file of this name.
+    NoFile { which: Which },
+    /// A read failed.
+    ReadFault,
+    /// A write failed, after a front of the output.
+    WriteFault,
+    /// There was no memory.
+    NoMemory,
+}
+
+impl Status {
+    /// The exit status of the program.
+    pub fn code(self) -> u8
+        ensures { result ≡ code_of self }
+    {
+        match self {
+            Status::Done => 0,
+            Status::Usage => 1,
+            Status::Trace { .. } => 2,
+            Status::NoFile { .. } => 4,
+            Status::ReadFault => 5,
+            Status::WriteFault => 6,
+            Status::NoMemory => 7,
+        }
+    }
+}
