@@ -1,0 +1,11 @@
+use Rattle.run_laws.proofs.OneMore.{signals_more, text_more, ticks_more}
+use Rattle.run_laws.proofs.laws.law_one_tick_more.Goals as goal
+
+pub returns-clause-ticks : goal.returns-clause-ticks
+returns-clause-ticks c = ticks_more
+
+pub returns-clause-signals : goal.returns-clause-signals
+returns-clause-signals c = signals_more
+
+pub returns-clause-text : goal.returns-clause-text
+returns-clause-text c = text_more

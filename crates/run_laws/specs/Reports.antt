@@ -1,0 +1,37 @@
+-- The report of a tick by slots, in one order of all of them.
+use Rattle.std.specs.Prelude.{◌≡◌, ℕ, List, [], map, if◌then◌else◌}
+use Rattle.std.specs.List.{flat_map}
+use Rattle.psi_spec.specs.declared.machine.GroupLife.{GroupLife}
+use Rattle.psi_spec.specs.Groups.{IsPathOrder, is_live_at, path_at}
+use Rattle.psi_spec.specs.Refusal.{AreLegal}
+use Rattle.psi_spec.specs.Trace.{Trace}
+use Rattle.psi_spec.specs.World.{Limits, first_world}
+use Rattle.pressure_spec.specs.Average.{AverageState}
+use Rattle.pressure_spec.specs.Ticks.{tick_moment, ticks_of}
+use Rattle.pressure_spec.specs.Samples.{group_averages, life_of, totals_after}
+use Rattle.run_spec.specs.Replay.{Pace, files_text, lives_of, reports}
+
+-- the report of the group in a slot at a moment (ns), where it is live then, by the totals (ns) and averages of slots
+abbrev pub slot_report : ℕ → List GroupLife → (ℕ → List ℕ) → (ℕ → AverageState) → ℕ → List ℕ
+slot_report at lives totals averages slot =
+    if is_live_at (life_of lives slot) at then files_text at (path_at lives slot) slot (totals slot) (averages slot).averages else []
+
+-- the reports of the live groups among these slots, in their order
+abbrev pub slot_reports : ℕ → List GroupLife → (ℕ → List ℕ) → (ℕ → AverageState) → List ℕ → List ℕ
+slot_reports at lives totals averages order = flat_map (slot_report at lives totals averages) order
+
+-- the totals (ns) of slots after ticks of a trace
+abbrev pub totals_at : Trace → Pace → ℕ → ℕ → List ℕ
+totals_at trace pace i slot = totals_after trace.cpus (lives_of trace) (ticks_of trace.cpus trace.events pace.length i) slot
+
+-- the averages of slots after ticks of a trace
+abbrev pub averages_at : Trace → Pace → ℕ → ℕ → AverageState
+averages_at trace pace i slot = group_averages trace.cpus (lives_of trace) (ticks_of trace.cpus trace.events pace.length i) slot
+
+-- ---- laws
+
+-- The reports of a tick are those of the slots that are live then, in any one order of all slots by path.
+abbrev pub ReportsByOrder : Type 0
+ReportsByOrder = (limits : Limits) (trace : Trace) (pace : Pace) (i : ℕ) (order : List ℕ) →
+    AreLegal limits first_world trace.events → IsPathOrder (lives_of trace) order →
+    reports trace pace i ≡ slot_reports (tick_moment pace.length i) (lives_of trace) (totals_at trace pace i) (averages_at trace pace i) order

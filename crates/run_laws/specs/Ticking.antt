@@ -1,0 +1,33 @@
+-- A replay, one tick more at a time.
+use Rattle.std.specs.Prelude.{◌≡◌, ℕ, ◌+◌, ◌<◌, ◌≤◌, List, [], ◌∷◌, ◌++◌, length}
+use Rattle.psi_base.specs.declared.event.Event.{Event}
+use Rattle.psi_spec.specs.Refusal.{AreLegal}
+use Rattle.psi_spec.specs.Trace.{Trace, last_moment, longest_tick}
+use Rattle.psi_spec.specs.World.{Limits, after, first_world}
+use Rattle.pressure_spec.specs.Ticks.{IsNextTick, Tick, last_tick, no_tick, tick_moment, tick_of, ticks_of}
+use Rattle.run_spec.specs.Replay.{Beside, Pace, fired_in, signals_until, tick_text, ticks_text}
+
+-- before the first tick of events on so many processors
+abbrev pub before_ticks : ℕ → List Event → Tick
+before_ticks cpus events = no_tick cpus (length (after events).groups)
+
+-- The ticks of legal events come one after another.
+abbrev pub TicksFollow : Type 0
+TicksFollow = (limits : Limits) (cpus : ℕ) (events : List Event) (length i : ℕ) → AreLegal limits first_world events →
+    0 < length → length ≤ longest_tick → tick_moment length (i + 1) ≤ last_moment →
+    IsNextTick (last_tick (before_ticks cpus events) (ticks_of cpus events length i)) (tick_of cpus events length (i + 1))
+
+-- One more tick stands behind the others.
+abbrev pub TicksMore : Type 0
+TicksMore = (cpus : ℕ) (events : List Event) (length i : ℕ) →
+    ticks_of cpus events length (i + 1) ≡ ticks_of cpus events length i ++ tick_of cpus events length (i + 1) ∷ []
+
+-- Its signals are counted with those before.
+abbrev pub SignalsMore : Type 0
+SignalsMore = (trace : Trace) (pace : Pace) (i : ℕ) →
+    signals_until trace pace (i + 1) ≡ signals_until trace pace i + length (fired_in trace pace (i + 1))
+
+-- Its lines come behind those before.
+abbrev pub TextMore : Type 0
+TextMore = (trace : Trace) (pace : Pace) (beside : Beside) (i : ℕ) →
+    ticks_text trace pace beside (i + 1) ≡ ticks_text trace pace beside i ++ tick_text trace pace beside (i + 1)

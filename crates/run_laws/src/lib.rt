@@ -1,0 +1,6 @@
+//! How what a replay prints comes out tick by tick, and group by group in one order of all slots.
+#![tactic(auto)]
+
+mod laws;
+
+pub use laws::{law_next_tick, law_one_tick_more, law_reports};
