@@ -1,0 +1,118 @@
+//! What words say, as `clap` reads them: options of one value, and a positional.
+ghost use Rattle.std.specs.Prelude.{◌≡◌, None, IfOk, map, false, [], string_bytes, option_copied};
+ghost use Rattle.std.specs.Str.{bytes_eq};
+ghost use Rattle.clap.specs.Words.{app_of, rule_of};
+ghost use Rattle.psi_words.specs.Clap.{option_rule, positional_rule, plain_app, plain_shape};
+ghost use Rattle.psi_words.specs.Clap.{positional_id};
+ghost use Rattle.psi_words.specs.Reads.{built_in, Reads};
+ghost use Rattle.run_spec.specs.Words.{is_among, parted, value_of};
+
+use crate::built::is_built;
+use crate::words::BadWords;
+use clap::error::ErrorKind;
+use clap::{Arg, ArgMatches, Command};
+use psi_base::Fault;
+use std::alloc::{AllocError, Global};
+use std::marker::Model;
+
+/// The id of the positional, which no option has as its name.
+const POSITIONAL: &str = "TRACE";
+
+// `--name` with one value.
+fn option<'a>(alloc: Global, name: &'a str) -> Arg<'a>
+    ensures rule { rule_of result ≡ option_rule name.entry.now }
+    ensures local { result.global ≡ false }
+{
+    Arg::new(alloc, name).long(name)
+}
+
+// One word that is no option.
+fn positional<'a>(alloc: Global) -> Arg<'a>
+    ensures rule { rule_of result ≡ positional_rule }
+    ensures local { result.global ≡ false }
+{
+    Arg::new(alloc, POSITIONAL)
+}
+
+// A command of clap that takes nothing and helps with nothing.
+fn empty<'a>(alloc: Global) -> Command<'a>
+    ensures { app_of result ≡ record { top = plain_shape []; subs = [] } }
+{
+    Command::new(alloc, "words")
+        .no_binary_name(true)
+        .disable_help_flag(true)
+}
+
+// A command of clap with those of the options that are built, and a positional.
+fn command<'a>(alloc: Global, names: &[&'a str]) -> Result<Command<'a>, AllocError>
+    ensures { IfOk result (λ command. app_of command ≡ plain_app (built_in names.now)) }
+{
+    let mut command = empty(alloc);
+    'options: for name in names {
+        if is_built(name) {
+            command = command.arg(option(alloc, name))?;
+        }
+    }
+    command.arg(positional(alloc))
+}
+
+/// What words say: options with their values, and a positional.
+#[derive(Drop)]
+pub(crate) struct Parsed<'a> {
+    found: ArgMatches<'a>,
+}
+
+impl<'a> Model for Parsed<'a> {
+    ghost use Rattle.clap.specs.Words.{found_of, rows_of};
+    ghost use Rattle.psi_words.specs.Clap.{given_in, AreValued};
+    ghost use Rattle.run_spec.specs.Words.{Given};
+
+    ghost Value = { Given };
+
+    ghost view = { λ p. given_in (rows_of (found_of p.found)) };
+
+    ghost invariant = { λ p. AreValued (rows_of (found_of p.found)) };
+}
+
+impl<'a> Parsed<'a> {
+    /// What words say, where options have those of the names that are built.
+    pub(crate) fn read(
+        alloc: Global,
+        names: &[&'a str],
+        words: &'a [String],
+    ) -> Result<Parsed<'a>, Fault<BadWords>>
+        requires { is_among positional_id (built_in names.now) ≡ false }
+        ensures { let texts = map string_bytes words.entry.now in
+            Reads result (parted (built_in names.now) None texts) }
+    {
+        let command = match command(alloc, names) {
+            Ok(command) => command,
+            Err(_) => return Err(Fault::NoMemory),
+        };
+        match command.try_get_matches_from(words) {
+            Ok(found) => Ok(Parsed { found }),
+            Err(error) => {
+                if error.kind() == ErrorKind::OutOfMemory {
+                    Err(Fault::NoMemory)
+                } else {
+                    Err(Fault::Refused(BadWords))
+                }
+            }
+        }
+    }
+
+    /// The value of the option of this name.
+    pub(crate) fn value(&self, name: &str) -> Option<&'a str>
+        requires { bytes_eq name.now positional_id ≡ false }
+        ensures { option_copied result ≡ value_of name.now self.now }
+    {
+        self.found.get_str(name)
+    }
+
+    /// The positional.
+    pub(crate) fn positional(&self) -> Option<&'a str>
+        ensures { option_copied result ≡ self.now.positional }
+    {
+        self.found.get_str(POSITIONAL)
+    }
+}

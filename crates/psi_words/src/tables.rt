@@ -1,0 +1,148 @@
+//! One table a command: its options, and what they say.
+ghost use Rattle.std.specs.Prelude.{◌≡◌, map, string_bytes, IfOk, IfSome, IsUtf8};
+ghost use Rattle.psi_words.specs.Reads.{by_form, Finds, HasTextNames, Reads};
+ghost use Rattle.run_spec.specs.Words as spec;
+
+use crate::given::Parsed;
+use crate::values::{live, needed, number_or, rules};
+use crate::words::BadWords;
+use psi_base::{Fault, Text};
+use run_spec::{Command, Options, Shape};
+use std::alloc::Global;
+
+// The name of the trace's file.
+fn trace(alloc: Global, given: &Parsed) -> Result<Text, Fault<BadWords>>
+    ensures exact { Reads result (spec.trace_of given.now) }
+    ensures text { IfOk result IsUtf8 }
+{
+    match given.positional() {
+        Some(name) if !name.is_empty() => Ok(Text::make(alloc, name.as_bytes())?),
+        _ => Err(Fault::Refused(BadWords)),
+    }
+}
+
+// The length of a tick in ms.
+fn tick_ms(given: &Parsed) -> Result<u32, BadWords>
+    ensures { Finds result (spec.tick_of given.now) }
+{
+    number_or(2_000, 1, 60_000, given.value("tick-ms"))
+}
+
+// How many threads replay.
+fn workers(given: &Parsed) -> Result<u32, BadWords>
+    ensures { Finds result (spec.workers_of given.now) }
+{
+    number_or(64, 1, 64, given.value("workers"))
+}
+
+// What the options of `replay` say.
+#[tactic(auto, unfolding(run_spec::specs::Words::options_of))]
+fn options(alloc: Global, given: &Parsed) -> Result<Options, Fault<BadWords>>
+    ensures exact { Reads result (spec.options_of given.now) }
+    ensures text { IfOk result (λ options. IfSome options.rules IsUtf8) }
+{
+    let rules = rules(alloc, given.value("rules"))?;
+    let tick_ms = tick_ms(given)?;
+    let interval_s = number_or(5, 1, 3_600, given.value("interval-s"))?;
+    let report_s = number_or(10, 0, 3_600, given.value("report-s"))?;
+    let workers = workers(given)?;
+    let live = live(alloc, given.value("live"))?;
+    let live_count = number_or(1, 1, 16, given.value("live-count"))?;
+    Ok(Options {
+        rules,
+        tick_ms,
+        interval_s,
+        report_s,
+        workers,
+        live,
+        live_count,
+    })
+}
+
+// What is generated.
+#[tactic(auto, unfolding(run_spec::specs::Words::shape_of))]
+fn shape(given: &Parsed) -> Result<Shape, BadWords>
+    ensures { Finds result (spec.shape_of given.now) }
+{
+    if given.positional().is_some() {
+        return Err(BadWords);
+    }
+    let seed = needed(0, u64::MAX, given.value("seed"))?;
+    let cpus = needed(1, 64, given.value("cpus"))? as u32;
+    let groups = needed(0, 1_000, given.value("groups"))? as u32;
+    let events = needed(0, 3_900_000, given.value("events"))? as u32;
+    Ok(Shape {
+        seed,
+        cpus,
+        groups,
+        events,
+    })
+}
+
+/// The words behind `stall`.
+#[tactic(auto, unfolding(run_spec::specs::Words::stall_of))]
+pub(crate) fn read_stall(alloc: Global, words: &[String]) -> Result<Command, Fault<BadWords>>
+    ensures exact { Reads result (by_form spec.stall_form (map string_bytes words.now)) }
+    ensures texts { IfOk result HasTextNames }
+{
+    let given = Parsed::read(alloc, &[], words)?;
+    let trace = trace(alloc, &given)?;
+    Ok(Command::Stall { trace })
+}
+
+/// The words behind `check`.
+#[tactic(auto, unfolding(run_spec::specs::Words::check_of))]
+pub(crate) fn read_check(alloc: Global, words: &[String]) -> Result<Command, Fault<BadWords>>
+    ensures exact { Reads result (by_form spec.check_form (map string_bytes words.now)) }
+    ensures texts { IfOk result HasTextNames }
+{
+    let given = Parsed::read(alloc, &["tick-ms"], words)?;
+    let trace = trace(alloc, &given)?;
+    let tick_ms = tick_ms(&given)?;
+    Ok(Command::Check { trace, tick_ms })
+}
+
+/// The words behind `replay`.
+#[tactic(auto, unfolding(run_spec::specs::Words::replay_of))]
+pub(crate) fn read_replay(alloc: Global, words: &[String]) -> Result<Command, Fault<BadWords>>
+    ensures exact { Reads result (by_form spec.replay_form (map string_bytes words.now)) }
+    ensures texts { IfOk result HasTextNames }
+{
+    let names = [
+        "rules",
+        "tick-ms",
+        "interval-s",
+        "report-s",
+        "workers",
+        "live",
+        "live-count",
+    ];
+    let given = Parsed::read(alloc, &names, words)?;
+    let trace = trace(alloc, &given)?;
+    let options = options(alloc, &given)?;
+    Ok(Command::Replay { trace, options })
+}
+
+/// The words behind `gen`.
+#[tactic(auto, unfolding(run_spec::specs::Words::gen_of))]
+pub(crate) fn read_gen(alloc: Global, words: &[String]) -> Result<Command, Fault<BadWords>>
+    ensures exact { Reads result (by_form spec.gen_form (map string_bytes words.now)) }
+    ensures texts { IfOk result HasTextNames }
+{
+    let given = Parsed::read(alloc, &["seed", "cpus", "groups", "events"], words)?;
+    let shape = shape(&given)?;
+    Ok(Command::Gen { shape })
+}
+
+/// The words behind `stress`.
+#[tactic(auto, unfolding(run_spec::specs::Words::stress_of))]
+pub(crate) fn read_stress(alloc: Global, words: &[String]) -> Result<Command, Fault<BadWords>>
+    ensures exact { Reads result (by_form spec.stress_form (map string_bytes words.now)) }
+    ensures texts { IfOk result HasTextNames }
+{
+    let names = ["workers", "seed", "cpus", "groups", "events"];
+    let given = Parsed::read(alloc, &names, words)?;
+    let shape = shape(&given)?;
+    let workers = workers(&given)?;
+    Ok(Command::Stress { shape, workers })
+}

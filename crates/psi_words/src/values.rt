@@ -1,0 +1,77 @@
+//! The values of options: numbers in their ranges, and names.
+ghost use Rattle.std.specs.Prelude.{◌≡◌, ◌≤◌, IfOk, IfSome, IsUtf8, option_copied};
+ghost use Rattle.psi_words.specs.Reads.{Finds, Reads};
+ghost use Rattle.run_spec.specs.Words as spec;
+
+use crate::words::BadWords;
+use psi_base::{Fault, Path, Text, read_number};
+use std::alloc::Global;
+
+/// The number that a text spells, from the least to the most.
+pub(crate) fn number_within(least: u64, most: u64, text: &str) -> Result<u64, BadWords>
+    ensures exact { Finds result (spec.number_within least most text.now) }
+    ensures most { IfOk result (λ number. number ≤ most) }
+{
+    match read_number(text.as_bytes()) {
+        Some(number) if least <= number && number <= most => Ok(number),
+        _ => Err(BadWords),
+    }
+}
+
+/// The number that an option needs, from the least to the most.
+pub(crate) fn needed(least: u64, most: u64, given: Option<&str>) -> Result<u64, BadWords>
+    ensures exact { Finds result (spec.needed least most (option_copied given.entry)) }
+    ensures most { IfOk result (λ number. number ≤ most) }
+{
+    match given {
+        None => Err(BadWords),
+        Some(text) => number_within(least, most, text),
+    }
+}
+
+/// The number of an option, from the least to the most, or its default.
+pub(crate) fn number_or(
+    default: u32,
+    least: u32,
+    most: u32,
+    given: Option<&str>,
+) -> Result<u32, BadWords>
+    ensures { Finds result (spec.number_or default least most (option_copied given.entry)) }
+{
+    match given {
+        None => Ok(default),
+        Some(text) => {
+            let number = number_within(u64::from(least), u64::from(most), text)?;
+            Ok(number as u32)
+        }
+    }
+}
+
+/// The name of a rules file, which isn't standard input, or that there is none.
+pub(crate) fn rules(alloc: Global, given: Option<&str>) -> Result<Option<Text>, Fault<BadWords>>
+    ensures exact { Reads result (spec.rules_of (option_copied given.entry)) }
+    ensures text { IfOk result (λ name. IfSome name IsUtf8) }
+{
+    match given {
+        None => Ok(None),
+        Some(name) => {
+            if name.is_empty() || name == "-" {
+                return Err(Fault::Refused(BadWords));
+            }
+            Ok(Some(Text::make(alloc, name.as_bytes())?))
+        }
+    }
+}
+
+/// The path of a group, or that there is none.
+pub(crate) fn live(alloc: Global, given: Option<&str>) -> Result<Option<Path>, Fault<BadWords>>
+    ensures { Reads result (spec.live_of (option_copied given.entry)) }
+{
+    match given {
+        None => Ok(None),
+        Some(text) => match Path::read(alloc, text.as_bytes())? {
+            Some(path) => Ok(Some(path)),
+            None => Err(Fault::Refused(BadWords)),
+        },
+    }
+}

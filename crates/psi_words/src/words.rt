@@ -1,0 +1,54 @@
+//! The command that words spell.
+ghost use Rattle.std.specs.Prelude.{IfOk, map, string_bytes};
+ghost use Rattle.psi_words.specs.Reads.{HasTextNames, Reads};
+ghost use Rattle.run_spec.specs.Words.{command_of, IsCommand};
+
+use crate::built::is_built;
+use crate::tables::{read_check, read_gen, read_replay, read_stall, read_stress};
+use psi_base::Fault;
+use run_spec::Command;
+use std::alloc::Global;
+
+/// The words aren't those of a command.
+#[derive(Clone, Copy, Debug, PartialEq, Eq)]
+pub struct BadWords;
+
+impl From<BadWords> for Fault<BadWords> {
+    ghost use Rattle.std.specs.Prelude.{◌≡◌};
+    ghost use Rattle.psi_base.specs.declared.event.Fault.TheVariants as fault;
+
+    ghost from_gives = { λ why e. e ≡ fault.Refused why };
+
+    fn from(why: BadWords) -> Self {
+        Fault::Refused(why)
+    }
+}
+
+/// The command that the words spell, the program's name not among them.
+#[tactic(auto, unfolding(run_spec::specs::Words::command_of))]
+pub fn read_words(alloc: Global, words: &[String]) -> Result<Command, Fault<BadWords>>
+    ensures exact { Reads result (command_of (map string_bytes words.now)) }
+    ensures ranges { IfOk result IsCommand }
+    ensures texts { IfOk result HasTextNames }
+{
+    let [first, words @ ..] = words else {
+        return Err(Fault::Refused(BadWords));
+    };
+    let first = first.as_str();
+    if !is_built(first) {
+        return Err(Fault::Refused(BadWords));
+    }
+    if first == "stall" {
+        read_stall(alloc, words)
+    } else if first == "check" {
+        read_check(alloc, words)
+    } else if first == "replay" {
+        read_replay(alloc, words)
+    } else if first == "gen" {
+        read_gen(alloc, words)
+    } else if first == "stress" {
+        read_stress(alloc, words)
+    } else {
+        Err(Fault::Refused(BadWords))
+    }
+}

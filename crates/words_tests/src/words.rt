@@ -1,0 +1,247 @@
+//! Words, parted by `|`, and the command that they are.
+use psi_base::{Fault, Path, Text};
+use psi_words::read_words;
+use run_spec::{Command, Options, Shape};
+use std::alloc::{AllocError, Global};
+use std::test::Fail;
+
+// Words, and behind `=>` the command: its trace, and of `replay` the rules, the numbers of
+// `--tick-ms`, `--interval-s`, `--report-s` and `--workers`, the path and the number of
+// `--live-count`.
+const ACCEPTED: &str = "stall|X => stall X
+stall|- => stall -
+stall|help => stall help
+stall|stall => stall stall
+stall|X Y => stall X Y
+stall|é => stall é
+stall|--|X => stall X
+stall|X|-- => stall X
+stall|--|-x => stall -x
+stall|--|-- => stall --
+stall|--|--tick-ms=5 => stall --tick-ms=5
+stall|--|--help => stall --help
+stall|a=b => stall a=b
+check|X => check X 2000
+check|- => check - 2000
+check|X|--tick-ms|1 => check X 1
+check|X|--tick-ms=60000 => check X 60000
+check|--tick-ms|5|X => check X 5
+check|--tick-ms|5|--|--tick-ms => check --tick-ms 5
+replay|X => replay X none 2000 5 10 64 none 1
+replay|--tick-ms=5|X => replay X none 5 5 10 64 none 1
+replay|X|--tick-ms|5 => replay X none 5 5 10 64 none 1
+replay|--tick-ms|5|--|X => replay X none 5 5 10 64 none 1
+replay|X|--report-s|0 => replay X none 2000 5 0 64 none 1
+replay|X|--report-s=3600 => replay X none 2000 5 3600 64 none 1
+replay|--report-s|7|X|--tick-ms=9 => replay X none 9 5 7 64 none 1
+replay|--tick-ms|9|X|--report-s=7 => replay X none 9 5 7 64 none 1
+replay|--report-s=7|--tick-ms=9|X => replay X none 9 5 7 64 none 1
+replay|--|- => replay - none 2000 5 10 64 none 1
+replay|été/1 => replay été/1 none 2000 5 10 64 none 1";
+
+// The first row has no word.
+const REFUSED: &str = "(none)
+
+|X
+help
+--help
+-h
+--version
+-V
+--
+-
+X
+STALL|X
+Stall|X
+stal|X
+stalls|X
+--|stall|X
+-x|stall|X
+stall
+stall|
+stall|--
+stall|--|
+stall|X|Y
+stall|X|--|Y
+stall|--|X|Y
+stall|--|X|--
+stall|X|
+stall|-x
+stall|-é
+stall|---
+stall|--=
+stall|--help
+stall|-h
+stall|--version
+stall|X|--tick-ms|5
+stall|X|--tick-ms=5
+stall|--tick-ms=5|X
+check
+check|--tick-ms|5
+check|X|Y
+check|X|--report-s=5
+check|X|--tick-ms
+check|X|--tick-ms=
+check|X|--tick-ms|
+check|X|--tick-ms=0
+check|X|--tick-ms=60001
+check|X|--tick-ms=+5
+check|X|--tick-ms=-5
+check|X|--tick-ms=5s
+check|X|--tick-ms= 5
+check|X|--tick-ms==5
+check|X|--tick-ms=é
+check|X|--tick-ms=5|--tick-ms=5
+check|X|--tick-ms|18446744073709551616
+replay
+replay|
+replay|--|
+replay|X|Y
+replay|X|help|--tick-ms=5
+replay|X|--tick-ms|0
+replay|X|--tick-ms|02
+replay|X|--tick-ms|-
+replay|X|--tick-ms|-5
+replay|X|--tick-ms|--
+replay|X|--tick-ms|--|5
+replay|--tick-ms|--|X
+replay|--tick-ms|5
+replay|--tick-ms|X
+replay|--|--tick-ms|5
+replay|X|--tick-ms|5|--tick-ms|5
+replay|X|--tick-ms=5|--tick-ms|6
+replay|X|--tick-ms|--report-s|5
+replay|X|--report-s=3601
+replay|X|--report-s=
+replay|X|--report-s=1|--report-s=1
+replay|X|--tick=5
+replay|X|--tick-m|5
+replay|X|--tick-msx=5
+replay|X|--TICK-MS|5
+replay|X|--Tick-Ms=5
+replay|X|-tick-ms|5
+replay|X|-q
+replay|X|-t5
+replay|X|--=5
+replay|X|--help
+replay|X|--version
+replay|X|-h
+replay|X|--rules|-
+replay|X|--rules=R
+replay|X|--rules|R
+replay|X|--interval-s=5
+replay|X|--interval-s|5
+replay|X|--workers=2
+replay|X|--workers|64
+replay|X|--live|a
+replay|X|--live=/
+replay|X|--live|/
+replay|X|--live-count=1
+replay|X|--live-count|1
+replay|X|--drop-in|F
+gen
+gen|X
+gen|--seed=0|--cpus=1|--groups=1|--events=1
+gen|--seed|7|--cpus|8|--groups|12|--events|200000
+stress|--seed=0|--cpus=1|--groups=1|--events=1
+stress|--seed=0|--cpus=1|--groups=1|--events=1|--workers=2
+import|X
+rules|X
+whatif|X";
+
+// The bytes as text.
+fn shown(bytes: &[u8]) -> &str {
+    str::from_utf8(bytes).unwrap_or("?")
+}
+
+fn name_shown(name: &Option<Text>) -> &str {
+    match name {
+        Some(name) => shown(name.bytes()),
+        None => "none",
+    }
+}
+
+fn path_shown(path: &Option<Path>) -> &str {
+    match path {
+        Some(path) => path.text(),
+        None => "none",
+    }
+}
+
+fn options_shown(alloc: Global, options: &Options) -> Result<String, AllocError> {
+    let rules = name_shown(&options.rules);
+    let live = path_shown(&options.live);
+    format!(in alloc;
+        "{rules} {} {} {} {} {live} {}",
+        options.tick_ms, options.interval_s, options.report_s, options.workers, options.live_count
+    )
+}
+
+fn shape_shown(alloc: Global, shape: &Shape) -> Result<String, AllocError> {
+    format!(in alloc;
+        "{} {} {} {}",
+        shape.seed, shape.cpus, shape.groups, shape.events
+    )
+}
+
+// A command with all its fields.
+fn command_shown(alloc: Global, command: &Command) -> Result<String, AllocError> {
+    match command {
+        Command::Stall { trace } => format!(in alloc; "stall {}", shown(trace.bytes())),
+        Command::Check { trace, tick_ms } => {
+            format!(in alloc; "check {} {tick_ms}", shown(trace.bytes()))
+        }
+        Command::Replay { trace, options } => {
+            let options = options_shown(alloc, options)?;
+            format!(in alloc; "replay {} {options}", shown(trace.bytes()))
+        }
+        Command::Gen { shape } => {
+            let shape = shape_shown(alloc, shape)?;
+            format!(in alloc; "gen {shape}")
+        }
+        Command::Stress { shape, workers } => {
+            let shape = shape_shown(alloc, shape)?;
+            format!(in alloc; "stress {shape} {workers}")
+        }
+    }
+}
+
+// The words of a line.
+fn words_of(alloc: Global, line: &str) -> Result<Vec<String>, Fail> {
+    let mut words = Vec::new(alloc);
+    if line != "(none)" {
+        for word in line.split('|') {
+            words.push(String::from_str(alloc, word)?)?;
+        }
+    }
+    Ok(words)
+}
+
+// What the words of a line are.
+fn answer(alloc: Global, line: &str) -> Result<String, Fail> {
+    let words = words_of(alloc, line)?;
+    match read_words(alloc, words.as_slice()) {
+        Ok(command) => Ok(command_shown(alloc, &command)?),
+        Err(Fault::Refused(_)) => Ok(String::from_str(alloc, "refused")?),
+        Err(Fault::NoMemory) => Ok(String::from_str(alloc, "no memory")?),
+    }
+}
+
+#[test]
+fn accepts(rt: HostRuntime) -> Result<(), Fail> {
+    for row in ACCEPTED.lines() {
+        let (line, wanted) = row.split_once(" => ").unwrap_or((row, ""));
+        let answer = answer(rt.alloc(), line)?;
+        assert_eq!(rt; answer.as_str(), wanted, "{line}");
+    }
+    Ok(())
+}
+
+#[test]
+fn refuses(rt: HostRuntime) -> Result<(), Fail> {
+    for line in REFUSED.lines() {
+        let answer = answer(rt.alloc(), line)?;
+        assert_eq!(rt; answer.as_str(), "refused", "{line}");
+    }
+    Ok(())
+}
