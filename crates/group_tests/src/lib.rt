@@ -172,6 +172,22 @@ mod tests {
         Ok(())
     }
 
+    // Removed groups stand beside those that have their paths now.
+    #[test]
+    fn all_groups_by_path(rt: HostRuntime) -> Result<(), Fail> {
+        let tree = small_forest(rt.alloc())?;
+        let order = tree.path_order(rt.alloc())?;
+        let want = ["/", "/a", "/a", "/a.b", "/a/b", "/a/b", "/a/b/c", "/b"];
+        assert_eq!(rt; order.len(), want.len());
+        for (slot, path) in order.iter().zip(want.iter()) {
+            let Some(life) = tree.lives().get(slot.0 as usize) else {
+                return Err(NoMemory.into());
+            };
+            assert!(rt; life.path.text() == *path);
+        }
+        Ok(())
+    }
+
     // 1,024 groups are made, the root among them, and none more, whatever else stands against it.
     #[test]
     fn at_most_1024_groups(rt: HostRuntime) -> Result<(), Fail> {

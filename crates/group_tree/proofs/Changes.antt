@@ -12,7 +12,7 @@ use Rattle.psi_spec.specs.Refusal.{is_slot}
 use Rattle.psi_spec.specs.Stall.{number_of_slot, parents_of}
 use Rattle.psi_spec.specs.Groups.{AreOlder, IsOneLive, AreGroups}
 use Rattle.psi_spec.proofs.GroupLaws.{first_of_two, found_behind, found_group, found_below, removed_not_found, same_bytes, and_false, got_behind, groups_first, groups_made, groups_removed, parents_behind}
-use Rattle.psi_spec.proofs.TouchLaws.{first_true, second_true}
+use Rattle.psi_spec.proofs.RefusalLaws.{first_true, second_true}
 use Rattle.group_tree.specs.Tree.{slot_at, add_cause, count_children, IsTree}
 use Rattle.group_tree.proofs.Counting.{one, count_behind, count_set, count_at, count_few}
 

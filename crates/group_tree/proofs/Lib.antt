@@ -3,3 +3,4 @@ pub mod Slashes
 pub mod Counting
 pub mod Changes
 pub mod Ordered
+pub mod Paths

@@ -11,7 +11,7 @@ use Rattle.std.specs.Map.{values_of}
 use Rattle.std.proofs.lemmas.List.{drop_more, drop_all}
 use Rattle.psi_base.specs.declared.event.Slot.{Slot}
 use Rattle.psi_spec.specs.declared.machine.GroupLife.{GroupLife}
-use Rattle.psi_spec.specs.Text.{live_from, in_order}
+use Rattle.psi_spec.specs.Groups.{live_from, in_order}
 use Rattle.group_tree.specs.Tree.{slot_at, named}
 
 -- ---- a map's entries

@@ -10,7 +10,7 @@ use Rattle.psi_spec.specs.declared.machine.GroupLife.{GroupLife}
 use Rattle.psi_spec.specs.World.{is_live, is_root, slot_of, as_slot}
 use Rattle.psi_spec.specs.Refusal.{has_group, lacks_group, lacks_parent, has_child, is_slot}
 use Rattle.psi_spec.specs.Stall.{parents_of, is_under}
-use Rattle.psi_spec.specs.Text.{live_groups}
+use Rattle.psi_spec.specs.Groups.{live_groups}
 use Rattle.psi_spec.specs.Groups.{AreGroups}
 
 -- ---- refusals
@@ -38,6 +38,10 @@ IsFault why fault.NoMemory = why ≡ None
 -- a number as a slot
 abbrev pub slot_at : ℕ → Slot
 slot_at n = record { 0 = n }
+
+-- the numbers of slots
+abbrev pub numbers_of : List Slot → List ℕ
+numbers_of slots = map (λ (slot : Slot). slot.0) slots
 
 -- the numbers below another that pass a test, from the greatest down
 abbrev pub down_from : ℕ → (ℕ → Bool) → List ℕ

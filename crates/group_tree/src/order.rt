@@ -1,7 +1,10 @@
-//! The live groups in the order of their paths.
-ghost use Rattle.std.specs.Prelude.{◌≡◌, ◌≤◌, length, IfOk};
-ghost use Rattle.psi_spec.specs.Text.{live_groups};
-ghost use Rattle.group_tree.specs.Tree.{live_slots, named};
+//! The live groups, and all groups, in the order of their paths.
+ghost use Rattle.std.specs.Prelude.{◌≡◌, ◌≤◌, length, map, IfOk, IsPermutation, IsSortedByKey};
+ghost use Rattle.std.specs.List.{range_with_len};
+ghost use Rattle.std.specs.Ordering.{nat_cmp};
+ghost use Rattle.std.specs.Cmp.Lexicographic.{slice_cmp};
+ghost use Rattle.psi_spec.specs.Groups.{IsPathOrder, live_groups, path_at};
+ghost use Rattle.group_tree.specs.Tree.{live_slots, named, numbers_of, slot_at};
 
 use psi_base::{NoMemory, Path, Slot};
 use psi_spec::GroupLife;
@@ -35,4 +38,39 @@ pub(crate) fn live_order(alloc: Global, lives: &[GroupLife]) -> Result<Vec<Slot>
 {
     let groups = live_by_path(alloc, lives)?;
     Ok(groups.into_values().collect(alloc)?)
+}
+
+/// The path of the group in a slot, and no byte for a slot that wasn't made.
+fn path_of(lives: &[GroupLife], slot: Slot) -> &[u8]
+    ensures { result.now ≡ path_at lives.now slot.0 }
+{
+    match lives.get(slot.0 as usize) {
+        Some(life) => life.path.bytes(),
+        None => &[],
+    }
+}
+
+/// The first slots, so many of them.
+fn first_slots(alloc: Global, count: u32) -> Result<Vec<Slot>, NoMemory>
+    ensures { IfOk result (λ slots. slots.items ≡ map slot_at (range_with_len 0 count)) }
+{
+    Ok((0..count).map(Slot).collect(alloc)?)
+}
+
+/// The same slots in the byte order of their paths.
+fn sorted_by_path(mut slots: Vec<Slot>, lives: &[GroupLife]) -> Vec<Slot>
+    ensures same { IsPermutation slots.items result.items }
+    ensures sorted { IsSortedByKey (λ slot. path_at lives.now slot.0) (slice_cmp nat_cmp) result.items }
+{
+    slots.sort_unstable_by(|one, other| path_of(lives, *one).cmp(path_of(lives, *other)));
+    slots
+}
+
+/// All slots in the byte order of their paths, those of one path in any order.
+pub(crate) fn path_order(alloc: Global, lives: &[GroupLife]) -> Result<Vec<Slot>, NoMemory>
+    requires few { length lives.now ≤ 1024 }
+    ensures { IfOk result (λ slots. IsPathOrder lives.now (numbers_of slots.items)) }
+{
+    let slots = first_slots(alloc, lives.len() as u32)?;
+    Ok(sorted_by_path(slots, lives))
 }

@@ -3,13 +3,13 @@ ghost use Rattle.std.specs.Prelude.{◌≡◌, ◌<◌, ◌≤◌, ◌++◌, [],
 ghost use Rattle.psi_spec.specs.World.{root, slot_of, as_slot, parent_path, new_group, without};
 ghost use Rattle.psi_spec.specs.Stall.{number_of_slot, parents_of, is_under};
 ghost use Rattle.psi_spec.specs.Refusal.{has_child};
-ghost use Rattle.psi_spec.specs.Groups.{AreGroups};
-ghost use Rattle.group_tree.specs.Tree.{add_cause, remove_cause, IsFault, chain_of, live_slots};
+ghost use Rattle.psi_spec.specs.Groups.{AreGroups, IsPathOrder};
+ghost use Rattle.group_tree.specs.Tree.{add_cause, remove_cause, IsFault, chain_of, live_slots, numbers_of};
 
 use crate::above::path_above;
 use crate::chain::{Chain, parent_of};
 use crate::grow::{end_group, push_group};
-use crate::order::live_order;
+use crate::order::{live_order, path_order};
 use psi_base::{Cause, Fault, NoMemory, Ns, Path, Slot};
 use psi_spec::GroupLife;
 use std::alloc::Global;
@@ -20,8 +20,8 @@ use std::marker::Model;
 const MOST_GROUPS: usize = 1024;
 
 /// All groups ever made, in the order of their slots. Contracts see the list of their lives. A path finds its live
-/// group in a map, and the live children of each group are counted, so that no call but [`Tree::live_order`] walks all
-/// groups.
+/// group in a map, and the live children of each group are counted, so that no call but [`Tree::live_order`] and
+/// [`Tree::path_order`] walks all groups.
 #[derive(Drop)]
 pub struct Tree {
     alloc: Global,
@@ -242,5 +242,12 @@ impl Tree {
         ensures { IfOk result (λ slots. slots.items ≡ live_slots self.now) }
     {
         live_order(alloc, &self.lives)
+    }
+
+    /// All slots in the byte order of their paths, the removed groups' too; those of one path stand in any order.
+    pub fn path_order(&self, alloc: Global) -> Result<Vec<Slot>, NoMemory>
+        ensures { IfOk result (λ order. IsPathOrder self.now (numbers_of order.items)) }
+    {
+        path_order(alloc, &self.lives)
     }
 }

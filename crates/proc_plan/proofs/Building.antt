@@ -9,10 +9,10 @@ use Rattle.psi_base.specs.declared.event.Fault.{Fault}
 use Rattle.psi_base.specs.declared.event.Fault.TheVariants as fault
 use Rattle.psi_base.specs.declared.event.Refusal.{Refusal}
 use Rattle.psi_spec.specs.Grammar.{Fits}
-use Rattle.psi_spec.specs.Trace.{AllFit, EndsLast}
+use Rattle.psi_spec.specs.Trace.{AllFit}
 use Rattle.psi_spec.specs.World.{World, Limits, first_world}
-use Rattle.psi_spec.proofs.Accepting.{last_end}
-use Rattle.proc_plan.specs.Plans.{HasTaken, IsFaultAt, IsRefusal, PlannerView, Takes}
+use Rattle.proc_plan.specs.Plans.{HasTaken, HasTakenAll, IsFaultAt, IsRefusal, PlannerView, Takes}
+use Rattle.proc_plan.proofs.Finishing.{ended_is_accepted}
 use Rattle.proc_plan.proofs.Taking.{lines_of}
 
 -- each event can be spelled where all can
@@ -37,21 +37,21 @@ took_next old now new events i event x room is before takes = λ limits fresh.
     subst (HasTaken new limits) (sym (take_more events i event room ∙ ap (λ e. take i events ++ e ∷ []) (sym is))) (takes limits (take i events) (before limits fresh)).1
 
 -- an event that is refused is the first one
-pub refused_next : (old now new : PlannerView) (events : List Event) (i : ℕ) (event : Event) (why : Fault Cause) (line : ℕ) (at : Fault Refusal) → i < length events → event ≡ slice_index_or events i event → HasFirst old now (take i events) → Takes now new event (Err why) → line ≡ new.table.world.lines → IsFaultAt (line + 2) why at
+pub refused_next : (old now new : PlannerView) (events : List Event) (i : ℕ) (event : Event) (why : Fault Cause) (line : ℕ) (at : Fault Refusal) → i < length events → event ≡ slice_index_or events i event → HasFirst old now (take i events) → Takes now new event (Err why) → new ≡ now → line ≡ new.table.world.lines → IsFaultAt (line + 2) why at
     → (limits : Limits) → HasTaken old limits [] → IsRefusal limits events at
-refused_next old now new events i event (fault.Refused why) line at room is before takes counted told = λ limits fresh.
+refused_next old now new events i event (fault.Refused why) line at room is before takes same counted told = λ limits fresh.
     let taken = before limits fresh in
-    let lines : line ≡ length (take i events) = counted ∙ ap (λ (p : PlannerView). p.table.world.lines) takes.0 ∙ ap (λ (w : World). w.lines) taken.world ∙ lines_of (take i events) in
+    let lines : line ≡ length (take i events) = counted ∙ ap (λ (p : PlannerView). p.table.world.lines) same ∙ ap (λ (w : World). w.lines) taken.world ∙ lines_of (take i events) in
     subst (IsRefusal limits events) (sym told) (inl (record {
       front = take i events;
       event = event;
       behind = drop (suc i) events;
       events_are = parted events i event room ∙ ap (λ e. take i events ++ e ∷ drop (suc i) events) (sym is);
       legal = taken.legal;
-      cause = takes.1 limits (take i events) taken;
+      cause = takes limits (take i events) taken;
       line_is = omega (arith, lines);
     }))
-refused_next old now new events i event fault.NoMemory line at room is before takes counted told = λ limits fresh. subst (IsRefusal limits events) (sym told) tt
+refused_next old now new events i event fault.NoMemory line at room is before takes same counted told = λ limits fresh. subst (IsRefusal limits events) (sym told) tt
 
 -- all events were taken, and the trace hasn't ended
 pub lacks_end : (old now : PlannerView) (events : List Event) (i line : ℕ) (at : Fault Refusal) → length events ≤ i → HasFirst old now (take i events) → now.table.world.ended ≢ true → line ≡ now.table.world.lines → IsFaultAt (line + 2) (fault.Refused cause.NoEnd) at
@@ -67,7 +67,7 @@ lacks_end old now events i line at all before open_ counted told = λ limits fre
     }))
 
 -- all events were taken, and the trace has ended
-pub all_taken : (old now : PlannerView) (events : List Event) (i : ℕ) → length events ≤ i → HasFirst old now (take i events) → now.table.world.ended ≡ true → (limits : Limits) → HasTaken old limits [] → HasTaken now limits events × EndsLast events
+pub all_taken : (old now : PlannerView) (events : List Event) (i : ℕ) → length events ≤ i → HasFirst old now (take i events) → now.table.world.ended ≡ true → HasTakenAll old now events
 all_taken old now events i all before ended = λ limits fresh.
     let taken = subst (HasTaken now limits) (take_all i events all) (before limits fresh) in
-    (taken, last_end limits first_world events refl taken.legal (sym (ap (λ (w : World). w.ended) taken.world) ∙ ended))
+    (taken, ended_is_accepted now limits events taken ended)

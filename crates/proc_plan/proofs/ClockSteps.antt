@@ -4,16 +4,16 @@ use Rattle.std.specs.Prelude.{slice_get, slice_index_or}
 use Rattle.std.proofs.lemmas.List.{length-map, length-replicate}
 use Rattle.std.proofs.lemmas.Option.{slice_get_within, slice_get-get_or}
 use Rattle.psi_base.specs.declared.event.Slot.{Slot}
-use Rattle.psi_spec.specs.declared.machine.Change.{Change}
-use Rattle.psi_spec.specs.declared.machine.Counts.{Counts}
-use Rattle.psi_spec.specs.Clock.{ClockFollows}
+use Rattle.psi_laws.specs.declared.changes.Change.{Change}
+use Rattle.psi_laws.specs.declared.changes.Counts.{Counts}
+use Rattle.psi_laws.specs.Clock.{ClockFollows}
 use Rattle.psi_spec.specs.Stall.{is_under, number_of_slot}
-use Rattle.psi_spec.specs.Touch.{AreAtMost, Follows, no_counts, on_chain}
-use Rattle.psi_spec.specs.Plan.{IsClock, IsPlan, PlanView, counts_after, current_after, holds_after, last_change}
-use Rattle.psi_spec.proofs.PlanClocks.{followed_is_clock, zero_is_clock}
-use Rattle.psi_spec.proofs.PlanStates.{counts_are}
-use Rattle.psi_spec.proofs.PlanSteps.{counts_by_change, current_by_change, plan_counts_are_few}
-use Rattle.slot_clocks.specs.Clocks.{AllCanFollow, AllClocksFollow, AllFollow, AreTold, CanFollow, ClocksView, cell_at, first_clocks, numbers_of, zero_cell}
+use Rattle.psi_laws.specs.Touch.{AreAtMost, Follows, no_counts, on_chain}
+use Rattle.psi_laws.specs.Plan.{IsClock, IsPlan, PlanView, counts_after, current_after, holds_after, last_change}
+use Rattle.psi_laws.proofs.PlanClocks.{followed_is_clock, zero_is_clock}
+use Rattle.psi_laws.proofs.PlanStates.{counts_are}
+use Rattle.psi_laws.proofs.PlanSteps.{counts_by_change, current_by_change, plan_counts_are_few}
+use Rattle.slot_clocks.specs.Clocks.{AllCanFollow, AllClocksFollow, AllFollow, AreTold, AreWhole, CanFollow, ClocksView, cell_at, first_clocks, numbers_of, zero_cell}
 use Rattle.slot_clocks.specs.declared.cell.Cell.{Cell}
 use Rattle.proc_plan.specs.Clocks.{AreClocks}
 
@@ -98,6 +98,7 @@ pub record AreMade (plan : PlanView) (change : Change) (old new : ClocksView) : 
   pub room : length new.cells ≡ length old.cells
   pub counts : AllFollow plan.parents change old new
   pub clocks : AllClocksFollow change.at old new
+  pub whole : AreWhole new
   pub told : AreTold plan.parents new
   pub current : new.current ≡ change.current
   pub last : new.last ≡ change.at
@@ -122,7 +123,7 @@ next_clocks plan old new k change are is made =
       last = last;
       counts = counts;
       each = λ slot.
-          followed_is_clock (cell_at old slot).clock (cell_at new slot).clock plan slot k (are.each slot) room (are.whole.order k room)
+          followed_is_clock (cell_at old slot).clock (cell_at new slot).clock plan slot k (are.each slot) room (are.whole.order k room) (made.whole slot)
           (subst (λ at. ClockFollows (cell_at old slot).clock at (cell_at new slot).clock) (sym shown.1) (made.clocks slot))
           (λ state. made.told slot state ∙ rw (counts slot, current) refl);
     }

@@ -4,16 +4,20 @@ use Rattle.std.specs.Prelude.{Option, Some}
 use Rattle.std.specs.List.{All}
 use Rattle.std.proofs.lemmas.List.{get_or-map, get_or_default, length-map}
 use Rattle.psi_base.specs.declared.event.Event.{Event}
-use Rattle.psi_spec.specs.declared.machine.Change.{Change}
+use Rattle.psi_laws.specs.declared.changes.Change.{Change}
 use Rattle.psi_spec.specs.declared.machine.GroupLife.{GroupLife}
 use Rattle.psi_spec.specs.World.{World, Limits, after, first_world}
-use Rattle.psi_spec.specs.Legal.{changes_from}
-use Rattle.psi_spec.specs.Plan.{IsPlan, PlanView, no_plan, plan_of}
+use Rattle.psi_laws.specs.Legal.{changes_from}
+use Rattle.psi_laws.specs.Plan.{IsPlan, PlanView, no_plan, plan_of}
+use Rattle.psi_spec.specs.Groups.{AreGroups}
 use Rattle.psi_spec.specs.Stall.{parents_of}
 use Rattle.psi_spec.specs.Trace.{IsCpuCount}
-use Rattle.psi_spec.proofs.PlanLaws.{changes_are_numbered}
-use Rattle.psi_spec.proofs.PlanWhole.{plan_is_whole}
-use Rattle.proc_plan.specs.Plans.{ArePlans, HasTaken, IsPlanner, PlannerView, PlansAreOfEvents, PlansView, StandFor, changes_at, plan_at, plan_over, plans_view}
+use Rattle.psi_laws.proofs.PlanLaws.{changes_are_numbered}
+use Rattle.psi_laws.proofs.PlanStates.{legal_after}
+use Rattle.psi_laws.proofs.PlanWhole.{plan_is_whole}
+use Rattle.psi_spec.proofs.Accepting.{last_end}
+use Rattle.proc_plan.specs.Plans.{ArePlans, EndedIsAccepted, HasTaken, IsPlanner, PlannerView, PlansAreOfEvents, PlansView, StandFor, changes_at, plan_at, plan_over, plans_view}
+use Rattle.proc_plan.specs.Room.{ChangesView, lists_of}
 
 -- the plan that is made for a processor
 plan_is : (planner : PlannerView) (limits : Limits) (events : List Event) (groups : List GroupLife) (cpu : ℕ) → HasTaken planner limits events → groups ≡ planner.table.world.groups → cpu < limits.cpus → plan_over groups (changes_at planner cpu) ≡ plan_of cpu events
@@ -26,6 +30,12 @@ all_whole planner limits events groups is taken same = λ k d room.
     let below : k < limits.cpus = omega (arith, room, is.each, ap (λ (l : Limits). l.cpus) taken.limits_are) in
     subst (λ changes. IsPlan (plan_over groups changes)) (get_or_default planner.changes k [] d room)
     (subst IsPlan (sym (plan_is planner limits events groups k taken same below)) (plan_is_whole limits events taken.legal taken.short k))
+
+-- each of the changes as they are listed
+pub all_listed : (groups : List GroupLife) (changes : List ChangesView) → All (λ list. IsPlan (plan_over groups list)) (lists_of changes) → All (λ (changes : ChangesView). IsPlan (plan_over groups changes.list)) changes
+all_listed groups changes all = λ k d room.
+    let same = get_or-map (λ (changes : ChangesView). changes.list) changes k d d.list room in
+    subst (λ list. IsPlan (plan_over groups list)) same (all k d.list (omega (arith, room, length-map changes (λ (changes : ChangesView). changes.list))))
 
 -- what a planner gives at the end
 abbrev pub finished : PlannerView → List GroupLife → PlansView
@@ -46,6 +56,7 @@ are_plans planner limits events groups is taken same =
       counted = subst IsCpuCount (sym many) taken.counted;
       whole = λ cpu room. subst IsPlan (sym (made cpu room)) (plan_is_whole limits events taken.legal taken.short cpu);
       parents = λ cpu room. ap (λ (plan : PlanView). plan.parents) (made cpu room) ∙ sym (ap parents_of (same ∙ ap (λ (w : World). w.groups) taken.world));
+      groups = subst AreGroups (sym (same ∙ ap (λ (w : World). w.groups) taken.world)) (legal_after limits events taken.legal).groups;
       small = is.small;
     }
 
@@ -77,3 +88,13 @@ standing_plans plans cpus events stand cpu below =
     let changes = somes_same (plan_at plans cpu).changes (changes_from cpu first_world events) (stand.changes cpu below ∙ sym (changes_are_numbered cpu events).0) in
     let parents = stand.parents cpu below in
     ap (λ cs. let plan : PlanView = record { changes = cs; parents = (plan_at plans cpu).parents } in plan) changes ∙ ap (λ ps. let plan : PlanView = record { changes = changes_from cpu first_world events; parents = ps } in plan) parents
+
+-- ---- a whole trace
+
+-- events that were taken make up a trace where they ended it
+pub ended_is_accepted : EndedIsAccepted
+ended_is_accepted planner limits events taken ended = record {
+  fit = taken.fit;
+  legal = taken.legal;
+  ends = last_end limits first_world events refl taken.legal (sym (ap (λ (w : World). w.ended) taken.world) ∙ ended);
+}

@@ -3,3 +3,5 @@ pub mod ClockSteps
 pub mod Finishing
 pub mod PlanReads
 pub mod Taking
+pub mod SideMoments
+pub mod SideMembers

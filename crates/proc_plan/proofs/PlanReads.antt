@@ -1,15 +1,19 @@
 -- What the readers of a plan tell.
-use Rattle.std.proofs.Common.{◌≡◌, ℕ, zero, suc, ◌+◌, ◌-◌, ◌≤◌, ◌<◌, List, length, refl, sym, ap, ◌∙◌, arith, true, false, Option, None, Some, IsSome}
-use Rattle.std.specs.Prelude.{nat_le, slice_index_or, ◌↔◌}
+use Rattle.std.proofs.Common.{◌≡◌, ℕ, zero, suc, ◌+◌, ◌-◌, ◌≤◌, ◌<◌, List, length, refl, sym, ap, ◌∙◌, subst, arith, Bool, true, false, Option, None, Some, IsSome}
+use Rattle.std.specs.Prelude.{nat_le, slice_get, slice_index_or, ◌↔◌}
 use Rattle.std.specs.List.Sorted.{IsPartitionPoint, IsPartitionedBy}
 use Rattle.std.proofs.lemmas.Bool.Decides.{nat_tests}
 use Rattle.std.proofs.lemmas.List.{get_or-map}
 use Rattle.psi_base.specs.declared.event.Slot.{Slot}
-use Rattle.psi_spec.specs.declared.machine.Change.{Change}
-use Rattle.psi_spec.specs.Groups.{AreOlder, HaveParents}
+use Rattle.psi_laws.specs.declared.changes.Change.{Change}
+use Rattle.psi_laws.specs.declared.changes.Counts.{Counts}
+use Rattle.psi_spec.specs.Groups.{AreOlder, HaveParents, leads_to}
 use Rattle.psi_spec.specs.Stall.{number_of_slot}
-use Rattle.psi_spec.specs.Plan.{AreInOrder, PlanView, changes_up_to, last_change}
-use Rattle.psi_spec.proofs.PlanSteps.{place_of_moment}
+use Rattle.psi_laws.specs.Plan.{AreInOrder, PlanView, changes_up_to, current_after, is_part_in, last_change}
+use Rattle.psi_laws.specs.Touch.{is_current_in}
+use Rattle.psi_laws.proofs.PlanSteps.{place_of_moment}
+use Rattle.slot_clocks.specs.Walk.{slot_in}
+use Rattle.proc_plan.specs.Plans.{AreConcerned, IsOnNone, OthersAreAside}
 
 -- ---- moments
 
@@ -51,12 +55,51 @@ last_before plan at (suc k) d room early =
     let same : last_change plan (suc k) ≡ last_change plan (k + 1) = ap (last_change plan) (let e : suc k ≡ k + 1 = omega arith in e) in
     omega (arith, here, same, moment_at plan k d (omega (arith, room)))
 
--- the place behind them is how many come up to the moment
-pub point_counts : (plan : PlanView) (at k : ℕ) → AreInOrder plan → k ≤ length plan.changes → IsPartitionPoint (λ (change : Change). nat_le change.at at ≡ true) (λ (change : Change). nat_le change.at at ≡ false) plan.changes k → k ≡ changes_up_to plan at
+-- What the place behind them tells: it is how many come up to the moment, the change before it isn't later, and the next is.
+pub record IsUntil (plan : PlanView) (at k : ℕ) : Type 0 where
+  pub until : k ≡ changes_up_to plan at
+  pub within : k ≤ length plan.changes
+  pub past : last_change plan k ≤ at
+  pub next : k < length plan.changes → at < last_change plan (k + 1)
+
+pub point_counts : (plan : PlanView) (at k : ℕ) → AreInOrder plan → k ≤ length plan.changes → IsPartitionPoint (λ (change : Change). nat_le change.at at ≡ true) (λ (change : Change). nat_le change.at at ≡ false) plan.changes k → IsUntil plan at k
 point_counts plan at k order room point =
     let none : Change = record { at = 0; minus = None; plus = None; current = None } in
-    sym (place_of_moment plan order k at room (last_before plan at k none room point.0)
-    (λ more. let late = is_late (slice_index_or plan.changes k none).at at (point.1 k none (omega arith) more) in omega (arith, late, moment_at plan k none more)))
+    let past = last_before plan at k none room point.0 in
+    let next : k < length plan.changes → at < last_change plan (k + 1) = λ more.
+    let late = is_late (slice_index_or plan.changes k none).at at (point.1 k none (omega arith) more) in
+    omega (arith, late, moment_at plan k none more) in
+    record {
+      until = sym (place_of_moment plan order k at room past next);
+      within = room;
+      past = past;
+      next = next;
+    }
+
+-- ---- what a change stands on
+
+part_off : (parents : List (Option ℕ)) (slot : ℕ) (side : Option (Slot × Counts)) → leads_to parents (number_of_slot (slot_in side)) slot ≡ false → is_part_in parents slot side ≡ false
+part_off parents slot None off = refl
+part_off parents slot (Some part) off = off
+
+current_off : (parents : List (Option ℕ)) (slot : ℕ) (current : Option (Slot × Bool)) → leads_to parents (number_of_slot (slot_in current)) slot ≡ false → is_current_in parents slot current ≡ false
+current_off parents slot None off = refl
+current_off parents slot (Some running) off = off
+
+-- a change is aside of each slot that is on none of its chains
+pub others_aside : (plan : PlanView) (k : ℕ) (starts : List (Option Slot)) → AreConcerned plan k starts → OthersAreAside plan k starts
+others_aside plan k starts are slot change is off =
+    let none = subst (λ starts. IsOnNone plan.parents starts slot) (are change is) off in
+    record {
+      minus = part_off plan.parents slot change.minus (none 0 None (omega arith));
+      plus = part_off plan.parents slot change.plus (none 1 None (omega arith));
+      before = current_off plan.parents slot (current_after plan k) (none 2 None (omega arith));
+      current = current_off plan.parents slot change.current (none 3 None (omega arith));
+    }
+
+-- the change at a place is one
+pub same_change : (plan : PlanView) (k : ℕ) (one other : Change) → slice_get plan.changes k ≡ Some one → slice_get plan.changes k ≡ Some other → one ≡ other
+same_change plan k one other is too = let same : Some one ≡ Some other = sym is ∙ too in cc same
 
 -- ---- parents
 

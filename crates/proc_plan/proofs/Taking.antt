@@ -1,21 +1,29 @@
 -- What a planner has taken after one event more.
-use Rattle.std.proofs.Common.{◌≡◌, ℕ, ◌+◌, ◌≤◌, ◌<◌, List, [], ◌∷◌, ◌++◌, length, refl, sym, ap, ◌∙◌, subst, arith, Bool, true, false, Option, None, Some, append_assoc}
+use Rattle.std.proofs.Common.{◌≡◌, ℕ, ◌+◌, ◌≤◌, ◌<◌, List, [], ◌∷◌, ◌++◌, length, refl, sym, ap, ◌∙◌, subst, arith, Bool, true, false, Option, None, Some, IsSome, IfSome, append_assoc}
 use Rattle.std.specs.Prelude.{if◌then◌else◌, ◌==◌}
 use Rattle.std.proofs.lemmas.Bool.Decides.{eqb_tells}
 use Rattle.std.proofs.lemmas.List.{append-nil, length-append}
+use Rattle.psi_base.specs.declared.event.Cause.{Cause}
 use Rattle.psi_base.specs.declared.event.Cpu.{Cpu}
 use Rattle.psi_base.specs.declared.event.Event.{Event}
+use Rattle.psi_base.specs.declared.event.Fault.{Fault}
 use Rattle.psi_base.specs.declared.event.TriggerSpec.{TriggerSpec}
-use Rattle.psi_spec.specs.declared.machine.Change.{Change}
-use Rattle.psi_spec.specs.declared.machine.Touch.{Touch}
-use Rattle.psi_spec.specs.World.{World, Limits, after, after_event, after_from, first_world}
+use Rattle.psi_laws.specs.declared.changes.Change.{Change}
+use Rattle.psi_laws.specs.declared.changes.Touch.{Touch}
+use Rattle.psi_spec.specs.declared.machine.Task.{Task}
+use Rattle.psi_spec.specs.Grammar.{Fits}
+use Rattle.psi_spec.specs.Trace.{AllFit}
+use Rattle.psi_spec.specs.World.{World, Limits, after, after_event, after_from, first_world, tasks_after}
 use Rattle.psi_spec.specs.Refusal.{AreLegal, cause_of}
-use Rattle.psi_spec.specs.Legal.{with_change}
-use Rattle.psi_spec.specs.Touch.{IsBeside, IsTouch, change_of, told_first}
-use Rattle.psi_spec.proofs.PlanLaws.{after-push, changes_from-push}
+use Rattle.psi_laws.specs.Legal.{with_change}
+use Rattle.psi_laws.specs.Touch.{AllTouched, IsTouch, after_of, before, change_of, change_on, told_first, told_of, touched}
+use Rattle.psi_laws.proofs.PlanLaws.{after-push, changes_from-push}
 use Rattle.proc_plan.specs.declared.side.Side.{Side}
+use Rattle.group_tree.specs.Tree.{IsFault}
 use Rattle.proc_plan.specs.Plans.{HasTaken, PlannerView, changes_at}
-use Rattle.proc_plan.specs.Sides.{listed, sides_by, told_from, trigger_by}
+use Rattle.proc_plan.specs.Room.{ChangesView, HasRoom, HasRoomFor}
+use Rattle.psi_spec.specs.Told.{listed, told_from, trigger_by}
+use Rattle.proc_plan.specs.Sides.{sides_by}
 
 -- ---- one event more
 
@@ -29,6 +37,11 @@ pub legal_push : (limits : Limits) (w : World) (events : List Event) (event : Ev
 legal_push limits w [] event legal allowed = (allowed, tt)
 legal_push limits w (first ∷ events) event legal allowed = (legal.0, legal_push limits (after_event w first) events event legal.1 allowed)
 
+-- events can be spelled with one that can be behind them
+pub fit_push : (events : List Event) (event : Event) → AllFit events → Fits event → AllFit (events ++ event ∷ [])
+fit_push [] event all fits = (fits, tt)
+fit_push (first ∷ events) event all fits = (all.0, fit_push events event all.1 fits)
+
 lines_from : (w : World) (events : List Event) → (after_from w events).lines ≡ w.lines + length events
 lines_from w [] = omega arith
 lines_from w (event ∷ events) = omega (arith, lines_from (after_event w event) events)
@@ -37,34 +50,60 @@ lines_from w (event ∷ events) = omega (arith, lines_from (after_event w event)
 pub lines_of : (events : List Event) → (after events).lines ≡ length events
 lines_of events = omega (arith, lines_from first_world events)
 
--- ---- the changes of a touch
+-- ---- what stands against an event
 
--- what a touch tells of a processor is what its two changes tell, one after the other
-both_told : (first second : Option (Cpu × Change)) (cpu : ℕ) → IsBeside first second → with_change (told_first cpu first (told_first cpu second None)) [] ≡ with_change (told_first cpu first None) [] ++ with_change (told_first cpu second None) []
-both_told None None cpu beside = refl
-both_told None (Some second) cpu beside = absurd beside
-both_told (Some first) None cpu beside = sym (append-nil (with_change (told_first cpu (Some first) None) []))
-both_told (Some first) (Some second) cpu beside = apart (first.0.0 == cpu) (second.0.0 == cpu) first.1 second.1 (λ one other. beside (same_cpu first.0 second.0 cpu one other))
+-- it is the cause against it in the planner's own world
+pub cause_in : (planner : PlannerView) (limits : Limits) (events : List Event) (event : Event) → HasTaken planner limits events → cause_of limits (after events) event ≡ cause_of planner.table.limits planner.table.world event
+cause_in planner limits events event taken = rw (taken.limits_are, taken.world) refl
+
+-- so the fault of the event there is its fault
+pub fault_in : (planner : PlannerView) (limits : Limits) (events : List Event) (event : Event) (fault : Fault Cause) → HasTaken planner limits events → IsFault (cause_of planner.table.limits planner.table.world event) fault → IsFault (cause_of limits (after events) event) fault
+fault_in planner limits events event fault taken is = subst (λ why. IsFault why fault) (sym (cause_in planner limits events event taken)) is
+
+-- ---- room for what it changes
+
+touched_here : (w : World) (event : Event) (cpu : ℕ) → IsSome (change_of w event cpu) → touched event.act (before w.tasks event.act) cpu ≡ true
+unfolding change_of
+touched_here w event cpu some = only_then (touched event.act (before w.tasks event.act) cpu) (change_on event.at (before w.tasks event.act) (after_of w.groups w.tasks event.act) (tasks_after w.groups w.tasks event.act) cpu) some
   where
-    same_cpu : (one other : Cpu) (cpu : ℕ) → (one.0 == cpu) ≡ true → (other.0 == cpu) ≡ true → one ≡ other
-    same_cpu one other cpu a b = grind (arith, eqb_tells)
+    only_then : (here : Bool) (change : Change) → IsSome (if here then Some change else None) → here ≡ true
+    only_then true change some = refl
+    only_then false change some = absurd (cc some)
 
-    apart : (here there : Bool) (one other : Change) → (here ≡ true → there ≡ true → ⊥) → with_change (if here then Some one else (if there then Some other else None)) [] ≡ with_change (if here then Some one else None) [] ++ with_change (if there then Some other else None) []
-    apart true true one other never = absurd (never refl refl)
-    apart true false one other never = refl
-    apart false true one other never = refl
-    apart false false one other never = refl
+same_number : (one other : ℕ) → (one == other) ≡ true → one ≡ other
+same_number one other is = grind (arith, eqb_tells)
+
+picked : (here : Bool) (cpus cpu : ℕ) (one : Cpu × Change) (other : Option Change) → one.0.0 < cpus → (IsSome other → cpu < cpus) → (one.0.0 == cpu) ≡ here → IsSome (if here then Some one.1 else other) → cpu < cpus
+picked true cpus cpu one other below rest is some = let same = same_number one.0.0 cpu is in omega (arith, below, same)
+picked false cpus cpu one other below rest is some = rest some
+
+told_or : (cpus cpu : ℕ) (one : Option (Cpu × Change)) (other : Option Change) → IfSome one (λ one. one.0.0 < cpus) → (IsSome other → cpu < cpus) → IsSome (told_first cpu one other) → cpu < cpus
+told_or cpus cpu None other below rest some = rest some
+told_or cpus cpu (Some one) other below rest some = picked (one.0.0 == cpu) cpus cpu one other below rest refl some
+
+-- a processor of which a touch tells is one of those that its changes have
+told_below : (touch : Touch) (cpus cpu : ℕ) → AllTouched (λ cpu change. cpu < cpus) touch → IsSome (told_of touch cpu) → cpu < cpus
+told_below touch cpus cpu all some = told_or cpus cpu touch.first (told_first cpu touch.second None) all.0 (told_or cpus cpu touch.second None all.1 (λ none. cc none)) some
+
+-- there is room for what a legal event changes, where there is for its act
+pub room_for : (w : World) (event : Event) (touch : Touch) (task : Option Task) (changes : List ChangesView) (cpus : ℕ) → task ≡ before w.tasks event.act → IsTouch w event touch → AllTouched (λ cpu change. cpu < cpus) touch → length changes ≡ cpus → HasRoomFor event.act task changes
+    → (cpu : ℕ) → IsSome (told_of touch cpu) → HasRoom changes cpu
+room_for w event touch task changes cpus same is all each room cpu some =
+    let below = told_below touch cpus cpu all some in
+    let here = touched_here w event cpu (subst (λ (o : Option Change). IsSome o) (is.told cpu) some) in
+    room cpu (ap (λ t. touched event.act t cpu) same ∙ here) (omega (arith, below, each))
 
 -- ---- one step
 
 -- what is known of a planner after an event that it took
 pub record HasStepped (old new : PlannerView) (event : Event) (touch : Touch) (trigger : Option TriggerSpec) (first second : Option Side) : Type 0 where
+  pub fits : Fits event
   pub limits : new.table.limits ≡ old.table.limits
   pub legal : cause_of old.table.limits old.table.world event ≡ None
   pub world : new.table.world ≡ after_event old.table.world event
   pub few : new.table.world.lines ≤ 4000000
   pub told : IsTouch old.table.world event touch
-  pub changes : (cpu : ℕ) → changes_at new cpu ≡ (changes_at old cpu ++ with_change (told_first cpu touch.first None) []) ++ with_change (told_first cpu touch.second None) []
+  pub changes : (cpu : ℕ) → changes_at new cpu ≡ changes_at old cpu ++ with_change (told_of touch cpu) []
   pub trigger_is : listed trigger ≡ trigger_by event.at old.table.world.groups event.act
   pub triggers : new.triggers ≡ old.triggers ++ listed trigger
   pub sides_are : listed first ++ listed second ≡ sides_by old.table.world event
@@ -73,7 +112,7 @@ pub record HasStepped (old new : PlannerView) (event : Event) (touch : Touch) (t
 pub taken_more : (old new : PlannerView) (event : Event) (touch : Touch) (trigger : Option TriggerSpec) (first second : Option Side) (limits : Limits) (events : List Event) → HasStepped old new event touch trigger first second → HasTaken old limits events
     → (cause_of limits (after events) event ≡ None) × HasTaken new limits (events ++ event ∷ []) × (length events < 4000000)
 taken_more old new event touch trigger first second limits events step taken =
-    let allowed : cause_of limits (after events) event ≡ None = subst (λ w. cause_of limits w event ≡ None) taken.world (subst (λ l. cause_of l old.table.world event ≡ None) taken.limits_are step.legal) in
+    let allowed : cause_of limits (after events) event ≡ None = cause_in old limits events event taken ∙ step.legal in
     let world : new.table.world ≡ after (events ++ event ∷ []) = step.world ∙ ap (λ w. after_event w event) taken.world ∙ sym (after-push events event) in
     let lines : new.table.world.lines ≡ length (events ++ event ∷ []) = ap (λ (w : World). w.lines) world ∙ lines_of (events ++ event ∷ []) in (
       allowed,
@@ -81,12 +120,11 @@ taken_more old new event touch trigger first second limits events step taken =
         limits_are = step.limits ∙ taken.limits_are;
         counted = taken.counted;
         short = taken.short;
+        fit = fit_push events event taken.fit step.fits;
         legal = legal_push limits first_world events event taken.legal allowed;
         world = world;
         changes = λ cpu below.
             step.changes cpu
-            ∙ append_assoc (changes_at old cpu) (with_change (told_first cpu touch.first None) []) (with_change (told_first cpu touch.second None) [])
-            ∙ ap (λ more. changes_at old cpu ++ more) (sym (both_told touch.first touch.second cpu step.told.beside))
             ∙ ap (λ o. changes_at old cpu ++ with_change o []) (step.told.told cpu ∙ ap (λ w. change_of w event cpu) taken.world)
             ∙ ap (λ changes. changes ++ with_change (change_of (after events) event cpu) []) (taken.changes cpu below)
             ∙ sym (changes_from-push cpu first_world events event);

@@ -1,3 +1,5 @@
 pub mod Clocks
 pub mod Plans
+pub mod Room
 pub mod Sides
+pub mod SideLaws

@@ -1,5 +1,5 @@
 -- The plans of all processors, and for which events they stand.
-use Rattle.std.specs.Prelude.{◌≡◌, ◌≢◌, ◌⊎◌, ℕ, ◌+◌, ◌<◌, ◌≤◌, List, [], ◌∷◌, ◌++◌, length, map, slice_index_or, Option, None, Some, Result, Ok, Err, ⊤, true, refl}
+use Rattle.std.specs.Prelude.{◌≡◌, ◌≢◌, ◌⊎◌, ℕ, ◌+◌, ◌<◌, ◌≤◌, List, [], ◌∷◌, ◌++◌, length, map, slice_get, slice_index_or, Option, None, Some, Result, Ok, Err, ⊤, true, false, refl}
 use Rattle.std.specs.List.{All}
 use Rattle.psi_base.specs.declared.event.Cause.{Cause}
 use Rattle.psi_base.specs.declared.event.Cause.TheVariants as cause
@@ -9,23 +9,27 @@ use Rattle.psi_base.specs.declared.event.Fault.TheVariants as fault
 use Rattle.psi_base.specs.declared.event.Refusal.{Refusal}
 use Rattle.psi_base.specs.declared.event.Slot.{Slot}
 use Rattle.psi_base.specs.declared.event.TriggerSpec.{TriggerSpec}
-use Rattle.psi_spec.specs.declared.machine.Change.{Change}
+use Rattle.psi_laws.specs.declared.changes.Change.{Change}
 use Rattle.psi_spec.specs.declared.machine.GroupLife.{GroupLife}
 use Rattle.psi_spec.specs.World.{Limits, after, first_world}
 use Rattle.psi_spec.specs.Refusal.{AreLegal, cause_of}
-use Rattle.psi_spec.specs.Stall.{parents_of}
-use Rattle.psi_spec.specs.Share.{last_moment}
-use Rattle.psi_spec.specs.Trace.{IsCpuCount}
-use Rattle.psi_spec.specs.Legal.{changes_from}
-use Rattle.psi_spec.specs.Plan.{IsPlan, PlanView, change_at, changes_of, no_plan, plan_of}
+use Rattle.psi_spec.specs.Groups.{AreGroups, leads_to}
+use Rattle.psi_spec.specs.Stall.{number_of_slot, parents_of}
+use Rattle.psi_spec.specs.Trace.{AllFit, IsAccepted, IsCpuCount, last_moment}
+use Rattle.psi_laws.specs.Legal.{changes_from}
+use Rattle.psi_laws.specs.Plan.{IsAside, IsPlan, PlanView, change_at, changes_of, current_after, no_plan, plan_of}
+use Rattle.group_tree.specs.Tree.{IsFault}
 use Rattle.slot_clocks.specs.Clocks.{numbers_of}
+use Rattle.slot_clocks.specs.Walk.{slot_in}
 use Rattle.std.specs.Coded.{Coded, code_by, coded×, coded_list}
 use Rattle.psi_base.specs.contracts.event.TriggerSpec as trigger_row
-use Rattle.psi_spec.specs.contracts.machine.Change as change_row
+use Rattle.psi_laws.specs.contracts.changes.Change as change_row
 use Rattle.task_table.specs.Stands.{TableView, view_code}
 use Rattle.proc_plan.specs.contracts.side.Side as side_row
 use Rattle.proc_plan.specs.declared.side.Side.{Side}
-use Rattle.proc_plan.specs.Sides.{IsSmall, sides_of, triggers_of}
+use Rattle.psi_spec.specs.Told.{triggers_of}
+use Rattle.proc_plan.specs.Room.{ChangesView}
+use Rattle.proc_plan.specs.Sides.{IsSmall, sides_of}
 
 -- ---- plans
 
@@ -36,6 +40,29 @@ plan_view changes parents = record { changes = changes; parents = numbers_of par
 -- the plan that has the parents of groups, with these changes
 abbrev pub plan_over : List GroupLife → List Change → PlanView
 plan_over groups changes = record { changes = changes; parents = parents_of groups }
+
+-- the plan of each processor that has the parents of groups, with its listed changes
+abbrev pub plans_over : List GroupLife → List ChangesView → List PlanView
+plans_over groups changes = map (λ (changes : ChangesView). plan_over groups changes.list) changes
+
+-- ---- what a change leaves alone
+
+-- These are the slots on whose chains the change after the first k stands: of the counts that it takes, of those that it adds,
+-- of the task that runs before it and of the one that runs after it.
+abbrev pub AreConcerned : PlanView → ℕ → List (Option Slot) → Type 0
+AreConcerned plan k starts = (change : Change) → slice_get plan.changes k ≡ Some change →
+    starts ≡ slot_in change.minus ∷ slot_in change.plus ∷ slot_in (current_after plan k) ∷ slot_in change.current ∷ []
+
+-- a slot is on none of the chains of slots
+abbrev pub IsOnNone : List (Option ℕ) → List (Option Slot) → ℕ → Type 0
+IsOnNone parents starts slot = All (λ start. leads_to parents (number_of_slot start) slot ≡ false) starts
+
+-- the change after the first k is aside of each slot that is on none of these chains
+abbrev pub OthersAreAside : PlanView → ℕ → List (Option Slot) → Type 0
+OthersAreAside plan k starts = (slot : ℕ) (change : Change) → slice_get plan.changes k ≡ Some change →
+    IsOnNone plan.parents starts slot → IsAside plan slot k change
+
+-- ---- all plans
 
 -- The plans of a trace: one for each processor, all groups ever made, the triggers, the sides, and the end moment (ns).
 pub record PlansView : Type 0 where
@@ -58,11 +85,12 @@ abbrev pub AreSmall : List Side → Type 0
 AreSmall sides = All (λ (side : Side). IsSmall side.what) sides
 
 -- What holds of all plans: there are 1 to 64 processors with one plan each, which is whole and knows the parents of the groups
--- that were made, and the sides are small.
+-- that were made, these are groups of a legal world, and the sides are small.
 pub record ArePlans (plans : PlansView) : Type 0 where
   pub counted : IsCpuCount (length plans.plans)
   pub whole : (cpu : ℕ) → cpu < length plans.plans → IsPlan (plan_at plans cpu)
   pub parents : (cpu : ℕ) → cpu < length plans.plans → (plan_at plans cpu).parents ≡ parents_of plans.lives
+  pub groups : AreGroups plans.lives
   pub small : AreSmall plans.sides
 
 -- Plans stand for events. Each processor's plan has the changes that the events of its numbers make, each with its moment,
@@ -82,6 +110,10 @@ abbrev pub PlansAreOfEvents : Type 0
 PlansAreOfEvents = (plans : PlansView) (cpus : ℕ) (events : List Event) → StandFor plans cpus events → (cpu : ℕ) → cpu < cpus → plan_at plans cpu ≡ plan_of cpu events
 
 -- ---- refusals
+
+-- the limits of a trace of so many processors, in which no event is later than a moment (ns)
+abbrev pub limits_by : ℕ → ℕ → Limits
+limits_by cpus latest = record { cpus = cpus; latest = latest }
 
 -- events are refused at an event, whose line is by two behind the number of events before it, with its first cause: those
 -- before it are legal
@@ -134,29 +166,49 @@ pub record IsPlanner (planner : PlannerView) : Type 0 where
   pub each : length planner.changes ≡ planner.table.limits.cpus
   pub small : AreSmall planner.sides
 
--- A planner has taken apart these events of a trace with these limits, all of them legal.
+-- A planner has taken apart these events of a trace with these limits. Each can be spelled, and all are legal.
 pub record HasTaken (planner : PlannerView) (limits : Limits) (events : List Event) : Type 0 where
   pub limits_are : planner.table.limits ≡ limits
   pub counted : IsCpuCount limits.cpus
   pub short : limits.latest ≤ last_moment
+  pub fit : AllFit events
   pub legal : AreLegal limits first_world events
   pub world : planner.table.world ≡ after events
   pub changes : (cpu : ℕ) → cpu < limits.cpus → changes_at planner cpu ≡ changes_from cpu first_world events
   pub triggers : planner.triggers ≡ triggers_of events
   pub sides : planner.sides ≡ sides_of events
 
+-- A planner that was fresh has taken all these events, which make up a trace.
+abbrev pub HasTakenAll : PlannerView → PlannerView → List Event → Type 0
+HasTakenAll old new events = (limits : Limits) → HasTaken old limits [] → HasTaken new limits events × IsAccepted limits events
+
+-- a planner that was fresh is refused these events
+abbrev pub IsRefusedAll : PlannerView → List Event → Fault Refusal → Type 0
+IsRefusedAll old events fault = (limits : Limits) → HasTaken old limits [] → IsRefusal limits events fault
+
 -- the fault of an event, at its line
 abbrev pub IsFaultAt : ℕ → Fault Cause → Fault Refusal → Type 0
 IsFaultAt line (fault.Refused why) at = at ≡ fault.Refused (record { line = line; cause = why })
 IsFaultAt line fault.NoMemory at = at ≡ fault.NoMemory
 
+-- plans stand for the events that a planner has taken
+abbrev pub StandForTaken : PlannerView → PlansView → Type 0
+StandForTaken planner plans = (limits : Limits) (events : List Event) → HasTaken planner limits events →
+    StandFor plans limits.cpus events
+
 -- a planner has taken some trace
 abbrev pub HasTrace : PlannerView → Type 0
 HasTrace planner = (limits : Limits) × (events : List Event) × HasTaken planner limits events
 
--- What an event does to a planner: it is legal behind the events that were taken and taken with them, or it is refused with
--- the first cause and nothing changes. Of want of memory nothing is said.
+-- What an event does to a planner: it is legal behind the events that were taken and taken with them, or the fault is the first
+-- cause against it. Memory is wanted only where there is no cause.
 abbrev pub Takes : PlannerView → PlannerView → Event → Result (Unit {0}) (Fault Cause) → Type 0
-Takes old new event (Ok x) = (limits : Limits) (events : List Event) → HasTaken old limits events → (cause_of limits (after events) event ≡ None) × HasTaken new limits (events ++ event ∷ []) × (length events < 4000000)
-Takes old new event (Err (fault.Refused why)) = (new ≡ old) × ((limits : Limits) (events : List Event) → HasTaken old limits events → cause_of limits (after events) event ≡ Some why)
-Takes old new event (Err fault.NoMemory) = ⊤
+Takes old new event (Ok x) = (limits : Limits) (events : List Event) → HasTaken old limits events →
+    (cause_of limits (after events) event ≡ None) × HasTaken new limits (events ++ event ∷ []) × (length events < 4000000)
+Takes old new event (Err fault) = (limits : Limits) (events : List Event) → HasTaken old limits events →
+    IsFault (cause_of limits (after events) event) fault
+
+-- Events that a planner has taken make up a trace, where they ended it.
+abbrev pub EndedIsAccepted : Type 0
+EndedIsAccepted = (planner : PlannerView) (limits : Limits) (events : List Event) → HasTaken planner limits events →
+    planner.table.world.ended ≡ true → IsAccepted limits events

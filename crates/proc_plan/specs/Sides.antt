@@ -1,45 +1,18 @@
--- What a trace tells beside the changes of processors: its triggers, and its sides, which are memory samples, preferences,
--- the memory of the host, and the tasks that come into groups and leave them.
-use Rattle.std.specs.Prelude.{ℕ, ◌^◌, ◌≤◌, List, [], ◌∷◌, ◌++◌, ◌==◌, if◌then◌else◌, unwrap_or, Option, None, Some, pos, negsuc}
+-- The sides of a trace, which it tells beside the changes of processors and its triggers: memory samples, preferences, the
+-- memory of the host, and the tasks that come into groups and leave them.
+use Rattle.std.specs.Prelude.{ℕ, ◌^◌, ◌≤◌, List, [], ◌∷◌, ◌++◌, ◌==◌, if◌then◌else◌, Option, None, Some, pos, negsuc}
 use Rattle.psi_base.specs.declared.event.Slot.{Slot}
 use Rattle.psi_base.specs.declared.event.Act.{Act}
 use Rattle.psi_base.specs.declared.event.Act.TheVariants as act
 use Rattle.psi_base.specs.declared.event.Event.{Event}
-use Rattle.psi_base.specs.declared.event.TriggerSpec.{TriggerSpec}
 use Rattle.psi_spec.specs.declared.machine.Task.{Task}
 use Rattle.psi_spec.specs.declared.machine.GroupLife.{GroupLife}
-use Rattle.psi_spec.specs.World.{World, after_event, first_world, slot_of}
-use Rattle.psi_spec.specs.Touch.{before, after_of}
+use Rattle.psi_spec.specs.World.{World, first_world}
+use Rattle.psi_spec.specs.Told.{slot_named, told_from}
+use Rattle.psi_laws.specs.Touch.{before, after_of}
 use Rattle.proc_plan.specs.declared.side.Side.{Side}
 use Rattle.proc_plan.specs.declared.side.SideAct.{SideAct}
 use Rattle.proc_plan.specs.declared.side.SideAct.TheVariants as side
-
--- ---- event by event
-
--- what each event tells in the world before it, all together and in the order of the events, from a world on
-abbrev pub told_from : {A : Type 0} → (World → Event → List A) → World → List Event → List A
-told_from tells w [] = []
-told_from tells w (event ∷ events) = tells w event ++ told_from tells (after_event w event) events
-
--- the slot of the live group with a path, and the root's where there is none
-abbrev pub slot_named : List GroupLife → List ℕ → Slot
-slot_named groups path = record { 0 = unwrap_or (slot_of groups path) 0 }
-
--- what there is, as a list of one or none
-abbrev pub listed : {A : Type 0} → Option A → List A
-listed None = []
-listed (Some x) = x ∷ []
-
--- ---- triggers
-
--- the trigger that an act at a moment (ns) sets, if it sets one
-abbrev pub trigger_by : ℕ → List GroupLife → Act → List TriggerSpec
-trigger_by at groups (act.Trigger path res level threshold_us window_us) = record { at = at; slot = slot_named groups path; res = res; level = level; threshold_us = threshold_us; window_us = window_us } ∷ []
-trigger_by at groups _ = []
-
--- the triggers of events in their order
-abbrev pub triggers_of : List Event → List TriggerSpec
-triggers_of events = told_from (λ w event. trigger_by event.at w.groups event.act) first_world events
 
 -- ---- sides
 

@@ -1,51 +1,58 @@
 //! A list of changes.
 
-ghost use Rattle.std.specs.Prelude.{◌≡◌, ◌++◌, [], ◌∷◌, length, OnOk, OnErr};
+ghost use Rattle.std.specs.Prelude.{◌≡◌, ◌++◌, ◌<◌, ◌≤◌, [], ◌∷◌, length, OnOk};
 
 use psi_base::NoMemory;
-use psi_spec::Change;
+use psi_laws::Change;
 use std::alloc::Global;
 use std::marker::Model;
 
-/// The changes of a processor in their order. Contracts see the list of them.
+/// The changes of a processor in their order. Contracts see the list of them, and for how many more there is room.
 #[derive(Drop)]
 pub(crate) struct Changes {
     list: Vec<Change>,
 }
 
 impl Model for Changes {
-    ghost use Rattle.std.specs.Prelude.{List};
-    ghost use Rattle.psi_spec.specs.declared.machine.Change.{Change};
+    ghost use Rattle.std.specs.Prelude.{◌-◌, vec_capacity, vec_len};
+    ghost use Rattle.proc_plan.specs.Room.{ChangesView};
 
-    ghost Value = { List Change };
+    ghost Value = { ChangesView };
 
-    ghost view = { λ changes. changes.list.items };
+    ghost view = { λ c. record { list = c.list.items; room = vec_capacity c.list - vec_len c.list } };
 }
 
 impl Changes {
     /// No change.
     pub(crate) fn new(alloc: Global) -> Changes
-        ensures { result ≡ [] }
+        ensures { result.list ≡ [] }
     {
         Changes {
             list: Vec::new(alloc),
         }
     }
 
-    /// Adds a change behind the others.
-    pub(crate) fn push(&mut self, change: Change) -> Result<(), NoMemory>
-        ensures ok { OnOk result (self.new ≡ self.old ++ change ∷ []) }
-        ensures err { OnErr result (self.new ≡ self.old) }
+    /// Makes room for one change more.
+    pub(crate) fn reserve(&mut self) -> Result<(), NoMemory>
+        ensures same { self.new.list ≡ self.old.list }
+        ensures kept { self.old.room ≤ self.new.room }
+        ensures room { OnOk result (0 < self.new.room) }
     {
-        if self.list.push(change).is_err() {
-            return Err(NoMemory);
-        }
+        self.list.reserve(1)?;
         Ok(())
+    }
+
+    /// Adds a change behind the others. There must be room for it.
+    pub(crate) fn push(&mut self, change: Change)
+        requires { 0 < self.old.room }
+        ensures { self.new.list ≡ self.old.list ++ change ∷ [] }
+    {
+        self.list.push_reserved(change);
     }
 
     /// All of them.
     pub(crate) fn all(&self) -> &[Change]
-        ensures { result.now ≡ self.now }
+        ensures { result.now ≡ self.now.list }
     {
         &self.list
     }

@@ -1,7 +1,7 @@
 //! Clocks that run on a plan.
 
 ghost use Rattle.std.specs.Prelude.{◌≡◌, ◌+◌, ◌<◌, ℕ, length, IfOk};
-ghost use Rattle.psi_spec.specs.Plan.{IsClock, PlanView};
+ghost use Rattle.psi_laws.specs.Plan.{IsClock, PlanView};
 
 use crate::plan::Plan;
 use cpu_clock::Clock;
@@ -28,9 +28,10 @@ pub trait ProcClocks {
         ensures plan { plan self.new ≡ plan self.old }
         ensures made { made self.new ≡ made self.old + 1 };
 
-    /// The clock of a slot after the changes that were made. It may have started earlier than the last of them, where they
-    /// left the slot's states as they were.
+    /// The clock of a slot that the plan knows, after the changes that were made. It may have started earlier than the last of
+    /// them, where they left the slot's states as they were.
     fn own(&mut self, slot: Slot) -> Clock
+        requires made { slot.0 < length (plan self.old).parents }
         ensures plan { plan self.new ≡ plan self.old }
         ensures made { made self.new ≡ made self.old }
         ensures clock { IsClock result (plan self.old) slot.0 (made self.old) };

@@ -7,12 +7,15 @@ mod laws;
 mod plan;
 mod planner;
 mod plans;
+mod room;
 mod side;
+mod side_laws;
 mod sides;
 
 pub use clocks::{PlainClocks, ProcClocks};
-pub use laws::standing_plans;
+pub use laws::{law_ended_traces, standing_plans};
 pub use plan::Plan;
 pub use planner::Planner;
 pub use plans::Plans;
 pub use side::{Side, SideAct};
+pub use side_laws::law_sides;

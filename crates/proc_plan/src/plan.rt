@@ -1,14 +1,15 @@
 //! The changes of one processor.
 
-ghost use Rattle.std.specs.Prelude.{◌≡◌, ◌-◌, ◌<◌, ◌≤◌, ◌↔◌, length, nat_le, slice_get, slice_index_or, None, Some};
+ghost use Rattle.std.specs.Prelude.{◌≡◌, ◌+◌, ◌-◌, ◌<◌, ◌≤◌, ◌↔◌, length, nat_le, slice_get, slice_index_or, None, Some};
 ghost use Rattle.psi_spec.specs.Stall.{number_of_slot};
-ghost use Rattle.psi_spec.specs.Plan.{IsPlan, changes_up_to, last_change};
+ghost use Rattle.psi_laws.specs.Plan.{IsPlan, changes_up_to, current_after, last_change};
 ghost use Rattle.slot_clocks.specs.Clocks.{numbers_of};
-ghost use Rattle.proc_plan.specs.Plans.{plan_view};
+ghost use Rattle.slot_clocks.specs.Walk.{slot_in};
+ghost use Rattle.proc_plan.specs.Plans.{AreConcerned, OthersAreAside, plan_view};
 
 use crate::changes::Changes;
 use psi_base::{Ns, Slot};
-use psi_spec::Change;
+use psi_laws::{Change, Counts};
 use std::marker::Model;
 
 /// The changes of one processor in a trace, and the parents of all slots, by which a change reaches the groups above the
@@ -25,21 +26,35 @@ pub struct Plan {
 }
 
 impl Model for Plan {
-    ghost use Rattle.psi_spec.specs.Plan.{IsPlan, PlanView};
+    ghost use Rattle.psi_laws.specs.Plan.{IsPlan, PlanView};
     ghost use Rattle.proc_plan.specs.Plans.{plan_view};
 
     ghost Value = { PlanView };
 
-    ghost view = { λ plan. plan_view plan.changes plan.parents.items };
+    ghost view = { λ plan. plan_view plan.changes.list plan.parents.items };
 
-    ghost invariant = { λ plan. IsPlan (plan_view plan.changes plan.parents.items) };
+    ghost invariant = { λ plan. IsPlan (plan_view plan.changes.list plan.parents.items) };
+}
+
+// The slot whose counts one side of a change has.
+fn part_slot(side: Option<(Slot, Counts)>) -> Option<Slot>
+    ensures { result ≡ slot_in side }
+{
+    side.map(|(slot, _)| slot)
+}
+
+// The slot of the running task.
+fn current_slot(current: Option<(Slot, bool)>) -> Option<Slot>
+    ensures { result ≡ slot_in current }
+{
+    current.map(|(slot, _)| slot)
 }
 
 impl Plan {
     /// The plan of these changes and parents.
     pub(crate) fn new(changes: Changes, parents: Vec<Option<Slot>>) -> Plan
-        requires { IsPlan (plan_view changes parents.items) }
-        ensures { result ≡ plan_view changes parents.items }
+        requires { IsPlan (plan_view changes.list parents.items) }
+        ensures { result ≡ plan_view changes.list parents.items }
     {
         Plan { changes, parents }
     }
@@ -70,9 +85,42 @@ impl Plan {
         self.change(k).at
     }
 
+    /// The slots on whose chains the change with a number from 1 stands: of the counts that it takes, of those that it adds,
+    /// of the task that runs up to it and of the one that runs from it on. It leaves alone each slot that is on none of these
+    /// chains.
+    pub fn concerned(&self, k: u64) -> [Option<Slot>; 4]
+        requires from { 1 ≤ k }
+        requires to { k ≤ length self.now.changes }
+        ensures slots { AreConcerned self.now (k - 1) result }
+        ensures aside { OthersAreAside self.now (k - 1) result }
+    {
+        let change = self.change(k);
+        [
+            part_slot(change.minus),
+            part_slot(change.plus),
+            current_slot(self.current_before(k)),
+            current_slot(change.current),
+        ]
+    }
+
+    // The running task up to the change with a number from 1: its slot, and whether it is in a memory stall.
+    fn current_before(&self, k: u64) -> Option<(Slot, bool)>
+        requires from { 1 ≤ k }
+        requires to { k ≤ length self.now.changes }
+        ensures { result ≡ current_after self.now (k - 1) }
+    {
+        if k == 1 {
+            return None;
+        }
+        self.change(k - 1).current
+    }
+
     /// How many changes come up to a moment (ns), those at the moment among them. It halves what is left at each step.
     pub fn until(&self, at: Ns) -> u64
-        ensures { result ≡ changes_up_to self.now at }
+        ensures until { result ≡ changes_up_to self.now at }
+        ensures within { result ≤ length self.now.changes }
+        ensures past { last_change self.now result ≤ at }
+        ensures next { result < length self.now.changes → at < last_change self.now (result + 1) }
     {
         self.changes.all().partition_point(
             |change: &Change| -> bool

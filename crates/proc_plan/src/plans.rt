@@ -1,13 +1,11 @@
 //! The plans of all processors.
 
-ghost use Rattle.std.specs.Prelude.{◌≡◌, ◌<◌, ◌≤◌, List, [], length, IfErr, IfOk, OnOk};
-ghost use Rattle.psi_spec.specs.Plan.{IsPlan};
-ghost use Rattle.psi_spec.specs.Refusal.{AreLegal};
-ghost use Rattle.psi_spec.specs.Share.{last_moment};
-ghost use Rattle.psi_spec.specs.Trace.{AllFit, EndsLast, IsCpuCount};
+ghost use Rattle.std.specs.Prelude.{◌≡◌, ◌<◌, ◌≤◌, length, IfErr, IfOk, OnOk};
+ghost use Rattle.psi_laws.specs.Plan.{IsPlan};
+ghost use Rattle.psi_spec.specs.Groups.{AreGroups};
+ghost use Rattle.psi_spec.specs.Trace.{AllFit, IsAccepted, IsCpuCount, last_moment};
 ghost use Rattle.psi_spec.specs.Stall.{parents_of};
-ghost use Rattle.psi_spec.specs.World.{Limits, first_world};
-ghost use Rattle.proc_plan.specs.Plans.{AreSmall, ArePlans, HasTaken, IsFaultAt, IsRefusal, StandFor, plan_at, plans_view};
+ghost use Rattle.proc_plan.specs.Plans.{ArePlans, AreSmall, HasTakenAll, IsFaultAt, IsRefusal, IsRefusedAll, StandFor, limits_by, plan_at, plans_view};
 
 use crate::plan::Plan;
 use crate::planner::Planner;
@@ -50,11 +48,11 @@ fn at_line(line: u32, fault: Fault<Cause>) -> Fault<Refusal>
     }
 }
 
-// Takes all events of a trace apart.
+// Takes all events of a trace apart. The last must be the end.
 fn take_all(planner: &mut Planner, events: &[Event]) -> Result<(), Fault<Refusal>>
     requires fit { AllFit events.now }
-    ensures taken { OnOk result ((limits : Limits) → HasTaken planner.old limits [] → HasTaken planner.new limits events.now × EndsLast events.now) }
-    ensures refused { (limits : Limits) → HasTaken planner.old limits [] → IfErr result (IsRefusal limits events.now) }
+    ensures taken { OnOk result (HasTakenAll planner.old planner.new events.now) }
+    ensures refused { IfErr result (IsRefusedAll planner.old events.now) }
 {
     'events: for event in events {
         if let Err(fault) = planner.take(event) {
@@ -88,7 +86,7 @@ impl Plans {
         }
     }
 
-    /// Takes a trace of version 1 apart, with 1 to 64 processors, no event of which is later than `latest` (ns).
+    /// Takes a trace apart, with 1 to 64 processors, no event of which is later than `latest` (ns).
     ///
     /// Refused exactly at the first event that isn't legal, with its first cause; the event at the place `i` from 0 is at
     /// line `i + 2`. Where all are legal and the last isn't the end, it is `NoEnd` at the line behind them.
@@ -102,9 +100,8 @@ impl Plans {
         requires short { latest ≤ last_moment }
         requires fit { AllFit events.now }
         ensures stand { IfOk result (λ plans. StandFor plans cpus events.now) }
-        ensures legal { OnOk result (AreLegal (record { version = 1; cpus = cpus; latest = latest }) first_world events.now) }
-        ensures ends { OnOk result (EndsLast events.now) }
-        ensures refused { IfErr result (IsRefusal (record { version = 1; cpus = cpus; latest = latest }) events.now) }
+        ensures accepted { OnOk result (IsAccepted (limits_by cpus latest) events.now) }
+        ensures refused { IfErr result (IsRefusal (limits_by cpus latest) events.now) }
     {
         let mut planner = Planner::new(alloc, cpus, latest)?;
         match take_all(&mut planner, events) {
@@ -140,14 +137,16 @@ impl Plans {
 
     /// All groups ever made.
     pub fn groups(&self) -> &Tree
-        ensures { result.now ≡ self.now.lives }
+        ensures lives { result.now ≡ self.now.lives }
+        ensures groups { AreGroups result.now }
     {
         &self.groups
     }
 
     /// The lives of all groups ever made, in the order of their slots.
     pub fn lives(&self) -> &[GroupLife]
-        ensures { result.now ≡ self.now.lives }
+        ensures lives { result.now ≡ self.now.lives }
+        ensures groups { AreGroups result.now }
     {
         self.groups.lives()
     }

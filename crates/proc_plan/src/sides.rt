@@ -2,13 +2,25 @@
 
 ghost use Rattle.std.specs.Prelude.{◌≡◌, ◌++◌, IfSome};
 ghost use Rattle.psi_spec.specs.Grammar.{ActFits};
-ghost use Rattle.psi_spec.specs.Touch.{before};
-ghost use Rattle.proc_plan.specs.Sides.{IsSmall, group_of, listed, passage, sample_by, sides_by, slot_named, trigger_by};
+ghost use Rattle.psi_laws.specs.Touch.{before};
+ghost use Rattle.psi_spec.specs.Told.{listed, slot_named, trigger_by};
+ghost use Rattle.proc_plan.specs.Sides.{IsSmall, group_of, passage, sample_by, sides_by};
 
 use crate::side::{Side, SideAct};
 use group_tree::Tree;
 use psi_base::{Act, Event, How, Ns, Path, Slot, TriggerSpec};
+use psi_spec::Task;
 use task_table::Table;
+
+/// What an event tells beside its changes.
+#[derive(Clone, Copy)]
+pub(crate) struct Told {
+    /// The trigger that it sets.
+    pub(crate) trigger: Option<TriggerSpec>,
+    /// Its sides in their order.
+    pub(crate) first: Option<Side>,
+    pub(crate) second: Option<Side>,
+}
 
 // The slot of the live group with this path, or the root's where there is none.
 fn slot_of(groups: &Tree, path: &Path) -> Slot
@@ -17,8 +29,8 @@ fn slot_of(groups: &Tree, path: &Path) -> Slot
     groups.find(path).unwrap_or(Slot(0))
 }
 
-/// The trigger that an act at a moment (ns) sets, if it sets one.
-pub(crate) fn trigger_by(groups: &Tree, at: Ns, act: &Act) -> Option<TriggerSpec>
+// The trigger that an act at a moment (ns) sets, if it sets one.
+fn trigger_by(groups: &Tree, at: Ns, act: &Act) -> Option<TriggerSpec>
     ensures { listed result ≡ trigger_by at groups.now act.now }
 {
     match act {
@@ -76,6 +88,13 @@ fn sample_by(groups: &Tree, at: Ns, act: &Act) -> Option<Side>
     Some(Side { at, what })
 }
 
+// The group of a task, if there is one.
+fn group_of(task: Option<Task>) -> Option<Slot>
+    ensures { result ≡ group_of task }
+{
+    task.map(|task| task.slot)
+}
+
 // How a task that is in one group and then in another, at a moment (ns), leaves the one and comes into the other.
 fn passage(at: Ns, old: Option<Slot>, new: Option<Slot>) -> (Option<Side>, Option<Side>)
     ensures sides { listed result.0 ++ listed result.1 ≡ passage at old new }
@@ -95,33 +114,42 @@ fn passage(at: Ns, old: Option<Slot>, new: Option<Slot>) -> (Option<Side>, Optio
     }
 }
 
-// The group in which the task that an act changes is before the act.
-fn group_before(table: &Table, act: &Act) -> Option<Slot>
-    ensures { result ≡ group_of (before table.now.world.tasks act.now) }
-{
-    match table.task_before(act) {
-        Some(task) => Some(task.slot),
-        None => None,
-    }
-}
-
-/// The sides that an event tells in their order, at most two.
-pub(crate) fn sides_by(table: &Table, event: &Event) -> (Option<Side>, Option<Side>)
-    requires { ActFits event.now.act }
+// The sides that an event tells in their order, at most two. The task is the one that its act changes, as it is before.
+fn sides_by(table: &Table, event: &Event, task: Option<Task>) -> (Option<Side>, Option<Side>)
+    requires fits { ActFits event.now.act }
+    requires task { task ≡ before table.now.world.tasks event.now.act }
     ensures sides { listed result.0 ++ listed result.1 ≡ sides_by table.now.world event.now }
     ensures first { IfSome result.0 (λ side. IsSmall side.what) }
     ensures second { IfSome result.1 (λ side. IsSmall side.what) }
 {
     let groups = table.groups();
-    let act = &event.act;
-    match act {
+    let old = group_of(task);
+    match &event.act {
         Act::Fork { path, .. } => passage(event.at, None, Some(slot_of(groups, path))),
-        Act::Switch { how: How::Exit, .. } => passage(event.at, group_before(table, act), None),
-        Act::Move { path, .. } => match group_before(table, act) {
+        Act::Switch { how: How::Exit, .. } => passage(event.at, old, None),
+        Act::Move { path, .. } => match old {
             Some(old) => passage(event.at, Some(old), Some(slot_of(groups, path))),
             None => (None, None),
         },
         // At other acts a task stays in its group.
-        _ => (sample_by(groups, event.at, act), None),
+        act => (sample_by(groups, event.at, act), None),
+    }
+}
+
+/// What an event tells. The task is the one that its act changes, as it is before.
+pub(crate) fn told_by(table: &Table, event: &Event, task: Option<Task>) -> Told
+    requires fits { ActFits event.now.act }
+    requires task { task ≡ before table.now.world.tasks event.now.act }
+    ensures trigger { listed result.trigger ≡ trigger_by event.now.at table.now.world.groups event.now.act }
+    ensures sides { listed result.first ++ listed result.second ≡ sides_by table.now.world event.now }
+    ensures first { IfSome result.first (λ side. IsSmall side.what) }
+    ensures second { IfSome result.second (λ side. IsSmall side.what) }
+{
+    let trigger = trigger_by(table.groups(), event.at, &event.act);
+    let (first, second) = sides_by(table, event, task);
+    Told {
+        trigger,
+        first,
+        second,
     }
 }

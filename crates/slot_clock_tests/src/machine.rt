@@ -8,7 +8,7 @@ ghost use Rattle.slot_clock_tests.specs.Machine.{IsMachine, IsSlot, IsTask};
 
 use cpu_clock::Clock;
 use psi_base::{Ns, Slot};
-use psi_spec::{Change, Counts};
+use psi_laws::{Change, Counts};
 use slot_clocks::SlotClocks;
 use std::alloc::Global;
 

@@ -4,11 +4,11 @@ use Rattle.std.specs.Prelude.{if◌then◌else◌}
 use Rattle.psi_base.specs.declared.event.Slot.{Slot}
 use Rattle.psi_base.specs.declared.event.State.{State}
 use Rattle.psi_base.specs.declared.event.State.TheVariants.{IoSome, IoFull, MemSome, MemFull, CpuSome, CpuFull, Nonidle}
-use Rattle.psi_spec.specs.declared.machine.Counts.{Counts}
-use Rattle.psi_spec.specs.declared.machine.Change.{Change}
-use Rattle.psi_spec.specs.Counts.{tells}
-use Rattle.psi_spec.specs.Touch.{Follows, is_current_in, is_current_stalled, no_counts, on_chain}
-use Rattle.psi_spec.proofs.PlanClocks.{clock_stays}
+use Rattle.psi_laws.specs.declared.changes.Counts.{Counts}
+use Rattle.psi_laws.specs.declared.changes.Change.{Change}
+use Rattle.psi_laws.specs.Counts.{tells}
+use Rattle.psi_laws.specs.Touch.{Follows, is_current_in, is_current_stalled, no_counts, on_chain}
+use Rattle.psi_laws.proofs.PlanClocks.{clock_stays}
 use Rattle.slot_clocks.specs.declared.cell.Cell.{Cell}
 use Rattle.slot_clocks.specs.Clocks.{IsTold, IsUpTo}
 use Rattle.slot_clocks.specs.Walk.{IsTurned, counts_in, height, reaches, slot_in}
@@ -52,6 +52,7 @@ stays_turned parents current change slot cell minus plus before after told up_to
     record {
       counts = subst (λ m. Follows cell.counts m (on_chain parents slot change.plus) cell.counts) (sym taken) (subst (λ p. Follows cell.counts no_counts p cell.counts) (sym added) (follows_none cell.counts));
       clock = clock_stays cell.clock change.at up_to.start;
+      kept = λ _. refl;
       up_to = up_to;
       told = λ state.
           told state

@@ -5,15 +5,15 @@ use Rattle.std.proofs.lemmas.List.{get_or-set_same, get_or-set_other, get_or_def
 use Rattle.std.proofs.Math.ListN.{get_or-map}
 use Rattle.psi_base.specs.declared.event.Slot.{Slot}
 use Rattle.psi_base.specs.declared.event.State.{State}
-use Rattle.psi_spec.specs.declared.machine.Change.{Change}
-use Rattle.psi_spec.specs.Clock.{ClockFollows}
-use Rattle.psi_spec.specs.Counts.{mask_holds, tells}
+use Rattle.psi_laws.specs.declared.changes.Change.{Change}
+use Rattle.psi_laws.specs.Clock.{ClockFollows}
+use Rattle.psi_laws.specs.Counts.{mask_holds, tells}
 use Rattle.psi_spec.specs.Groups.{AreOlder}
 use Rattle.psi_spec.specs.Stall.{number_of_slot}
-use Rattle.psi_spec.specs.Touch.{Follows, is_current_in, is_current_stalled, no_counts, on_chain}
+use Rattle.psi_laws.specs.Touch.{Follows, is_current_in, is_current_stalled, no_counts, on_chain}
 use Rattle.slot_clocks.specs.declared.cell.Cell.{Cell}
 use Rattle.slot_clocks.specs.declared.chains.Chains.{Chains}
-use Rattle.slot_clocks.specs.Clocks.{CanFollow, IsTold, IsUpTo, cell_in, numbers_of, zero_cell}
+use Rattle.slot_clocks.specs.Clocks.{CanFollow, IsTold, IsUpTo, StaysByMask, cell_in, numbers_of, zero_cell}
 use Rattle.slot_clocks.specs.Walk.{IsTurned, all_passed, chains_of, counts_in, height, passed, reaches, top}
 use Rattle.slot_clocks.proofs.ChainLaws.{ended, not_at, passed_height, reaches_at, reaches_passed, stands}
 use Rattle.slot_clocks.proofs.TurnLaws.{chain_is, current_is, stays_turned}
@@ -192,12 +192,13 @@ cell_here cells slot other room = get_or_default cells slot other zero_cell room
 -- what a turn tells, by what the change takes, adds and runs there
 pub turned_here : (parents : List (Option ℕ)) (change : Change) (chains : Chains) (here slot : ℕ) (old now new : Cell) → IsShare parents change chains here slot → now ≡ old
     → Follows now.counts (if chains.minus == here then counts_in change.minus else no_counts) (if chains.plus == here then counts_in change.plus else no_counts) new.counts
-    → ClockFollows now.clock change.at new.clock → IsUpTo change.at new.clock → ((state : State) → mask_holds new.clock.mask state ≡ tells state new.counts (chains.after == here) (is_current_stalled change.current)) → IsTurned parents change slot old new
-turned_here parents change chains here slot old now new share same counts clock up_to told = record {
+    → ClockFollows now.clock change.at new.clock → StaysByMask now.clock new.clock → IsUpTo change.at new.clock → ((state : State) → mask_holds new.clock.mask state ≡ tells state new.counts (chains.after == here) (is_current_stalled change.current)) → IsTurned parents change slot old new
+turned_here parents change chains here slot old now new share same counts clock kept up_to told = record {
   counts = subst (λ m. Follows old.counts m (on_chain parents slot change.plus) new.counts) (sym share.minus)
       (subst (λ p. Follows old.counts (if chains.minus == here then counts_in change.minus else no_counts) p new.counts) (sym share.plus)
       (subst (λ (n : Cell). Follows n.counts (if chains.minus == here then counts_in change.minus else no_counts) (if chains.plus == here then counts_in change.plus else no_counts) new.counts) same counts));
   clock = subst (λ (n : Cell). ClockFollows n.clock change.at new.clock) same clock;
+  kept = subst (λ (n : Cell). StaysByMask n.clock new.clock) same kept;
   up_to = up_to;
   told = λ state. told state ∙ ap (λ on. tells state new.counts on (is_current_stalled change.current)) (sym share.after);
 }

@@ -2,13 +2,13 @@
 use Rattle.std.specs.Prelude.{◌≡◌, ℕ, ◌+◌, ◌≤◌, ◌<◌, ◌^◌, List, map, replicate, slice_index_or, Bool, Option, None}
 use Rattle.psi_base.specs.declared.event.Slot.{Slot}
 use Rattle.psi_base.specs.declared.event.State.{State}
-use Rattle.psi_spec.specs.declared.machine.Counts.{Counts}
-use Rattle.psi_spec.specs.declared.machine.Change.{Change}
-use Rattle.psi_spec.specs.Counts.{mask_holds, tells}
-use Rattle.psi_spec.specs.Clock.{ClockFollows, ClockView, opened_time, zero_clock}
-use Rattle.psi_spec.specs.Share.{last_moment}
+use Rattle.psi_laws.specs.declared.changes.Counts.{Counts}
+use Rattle.psi_laws.specs.declared.changes.Change.{Change}
+use Rattle.psi_laws.specs.Counts.{mask_holds, tells}
+use Rattle.psi_laws.specs.Clock.{ClockFollows, ClockView, IsWholeClock, opened_time, zero_clock}
+use Rattle.psi_spec.specs.Trace.{last_moment}
 use Rattle.psi_spec.specs.Stall.{number_of_slot}
-use Rattle.psi_spec.specs.Touch.{Follows, is_current_in, is_current_stalled, no_counts, on_chain}
+use Rattle.psi_laws.specs.Touch.{Follows, is_current_in, is_current_stalled, no_counts, on_chain}
 use Rattle.slot_clocks.specs.declared.cell.Cell.{Cell}
 
 -- ---- parents
@@ -71,10 +71,23 @@ AllFollow parents change old new = (slot : ℕ) → Follows (cell_at old slot).c
 abbrev pub AllClocksFollow : ℕ → ClocksView → ClocksView → Type 0
 AllClocksFollow at old new = (slot : ℕ) → ClockFollows (cell_at old slot).clock at (cell_at new slot).clock
 
+-- a clock whose mask stayed is the same clock
+abbrev pub StaysByMask : ClockView → ClockView → Type 0
+StaysByMask old new = new.mask ≡ old.mask → new ≡ old
+
+-- the clock of each group whose states stayed is the same clock
+abbrev pub AllStayByMask : ClocksView → ClocksView → Type 0
+AllStayByMask old new = (slot : ℕ) → StaysByMask (cell_at old slot).clock (cell_at new slot).clock
+
+-- the clock of each group is whole
+abbrev pub AreWhole : ClocksView → Type 0
+AreWhole clocks = (slot : ℕ) → IsWholeClock (cell_at clocks slot).clock
+
 -- ---- what is kept of each clock
 
--- a clock started at a moment (ns) or before it, and no state held for longer than up to the moment
+-- a whole clock started at a moment (ns) or before it, and no state held for longer than up to the moment
 pub record IsUpTo (at : ℕ) (clock : ClockView) : Type 0 where
+  pub whole : IsWholeClock clock
   pub start : clock.start ≤ at
   pub times : (state : State) → opened_time clock at state ≤ at
 

@@ -1,14 +1,14 @@
 -- The walk up the chains of slots that a change concerns.
 use Rattle.std.specs.Prelude.{ℕ, zero, suc, List, max, Bool, false, ◌==◌, if◌then◌else◌, Option, None, Some}
 use Rattle.psi_base.specs.declared.event.Slot.{Slot}
-use Rattle.psi_spec.specs.declared.machine.Counts.{Counts}
-use Rattle.psi_spec.specs.declared.machine.Change.{Change}
-use Rattle.psi_spec.specs.Clock.{ClockFollows}
+use Rattle.psi_laws.specs.declared.changes.Counts.{Counts}
+use Rattle.psi_laws.specs.declared.changes.Change.{Change}
+use Rattle.psi_laws.specs.Clock.{ClockFollows}
 use Rattle.psi_spec.specs.Stall.{is_under}
-use Rattle.psi_spec.specs.Touch.{Follows, no_counts, on_chain}
+use Rattle.psi_laws.specs.Touch.{Follows, no_counts, on_chain}
 use Rattle.slot_clocks.specs.declared.cell.Cell.{Cell}
 use Rattle.slot_clocks.specs.declared.chains.Chains.{Chains}
-use Rattle.slot_clocks.specs.Clocks.{IsTold, IsUpTo}
+use Rattle.slot_clocks.specs.Clocks.{IsTold, IsUpTo, StaysByMask}
 
 -- the slot of a pair, if there is one
 abbrev pub slot_in : {A : Type 0} → Option (Slot × A) → Option Slot
@@ -52,5 +52,6 @@ top chains = max (max chains.minus chains.plus) (max chains.before chains.after)
 pub record IsTurned (parents : List (Option ℕ)) (change : Change) (slot : ℕ) (old new : Cell) : Type 0 where
   pub counts : Follows old.counts (on_chain parents slot change.minus) (on_chain parents slot change.plus) new.counts
   pub clock : ClockFollows old.clock change.at new.clock
+  pub kept : StaysByMask old.clock new.clock
   pub up_to : IsUpTo change.at new.clock
   pub told : IsTold parents change.current slot new

@@ -2,11 +2,11 @@
 
 ghost use Rattle.std.specs.Prelude.{◌≡◌, ◌+◌, ◌<◌, ◌≤◌, ◌^◌};
 ghost use Rattle.psi_base.specs.declared.event.State.{State};
-ghost use Rattle.psi_spec.specs.Clock.{ClockFollows};
-ghost use Rattle.psi_spec.specs.Counts.{mask_holds, tells};
-ghost use Rattle.psi_spec.specs.Share.{last_moment};
-ghost use Rattle.psi_spec.specs.Touch.{Follows, no_counts};
-ghost use Rattle.slot_clocks.specs.Clocks.{CanFollow, IsUpTo, zero_cell};
+ghost use Rattle.psi_laws.specs.Clock.{ClockFollows};
+ghost use Rattle.psi_laws.specs.Counts.{mask_holds, tells};
+ghost use Rattle.psi_spec.specs.Trace.{last_moment};
+ghost use Rattle.psi_laws.specs.Touch.{Follows, no_counts};
+ghost use Rattle.slot_clocks.specs.Clocks.{CanFollow, IsUpTo, StaysByMask, zero_cell};
 
 use cpu_clock::Clock;
 use psi_base::Ns;
@@ -79,6 +79,7 @@ impl Cell {
         requires early { at ≤ last_moment }
         ensures counts { Follows self.old.counts minus.now plus.now self.new.counts }
         ensures clock { ClockFollows self.old.clock at self.new.clock }
+        ensures kept { StaysByMask self.old.clock self.new.clock }
         ensures up_to { IsUpTo at self.new.clock }
         ensures told { (state : State) → mask_holds self.new.clock.mask state ≡ tells state self.new.counts on_cpu current_stalled }
     {

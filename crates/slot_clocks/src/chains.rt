@@ -2,18 +2,18 @@
 
 ghost use Rattle.std.specs.Prelude.{◌≡◌, ℕ, ◌+◌, ◌==◌, ◌<◌, ◌≤◌, length, true, if◌then◌else◌};
 ghost use Rattle.psi_base.specs.declared.event.State.{State};
-ghost use Rattle.psi_spec.specs.Clock.{ClockFollows};
-ghost use Rattle.psi_spec.specs.Counts.{mask_holds, tells};
+ghost use Rattle.psi_laws.specs.Clock.{ClockFollows};
+ghost use Rattle.psi_laws.specs.Counts.{mask_holds, tells};
 ghost use Rattle.psi_spec.specs.Groups.{AreOlder};
-ghost use Rattle.psi_spec.specs.Share.{last_moment};
-ghost use Rattle.psi_spec.specs.Touch.{Follows, is_current_stalled, no_counts, on_chain};
-ghost use Rattle.slot_clocks.specs.Clocks.{CanFollow, IsTold, IsUpTo, cell_in, numbers_of};
+ghost use Rattle.psi_spec.specs.Trace.{last_moment};
+ghost use Rattle.psi_laws.specs.Touch.{Follows, is_current_stalled, no_counts, on_chain};
+ghost use Rattle.slot_clocks.specs.Clocks.{CanFollow, IsTold, IsUpTo, StaysByMask, cell_in, numbers_of};
 ghost use Rattle.slot_clocks.specs.Walk.{IsTurned, all_passed, chains_of, counts_in, height, passed, slot_in, top};
 
 use crate::cell::Cell;
 use crate::part::Part;
 use psi_base::{Ns, Slot};
-use psi_spec::Change;
+use psi_laws::Change;
 
 /// How high the walks up the chains of the four slots stand that a change concerns. A height is one more than the slot, so
 /// that one comparison tells both whether a chain stands somewhere and where; it is 0 behind the root.
@@ -144,6 +144,7 @@ fn turn_at(cell: &mut Cell, sides: &Sides, chains: &Chains, here: u64)
     requires told { sides.now.stays ≡ true → (state : State) → mask_holds cell.old.clock.mask state ≡ tells state cell.old.counts (chains.now.after == here) sides.now.stalled }
     ensures counts { Follows cell.old.counts (if chains.now.minus == here then sides.now.minus else no_counts) (if chains.now.plus == here then sides.now.plus else no_counts) cell.new.counts }
     ensures clock { ClockFollows cell.old.clock sides.now.at cell.new.clock }
+    ensures kept { StaysByMask cell.old.clock cell.new.clock }
     ensures up_to { IsUpTo sides.now.at cell.new.clock }
     ensures told { (state : State) → mask_holds cell.new.clock.mask state ≡ tells state cell.new.counts (chains.now.after == here) sides.now.stalled }
 {

@@ -1,17 +1,17 @@
 //! The clocks of all groups on one processor.
 
 ghost use Rattle.std.specs.Prelude.{◌≡◌, ℕ, ◌<◌, ◌≤◌, length, IfOk, IfSome};
-ghost use Rattle.psi_spec.specs.Clock.{IsInTime};
+ghost use Rattle.psi_laws.specs.Clock.{IsInTime};
 ghost use Rattle.psi_spec.specs.Groups.{AreOlder};
-ghost use Rattle.psi_spec.specs.Share.{last_moment};
-ghost use Rattle.psi_spec.specs.Touch.{HasSlotsBelow};
-ghost use Rattle.slot_clocks.specs.Clocks.{AllCanFollow, AllClocksFollow, AllFollow, AreTold, cell_at, first_clocks, numbers_of};
+ghost use Rattle.psi_spec.specs.Trace.{last_moment};
+ghost use Rattle.psi_laws.specs.Touch.{HasSlotsBelow};
+ghost use Rattle.slot_clocks.specs.Clocks.{AllCanFollow, AllClocksFollow, AllFollow, AllStayByMask, AreTold, AreWhole, cell_at, first_clocks, numbers_of};
 
 use crate::cell::Cell;
 use crate::chains::walk;
 use cpu_clock::Clock;
 use psi_base::{NoMemory, Ns, Slot};
-use psi_spec::Change;
+use psi_laws::Change;
 use std::alloc::Global;
 use std::marker::Model;
 
@@ -68,6 +68,8 @@ impl SlotClocks {
         // Each group follows the change, whether it is on a chain of it or not.
         ensures counts { AllFollow (numbers_of parents.now) change.now self.old self.new }
         ensures clocks { AllClocksFollow change.now.at self.old self.new }
+        ensures kept { AllStayByMask self.old self.new }
+        ensures whole { AreWhole self.new }
         ensures told { AreTold (numbers_of parents.now) self.new }
 
         ensures current { self.new.current ≡ change.now.current }

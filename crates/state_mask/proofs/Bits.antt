@@ -9,7 +9,7 @@ use Rattle.std.proofs.lemmas.Nat.Bits.{and_pow, bit_at-lt, bit_at_or, bit_at-pow
 use Rattle.psi_base.specs.declared.event.State.{State}
 use Rattle.psi_base.specs.declared.event.State.TheVariants.{IoSome, IoFull, MemSome, MemFull, CpuSome, CpuFull, Nonidle}
 use Rattle.psi_spec.specs.Stall.{number_of, states}
-use Rattle.psi_spec.specs.Counts.{IsMask, mask_holds}
+use Rattle.psi_laws.specs.Counts.{IsMask, mask_holds}
 
 -- there are seven states
 pub seven : (state : State) → number_of state < 7

@@ -7,5 +7,5 @@ mod mask;
 mod states;
 
 pub use mask::Mask;
-pub use psi_spec::Counts;
+pub use psi_laws::Counts;
 pub use states::{STATES, mask_of};

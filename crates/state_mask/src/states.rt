@@ -2,11 +2,11 @@
 
 ghost use Rattle.std.specs.Prelude.{◌≡◌};
 ghost use Rattle.psi_base.specs.declared.event.State.{State};
-ghost use Rattle.psi_spec.specs.Counts.{IsMask, mask_holds, tells};
+ghost use Rattle.psi_laws.specs.Counts.{IsMask, mask_holds, tells};
 
 use crate::mask::Mask;
 use psi_base::State;
-use psi_spec::Counts;
+use psi_laws::Counts;
 
 /// The states in the order of their numbers.
 pub const STATES: [State; 7] = [

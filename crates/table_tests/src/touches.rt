@@ -1,7 +1,7 @@
 //! What lines change on processors.
 
 use psi_base::{Cpu, NoMemory, Ns, Slot};
-use psi_spec::{Change, Counts, Touch};
+use psi_laws::{Change, Counts, Touch};
 use psi_trace::read_event;
 use std::test::Fail;
 use task_table::Table;

@@ -3,18 +3,18 @@ use Rattle.std.proofs.Common.{◌≡◌, ℕ, ◌+◌, ◌<◌, List, Bool, Some
 use Rattle.std.specs.Prelude.{Option, ◌||◌, if◌then◌else◌, slice_index_or}
 use Rattle.psi_base.specs.declared.event.Event.{Event}
 use Rattle.psi_spec.specs.declared.machine.Task.{Task}
-use Rattle.psi_spec.specs.declared.machine.Touch.{Touch}
+use Rattle.psi_laws.specs.declared.changes.Touch.{Touch}
 use Rattle.psi_spec.specs.World.{World, Limits, Tasks, ends, groups_after, is_trigger, tasks_after}
 use Rattle.psi_spec.specs.declared.machine.GroupLife.{GroupLife}
-use Rattle.psi_spec.specs.Legal.{IsLegalWorld}
-use Rattle.psi_spec.proofs.LegalLaws.{legal_kept}
+use Rattle.psi_laws.specs.Legal.{IsLegalWorld}
+use Rattle.psi_laws.proofs.LegalLaws.{legal_kept}
 use Rattle.task_table.proofs.Index.{running_told}
 use Rattle.task_table.specs.declared.changed.Changed.{Changed}
 use Rattle.task_table.specs.Named.{IsChanged, change_for}
 use Rattle.task_table.specs.Stands.{IsIndex, table_of}
 use Rattle.psi_spec.specs.Refusal.{cause_of}
-use Rattle.psi_spec.specs.Touch.{touched, change_of, told_of, IsBeside, IsTouch, AllTouched, HasSlotsBelow, IsOfOne, AreWithin}
-use Rattle.psi_spec.proofs.TouchWithin.{changes_are_within, all_touched}
+use Rattle.psi_laws.specs.Touch.{touched, change_of, told_of, IsBeside, IsTouch, AllTouched, HasSlotsBelow, IsOfOne, AreWithin}
+use Rattle.psi_laws.proofs.TouchWithin.{changes_are_within, all_touched}
 
 -- a touch that is read off the task that an event changes, and off the tasks that run after it
 pub touch_is : (w : World) (event : Event) (tasks : Tasks) (changed : Changed) (running : List (Option (ℕ × Task))) (touch : Touch) → IsChanged w.groups w.tasks event.act changed → tasks ≡ tasks_after w.groups w.tasks event.act → IsIndex running tasks

@@ -9,8 +9,8 @@ use Rattle.psi_spec.specs.contracts.machine.Task as task_row
 use Rattle.psi_base.specs.declared.event.Event.{Event}
 use Rattle.psi_spec.specs.World.{World, Limits, Tasks, after_event, task_of, is_running_on}
 use Rattle.psi_spec.specs.Refusal.{cause_of}
-use Rattle.psi_spec.specs.Counts.{how_many}
-use Rattle.psi_spec.specs.Legal.{IsLegalWorld}
+use Rattle.psi_laws.specs.Counts.{how_many}
+use Rattle.psi_laws.specs.Legal.{IsLegalWorld}
 
 -- the value of a table
 pub record TableView : Type 0 where
@@ -65,7 +65,7 @@ pub record IsAdvanced (old : TableView) (event : Event) (new : TableView) : Type
 -- the value of a table with these fields
 abbrev pub table_of : ℕ → ℕ → Tasks → List GroupLife → ℕ → ℕ → ℕ → Bool → TableView
 table_of cpus latest tasks groups triggers lines last ended = record {
-  limits = record { version = 1; cpus = cpus; latest = latest };
+  limits = record { cpus = cpus; latest = latest };
   world = record { tasks = tasks; groups = groups; triggers = triggers; lines = lines; last = last; ended = ended };
 }
 
@@ -78,5 +78,5 @@ world_code =
 -- a table's value as nested pairs
 abbrev pub view_code : Coded TableView
 view_code =
-    code_by ((ℕ × (ℕ × ℕ)) × World) (coded× (coded× coded_ℕ (coded× coded_ℕ coded_ℕ)) world_code)
-    (λ v. ((v.limits.version, (v.limits.cpus, v.limits.latest)), v.world)) (λ p. record { limits = record { version = p.0.0; cpus = p.0.1.0; latest = p.0.1.1 }; world = p.1 }) (λ _. refl)
+    code_by ((ℕ × ℕ) × World) (coded× (coded× coded_ℕ coded_ℕ) world_code)
+    (λ v. ((v.limits.cpus, v.limits.latest), v.world)) (λ p. record { limits = record { cpus = p.0.0; latest = p.0.1 }; world = p.1 }) (λ _. refl)

@@ -2,7 +2,7 @@
 ghost use Rattle.std.specs.Prelude.{◌≡◌, ◌≢◌, ℕ, ◌+◌, ◌<◌, ◌≤◌, ◌++◌, ◌||◌, if◌then◌else◌, List, [], ◌∷◌, Option, None, Some, IfOk, IfSome, OnOk, OnErr, true, false, length, slice_index_or, unwrap_or};
 ghost use Rattle.std.specs.FinMap as tasks_by;
 ghost use Rattle.psi_spec.specs.World.{change, ends, groups_after, is_ready, is_running, is_trigger, leave, left_by, new_group, new_task, put, readied, running_on, slot_of, start, task_of, task_part, tasks_after};
-ghost use Rattle.psi_spec.specs.Touch.{changed, left_if};
+ghost use Rattle.psi_laws.specs.Touch.{changed, left_if};
 ghost use Rattle.psi_spec.specs.Refusal.{is_wrong};
 ghost use Rattle.group_tree.specs.Tree.{add_cause};
 ghost use Rattle.task_table.specs.Causes.{act_cause, groups_cause, makes_group, switch_cause, takes_memory};

@@ -1,9 +1,9 @@
 //! The table of tasks.
 ghost use Rattle.std.specs.Prelude.{◌≡◌, ◌<◌, ◌≤◌, IfNone, IfOk, OnErr, OnOk, MatchResult, None, length};
 ghost use Rattle.psi_spec.specs.World.{after_event, first_world};
-ghost use Rattle.psi_spec.specs.Touch.{AllTouched, HasSlotsBelow, IsOfOne, IsTouch, before};
+ghost use Rattle.psi_laws.specs.Touch.{AllTouched, HasSlotsBelow, IsOfOne, IsTouch, before};
 ghost use Rattle.psi_spec.specs.Refusal.{cause_of};
-ghost use Rattle.psi_spec.specs.Legal.{IsLegalWorld};
+ghost use Rattle.psi_laws.specs.Legal.{IsLegalWorld};
 ghost use Rattle.task_table.specs.Causes.{IsFault};
 ghost use Rattle.task_table.specs.Named.{IsChanged, named_task};
 ghost use Rattle.task_table.specs.Stands.{IsAdvanced};
@@ -17,7 +17,8 @@ use crate::task_map::TaskMap;
 use crate::touch::touch_of;
 use group_tree::Tree;
 use psi_base::{Act, Cause, Event, Fault, NoMemory, Ns};
-use psi_spec::{Task, Touch};
+use psi_laws::Touch;
+use psi_spec::Task;
 use std::alloc::Global;
 use std::marker::Model;
 
@@ -59,11 +60,11 @@ impl Model for Table {
 }
 
 impl Table {
-    /// The world before a trace of version 1 with 1 to 64 processors, in which no event is later than `latest` (ns).
+    /// The world before a trace with 1 to 64 processors, in which no event is later than `latest` (ns).
     pub fn new(alloc: Global, cpus: u32, latest: Ns) -> Result<Table, NoMemory>
         requires some { 1 ≤ cpus }
         requires few { cpus ≤ 64 }
-        ensures { IfOk result (λ t. t ≡ record { limits = record { version = 1; cpus = cpus; latest = latest }; world = first_world }) }
+        ensures { IfOk result (λ t. t ≡ record { limits = record { cpus = cpus; latest = latest }; world = first_world }) }
     {
         let mut running: Vec<Running> = Vec::new(alloc);
         for _ in 0..cpus {

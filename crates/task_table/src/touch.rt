@@ -1,14 +1,15 @@
 //! What an act changes on the processors that it touches, read off the task that it changes and off the running
 //! ones: no walk over the tasks.
 ghost use Rattle.std.specs.Prelude.{◌≡◌, ℕ, if◌then◌else◌, Some, None, [], ◌∷◌, slice_index_or};
-ghost use Rattle.psi_spec.specs.Counts.{counts_among};
-ghost use Rattle.psi_spec.specs.Touch.{touched, part, shown, told_of, IsBeside};
+ghost use Rattle.psi_laws.specs.Counts.{counts_among};
+ghost use Rattle.psi_laws.specs.Touch.{touched, part, shown, told_of, IsBeside};
 ghost use Rattle.task_table.specs.Named.{change_for};
 
 use crate::changed::Changed;
 use crate::running::{Running, running_at};
 use psi_base::{Act, Cpu, Ns, Slot};
-use psi_spec::{Change, Counts, Mode, Task, Touch};
+use psi_laws::{Change, Counts, Touch};
+use psi_spec::{Mode, Task};
 
 /// What a task counts as by itself.
 fn counts_of(task: Task) -> Counts

@@ -75,9 +75,10 @@ up-preserved c =
     let cell = laws.cell_here c.up.cells slot c.index-cells-place.result room in
     let counts = rw (cell, c.of-sides.ensures.minus, c.of-sides.ensures.plus) at c.turn_at.ensures.counts in
     let clock = rw (cell, c.of-sides.ensures.at) at c.turn_at.ensures.clock in
+    let kept = rw cell at c.turn_at.ensures.kept in
     let up_to = rw c.of-sides.ensures.at at c.turn_at.ensures.up_to in
     let told = rw c.of-sides.ensures.stalled at c.turn_at.ensures.told in
-    let turned = laws.turned_here parents change c.up.chains here slot (cell_in c.args.cells.now slot) (cell_in c.up.cells slot) c.turn_at.new.cell share ahead.0 counts clock up_to told in
+    let turned = laws.turned_here parents change c.up.chains here slot (cell_in c.args.cells.now slot) (cell_in c.up.cells slot) c.turn_at.new.cell share ahead.0 counts clock kept up_to told in
     rw (c.pass.ensures, c.height.ensures) (record {
       slots = omega (arith, low, is, at, c.up.invariant.slots);
       room = simp length-set c.up.invariant.room;

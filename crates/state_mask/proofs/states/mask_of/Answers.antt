@@ -2,7 +2,7 @@ use Rattle.std.proofs.Common.{◌≡◌, ◌∙◌, slice_index_or, arith, ap}
 use Rattle.std.specs.Prelude.{◌||◌}
 use Rattle.psi_base.specs.declared.event.State.{State}
 use Rattle.psi_base.specs.declared.event.State.TheVariants.{IoSome}
-use Rattle.psi_spec.specs.Counts.{tells}
+use Rattle.psi_laws.specs.Counts.{tells}
 use Rattle.psi_spec.specs.Stall.{states, number_of}
 use Rattle.state_mask.proofs.Bits.{number_at, told_more, others_more}
 use Rattle.state_mask.proofs.states.mask_of.Goals as goal

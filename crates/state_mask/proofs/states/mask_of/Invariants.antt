@@ -1,6 +1,6 @@
 use Rattle.std.proofs.Common.{◌≡◌, ◌<◌, ◌≤◌, false}
 use Rattle.psi_base.specs.declared.event.State.{State}
-use Rattle.psi_spec.specs.Counts.{IsMask, mask_holds, tells}
+use Rattle.psi_laws.specs.Counts.{IsMask, mask_holds, tells}
 use Rattle.psi_spec.specs.Stall.{number_of}
 use Rattle.state_mask.proofs.states.mask_of.Given as goal
 

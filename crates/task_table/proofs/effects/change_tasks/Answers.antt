@@ -3,7 +3,7 @@ use Rattle.std.specs.Prelude.{IfSome}
 use Rattle.std.specs.FinMap as tasks_by
 use Rattle.psi_spec.specs.declared.machine.Task.{Task}
 use Rattle.psi_spec.specs.World.{is_running, task_of}
-use Rattle.psi_spec.proofs.TouchWithin.{slot_room}
+use Rattle.psi_laws.proofs.TouchWithin.{slot_room}
 use Rattle.task_table.proofs.CauseLaws as causes
 use Rattle.task_table.proofs.Replacing as replacing
 use Rattle.task_table.proofs.effects.change_tasks.Goals as goal

@@ -1,8 +1,8 @@
 use Rattle.std.proofs.Common.{arith, subst, sym, ◌≡◌, ◌≤◌, ◌<◌, ◌+◌, ◌-◌, length, ap, ◌∙◌, Bool}
 use Rattle.std.specs.Prelude.{IfSome}
 use Rattle.psi_base.specs.declared.event.Slot.{Slot}
-use Rattle.psi_spec.specs.Touch.{HasSlotsBelow}
-use Rattle.psi_spec.proofs.PlanSteps.{current_by_change}
+use Rattle.psi_laws.specs.Touch.{HasSlotsBelow}
+use Rattle.psi_laws.proofs.PlanSteps.{current_by_change}
 use Rattle.proc_plan.proofs.ClockSteps.{AreMade, as_many_parents, can_follow, current_below, next_clocks, told}
 use Rattle.proc_plan.proofs.clocks.PlainClocksProcClocks.apply.Goals as goal
 
@@ -51,5 +51,5 @@ invariant_of-self c =
     let place : c.self.inside.count + 1 - 1 ≡ c.self.inside.count = omega arith in
     let is = rw place at c.change-change.ensures in
     let e = rw c.self.invariant.1 at c.apply.ensures in
-    let made : AreMade c.self.inside.plan.now c.change-change.result.now c.self.inside.clocks c.apply.new.self = record { room = e.room; counts = e.counts; clocks = e.clocks; told = e.told; current = e.current; last = e.last } in
+    let made : AreMade c.self.inside.plan.now c.change-change.result.now c.self.inside.clocks c.apply.new.self = record { room = e.room; counts = e.counts; clocks = e.clocks; whole = e.whole; told = e.told; current = e.current; last = e.last } in
     (next_clocks c.self.inside.plan.now c.self.inside.clocks c.apply.new.self c.self.inside.count c.change-change.result.now c.self.invariant.0 is made, c.self.invariant.1)

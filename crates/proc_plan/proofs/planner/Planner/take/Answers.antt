@@ -1,30 +1,51 @@
-use Rattle.std.proofs.Common.{[], ap, rules, subst, sym, ◌++◌, ◌∙◌}
-use Rattle.std.specs.Prelude.{None}
-use Rattle.psi_spec.specs.Legal.{with_change}
-use Rattle.psi_spec.specs.Touch.{told_first}
-use Rattle.proc_plan.specs.Plans.{HasTaken, planner_view}
-use Rattle.proc_plan.specs.Sides.{listed, trigger_by}
-use Rattle.proc_plan.proofs.Taking.{HasStepped, taken_more}
+use Rattle.std.proofs.Common.{◌≡◌, ℕ, List, [], ◌++◌, length, take, drop, rules, arith, sym, ap, ◌∙◌, subst}
+use Rattle.std.proofs.lemmas.List.{length-map}
+use Rattle.std.proofs.Math.ListN.{get_or-map}
+use Rattle.std.proofs.Math.Seq.{take-append_seam}
+use Rattle.std.specs.Prelude.{slice_index_or}
+use Rattle.psi_spec.specs.Told.{listed}
+use Rattle.psi_laws.specs.Legal.{with_change}
+use Rattle.psi_laws.specs.Touch.{told_of}
+use Rattle.proc_plan.specs.Plans.{HasTaken, changes_at, planner_view}
+use Rattle.proc_plan.specs.Room.{ChangesView, list_at, lists_of, no_room}
+use Rattle.proc_plan.proofs.Taking.{HasStepped, room_for, taken_more}
 use Rattle.proc_plan.proofs.planner.Planner.take.Goals as goal
 
-pub returns : goal.returns
-returns c = λ limits events taken.
-    let old = planner_view c.self.inside.table c.self.inside.changes.items c.self.inside.triggers.items c.self.inside.sides.items in
-    let new = planner_view c.step.new.self c.add_change-2.new.changes.items c.add_trigger.new.triggers.items c.add_side-2.new.sides.items in
-    let touch = c.in_ok-touch.touch in
+-- what a slice of all items wrote is what is there
+written : {A : Type 0} (n : ℕ) (new old : List A) → length new ≡ n → take n (new ++ drop (length new) old) ≡ new
+written n new old same = subst (λ m. take m (new ++ drop (length new) old) ≡ new) same (take-append_seam new (drop (length new) old))
+
+pub add_changes-requires-clause-room : goal.add_changes-requires-clause-room
+add_changes-requires-clause-room c =
+    let each : length c.make_room.new.changes ≡ c.self.inside.table.limits.cpus = c.in-Ok.ensures.each ∙ ap length c.deref_mut.ensures.value ∙ sym (length-map c.self.inside.changes.items (λ (changes : ChangesView). changes.list)) ∙ c.self.invariant.each in
+    let there : c.deref_mut-2.result.now ≡ c.make_room.new.changes = c.deref_mut-2.ensures.value ∙ written c.self.inside.changes.len c.make_room.new.changes c.self.inside.changes.items (c.in-Ok.ensures.each ∙ c.deref_mut.ensures.len) in
+    rw there
+    (room_for c.self.inside.table.world c.args.event.now c.in_ok-touch.touch c.task_before-task.result c.make_room.new.changes c.self.inside.table.limits.cpus c.task_before-task.ensures c.in_ok-touch.ensures.touch c.in_ok-touch.ensures.cpus each c.in-Ok.ensures.room)
+
+pub returns-clause-takes : goal.returns-clause-takes
+returns-clause-takes c = λ limits events taken.
+    let old = planner_view c.self.inside.table (lists_of c.self.inside.changes.items) c.self.inside.triggers.items c.self.inside.sides.items in
+    let new = planner_view c.step.new.self (lists_of c.add_changes.new.changes) c.add_trigger.new.triggers.items c.add_side-2.new.sides.items in
     let e = c.in_ok-touch.ensures in
-    let first = c.sides_by-first.result.0 in
-    let second = c.sides_by-first.result.1 in
-    let step : HasStepped old new c.args.event.now touch c.trigger_by-trigger.result first second = record {
+    let told = c.told_by-told.result in
+    let there : c.deref_mut-2.result.now ≡ c.make_room.new.changes = c.deref_mut-2.ensures.value ∙ written c.self.inside.changes.len c.make_room.new.changes c.self.inside.changes.items (c.in-Ok.ensures.each ∙ c.deref_mut.ensures.len) in
+    let kept : lists_of c.make_room.new.changes ≡ lists_of c.self.inside.changes.items = c.in-Ok.ensures.changes ∙ ap lists_of c.deref_mut.ensures.value in
+    let changes : (cpu : ℕ) → changes_at new cpu ≡ changes_at old cpu ++ with_change (told_of c.in_ok-touch.touch cpu) [] = λ cpu.
+    get_or-map (λ (changes : ChangesView). changes.list) c.add_changes.new.changes cpu no_room
+    ∙ c.add_changes.ensures.added cpu
+    ∙ ap (λ list. list ++ with_change (told_of c.in_ok-touch.touch cpu) []) (ap (λ changes. list_at changes cpu) there ∙ sym (get_or-map (λ (changes : ChangesView). changes.list) c.make_room.new.changes cpu no_room) ∙ ap (λ lists. slice_index_or lists cpu []) kept) in
+    let step : HasStepped old new c.args.event.now c.in_ok-touch.touch told.trigger told.first told.second = record {
+      fits = c.requires;
       limits = e.limits;
       legal = e.legal;
       world = e.world;
       few = e.lines;
       told = e.touch;
-      changes = λ cpu. c.in_ok-add_change-2.ensures.added cpu ∙ ap (λ changes. changes ++ with_change (told_first cpu touch.second None) []) (c.in_ok-add_change.ensures.added cpu);
-      trigger_is = c.trigger_by-trigger.ensures ∙ ap (λ groups. trigger_by c.args.event.now.at groups c.args.event.now.act) c.groups.ensures;
-      triggers = c.in_ok-add_trigger.ensures;
-      sides_are = search rules;
-      sides = c.in_ok-add_side-2.ensures.sides ∙ ap (λ sides. sides ++ listed second) c.in_ok-add_side.ensures.sides;
+      changes = changes;
+      trigger_is = c.told_by-told.ensures.trigger;
+      triggers = c.add_trigger.ensures ∙ ap (λ triggers. triggers ++ listed told.trigger) c.in-Ok.ensures.triggers;
+      sides_are = c.told_by-told.ensures.sides;
+      sides = c.add_side-2.ensures.sides ∙ ap (λ sides. sides ++ listed told.second) (c.add_side.ensures.sides ∙ ap (λ sides. sides ++ listed told.first) c.in-Ok.ensures.sides);
     } in
-    taken_more old new c.args.event.now touch c.trigger_by-trigger.result first second limits events step (subst (λ planner. HasTaken planner limits events) (sym c.self.view_is) taken)
+    rw (written c.self.inside.changes.len c.add_changes.new.changes (take c.self.inside.changes.len (c.make_room.new.changes ++ drop (length c.make_room.new.changes) c.self.inside.changes.items)) (c.add_changes.ensures.each ∙ c.deref_mut-2.ensures.len))
+    (taken_more old new c.args.event.now c.in_ok-touch.touch told.trigger told.first told.second limits events step (subst (λ planner. HasTaken planner limits events) (sym c.self.view_is) taken))

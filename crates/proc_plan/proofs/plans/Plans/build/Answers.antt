@@ -2,8 +2,8 @@ use Rattle.proc_plan.proofs.plans.Plans.build.Goals as goal
 
 pub returns-in_ok-finish-in-Ok-clause-stand : goal.returns-in_ok-finish-in-Ok-clause-stand
 returns-in_ok-finish-in-Ok-clause-stand c =
-    let taken = c.in-Ok.ensures.taken (record { version = 1; cpus = c.args.cpus; latest = c.args.latest }) c.in_ok-planner.ensures in
-    c.in_ok-finish-in-Ok.ensures (record { version = 1; cpus = c.args.cpus; latest = c.args.latest }) c.args.events.now taken.0
+    let taken = c.in-Ok.ensures.taken (record { cpus = c.args.cpus; latest = c.args.latest }) c.in_ok-planner.ensures in
+    c.in_ok-finish-in-Ok.ensures (record { cpus = c.args.cpus; latest = c.args.latest }) c.args.events.now taken.0
 
-pub returns-in_ok-finish-in-Ok-clause-ends : goal.returns-in_ok-finish-in-Ok-clause-ends
-returns-in_ok-finish-in-Ok-clause-ends c = (c.in-Ok.ensures.taken (record { version = 1; cpus = c.args.cpus; latest = c.args.latest }) c.in_ok-planner.ensures).1
+pub returns-in_ok-finish-in-Ok-clause-accepted : goal.returns-in_ok-finish-in-Ok-clause-accepted
+returns-in_ok-finish-in-Ok-clause-accepted c = (c.in-Ok.ensures.taken (record { cpus = c.args.cpus; latest = c.args.latest }) c.in_ok-planner.ensures).1

@@ -23,7 +23,7 @@ returns-clause-advanced c =
     let tasks : c.change_tasks.new.tasks ≡ tasks_after c.self.inside.tree c.self.inside.tasks c.args.event.now.act = search rules in
     let groups : c.change_groups.new.tree ≡ groups_after c.args.event.now.at c.self.inside.tree c.args.event.now.act = search rules in
     let count = ap length kept ∙ size in
-    let limits : ℕ → Limits = λ n. record { version = 1; cpus = n; latest = c.self.inside.latest } in
+    let limits : ℕ → Limits = λ n. record { cpus = n; latest = c.self.inside.latest } in
     record {
       limits = rw (← c.self.view_is) (ap limits count);
       legal = sym c.in_default.ensures.cause;

@@ -1,6 +1,6 @@
 use Rattle.std.proofs.Common.{◌≡◌, ap, arith, length, ℕ}
 use Rattle.psi_spec.specs.World.{first_world}
-use Rattle.psi_spec.proofs.LegalLaws.{legal_first}
+use Rattle.psi_laws.proofs.LegalLaws.{legal_first}
 use Rattle.task_table.proofs.Index as index
 use Rattle.task_table.proofs.MemberLaws as members
 use Rattle.task_table.specs.Stands.{TableView}
@@ -19,5 +19,5 @@ invariant_of-result c =
 pub returns : goal.returns
 returns c =
     let same : length c.loop.running.items ≡ c.args.cpus = omega (arith, c.loop.invariant.count, c.loop-test.false, c.loop.auto.counter-end) in
-    let view : ℕ → TableView = λ n. record { limits = record { version = 1; cpus = n; latest = c.args.latest }; world = first_world } in
+    let view : ℕ → TableView = λ n. record { limits = record { cpus = n; latest = c.args.latest }; world = first_world } in
     rw (c.in_ok-new.ensures, c.in_ok-new-3.ensures) (ap view same)

@@ -1,0 +1,55 @@
+-- Sides, one event after the other.
+use Rattle.std.proofs.Common.{◌≡◌, ℕ, List, [], ◌∷◌, ◌++◌, refl, true, false, Option, None, Some}
+use Rattle.std.specs.Prelude.{◌==◌, if◌then◌else◌}
+use Rattle.std.specs.List.{AllByRecursion}
+use Rattle.psi_base.specs.declared.event.Slot.{Slot}
+use Rattle.psi_base.specs.declared.event.Act.{Act}
+use Rattle.psi_base.specs.declared.event.Act.TheVariants as act
+use Rattle.psi_spec.specs.declared.machine.GroupLife.{GroupLife}
+use Rattle.psi_spec.specs.World.{first_world}
+use Rattle.psi_laws.specs.Touch.{before, after_of}
+use Rattle.psi_laws.proofs.MomentsTold.{TellsAtOnce, told_in_order, told_until}
+use Rattle.proc_plan.specs.declared.side.Side.{Side}
+use Rattle.proc_plan.specs.Sides.{came, went, passage, group_of, sample_by, sides_by}
+use Rattle.proc_plan.specs.SideLaws.{SidesUpTo, SidesAreInOrder}
+
+-- ---- moments
+
+-- sides at a moment, one after the other
+abbrev AtOnce : ℕ → List Side → Type 0
+AtOnce at sides = AllByRecursion (λ (side : Side). side.at ≡ at) sides
+
+both_at_once : (at : ℕ) (some more : List Side) → AtOnce at some → AtOnce at more → AtOnce at (some ++ more)
+both_at_once at [] more now later = later
+both_at_once at (side ∷ some) more now later = (now.0, both_at_once at some more now.1 later)
+
+sample_at_once : (at : ℕ) (groups : List GroupLife) (a : Act) → AtOnce at (sample_by at groups a)
+sample_at_once at groups (act.Group path) = tt
+sample_at_once at groups (act.Remove path) = tt
+sample_at_once at groups (act.Prefer path preference) = (refl, tt)
+sample_at_once at groups (act.Fork pid path cpu) = tt
+sample_at_once at groups (act.Wake pid cpu) = tt
+sample_at_once at groups (act.Switch cpu next how) = tt
+sample_at_once at groups (act.Stall pid) = tt
+sample_at_once at groups (act.Unstall pid) = tt
+sample_at_once at groups (act.Migrate pid cpu) = tt
+sample_at_once at groups (act.Move pid path) = tt
+sample_at_once at groups (act.Mem path current swap scan) = (refl, tt)
+sample_at_once at groups (act.Host mem_total swap_total swap_free) = (refl, tt)
+sample_at_once at groups (act.Trigger path res level threshold_us window_us) = tt
+sample_at_once at groups act.End = tt
+
+passage_at_once : (at : ℕ) (old new : Option Slot) → AtOnce at (passage at old new)
+passage_at_once at None None = tt
+passage_at_once at None (Some new) = (refl, tt)
+passage_at_once at (Some old) None = (refl, tt)
+passage_at_once at (Some old) (Some new) = elim (old.0 == new.0) as (λ b. AtOnce at (if b then [] else went at old ++ came at new)) [ true ↦ tt | false ↦ (refl, (refl, tt)) ]
+
+tells_at_once : TellsAtOnce sides_by (λ (side : Side). side.at)
+tells_at_once w event = both_at_once event.at (sample_by event.at w.groups event.act) _ (sample_at_once event.at w.groups event.act) (passage_at_once event.at (group_of (before w.tasks event.act)) (group_of (after_of w.groups w.tasks event.act)))
+
+pub sides_up_to : SidesUpTo
+sides_up_to limits events legal at = told_until sides_by (λ (side : Side). side.at) tells_at_once limits first_world events at legal
+
+pub sides_are_in_order : SidesAreInOrder
+sides_are_in_order limits events legal = (told_in_order sides_by (λ (side : Side). side.at) tells_at_once limits events legal).order

@@ -1,0 +1,41 @@
+-- The changes of each processor as they are listed, and room for more.
+use Rattle.std.specs.Prelude.{◌≡◌, ℕ, ◌<◌, List, [], ◌++◌, length, map, slice_index_or, Option, true}
+use Rattle.psi_base.specs.declared.event.Act.{Act}
+use Rattle.psi_spec.specs.declared.machine.Task.{Task}
+use Rattle.psi_laws.specs.declared.changes.Change.{Change}
+use Rattle.psi_laws.specs.Legal.{with_change}
+use Rattle.psi_laws.specs.Touch.{touched}
+
+-- the changes of a processor so far, and for how many more there is room
+pub record ChangesView : Type 0 where
+  pub list : List Change
+  pub room : ℕ
+
+-- no change, and no room for one
+abbrev pub no_room : ChangesView
+no_room = record { list = []; room = 0 }
+
+-- the changes of each processor
+abbrev pub lists_of : List ChangesView → List (List Change)
+lists_of changes = map (λ (changes : ChangesView). changes.list) changes
+
+-- the changes of a processor
+abbrev pub list_at : List ChangesView → ℕ → List Change
+list_at changes cpu = (slice_index_or changes cpu no_room).list
+
+-- the changes of each processor have one more behind them, where one is told for it
+abbrev pub AddsTold : List ChangesView → List ChangesView → (ℕ → Option Change) → Type 0
+AddsTold old new told = (cpu : ℕ) → list_at new cpu ≡ list_at old cpu ++ with_change (told cpu) []
+
+-- there is room for one more change of a processor
+abbrev pub HasRoom : List ChangesView → ℕ → Type 0
+HasRoom changes cpu = 0 < (slice_index_or changes cpu no_room).room
+
+-- there is, if there is such a processor
+abbrev pub HasRoomWithin : List ChangesView → ℕ → Type 0
+HasRoomWithin changes cpu = cpu < length changes → HasRoom changes cpu
+
+-- There is room for what an act changes, on each processor that it touches and that there is. The task is the one that the act
+-- changes, as it is before.
+abbrev pub HasRoomFor : Act → Option Task → List ChangesView → Type 0
+HasRoomFor act before changes = (cpu : ℕ) → touched act before cpu ≡ true → HasRoomWithin changes cpu
