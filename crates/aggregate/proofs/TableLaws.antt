@@ -1,10 +1,10 @@
 -- Rows that stand one after the other in one list.
-use Rattle.std.proofs.Common.{◌≡◌, ◌≢◌, ℕ, ◌+◌, ◌-◌, ◌*◌, ◌≤◌, ◌<◌, List, [], length, drop, get_or, set, replicate, refl, sym, ap, ◌∙◌, arith, ◌⊎◌, ⊎_elim}
+use Rattle.std.proofs.Common.{◌≡◌, ◌≢◌, ℕ, zero, suc, ◌+◌, ◌-◌, ◌*◌, ◌≤◌, ◌<◌, List, [], length, drop, get_or, set, replicate, refl, sym, ap, ◌∙◌, arith, ◌⊎◌, ⊎_elim}
 use Rattle.std.proofs.Math.Nat.{mul-le-mul_right}
 use Rattle.std.proofs.Math.Seq.{take-set-lt}
-use Rattle.std.proofs.lemmas.List.{length-take, length-drop, length-set, length-replicate, take-set-le, drop-set-lt, drop-set-add, take-replicate, drop-replicate, get_or-replicate, get_or-set_same, get_or-set_other}
+use Rattle.std.proofs.lemmas.List.{get_or_past, length-take, length-drop, length-set, length-replicate, take-set-le, drop-set-lt, drop-set-add, take-replicate, drop-replicate, get_or-replicate, get_or-set_same, get_or-set_other}
 use Rattle.std.proofs.lemmas.List.FromFn.{fill_by_all, get_or-map-range_with_len, length-map-range_with_len}
-use Rattle.aggregate.specs.Table.{row_in, rows_of, new_table, no_times, put, times_at, HasSizes, IsPlace, KeepsSizes, SetsOnePlace}
+use Rattle.aggregate.specs.Table.{row_in, rows_of, new_table, no_times, put, times_at, HasSizes, HaveSameSizes, IsPlace, KeepsSizes, SetsOnePlace}
 
 -- a row ends within the rows
 pub row_end : (slot slots cpus : ℕ) → slot < slots → slot * cpus + cpus ≤ slots * cpus
@@ -92,10 +92,37 @@ put_has cpus slots table slot cpu times has =
           case;
     }
 
+sizes_same : (cpus slots : ℕ) (table other : List (List (List ℕ))) → HasSizes cpus slots table → HasSizes cpus slots other → HaveSameSizes table other
+sizes_same cpus slots table other has also = record {
+  slots = has.slots_are ∙ sym also.slots_are;
+  cpus = λ slot.
+      let inside : slot < slots → length (get_or table slot []) ≡ length (get_or other slot []) = λ below. has.cpus_are slot [] (omega (arith, has.slots_are)) ∙ sym (also.cpus_are slot [] (omega (arith, also.slots_are))) in
+      let past : slots ≤ slot → length (get_or table slot []) ≡ length (get_or other slot []) = λ above. rw (get_or_past table slot [] (omega (arith, has.slots_are)), get_or_past other slot [] (omega (arith, also.slots_are))) refl in
+      let case : (slot < slots) ⊎ (slots ≤ slot) = grind arith in
+      ⊎_elim inside past case;
+}
+
+-- tables of the same sizes stand in lists of the same length
+pub flats_same : (cpus slots : ℕ) (flat : List (List ℕ)) (other_cpus other_slots : ℕ) (other : List (List ℕ)) → length flat ≡ slots * cpus → length other ≡ other_slots * other_cpus →
+    HaveSameSizes (rows_of cpus slots flat) (rows_of other_cpus other_slots other) → length flat ≡ length other
+flats_same cpus zero flat other_cpus other_slots other long also same =
+    let none : other_slots ≡ 0 = omega (arith, same.slots, length-rows_of cpus 0 flat, length-rows_of other_cpus other_slots other) in
+    let nothing : length other ≡ 0 * other_cpus = also ∙ ap (λ n. n * other_cpus) none in
+    omega (arith, long, nothing)
+flats_same cpus (suc slots) flat other_cpus other_slots other long also same =
+    let slots_are : other_slots ≡ suc slots = omega (arith, same.slots, length-rows_of cpus (suc slots) flat, length-rows_of other_cpus other_slots other) in
+    let other_long : length other ≡ suc slots * other_cpus = also ∙ ap (λ n. n * other_cpus) slots_are in
+    let row : length (row_in cpus flat 0) ≡ cpus = length-row_in cpus (suc slots) flat 0 long (omega arith) in
+    let other_row : length (row_in other_cpus other 0) ≡ other_cpus = length-row_in other_cpus (suc slots) other 0 other_long (omega arith) in
+    let rows_same : length (row_in cpus flat 0) ≡ length (row_in other_cpus other 0) =
+    ap length (sym (get_or-rows_of cpus (suc slots) flat 0 [] (omega arith))) ∙ same.cpus 0 ∙ ap length (get_or-rows_of other_cpus other_slots other 0 [] (omega arith)) in
+    long ∙ ap (λ n. suc slots * n) (sym row ∙ rows_same ∙ other_row) ∙ sym other_long
+
 pub keeps_sizes : KeepsSizes
 keeps_sizes = record {
   new = new_has;
   set = put_has;
+  same = sizes_same;
   place = λ cpus slots table slot cpu has below within.
       let there : slot < length table = omega (arith, has.slots_are, below) in
       record { slot = there; cpu = omega (arith, has.cpus_are slot [] there, within) };

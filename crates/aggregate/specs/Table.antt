@@ -36,12 +36,18 @@ pub record HasSizes (cpus slots : ℕ) (table : List (List (List ℕ))) : Type 0
   pub slots_are : length table ≡ slots
   pub cpus_are : All (λ row. length row ≡ cpus) table
 
+-- two tables of as many groups and processors
+pub record HaveSameSizes (table other : List (List (List ℕ))) : Type 0 where
+  pub slots : length table ≡ length other
+  pub cpus : (slot : ℕ) → length (slice_index_or table slot []) ≡ length (slice_index_or other slot [])
+
 -- ---- laws
 
--- A new table has its sizes, and keeps them as times are set.
+-- A new table has its sizes, and keeps them as times are set. Tables of the same sizes are as large as one another.
 pub record KeepsSizes : Type 0 where
   pub new : (cpus slots : ℕ) → HasSizes cpus slots (new_table cpus slots)
   pub set : (cpus slots : ℕ) (table : List (List (List ℕ))) (slot cpu : ℕ) (times : List ℕ) → HasSizes cpus slots table → HasSizes cpus slots (put table slot cpu times)
+  pub same : (cpus slots : ℕ) (table other : List (List (List ℕ))) → HasSizes cpus slots table → HasSizes cpus slots other → HaveSameSizes table other
   pub place : (cpus slots : ℕ) (table : List (List (List ℕ))) (slot cpu : ℕ) → HasSizes cpus slots table → slot < slots → cpu < cpus → IsPlace table slot cpu
 
 -- What is set at a place stands there, and the other places are as they were.

@@ -1,7 +1,7 @@
 //! The times of all groups on all processors at a tick.
 ghost use Rattle.std.specs.Prelude.{◌≡◌, ◌<◌, ◌*◌, [], IfOk, length, slice_index_or, replicate};
 ghost use Rattle.aggregate.specs.Table as table;
-ghost use Rattle.aggregate.specs.Table.{new_table, put, IsPlace, KeepsSizes, SetsOnePlace};
+ghost use Rattle.aggregate.specs.Table.{new_table, put, HaveSameSizes, IsPlace, KeepsSizes, SetsOnePlace};
 
 use psi_base::{Cpu, NoMemory, Slot};
 use std::alloc::Global;
@@ -43,6 +43,16 @@ impl Rows {
     {
         let place = slot.0 as usize * self.cpus as usize + cpu.0 as usize;
         self.times[place] = times;
+    }
+
+    /// Takes over the times of other rows, of as many groups and processors. Takes no memory.
+    pub fn copy_from(&mut self, other: &Rows)
+        requires { HaveSameSizes self.old other.now }
+        ensures { self.new ≡ other.now }
+    {
+        self.cpus = other.cpus;
+        self.slots = other.slots;
+        self.times.copy_from_slice(&other.times);
     }
 
     /// The times of a group on each processor.

@@ -1,6 +1,7 @@
 //! The totals of a group.
 ghost use Rattle.std.specs.Prelude.{◌≡◌, ◌≤◌, All};
-ghost use Rattle.psi_spec.specs.Share as model;
+ghost use Rattle.psi_spec.specs.Trace.{last_moment};
+ghost use Rattle.pressure_spec.specs.Share as model;
 
 use std::marker::Model;
 
@@ -28,7 +29,7 @@ impl Totals {
 
     /// Adds the shares of an interval (ns).
     pub fn add(&mut self, shares: [u64; 6])
-        requires { All (λ total. total ≤ model.last_moment) (model.plus self.old shares) }
+        requires { All (λ total. total ≤ last_moment) (model.plus self.old shares) }
         ensures { self.new ≡ model.plus self.old shares }
     {
         add_each(&mut self.sums, &shares);
@@ -44,7 +45,7 @@ impl Totals {
 
 /// Adds the shares to the sums.
 fn add_each(sums: &mut [u64; 6], shares: &[u64; 6])
-    requires { All (λ total. total ≤ model.last_moment) (model.plus sums.old shares.now) }
+    requires { All (λ total. total ≤ last_moment) (model.plus sums.old shares.now) }
     ensures { sums.new ≡ model.plus sums.old shares.now }
 {
     'each: for i in 0..6 {

@@ -1,6 +1,7 @@
 //! The shares of an interval.
 ghost use Rattle.std.specs.Prelude.{◌≡◌, ◌≤◌, ◌<◌, ◌+◌, ◌*◌, ◌/◌, ℕ, All, length, map, slice_index};
-ghost use Rattle.psi_spec.specs.Share as model;
+ghost use Rattle.psi_spec.specs.Trace.{longest_tick};
+ghost use Rattle.pressure_spec.specs.Share as model;
 
 /// The kernel's timer tick in this profile: a millisecond (ns).
 const TICK: u64 = 1_000_000;
@@ -10,7 +11,7 @@ const TICK: u64 = 1_000_000;
 /// processor. The weight is for how many whole timer ticks the group wasn't idle there.
 pub fn share(deltas: &[[u64; 7]]) -> [u64; 6]
     requires few { length deltas.now ≤ 64 }
-    requires short { All (λ times. All (λ time. time ≤ model.longest_tick) times) deltas.now }
+    requires short { All (λ times. All (λ time. time ≤ longest_tick) times) deltas.now }
     ensures { result ≡ model.shares deltas.now }
 {
     let mut sums = [0u64; 6];
@@ -28,8 +29,8 @@ pub fn share(deltas: &[[u64; 7]]) -> [u64; 6]
 /// Adds the times of a processor to the sums, with its weight.
 fn add_weighted(sums: &mut [u64; 6], times: &[u64; 7], weight: u64)
     requires weight { weight ≤ 60000 }
-    requires times { All (λ time. time ≤ model.longest_tick) times.now }
-    requires sums { All (λ sum. sum ≤ 63 * model.longest_tick * 60000) sums.old }
+    requires times { All (λ time. time ≤ longest_tick) times.now }
+    requires sums { All (λ sum. sum ≤ 63 * longest_tick * 60000) sums.old }
     ensures { (k : ℕ) → k < 6 → slice_index sums.new k ≡ slice_index sums.old k + slice_index times.now k * weight }
 {
     'each: for i in 0..6 {

@@ -1,9 +1,10 @@
 //! The averages of one group.
 ghost use Rattle.std.specs.Prelude.{◌≡◌, ◌≢◌, ◌≤◌, ◌<◌, ◌+◌, ◌^◌, ℕ, All, [], map, slice_index, slice_index_or};
-ghost use Rattle.psi_spec.specs.Share.{last_moment, zip_with};
+ghost use Rattle.psi_spec.specs.Trace.{last_moment};
+ghost use Rattle.pressure_spec.specs.Share.{zip_with};
 ghost use Rattle.psi_spec.specs.Stall.{number_of};
-ghost use Rattle.psi_spec.specs.Average as model;
-ghost use Rattle.psi_spec.specs.Average.{IsRow};
+ghost use Rattle.pressure_spec.specs.Average as model;
+ghost use Rattle.pressure_spec.specs.Average.{IsRow};
 ghost use Rattle.psi_base.specs.declared.event.State.TheVariants as state_of;
 
 use crate::fixed_point::{load, power};
@@ -34,7 +35,7 @@ pub struct Averages {
 }
 
 impl Model for Averages {
-    ghost use Rattle.psi_spec.specs.Average.{AverageState, IsAverageState};
+    ghost use Rattle.pressure_spec.specs.Average.{AverageState, IsAverageState};
 
     ghost Value = { AverageState };
 
@@ -81,7 +82,7 @@ fn decays_of(missed: u64) -> [u64; 3]
 }
 
 /// An average after an update: it decays over the missed periods, if there are any, and is loaded with the sample.
-#[tactic(auto, using(psi_spec::proofs::AverageLaws::power_most))]
+#[tactic(auto, using(pressure_spec::proofs::AverageLaws::power_most))]
 fn average_after(missed: u64, decay: u64, average: u64, factor: u64, percent: u64) -> u64
     requires decay { decay ≡ model.power factor missed }
     requires average { average ≤ 204800 }

@@ -1,6 +1,6 @@
 //! Fixed-point numbers: the kernel's `calc_load` and `fixed_power_int`.
 ghost use Rattle.std.specs.Prelude.{◌≡◌, ◌≤◌};
-ghost use Rattle.psi_spec.specs.Average as model;
+ghost use Rattle.pressure_spec.specs.Average as model;
 
 /// One, in fixed point.
 const ONE: u64 = 2048;

@@ -1,6 +1,6 @@
 -- What is true of each trigger.
 use Rattle.std.specs.Prelude.{ℕ, ◌≤◌, Option, IfSome}
-use Rattle.psi_spec.specs.Share.{last_moment}
+use Rattle.psi_spec.specs.Trace.{last_moment}
 
 -- The window (ns) is from half a second to ten. The growth before it and the moment of the last signal are those of a trace.
 pub record IsTrigger (size growth : ℕ) (last_event : Option ℕ) : Type 0 where

@@ -2,8 +2,8 @@
 ghost use Rattle.std.specs.Prelude.{◌≡◌, ◌≤◌, ◌<◌, ◌*◌, ◌/◌, ◌+◌, ◌-◌, MatchResult, true, false};
 ghost use Rattle.psi_base.specs.declared.event.Cause.TheVariants as cause;
 ghost use Rattle.psi_spec.specs.Refusal.{is_window};
-ghost use Rattle.psi_spec.specs.Share.{last_moment};
-ghost use Rattle.psi_spec.specs.Signal as model;
+ghost use Rattle.psi_spec.specs.Trace.{last_moment};
+ghost use Rattle.pressure_spec.specs.Signal as model;
 
 use psi_base::{Cause, Ns};
 use std::marker::Model;
@@ -34,7 +34,7 @@ pub struct Trigger {
 }
 
 impl Model for Trigger {
-    ghost use Rattle.psi_spec.specs.Signal.{TriggerState};
+    ghost use Rattle.pressure_spec.specs.Signal.{TriggerState};
     ghost use Rattle.window_trigger.specs.Bounds.{IsTrigger};
 
     ghost Value = { TriggerState };
@@ -84,7 +84,7 @@ impl Trigger {
     }
 
     /// A tick at the moment `now` (ns) with the total `value` (ns). True where the trigger's event is signalled.
-    #[tactic(auto, unfolding(psi_spec::specs::Signal::trigger_step, psi_spec::specs::Signal::fires))]
+    #[tactic(auto, unfolding(pressure_spec::specs::Signal::trigger_step, pressure_spec::specs::Signal::fires))]
     pub fn step(&mut self, now: Ns, value: u64) -> bool
         requires now { now ≤ last_moment }
         requires value { value ≤ last_moment }

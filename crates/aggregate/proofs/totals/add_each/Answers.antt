@@ -1,6 +1,6 @@
 use Rattle.std.proofs.Common.{◌≡◌, ◌+◌, length, arith, ◌∙◌}
-use Rattle.psi_spec.specs.Share.{plus}
-use Rattle.psi_spec.proofs.ShareLaws.{zip_with_all, get_or-zip_with, length-zip_with}
+use Rattle.pressure_spec.specs.Share.{plus}
+use Rattle.pressure_spec.proofs.ShareLaws.{zip_with_all, get_or-zip_with, length-zip_with}
 use Rattle.aggregate.proofs.totals.add_each.Goals as goal
 
 pub overflow_add-sums : goal.overflow_add-sums

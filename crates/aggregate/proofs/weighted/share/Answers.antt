@@ -2,8 +2,8 @@ use Rattle.std.proofs.Common.{◌≡◌, ◌<◌, ◌≤◌, ◌+◌, ◌*◌, �
 use Rattle.std.specs.Prelude.{max, sum_by}
 use Rattle.std.proofs.lemmas.List.{get_or_default, take_all}
 use Rattle.std.proofs.lemmas.List.Sums.{sum_by_more}
-use Rattle.psi_spec.specs.Share.{weight, total_weight}
-use Rattle.psi_spec.proofs.ShareLaws.{shares_all}
+use Rattle.pressure_spec.specs.Share.{weight, total_weight}
+use Rattle.pressure_spec.proofs.ShareLaws.{shares_all}
 use Rattle.aggregate.proofs.weighted.share.Goals as goal
 
 -- a time with its weight is within 64 bits with room for 64 of them

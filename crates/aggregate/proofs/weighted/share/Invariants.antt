@@ -1,6 +1,6 @@
 use Rattle.std.proofs.Common.{◌≡◌, ℕ, ◌*◌, ◌<◌, ◌≤◌, length, get_or, take}
 use Rattle.std.specs.Prelude.{sum_by}
-use Rattle.psi_spec.specs.Share.{weight}
+use Rattle.pressure_spec.specs.Share.{weight}
 use Rattle.aggregate.proofs.weighted.share.Given as goal
 
 abbrev pub invariant-rows : goal.invariant-rows

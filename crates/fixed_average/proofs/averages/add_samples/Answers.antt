@@ -1,5 +1,5 @@
 use Rattle.std.proofs.Common.{◌+◌, arith}
-use Rattle.psi_spec.proofs.ShareLaws.{zip_with_all}
+use Rattle.pressure_spec.proofs.ShareLaws.{zip_with_all}
 use Rattle.fixed_average.proofs.averages.add_samples.Goals as goal
 
 pub returns : goal.returns

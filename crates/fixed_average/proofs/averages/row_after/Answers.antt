@@ -1,6 +1,6 @@
 use Rattle.std.proofs.Common.{arith, refl}
-use Rattle.psi_spec.specs.Average.{average_after, factors}
-use Rattle.psi_spec.proofs.ShareLaws.{zip_with_all}
+use Rattle.pressure_spec.specs.Average.{average_after, factors}
+use Rattle.pressure_spec.proofs.ShareLaws.{zip_with_all}
 use Rattle.fixed_average.proofs.averages.row_after.Goals as goal
 
 pub returns-clause-value : goal.returns-clause-value

@@ -1,5 +1,5 @@
 use Rattle.std.proofs.Common.{◌≡◌, ℕ, ◌<◌, ◌≤◌, length, get_or}
-use Rattle.psi_spec.specs.Average.{average_after, factors}
+use Rattle.pressure_spec.specs.Average.{average_after, factors}
 use Rattle.fixed_average.proofs.averages.row_after.Given as goal
 
 abbrev pub invariant-each : goal.invariant-each

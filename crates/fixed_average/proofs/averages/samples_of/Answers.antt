@@ -1,6 +1,6 @@
 use Rattle.std.proofs.Common.{arith}
-use Rattle.psi_spec.specs.Average.{sample_of}
-use Rattle.psi_spec.proofs.ShareLaws.{zip_with_all}
+use Rattle.pressure_spec.specs.Average.{sample_of}
+use Rattle.pressure_spec.proofs.ShareLaws.{zip_with_all}
 use Rattle.fixed_average.proofs.averages.samples_of.Goals as goal
 
 pub returns-clause-value : goal.returns-clause-value

@@ -1,5 +1,5 @@
 use Rattle.std.proofs.Common.{◌≡◌, ℕ, ◌+◌, ◌^◌, ◌<◌, length, get_or}
-use Rattle.psi_spec.specs.Average.{sample_of}
+use Rattle.pressure_spec.specs.Average.{sample_of}
 use Rattle.fixed_average.proofs.averages.samples_of.Given as goal
 
 abbrev pub invariant-each : goal.invariant-each

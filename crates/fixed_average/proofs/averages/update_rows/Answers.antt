@@ -1,7 +1,7 @@
 use Rattle.std.proofs.Common.{[], arith}
 use Rattle.std.proofs.lemmas.List.{get_or_default}
-use Rattle.psi_spec.specs.Average.{row_after}
-use Rattle.psi_spec.proofs.ShareLaws.{zip_with_all}
+use Rattle.pressure_spec.specs.Average.{row_after}
+use Rattle.pressure_spec.proofs.ShareLaws.{zip_with_all}
 use Rattle.fixed_average.proofs.averages.update_rows.Goals as goal
 
 pub returns-clause-value : goal.returns-clause-value

@@ -1,6 +1,6 @@
 use Rattle.std.proofs.Common.{◌≡◌, arith, sym, ◌∙◌, ap}
-use Rattle.psi_spec.specs.Average.{power_from}
-use Rattle.psi_spec.proofs.AverageLaws.{power_from_step, power_from_zero}
+use Rattle.pressure_spec.specs.Average.{power_from}
+use Rattle.pressure_spec.proofs.AverageLaws.{power_from_step, power_from_zero}
 use Rattle.fixed_average.proofs.fixed_point.power.Goals as goal
 use Rattle.fixed_average.proofs.fixed_point.power.Goals.{then-rest-eq1, else-rest-eq1}
 

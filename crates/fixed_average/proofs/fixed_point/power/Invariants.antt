@@ -1,5 +1,5 @@
 use Rattle.std.proofs.Common.{◌≡◌, ◌≤◌}
-use Rattle.psi_spec.specs.Average.{power_from}
+use Rattle.pressure_spec.specs.Average.{power_from}
 use Rattle.fixed_average.proofs.fixed_point.power.Given as goal
 
 -- the result so far times the power that is left is the power

@@ -1,7 +1,7 @@
 use Rattle.std.proofs.Common.{◌-◌, ◌+◌, ◌*◌, ◌/◌, arith}
 use Rattle.std.proofs.lemmas.Grind.{common_steps}
-use Rattle.psi_spec.specs.Average.{average_step}
-use Rattle.psi_spec.proofs.AverageLaws.{samples_most}
+use Rattle.pressure_spec.specs.Average.{average_step}
+use Rattle.pressure_spec.proofs.AverageLaws.{samples_most}
 use Rattle.fixed_average.proofs.averages.Averages.update.Goals as goal
 
 pub returns-then-now-self : goal.returns-then-now-self

@@ -1,0 +1,99 @@
+//! What a test must see before it calls the engine.
+
+ghost use Rattle.std.specs.Prelude.{◌≡◌, ℕ, [], All, length, slice_index_or, true};
+ghost use Rattle.psi_spec.specs.Told.{IsTriggerWithin};
+ghost use Rattle.psi_spec.specs.Trace.{last_moment};
+ghost use Rattle.tick_engine.specs.Engine.{IsLifeWithin};
+ghost use Rattle.engine_tests.specs.Machine.{GrewWithin, RowGrewWithin, TableGrewWithin};
+
+use aggregate::Rows;
+use psi_base::{Ns, Slot, TriggerSpec};
+use psi_spec::GroupLife;
+
+/// The last moment (ns).
+const LAST_MOMENT: Ns = 60_000_000_000_000_000;
+
+/// The moments of a group are within the last.
+fn is_life(life: &GroupLife) -> bool
+    ensures { result ≡ true → IsLifeWithin last_moment life.now }
+{
+    let goes_early = match life.gone {
+        Some(gone) => gone <= LAST_MOMENT,
+        None => true,
+    };
+    life.made <= LAST_MOMENT && goes_early
+}
+
+/// The moments of all groups are.
+pub(crate) fn are_lives(lives: &[GroupLife]) -> bool
+    ensures { result ≡ true → All (λ life. IsLifeWithin last_moment life) lives.now }
+{
+    'lives: for life in lives {
+        if !is_life(life) {
+            return false;
+        }
+    }
+    true
+}
+
+/// A trigger is in range, of so many groups.
+fn is_trigger(trigger: &TriggerSpec, slots: usize) -> bool
+    ensures { result ≡ true → IsTriggerWithin last_moment slots trigger.now }
+{
+    let in_range = (500_000..=10_000_000).contains(&trigger.window_us)
+        && trigger.threshold_us >= 1
+        && trigger.threshold_us <= trigger.window_us;
+    trigger.at <= LAST_MOMENT && (trigger.slot.0 as usize) < slots && in_range
+}
+
+/// All triggers are.
+pub(crate) fn are_triggers(triggers: &[TriggerSpec], slots: usize) -> bool
+    ensures { result ≡ true → All (λ trigger. IsTriggerWithin last_moment slots trigger) triggers.now }
+{
+    'triggers: for trigger in triggers {
+        if !is_trigger(trigger, slots) {
+            return false;
+        }
+    }
+    true
+}
+
+/// No time of a processor fell, or grew by more than this (ns).
+fn grew_within(most: Ns, before: &[u64; 7], now: &[u64; 7]) -> bool
+    ensures { result ≡ true → GrewWithin most before.now now.now }
+{
+    'each: for i in 0..7 {
+        if now[i] < before[i] || now[i] - before[i] > most {
+            return false;
+        }
+    }
+    true
+}
+
+/// No time of a group did.
+fn row_grew_within(most: Ns, before: &[[u64; 7]], now: &[[u64; 7]]) -> bool
+    requires { length before.now ≡ length now.now }
+    ensures { result ≡ true → RowGrewWithin most before.now now.now }
+{
+    'cpus: for cpu in 0..now.len() {
+        if !grew_within(most, &before[cpu], &now[cpu]) {
+            return false;
+        }
+    }
+    true
+}
+
+/// No time of so many groups on so many processors did.
+pub(crate) fn table_grew_within(most: Ns, slots: u32, before: &Rows, now: &Rows) -> bool
+    requires slots { length before.now ≡ slots }
+    requires slots_now { length now.now ≡ slots }
+    requires cpus { (slot : ℕ) → length (slice_index_or before.now slot []) ≡ length (slice_index_or now.now slot []) }
+    ensures { result ≡ true → TableGrewWithin most before.now now.now }
+{
+    'slots: for slot in 0..slots {
+        if !row_grew_within(most, before.row(Slot(slot)), now.row(Slot(slot))) {
+            return false;
+        }
+    }
+    true
+}

@@ -1,0 +1,127 @@
+//! A machine whose times grow as a test tells.
+
+use crate::checks::{are_lives, are_triggers, table_grew_within};
+use aggregate::Rows;
+use psi_base::{Cpu, NoMemory, Ns, Slot, State, TriggerSpec};
+use psi_spec::GroupLife;
+use std::alloc::Global;
+use std::marker::Model;
+use tick_engine::Engine;
+
+/// The last moment (ns).
+const LAST_MOMENT: Ns = 60_000_000_000_000_000;
+
+/// The longest tick (ns).
+const LONGEST_TICK: Ns = 60_000_000_000;
+
+/// What a test asked of a machine that can't be had.
+#[derive(Debug, Drop)]
+pub enum Failed {
+    /// A processor, a group, a trigger or a time is out of range.
+    OutOfRange,
+    /// The tick can't come next.
+    NotNext,
+    NoMemory,
+}
+
+impl From<NoMemory> for Failed {
+    fn from(_: NoMemory) -> Self {
+        Failed::NoMemory
+    }
+}
+
+/// An engine, and the times of the last tick and of the one to come.
+#[derive(Drop)]
+pub struct Machine {
+    cpus: u32,
+    slots: u32,
+    at: Ns,
+    last: Rows,
+    next: Rows,
+    engine: Engine,
+}
+
+impl Model for Machine {
+    ghost use Rattle.tick_engine.specs.Engine.{EngineView};
+    ghost use Rattle.engine_tests.specs.Machine.{IsMachine};
+
+    ghost Value = { EngineView };
+
+    ghost view = { λ m. m.engine };
+
+    ghost invariant = { λ m. IsMachine m.cpus m.slots m.at m.last m.next m.engine };
+}
+
+impl Machine {
+    /// A machine with so many processors, with these groups and triggers.
+    pub fn make(
+        alloc: Global,
+        cpus: u32,
+        lives: &[GroupLife],
+        triggers: &[TriggerSpec],
+    ) -> Result<Machine, Failed> {
+        let few = (1..=64).contains(&cpus) && lives.len() <= 1024 && triggers.len() <= 256;
+        if !few || !are_lives(lives) || !are_triggers(triggers, lives.len()) {
+            return Err(Failed::OutOfRange);
+        }
+        let slots = lives.len() as u32;
+        Ok(Machine {
+            cpus,
+            slots,
+            at: 0,
+            last: Rows::make(alloc, cpus, slots)?,
+            next: Rows::make(alloc, cpus, slots)?,
+            engine: Engine::make(alloc, lives, triggers, cpus)?,
+        })
+    }
+
+    /// Sets the times (ns) of a group on a processor up to the tick to come.
+    pub fn set(&mut self, cpu: u32, slot: u32, times: [u64; 7]) -> Result<(), Failed> {
+        if cpu >= self.cpus || slot >= self.slots {
+            return Err(Failed::OutOfRange);
+        }
+        self.next.set(Cpu(cpu), Slot(slot), times);
+        Ok(())
+    }
+
+    /// The next tick, at this moment (ns).
+    pub fn tick(&mut self, now: Ns) -> Result<(), Failed> {
+        let is_soon = now > self.at && now - self.at <= LONGEST_TICK && now <= LAST_MOMENT;
+        if !is_soon || !table_grew_within(now - self.at, self.slots, &self.last, &self.next) {
+            return Err(Failed::NotNext);
+        }
+        self.engine.tick(now, &self.next);
+        self.last.copy_from(&self.next);
+        self.at = now;
+        Ok(())
+    }
+
+    /// The totals of a group (ns).
+    pub fn totals(&self, slot: u32) -> Result<[u64; 6], Failed> {
+        if slot >= self.slots {
+            return Err(Failed::OutOfRange);
+        }
+        Ok(self.engine.totals(Slot(slot)))
+    }
+
+    /// The averages of a group, in the order of the states.
+    pub fn averages(&self, slot: u32) -> Result<[[u64; 3]; 6], Failed> {
+        if slot >= self.slots {
+            return Err(Failed::OutOfRange);
+        }
+        let averages = self.engine.averages(Slot(slot));
+        Ok([
+            averages.get(State::IoSome),
+            averages.get(State::IoFull),
+            averages.get(State::MemSome),
+            averages.get(State::MemFull),
+            averages.get(State::CpuSome),
+            averages.get(State::CpuFull),
+        ])
+    }
+
+    /// The triggers that signalled at the last tick.
+    pub fn fired(&self) -> &[u32] {
+        self.engine.fired()
+    }
+}

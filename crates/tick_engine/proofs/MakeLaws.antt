@@ -1,0 +1,57 @@
+-- An engine before the first tick.
+use Rattle.std.proofs.Common.{◌≡◌, ℕ, ◌≤◌, List, [], ◌∷◌, length, get_or, refl, ap, ◌∙◌, arith}
+use Rattle.std.specs.Prelude.{All, map}
+use Rattle.std.proofs.lemmas.List.{get_or-map, length-append, length-map}
+use Rattle.std.proofs.lemmas.List.Elements.{All-map, All-replicate}
+use Rattle.psi_base.specs.declared.event.TriggerSpec.{TriggerSpec}
+use Rattle.psi_spec.specs.declared.machine.GroupLife.{GroupLife}
+use Rattle.psi_spec.specs.Told.{AreTriggersWithin, IsTriggerWithin}
+use Rattle.psi_spec.specs.Trace.{last_moment}
+use Rattle.psi_spec.specs.World.{root}
+use Rattle.pressure_spec.specs.Share.{no_totals}
+use Rattle.pressure_spec.specs.Samples.{group_averages, totals_after}
+use Rattle.pressure_spec.specs.Share.{totals_of}
+use Rattle.aggregate.specs.Table.{new_table}
+use Rattle.aggregate.proofs.TableLaws.{keeps_sizes}
+use Rattle.tick_engine.specs.declared.watch.Watch.{Watch}
+use Rattle.tick_engine.specs.Tables.{tick_at}
+use Rattle.tick_engine.specs.Step.{AreTotalsWithin, new_group, new_watch, no_group}
+use Rattle.tick_engine.specs.Engine.{EngineView, IsEngine, StandsFor, group_after}
+
+-- an engine before the first tick
+abbrev pub first_engine : ℕ → List GroupLife → List TriggerSpec → EngineView
+first_engine cpus lives triggers = record { cpus = cpus; last = tick_at 0 (new_table cpus (length lives)); groups = map new_group lives; watches = map new_watch triggers; fired = [] }
+
+new_is_after : (cpus : ℕ) (lives : List GroupLife) (slot : ℕ) → new_group (get_or lives slot root) ≡ group_after cpus lives [] slot
+unfolding totals_after totals_of group_averages
+new_is_after cpus lives slot = refl
+
+pub first_stands : (cpus : ℕ) (lives : List GroupLife) (triggers : List TriggerSpec) → StandsFor (first_engine cpus lives triggers) cpus lives triggers []
+first_stands cpus lives triggers = record {
+  ordered = tt;
+  cpus_are = refl;
+  last = refl;
+  slots = length-map lives new_group;
+  groups = λ slot below. get_or-map new_group lives slot root no_group below ∙ new_is_after cpus lives slot;
+  watches = refl;
+  fired = λ front tick none. absurd (omega (arith, ap length none, length-append front (tick ∷ [])));
+  unfired = λ none. refl;
+}
+
+no_totals_within : All (λ total. total ≤ 0) no_totals
+no_totals_within = All-replicate (λ total. total ≤ 0) 6 0 (omega arith)
+
+-- what is made of lives and triggers in range is an engine
+pub first_is : (cpus : ℕ) (lives : List GroupLife) (triggers : List TriggerSpec) → cpus ≤ 64 → length lives ≤ 1024 → AreTriggersWithin last_moment (length lives) triggers → IsEngine (first_engine cpus lives triggers)
+first_is cpus lives triggers few_cpus few_groups within =
+    let slots : length (map new_group lives) ≡ length lives = length-map lives new_group in
+    let Within : Watch → Type 0 = λ watch. IsTriggerWithin last_moment (length lives) watch.spec in
+    record {
+      few_cpus = few_cpus;
+      few_groups = omega (arith, slots, few_groups);
+      few_watches = omega (arith, length-map triggers new_watch, within.few);
+      sizes = rw slots (keeps_sizes.new cpus (length lives));
+      early = omega arith;
+      totals = All-map (λ group. AreTotalsWithin 0 group) new_group lives (λ k d below. no_totals_within);
+      watches = rw slots (All-map Within new_watch triggers within.each);
+    }

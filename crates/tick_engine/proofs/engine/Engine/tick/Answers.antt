@@ -1,0 +1,98 @@
+use Rattle.std.proofs.Common.{◌≡◌, ◌<◌, ◌++◌, ℕ, List, refl, length, take, drop, sym, ap, subst, ◌∙◌, arith}
+use Rattle.std.specs.Prelude.{map}
+use Rattle.std.proofs.lemmas.List.{length-map, take_at}
+use Rattle.pressure_spec.specs.Ticks.{IsNextTick}
+use Rattle.aggregate.specs.Table.{HasSizes}
+use Rattle.tick_engine.specs.declared.watch.Watch.{Watch}
+use Rattle.tick_engine.specs.Tables.{tick_at}
+use Rattle.tick_engine.specs.Step.{group_in, group_step, watch_begun}
+use Rattle.tick_engine.specs.Engine.{EngineView, StandsFor}
+use Rattle.tick_engine.proofs.StandLaws as stand
+use Rattle.tick_engine.proofs.engine.Engine.tick.Goals as goal
+
+-- a list that was written back in whole is what was written
+seam : {A : Type 0} (xs rest : List A) → (n m : ℕ) → length xs ≡ m → n ≡ m → take n (xs ++ rest) ≡ xs
+seam xs rest n m long is = take_at xs rest n (long ∙ sym is)
+
+pub step_all-requires-clause-watches : goal.step_all-requires-clause-watches
+step_all-requires-clause-watches c =
+    let old = c.self.inside in
+    let watches_long : old.watches.len ≡ length old.watches.items = omega (arith, c.deref_mut.ensures.len, ap length c.deref_mut.ensures.value) in
+    let groups_long : old.groups.len ≡ length old.groups.items = omega (arith, c.deref_mut-2.ensures.len, ap length c.deref_mut-2.ensures.value) in
+    let groups_same : length c.tick_all.new.groups ≡ length old.groups.items = omega (arith, c.tick_all.auto.groups, ap length c.deref_mut-2.ensures.value) in
+    let groups_kept : length c.deref-2.result.now ≡ length old.groups.items = ap length (c.deref-2.ensures.value ∙ seam c.tick_all.new.groups _ _ (length old.groups.items) groups_same groups_long) ∙ groups_same in
+    let begun : c.begin_all.new.watches ≡ map (watch_begun old.groups.items c.args.now) old.watches.items = c.begin_all.ensures ∙ rw (c.deref.ensures.value, c.deref_mut.ensures.value) refl in
+    let begun_long : length c.begin_all.new.watches ≡ length old.watches.items = ap length begun ∙ length-map old.watches.items (watch_begun old.groups.items c.args.now) in
+    let begun_seen : c.deref_mut-4.result.now ≡ map (watch_begun old.groups.items c.args.now) old.watches.items = c.deref_mut-4.ensures.value ∙ seam c.begin_all.new.watches _ _ (length old.watches.items) begun_long watches_long ∙ begun in
+    rw (groups_kept, begun_seen) (stand.begun_within old.groups.items c.args.now (length old.groups.items) old.watches.items c.self.invariant.1.watches)
+
+-- what the calls made of the engine
+ticked : (c : goal.After-set) → stand.IsTicked (tick_at c.args.now c.args.rows.now)
+    (record { cpus = length c.self.inside.growths.items; last = c.self.inside.last; groups = c.self.inside.groups.items; watches = c.self.inside.watches.items; fired = c.self.inside.fired.items })
+    (record { cpus = length c.tick_all.new.growths; last = c.set.new.self; groups = c.tick_all.new.groups; watches = c.step_all.new.watches; fired = c.step_all.new.fired.items })
+ticked c =
+    let old = c.self.inside in
+    let now = c.args.now in
+    let watches_long : old.watches.len ≡ length old.watches.items = omega (arith, c.deref_mut.ensures.len, ap length c.deref_mut.ensures.value) in
+    let groups_long : old.groups.len ≡ length old.groups.items = omega (arith, c.deref_mut-2.ensures.len, ap length c.deref_mut-2.ensures.value) in
+    let groups_same : length c.tick_all.new.groups ≡ length old.groups.items = omega (arith, c.tick_all.auto.groups, ap length c.deref_mut-2.ensures.value) in
+    let groups_seen : c.deref-2.result.now ≡ c.tick_all.new.groups = c.deref-2.ensures.value ∙ seam c.tick_all.new.groups _ _ (length old.groups.items) groups_same groups_long in
+    let begun : c.begin_all.new.watches ≡ map (watch_begun old.groups.items now) old.watches.items = c.begin_all.ensures ∙ rw (c.deref.ensures.value, c.deref_mut.ensures.value) refl in
+    let begun_long : length c.begin_all.new.watches ≡ length old.watches.items = ap length begun ∙ length-map old.watches.items (watch_begun old.groups.items now) in
+    let begun_seen : c.deref_mut-4.result.now ≡ map (watch_begun old.groups.items now) old.watches.items = c.deref_mut-4.ensures.value ∙ seam c.begin_all.new.watches _ _ (length old.watches.items) begun_long watches_long ∙ begun in
+    let many : length c.deref_mut-4.result.now ≡ length old.watches.items = ap length begun_seen ∙ length-map old.watches.items (watch_begun old.groups.items now) in
+    let stepped : (slot : ℕ) → slot < length c.deref_mut-2.result.now → group_in c.tick_all.new.groups slot ≡ group_step old.last (tick_at now c.args.rows.now) slot (group_in c.deref_mut-2.result.now slot) = c.tick_all.ensures.stepped in
+    let groups_before : c.deref_mut-2.result.now ≡ old.groups.items = c.deref_mut-2.ensures.value in
+    record {
+      cpus = omega (arith, c.tick_all.auto.growths, ap length c.deref_mut-3.ensures.value);
+      last = c.set.ensures;
+      slots = groups_same;
+      groups = rw groups_before at stepped;
+      watches = c.step_all.ensures.watches ∙ rw (groups_seen, begun_seen) refl;
+      fired = c.step_all.ensures.fired ∙ rw (many, groups_seen, begun_seen) refl;
+    }
+
+-- what was lent is written back in whole
+growths_whole : (c : goal.After-set) → take c.self.inside.growths.len (c.tick_all.new.growths ++ drop (length c.tick_all.new.growths) c.self.inside.growths.items) ≡ c.tick_all.new.growths
+growths_whole c =
+    let long : c.self.inside.growths.len ≡ length c.self.inside.growths.items = omega (arith, c.deref_mut-3.ensures.len, ap length c.deref_mut-3.ensures.value) in
+    seam c.tick_all.new.growths _ _ (length c.self.inside.growths.items) (ticked c).cpus long
+
+groups_whole : (c : goal.After-set) → take c.self.inside.groups.len (c.tick_all.new.groups ++ drop (length c.tick_all.new.groups) c.self.inside.groups.items) ≡ c.tick_all.new.groups
+groups_whole c =
+    let long : c.self.inside.groups.len ≡ length c.self.inside.groups.items = omega (arith, c.deref_mut-2.ensures.len, ap length c.deref_mut-2.ensures.value) in
+    seam c.tick_all.new.groups _ _ (length c.self.inside.groups.items) (ticked c).slots long
+
+watches_whole : (c : goal.After-set) → (rest : List Watch) → take c.self.inside.watches.len (c.step_all.new.watches ++ rest) ≡ c.step_all.new.watches
+watches_whole c rest =
+    let long : c.self.inside.watches.len ≡ length c.self.inside.watches.items = omega (arith, c.deref_mut.ensures.len, ap length c.deref_mut.ensures.value) in
+    seam c.step_all.new.watches rest _ (length c.self.inside.watches.items) (stand.ticked_many (ticked c)) long
+
+-- the tick comes next after the engine's last
+next : (c : goal.After-set) → IsNextTick c.self.inside.last (tick_at c.args.now c.args.rows.now)
+next c = let P : EngineView → Type 0 = λ engine. IsNextTick engine.last (tick_at c.args.now c.args.rows.now) in subst P (sym c.self.view_is) c.requires.next
+
+pub invariant_of-self : goal.invariant_of-self
+invariant_of-self c =
+    let sizes : HasSizes (length c.self.inside.growths.items) (length c.self.inside.groups.items) c.args.rows.now =
+    let P : EngineView → Type 0 = λ engine. HasSizes engine.cpus (length engine.groups) c.args.rows.now in subst P (sym c.self.view_is) c.requires.sizes in
+    let many = stand.ticked_many (ticked c) in
+    rw (growths_whole c, groups_whole c, watches_whole c) (
+      record { room = omega (arith, c.self.invariant.0.room, c.step_all.ensures.room, many) },
+      stand.engine_kept _ _ (tick_at c.args.now c.args.rows.now) c.self.invariant.1 (next c) sizes (ticked c) c.tick_all.ensures.totals,
+    )
+
+pub returns-clause-last : goal.returns-clause-last
+returns-clause-last c = c.set.ensures
+
+pub returns-clause-cpus : goal.returns-clause-cpus
+returns-clause-cpus c = rw (growths_whole c) ((ticked c).cpus ∙ ap (λ (engine : EngineView). engine.cpus) c.self.view_is)
+
+pub returns-clause-slots : goal.returns-clause-slots
+returns-clause-slots c = rw (groups_whole c) ((ticked c).slots ∙ ap (λ (engine : EngineView). length engine.groups) c.self.view_is)
+
+pub returns-clause-stands : goal.returns-clause-stands
+returns-clause-stands c = λ cpus lives triggers ticks stands.
+    let tick = tick_at c.args.now c.args.rows.now in
+    let before = let P : EngineView → Type 0 = λ engine. StandsFor engine cpus lives triggers ticks in subst P (sym c.self.view_is) stands in
+    rw (growths_whole c, groups_whole c, watches_whole c) (stand.stands_next _ _ cpus lives triggers ticks tick c.self.invariant.1 (next c) (ticked c) before)

@@ -1,0 +1,36 @@
+use Rattle.std.proofs.Common.{◌≡◌, ◌≤◌, List, ℕ, [], get_or, arith, sym, ap, subst, ◌∙◌}
+use Rattle.std.specs.Prelude.{All}
+use Rattle.psi_spec.specs.Trace.{longest_tick}
+use Rattle.pressure_spec.specs.Ticks.{Tick}
+use Rattle.pressure_spec.specs.Samples.{growths, row_at}
+use Rattle.pressure_spec.specs.Share.{plus, shares}
+use Rattle.tick_engine.specs.Tables.{tick_at}
+use Rattle.tick_engine.proofs.StepLaws.{growths_short, sampled_within}
+use Rattle.tick_engine.proofs.group.Group.tick.Goals as goal
+
+pub sample-requires-clause-short : goal.sample-requires-clause-short
+sample-requires-clause-short c =
+    let last = c.args.last.now in
+    let tick = tick_at c.args.now c.args.rows.now in
+    let before : c.row-2.result.now ≡ row_at last c.args.slot.0 = c.row-2.ensures ∙ ap (λ (tick : Tick). get_or tick.table c.args.slot.0 []) c.last.view_is in
+    let grown : c.put_growths.new.into ≡ growths (row_at last c.args.slot.0) (row_at tick c.args.slot.0) = rw (c.put_growths.ensures, before, c.row.ensures) in
+    let P : List (List ℕ) → Type 0 = λ rows. All (λ times. All (λ time. time ≤ longest_tick) times) rows in
+    subst P (sym grown) (growths_short last tick c.args.slot.0 c.requires.next)
+
+pub sample-requires-clause-fits : goal.sample-requires-clause-fits
+sample-requires-clause-fits c =
+    let last = c.args.last.now in
+    let tick = tick_at c.args.now c.args.rows.now in
+    let before : c.row-2.result.now ≡ row_at last c.args.slot.0 = c.row-2.ensures ∙ ap (λ (tick : Tick). get_or tick.table c.args.slot.0 []) c.last.view_is in
+    let grown : c.put_growths.new.into ≡ growths (row_at last c.args.slot.0) (row_at tick c.args.slot.0) = rw (c.put_growths.ensures, before, c.row.ensures) in
+    let P : List (List ℕ) → Type 0 = λ rows. All (λ total. total ≤ c.args.now) (plus c.args.self.now.totals (shares rows)) in
+    let within : P c.put_growths.new.into = subst P (sym grown) (sampled_within last tick c.args.slot.0 c.args.self.now c.requires.next c.requires.totals) in
+    λ k d below. let most = within k d below in omega (arith, most, c.requires.next.early)
+
+pub returns-clause-totals : goal.returns-clause-totals
+returns-clause-totals c =
+    let last = c.args.last.now in
+    let tick = tick_at c.args.now c.args.rows.now in
+    let before : c.row-2.result.now ≡ row_at last c.args.slot.0 = c.row-2.ensures ∙ ap (λ (tick : Tick). get_or tick.table c.args.slot.0 []) c.last.view_is in
+    let grown : c.put_growths.new.into ≡ growths (row_at last c.args.slot.0) (row_at tick c.args.slot.0) = rw (c.put_growths.ensures, before, c.row.ensures) in
+    rw (c.sample.ensures, grown) (sampled_within last tick c.args.slot.0 c.args.self.now c.requires.next c.requires.totals)

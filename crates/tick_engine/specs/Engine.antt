@@ -1,0 +1,115 @@
+-- The engine of ticks, and for which ticks it stands.
+use Rattle.std.specs.Prelude.{◌≡◌, ℕ, ◌<◌, ◌≤◌, List, [], ◌∷◌, ◌++◌, length, map, nat_le, Bool, if◌then◌else◌, None, Some, All, IfSome}
+use Rattle.std.specs.List.{list_any}
+use Rattle.psi_base.specs.declared.event.TriggerSpec.{TriggerSpec}
+use Rattle.psi_spec.specs.declared.machine.GroupLife.{GroupLife}
+use Rattle.psi_spec.specs.Told.{IsTriggerWithin}
+use Rattle.psi_spec.specs.Trace.{last_moment}
+use Rattle.pressure_spec.specs.Average.{AverageState}
+use Rattle.pressure_spec.specs.Ticks.{Tick, AreNextTicks, last_tick, no_tick}
+use Rattle.pressure_spec.specs.Samples.{fired_at, group_averages, history_of, life_of, totals_after, trigger_over}
+use Rattle.aggregate.specs.Table.{HasSizes}
+use Rattle.tick_engine.specs.declared.group.Group.{Group}
+use Rattle.tick_engine.specs.declared.watch.Watch.{Watch}
+use Rattle.tick_engine.specs.Step.{AreTotalsWithin, group_in}
+
+-- An engine: for how many processors it is, the last tick, what it keeps of each group and of each trigger, and the numbers
+-- of the triggers that signalled at the last tick.
+pub record EngineView : Type 0 where
+  pub cpus : ℕ
+  pub last : Tick
+  pub groups : List Group
+  pub watches : List Watch
+  pub fired : List ℕ
+
+-- an engine with these parts
+abbrev pub seen_as : ℕ → Tick → List Group → List Watch → List ℕ → EngineView
+seen_as cpus last groups watches fired = record { cpus = cpus; last = last; groups = groups; watches = watches; fired = fired }
+
+-- the totals (ns) of the group in a slot
+abbrev pub totals_in : EngineView → ℕ → List ℕ
+totals_in engine slot = (group_in engine.groups slot).totals
+
+-- the averages of the group in a slot
+abbrev pub averages_in : EngineView → ℕ → AverageState
+averages_in engine slot = (group_in engine.groups slot).averages
+
+-- ---- what an engine stands for
+
+-- what is kept of the group in a slot after ticks
+abbrev pub group_after : ℕ → List GroupLife → List Tick → ℕ → Group
+group_after cpus lives ticks slot = record { made = (life_of lives slot).made; gone = (life_of lives slot).gone; totals = totals_after cpus lives ticks slot; averages = group_averages cpus lives ticks slot }
+
+-- a trigger has begun: some tick isn't before its line
+abbrev pub has_begun : List Tick → TriggerSpec → Bool
+has_begun ticks trigger = list_any (λ (tick : Tick). nat_le trigger.at tick.at) ticks
+
+-- what is kept of a trigger after ticks
+abbrev pub watch_after : ℕ → List GroupLife → List Tick → TriggerSpec → Watch
+watch_after cpus lives ticks trigger = record { spec = trigger; trigger = if has_begun ticks trigger then Some (trigger_over trigger (history_of cpus lives ticks trigger.slot.0)) else None }
+
+-- An engine stands for ticks, of groups with these lives on so many processors and with these triggers: the ticks come one
+-- after another, and it has the last tick, each group and each trigger as they are after all of them, and what signalled
+-- at the last.
+pub record StandsFor (engine : EngineView) (cpus : ℕ) (lives : List GroupLife) (triggers : List TriggerSpec) (ticks : List Tick) : Type 0 where
+  pub ordered : AreNextTicks (no_tick cpus (length lives)) ticks
+  pub cpus_are : engine.cpus ≡ cpus
+  pub last : engine.last ≡ last_tick (no_tick cpus (length lives)) ticks
+  pub slots : length engine.groups ≡ length lives
+  pub groups : (slot : ℕ) → slot < length lives → group_in engine.groups slot ≡ group_after cpus lives ticks slot
+  pub watches : engine.watches ≡ map (watch_after cpus lives ticks) triggers
+  pub fired : (front : List Tick) (tick : Tick) → ticks ≡ front ++ tick ∷ [] → engine.fired ≡ fired_at cpus lives triggers front tick
+  pub unfired : ticks ≡ [] → engine.fired ≡ []
+
+-- An engine takes a tick: where it stood for ticks before, it stands for them and this one.
+abbrev pub Takes : EngineView → Tick → EngineView → Type 0
+Takes old tick new = (cpus : ℕ) (lives : List GroupLife) (triggers : List TriggerSpec) (ticks : List Tick) →
+    StandsFor old cpus lives triggers ticks → StandsFor new cpus lives triggers (ticks ++ tick ∷ [])
+
+-- ---- what is kept of each engine
+
+-- each trigger is one that a trace may set on so many groups
+abbrev pub AreWatchesWithin : ℕ → List Watch → Type 0
+AreWatchesWithin slots watches = All (λ watch. IsTriggerWithin last_moment slots watch.spec) watches
+
+-- What holds of each engine: its processors, groups and triggers are few, the last table has its sizes, no total is longer
+-- than the time up to the last tick, and the triggers are in range.
+pub record IsEngine (engine : EngineView) : Type 0 where
+  pub few_cpus : engine.cpus ≤ 64
+  pub few_groups : length engine.groups ≤ 1024
+  pub few_watches : length engine.watches ≤ 256
+  pub sizes : HasSizes engine.cpus (length engine.groups) engine.last.table
+  pub early : engine.last.at ≤ last_moment
+  pub totals : All (λ group. AreTotalsWithin engine.last.at group) engine.groups
+  pub watches : AreWatchesWithin (length engine.groups) engine.watches
+
+-- there is room for as many
+pub record IsRoom (count capacity : ℕ) : Type 0 where
+  pub room : count ≤ capacity
+
+-- the moments (ns) at which a group was made and went, if it did, are within the latest
+pub record IsLifeWithin (latest : ℕ) (life : GroupLife) : Type 0 where
+  pub made : life.made ≤ latest
+  pub gone : IfSome life.gone (λ gone. gone ≤ latest)
+
+-- ---- laws
+
+-- The totals that an engine tells of a group are those after the ticks for which it stands.
+abbrev pub TellsTotals : Type 0
+TellsTotals = (engine : EngineView) (cpus : ℕ) (lives : List GroupLife) (triggers : List TriggerSpec) (ticks : List Tick) (slot : ℕ) →
+    StandsFor engine cpus lives triggers ticks → slot < length lives → totals_in engine slot ≡ totals_after cpus lives ticks slot
+
+-- So are the averages.
+abbrev pub TellsAverages : Type 0
+TellsAverages = (engine : EngineView) (cpus : ℕ) (lives : List GroupLife) (triggers : List TriggerSpec) (ticks : List Tick) (slot : ℕ) →
+    StandsFor engine cpus lives triggers ticks → slot < length lives → averages_in engine slot ≡ group_averages cpus lives ticks slot
+
+-- It tells the triggers that signalled at the last of them.
+abbrev pub TellsFired : Type 0
+TellsFired = (engine : EngineView) (cpus : ℕ) (lives : List GroupLife) (triggers : List TriggerSpec) (front : List Tick) (tick : Tick) →
+    StandsFor engine cpus lives triggers (front ++ tick ∷ []) → engine.fired ≡ fired_at cpus lives triggers front tick
+
+-- And it has the last of them.
+abbrev pub TellsLast : Type 0
+TellsLast = (engine : EngineView) (cpus : ℕ) (lives : List GroupLife) (triggers : List TriggerSpec) (front : List Tick) (tick : Tick) →
+    StandsFor engine cpus lives triggers (front ++ tick ∷ []) → engine.last ≡ tick

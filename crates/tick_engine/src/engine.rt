@@ -1,0 +1,163 @@
+//! The engine.
+
+ghost use Rattle.std.specs.Prelude.{◌≡◌, ◌≤◌, ◌<◌, [], All, IfOk, length, map};
+ghost use Rattle.aggregate.specs.Table.{HasSizes};
+ghost use Rattle.pressure_spec.specs.Ticks.{IsNextTick};
+ghost use Rattle.psi_spec.specs.Told.{AreTriggersWithin};
+ghost use Rattle.psi_spec.specs.Trace.{last_moment};
+ghost use Rattle.tick_engine.specs.Engine.{averages_in, totals_in, IsLifeWithin, StandsFor, Takes};
+ghost use Rattle.tick_engine.specs.Engine.{TellsAverages, TellsFired, TellsLast, TellsTotals};
+ghost use Rattle.tick_engine.specs.Step.{new_group, new_watch};
+ghost use Rattle.tick_engine.specs.Tables.{tick_at};
+
+use crate::group::{Group, tick_all};
+use crate::last::LastTick;
+use crate::watch::{Watch, begin_all, step_all};
+use aggregate::Rows;
+use fixed_average::Averages;
+use psi_base::{NoMemory, Ns, Slot, TriggerSpec};
+use psi_spec::GroupLife;
+use std::alloc::Global;
+use std::marker::Model;
+
+/// The totals and averages of all groups and the signals of all triggers, as the ticks so far left them: the kernel's
+/// `psi_avgs_work` and `update_triggers`, here on one grid of moments for all groups. It takes all memory at first, and none
+/// at a tick.
+#[derive(Drop)]
+pub struct Engine {
+    last: LastTick,
+    groups: Vec<Group>,
+    watches: Vec<Watch>,
+    /// Room for what the times of a group grow by, one place a processor.
+    growths: Vec<[u64; 7]>,
+    /// The numbers of the triggers that signalled at the last tick, with room for all of them.
+    fired: Vec<u32>,
+}
+
+impl Model for Engine {
+    ghost use Rattle.std.specs.Prelude.{length, vec_capacity};
+    ghost use Rattle.tick_engine.specs.Engine.{EngineView, IsEngine, IsRoom, seen_as};
+
+    ghost Value = { EngineView };
+
+    ghost view = { λ e. seen_as (length e.growths.items) e.last e.groups.items e.watches.items e.fired.items };
+
+    ghost invariant = { λ e. IsRoom (length e.watches.items) (vec_capacity e.fired)
+        × IsEngine (seen_as (length e.growths.items) e.last e.groups.items e.watches.items e.fired.items) };
+}
+
+/// The groups, before the first tick.
+fn groups_of(alloc: Global, lives: &[GroupLife]) -> Result<Vec<Group>, NoMemory>
+    requires { All (λ life. IsLifeWithin last_moment life) lives.now }
+    ensures { IfOk result (λ groups. groups.items ≡ map new_group lives.now) }
+{
+    let mut groups = Vec::with_capacity(alloc, lives.len())?;
+    'lives: for life in lives {
+        let Ok(_) = groups.push(Group::of(life)) else {
+            return Err(NoMemory);
+        };
+    }
+    Ok(groups)
+}
+
+/// Room for what the times of a group grow by, one place a processor.
+fn no_growths(alloc: Global, cpus: u32) -> Result<Vec<[u64; 7]>, NoMemory>
+    ensures { IfOk result (λ growths. length growths.items ≡ cpus) }
+{
+    match vec![in alloc; [0u64; 7]; cpus as usize] {
+        Ok(growths) => Ok(growths),
+        Err(_) => Err(NoMemory),
+    }
+}
+
+/// The triggers, before the first tick.
+fn watches_of(alloc: Global, triggers: &[TriggerSpec]) -> Result<Vec<Watch>, NoMemory>
+    ensures { IfOk result (λ watches. watches.items ≡ map new_watch triggers.now) }
+{
+    let mut watches = Vec::with_capacity(alloc, triggers.len())?;
+    'triggers: for trigger in triggers {
+        let Ok(_) = watches.push(Watch::of(*trigger)) else {
+            return Err(NoMemory);
+        };
+    }
+    Ok(watches)
+}
+
+impl Engine {
+    /// An engine of groups with these lives, by slot, with these triggers, on so many processors, before the first tick.
+    /// Takes all memory that it will need.
+    pub fn make(
+        alloc: Global,
+        lives: &[GroupLife],
+        triggers: &[TriggerSpec],
+        cpus: u32,
+    ) -> Result<Engine, NoMemory>
+        requires some_cpus { 1 ≤ cpus }
+        requires few_cpus { cpus ≤ 64 }
+        requires few_groups { length lives.now ≤ 1024 }
+        requires lives { All (λ life. IsLifeWithin last_moment life) lives.now }
+        requires triggers { AreTriggersWithin last_moment (length lives.now) triggers.now }
+        ensures { IfOk result (λ engine. StandsFor engine cpus lives.now triggers.now []) }
+    {
+        Ok(Engine {
+            last: LastTick {
+                at: 0,
+                rows: Rows::make(alloc, cpus, lives.len() as u32)?,
+            },
+            groups: groups_of(alloc, lives)?,
+            watches: watches_of(alloc, triggers)?,
+            growths: no_growths(alloc, cpus)?,
+            fired: Vec::with_capacity(alloc, triggers.len())?,
+        })
+    }
+
+    /// The next tick: its moment (ns), and the times (ns) of all groups on all processors up to it. Each trigger whose line
+    /// isn't later begins, if it hasn't; each group that is live is sampled; and each trigger that has begun, and whose
+    /// group is live, is stepped. Takes no memory.
+    pub fn tick(&mut self, now: Ns, rows: &Rows)
+        requires sizes { HasSizes self.old.cpus (length self.old.groups) rows.now }
+        requires next { IsNextTick self.old.last (tick_at now rows.now) }
+        ensures stands { Takes self.old (tick_at now rows.now) self.new }
+
+        // Also of an engine of which nothing is known.
+        ensures last { self.new.last ≡ tick_at now rows.now }
+        ensures cpus { self.new.cpus ≡ self.old.cpus }
+        ensures slots { length self.new.groups ≡ length self.old.groups }
+    {
+        begin_all(&mut self.watches, &self.groups, now);
+        tick_all(&mut self.groups, &mut self.growths, &self.last, now, rows);
+        step_all(&mut self.watches, &self.groups, now, &mut self.fired);
+        self.last.set(now, rows);
+    }
+
+    /// The totals of a group (ns), in the order of the states.
+    pub fn totals(&self, slot: Slot) -> [u64; 6]
+        requires { slot.0 < length self.now.groups }
+        ensures { result ≡ totals_in self.now slot.0 }
+    {
+        self.groups[slot.0 as usize].totals.get()
+    }
+
+    /// The averages of a group.
+    pub fn averages(&self, slot: Slot) -> &Averages
+        requires { slot.0 < length self.now.groups }
+        ensures { result.now ≡ averages_in self.now slot.0 }
+    {
+        &self.groups[slot.0 as usize].averages
+    }
+
+    /// The numbers of the triggers that signalled at the last tick, ascending; none before the first.
+    pub fn fired(&self) -> &[u32]
+        ensures { result.now ≡ self.now.fired }
+    {
+        &self.fired
+    }
+}
+
+/// Laws of the engine: what it tells is what the ticks make of the groups and of the triggers.
+pub fn law_engine()
+    ensures totals { TellsTotals }
+    ensures averages { TellsAverages }
+    ensures fired { TellsFired }
+    ensures last { TellsLast }
+{}

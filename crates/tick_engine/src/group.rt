@@ -1,0 +1,107 @@
+//! What is kept of one group.
+
+ghost use Rattle.std.specs.Prelude.{◌≡◌, ◌≤◌, ◌<◌, All, length};
+ghost use Rattle.aggregate.specs.Table.{HasSizes};
+ghost use Rattle.pressure_spec.specs.Samples.{row_at};
+ghost use Rattle.pressure_spec.specs.Share.{plus, shares};
+ghost use Rattle.pressure_spec.specs.Ticks.{IsNextTick};
+ghost use Rattle.psi_spec.specs.Trace.{last_moment, longest_tick};
+ghost use Rattle.tick_engine.specs.Step.{AreStepped, AreTotalsWithin, group_step, is_live, new_group, sampled};
+ghost use Rattle.tick_engine.specs.Tables.{tick_at};
+
+use crate::growth::put_growths;
+use crate::last::LastTick;
+use aggregate::{Rows, Totals, share};
+use fixed_average::Averages;
+use psi_base::{Ns, Slot};
+use psi_spec::GroupLife;
+
+/// A group: when it was made and went (ns), its totals and its averages.
+#[derive(Drop)]
+pub(crate) struct Group {
+    pub(crate) made: Ns,
+    pub(crate) gone: Option<Ns>,
+    pub(crate) totals: Totals,
+    pub(crate) averages: Averages,
+}
+
+impl Group {
+    /// A group that is made, before it is sampled.
+    pub(crate) fn of(life: &GroupLife) -> Group
+        requires { life.now.made ≤ last_moment }
+        ensures { result ≡ new_group life.now }
+    {
+        Group {
+            made: life.made,
+            gone: life.gone,
+            totals: Totals::zero(),
+            averages: Averages::new(life.made),
+        }
+    }
+
+    /// It was made by this moment (ns), and hasn't gone by then.
+    pub(crate) fn is_live(&self, at: Ns) -> bool
+        ensures { result ≡ is_live self.now at }
+    {
+        let is_gone = match self.gone {
+            Some(gone) => gone <= at,
+            None => false,
+        };
+        self.made <= at && !is_gone
+    }
+
+    /// Adds the shares of an interval to the totals, of what the times of each processor grew by in it (ns), and has the
+    /// averages take them at the interval's end.
+    pub(crate) fn sample(&mut self, now: Ns, growths: &[[u64; 7]])
+        requires few { length growths.now ≤ 64 }
+        requires short { All (λ times. All (λ time. time ≤ longest_tick) times) growths.now }
+        requires early { now ≤ last_moment }
+        requires fits { All (λ total. total ≤ last_moment) (plus self.old.totals (shares growths.now)) }
+        ensures { self.new ≡ sampled self.old now (shares growths.now) }
+    {
+        self.totals.add(share(growths));
+        self.averages.update(now, self.totals.get());
+    }
+
+    /// Samples the group at a tick, by what its times grew by since the last one, where it is live. Else it stays as it is,
+    /// and costs no share.
+    fn tick(&mut self, slot: Slot, growths: &mut [[u64; 7]], last: &LastTick, now: Ns, rows: &Rows)
+        requires few { length growths.old ≤ 64 }
+        requires last { length (row_at last.now slot.0) ≡ length growths.old }
+        requires row { length (row_at (tick_at now rows.now) slot.0) ≡ length growths.old }
+        requires last_slot { slot.0 < length last.now.table }
+        requires slot { slot.0 < length rows.now }
+        requires next { IsNextTick last.now (tick_at now rows.now) }
+        requires totals { AreTotalsWithin last.now.at self.old }
+        ensures stepped { self.new ≡ group_step last.now (tick_at now rows.now) slot.0 self.old }
+        ensures totals { AreTotalsWithin now self.new }
+    {
+        if !self.is_live(now) {
+            return;
+        }
+        put_growths(growths, rows.row(slot), last.rows.row(slot));
+        self.sample(now, growths);
+    }
+}
+
+/// Takes all groups over a tick.
+pub(crate) fn tick_all(
+    groups: &mut [Group],
+    growths: &mut [[u64; 7]],
+    last: &LastTick,
+    now: Ns,
+    rows: &Rows,
+)
+    requires few { length growths.old ≤ 64 }
+    requires slots { length groups.old ≤ 1024 }
+    requires last { HasSizes (length growths.old) (length groups.old) last.now.table }
+    requires sizes { HasSizes (length growths.old) (length groups.old) rows.now }
+    requires next { IsNextTick last.now (tick_at now rows.now) }
+    requires totals { All (λ group. AreTotalsWithin last.now.at group) groups.old }
+    ensures stepped { AreStepped last.now (tick_at now rows.now) groups.old groups.new }
+    ensures totals { All (λ group. AreTotalsWithin now group) groups.new }
+{
+    'groups: for (slot, group) in groups.iter_mut().enumerate() {
+        group.tick(Slot(slot as u32), growths, last, now, rows);
+    }
+}

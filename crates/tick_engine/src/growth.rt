@@ -1,0 +1,30 @@
+//! What times grew by from one tick to the next.
+
+ghost use Rattle.std.specs.Prelude.{◌≡◌, ℕ, ◌≤◌, ◌-◌, length, slice_index};
+ghost use Rattle.pressure_spec.specs.Samples.{growths};
+ghost use Rattle.pressure_spec.specs.Share.{zip_with};
+ghost use Rattle.tick_engine.specs.Tables.{NoneFell};
+
+/// What each of a processor's seven times grew by.
+fn growth(now: &[u64; 7], before: &[u64; 7]) -> [u64; 7]
+    requires { (place : ℕ) → slice_index before.now place ≤ slice_index now.now place }
+    ensures { result ≡ zip_with (λ time earlier. time - earlier) now.now before.now }
+{
+    let mut growth = [0u64; 7];
+    'each: for i in 0..7 {
+        growth[i] = now[i] - before[i];
+    }
+    growth
+}
+
+/// Puts in what a group's times on each processor grew by.
+pub(crate) fn put_growths(into: &mut [[u64; 7]], now: &[[u64; 7]], before: &[[u64; 7]])
+    requires into { length into.old ≡ length now.now }
+    requires before { length before.now ≡ length now.now }
+    requires kept { NoneFell before.now now.now }
+    ensures { into.new ≡ growths before.now now.now }
+{
+    'cpus: for cpu in 0..now.len() {
+        into[cpu] = growth(&now[cpu], &before[cpu]);
+    }
+}

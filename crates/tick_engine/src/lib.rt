@@ -1,0 +1,10 @@
+//! All groups and triggers at a tick: totals, averages and signals.
+#![tactic(auto)]
+
+mod engine;
+mod group;
+mod growth;
+mod last;
+mod watch;
+
+pub use engine::{Engine, law_engine};

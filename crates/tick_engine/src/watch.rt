@@ -1,0 +1,142 @@
+//! What is kept of one trigger.
+
+ghost use Rattle.std.specs.Prelude.{◌≡◌, ◌≤◌, ◌<◌, ◌+◌, ◌++◌, ◌∷◌, [], All, if◌then◌else◌, length, map, true, vec_capacity, vec_len};
+ghost use Rattle.pressure_spec.specs.Samples as model;
+ghost use Rattle.pressure_spec.specs.Signal.{new_trigger};
+ghost use Rattle.psi_spec.specs.Refusal.{is_window};
+ghost use Rattle.psi_spec.specs.Stall.{number_of};
+ghost use Rattle.psi_spec.specs.Told.{IsTriggerWithin};
+ghost use Rattle.psi_spec.specs.Trace.{last_moment};
+ghost use Rattle.tick_engine.specs.Engine.{AreWatchesWithin};
+ghost use Rattle.tick_engine.specs.Step.{AreTotalsWithin, fired_among, new_watch, watch_begun, watch_signals, watch_stepped, watched_total};
+
+use crate::group::Group;
+use psi_base::{Level, Ns, Res, State, TriggerSpec};
+use window_trigger::Trigger;
+
+/// A trigger as the trace sets it, and the trigger itself from the first tick on that isn't before its line.
+#[derive(Drop)]
+pub(crate) struct Watch {
+    pub(crate) spec: TriggerSpec,
+    pub(crate) trigger: Option<Trigger>,
+}
+
+/// The state that a trigger watches.
+fn watched_state(spec: &TriggerSpec) -> State
+    ensures value { result ≡ model.watched_state spec.now }
+    ensures pressure { number_of result < 6 }
+{
+    match (spec.res, spec.level) {
+        (Res::Io, Level::SomeStalled) => State::IoSome,
+        (Res::Io, Level::FullStalled) => State::IoFull,
+        (Res::Memory, Level::SomeStalled) => State::MemSome,
+        (Res::Memory, Level::FullStalled) => State::MemFull,
+        (Res::Cpu, Level::SomeStalled) => State::CpuSome,
+        (Res::Cpu, Level::FullStalled) => State::CpuFull,
+    }
+}
+
+/// The total that a trigger watches (ns).
+fn watched_total(groups: &[Group], spec: &TriggerSpec) -> u64
+    requires slot { spec.now.slot.0 < length groups.now }
+    ensures { result ≡ watched_total groups.now spec.now }
+{
+    let totals = groups[spec.slot.0 as usize].totals.get();
+    totals[watched_state(spec) as usize]
+}
+
+/// The trigger, set with a total (ns).
+fn trigger_with(spec: &TriggerSpec, total: u64) -> Trigger
+    requires at { spec.now.at ≤ last_moment }
+    requires window { is_window spec.now.threshold_us spec.now.window_us ≡ true }
+    requires total { total ≤ last_moment }
+    ensures { result ≡ new_trigger spec.now.at total spec.now.threshold_us spec.now.window_us }
+{
+    match Trigger::new(spec.at, total, spec.threshold_us, spec.window_us) {
+        Ok(trigger) => trigger,
+        Err(_) => unreachable!(),
+    }
+}
+
+impl Watch {
+    /// A watch of a trigger that hasn't begun.
+    pub(crate) fn of(spec: TriggerSpec) -> Watch
+        ensures { result ≡ new_watch spec }
+    {
+        Watch {
+            spec,
+            trigger: None,
+        }
+    }
+
+    /// Begins the trigger at the first tick that isn't before its line, with its total at the tick before.
+    fn begin(&mut self, groups: &[Group], now: Ns)
+        requires spec { IsTriggerWithin last_moment (length groups.now) self.old.spec }
+        requires totals { All (λ group. AreTotalsWithin last_moment group) groups.now }
+        ensures { self.new ≡ watch_begun groups.now now self.old }
+    {
+        if self.trigger.is_none() && self.spec.at <= now {
+            let total = watched_total(groups, &self.spec);
+            self.trigger = Some(trigger_with(&self.spec, total));
+        }
+    }
+
+    /// Steps the trigger at a tick, if it has begun and its group is live. True where it signals.
+    fn step(&mut self, groups: &[Group], now: Ns) -> bool
+        requires spec { IsTriggerWithin last_moment (length groups.now) self.old.spec }
+        requires totals { All (λ group. AreTotalsWithin last_moment group) groups.now }
+        requires early { now ≤ last_moment }
+        ensures state { self.new ≡ watch_stepped groups.now now self.old }
+        ensures signals { result ≡ watch_signals groups.now now self.old }
+    {
+        if !groups[self.spec.slot.0 as usize].is_live(now) {
+            return false;
+        }
+        let total = watched_total(groups, &self.spec);
+        match &mut self.trigger {
+            Some(trigger) => trigger.step(now, total),
+            None => false,
+        }
+    }
+}
+
+/// Begins each trigger whose line isn't later than a tick and that hasn't begun, with its total at the tick before.
+pub(crate) fn begin_all(watches: &mut [Watch], groups: &[Group], now: Ns)
+    requires watches { AreWatchesWithin (length groups.now) watches.old }
+    requires totals { All (λ group. AreTotalsWithin last_moment group) groups.now }
+    ensures { watches.new ≡ map (watch_begun groups.now now) watches.old }
+{
+    'watches: for watch in watches.iter_mut() {
+        watch.begin(groups, now);
+    }
+}
+
+/// Adds a number to those that signalled, where it did. There is room for it.
+fn add_where(fired: &mut Vec<u32>, number: u32, has_signalled: bool)
+    requires { vec_len fired.old < vec_capacity fired.old }
+    ensures items { fired.new.items ≡ fired.old.items ++ (if has_signalled then number ∷ [] else []) }
+    ensures few { vec_len fired.new ≤ vec_len fired.old + 1 }
+    ensures room { vec_capacity fired.old ≤ vec_capacity fired.new }
+{
+    if has_signalled && fired.push(number).is_err() {
+        unreachable!();
+    }
+}
+
+/// Steps each trigger that has begun and whose group is live, and puts in the numbers of those that signal.
+pub(crate) fn step_all(watches: &mut [Watch], groups: &[Group], now: Ns, fired: &mut Vec<u32>)
+    requires few { length watches.old ≤ 256 }
+    requires room { length watches.old ≤ vec_capacity fired.old }
+    requires watches { AreWatchesWithin (length groups.now) watches.old }
+    requires totals { All (λ group. AreTotalsWithin last_moment group) groups.now }
+    requires early { now ≤ last_moment }
+    ensures watches { watches.new ≡ map (watch_stepped groups.now now) watches.old }
+    ensures fired { fired.new.items ≡ fired_among groups.now now watches.old (length watches.old) }
+    ensures room { vec_capacity fired.old ≤ vec_capacity fired.new }
+{
+    fired.clear();
+    'watches: for (number, watch) in watches.iter_mut().enumerate() {
+        let has_signalled = watch.step(groups, now);
+        add_where(fired, number as u32, has_signalled);
+    }
+}
