@@ -1,0 +1,46 @@
+-- Texts that are sent one after another.
+use Rattle.std.proofs.Common.{◌≡◌, ℕ, List, [], ◌∷◌, ◌++◌, ◌/◌, sym, ap, map, append_assoc}
+use Rattle.std.specs.Prelude.{codes, decimal, slice_index, Option, Result, Ok, Err}
+use Rattle.std.specs.List.{flat_map}
+use Rattle.std.specs.Io.KnownBytes.{Appends}
+use Rattle.std.proofs.lemmas.List.{append-nil}
+use Rattle.psi_base.specs.Outside.{AppendsFront, PutsAll}
+use Rattle.psi_base.proofs.Grows.{Appends-none, Appends-then, AppendsFront-then}
+use Rattle.psi_base.specs.declared.event.Level.{Level}
+use Rattle.psi_spec.specs.Fields.{level_word}
+use Rattle.psi_spec.specs.Grammar.{joined}
+use Rattle.pressure_spec.specs.File.{file_line, percent_text}
+use Rattle.pressure_text.specs.Pieces.{spaced}
+
+-- a front of the first text is one of both
+pub front_of_both : (old new : Option (List ℕ)) (xs ys : List ℕ) → AppendsFront old new xs →
+    AppendsFront old new (xs ++ ys)
+front_of_both old new xs ys front = AppendsFront-then old old new [] xs ys (Appends-none old) front
+
+-- the first text, and then a front of the second, are a front of both
+pub front_then : (old mid new : Option (List ℕ)) (xs ys : List ℕ) → Appends old mid xs →
+    AppendsFront mid new ys → AppendsFront old new (xs ++ ys)
+front_then old mid new xs ys first front =
+    let all : xs ++ (ys ++ []) ≡ xs ++ ys = ap (λ zs. xs ++ zs) (append-nil ys) in
+    rw (← all) (AppendsFront-then old mid new xs ys [] first front)
+
+-- what is put behind a text is put behind it in whole, or as a front of both
+pub puts_then : {T E : Type 0} →
+    (old mid new : Option (List ℕ)) (result : Result T E) (xs ys : List ℕ) → Appends old mid xs →
+    PutsAll mid new result ys → PutsAll old new result (xs ++ ys)
+puts_then old mid new (Ok value) xs ys first put = Appends-then old mid new xs ys first put
+puts_then old mid new (Err fault) xs ys first put = front_then old mid new xs ys first put
+
+-- a word, and numbers behind it, with one space between them
+pub joined_numbers : (word ns : List ℕ) → joined (word ∷ map decimal ns) ≡ word ++ flat_map spaced ns
+joined_numbers word [] = sym (append-nil word)
+joined_numbers word (n ∷ ns) = ap (λ w. word ++ 32 ∷ w) (joined_numbers (decimal n) ns)
+
+-- for a line that ends with numbers
+pub ruleset times = (append_assoc, joined_numbers)
+
+-- a line of a pressure file in its pieces
+pub file_pieces : (level : Level) (averages : List ℕ) (total : ℕ) →
+    level_word level ++ (codes " avg10=" ++ (percent_text (slice_index averages 0) ++ (codes " avg60=" ++ (percent_text (slice_index averages 1)
+    ++ (codes " avg300=" ++ (percent_text (slice_index averages 2) ++ (codes " total=" ++ (decimal (total / 1000) ++ (codes "\n" ++ []))))))))) ≡ file_line level averages total
+file_pieces level averages total = simp append_assoc

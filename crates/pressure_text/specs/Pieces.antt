@@ -1,0 +1,20 @@
+-- The pieces in which a line is sent.
+use Rattle.std.specs.Prelude.{ℕ, List, ◌++◌, codes, decimal}
+use Rattle.std.specs.List.{flat_map}
+use Rattle.pressure_spec.specs.File.{percent_text}
+use Rattle.pressure_text.specs.declared.pieces.Piece.{Piece}
+use Rattle.pressure_text.specs.declared.pieces.Piece.TheVariants.{Number, Text, Percent}
+
+-- a number behind a space
+abbrev pub spaced : ℕ → List ℕ
+spaced n = codes " " ++ decimal n
+
+-- the bytes of a piece
+abbrev pub piece_bytes : Piece → List ℕ
+piece_bytes (Number n) = decimal n
+piece_bytes (Text bytes) = bytes.now
+piece_bytes (Percent average) = percent_text average
+
+-- pieces, numbers behind them that have a space ahead of each, and a newline
+abbrev pub with_numbers : List Piece → List ℕ → List ℕ
+with_numbers pieces numbers = flat_map piece_bytes pieces ++ flat_map spaced numbers ++ codes "\n"

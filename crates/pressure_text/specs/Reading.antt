@@ -1,0 +1,77 @@
+-- How a pressure file is read: piece by piece from the front, with what is left behind each.
+use Rattle.std.specs.Prelude.{◌≡◌, ℕ, ◌+◌, ◌-◌, ◌*◌, List, [], ◌∷◌, drop, codes, ◌==◌, ◌&&◌, nat_le}
+use Rattle.std.specs.Prelude.{if◌then◌else◌, Option, None, Some}
+use Rattle.std.specs.Char.{is_ascii_digit}
+use Rattle.std.specs.List.{prefix_len, take_while}
+use Rattle.psi_base.specs.Number.{number_of}
+use Rattle.psi_base.specs.declared.event.Level.{Level}
+use Rattle.psi_base.specs.declared.event.Level.TheVariants.{SomeStalled, FullStalled}
+use Rattle.psi_spec.specs.Fields.{level_word}
+use Rattle.pressure_text.specs.declared.read.PressureLine.{PressureLine}
+use Rattle.pressure_text.specs.declared.read.PressureFile.{PressureFile}
+
+-- a step of reading after another, where that one found its piece
+infixl 10 ◌>>=◌
+abbrev pub ◌>>=◌ : {A B : Type 0} → Option A → (A → Option B) → Option B
+None >>= f = None
+(Some x) >>= f = f x
+
+-- what stands behind a text at the front
+unfoldable pub behind : List ℕ → List ℕ → Option (List ℕ)
+behind [] bytes = Some bytes
+behind (byte ∷ text) [] = None
+behind (byte ∷ text) (first ∷ bytes) = if first == byte then behind text bytes else None
+
+-- the number that all the digits at the front spell, and what stands behind them
+unfoldable pub number_at : List ℕ → Option (ℕ × List ℕ)
+number_at bytes = do
+  n ← number_of (take_while is_ascii_digit bytes)
+  Some (n, drop (prefix_len is_ascii_digit bytes) bytes)
+
+-- the number of the two digits at the front, and what stands behind them
+unfoldable pub two_at : List ℕ → Option (ℕ × List ℕ)
+two_at [] = None
+two_at (tens ∷ []) = None
+two_at (tens ∷ ones ∷ bytes) =
+    if is_ascii_digit tens && is_ascii_digit ones
+    then Some ((tens - 48) * 10 + (ones - 48), bytes) else None
+
+-- the average at the front in hundredths of a percent, at most 100.00, and what stands behind it
+unfoldable pub average_at : List ℕ → Option (ℕ × List ℕ)
+average_at bytes = do
+  whole ← number_at bytes
+  point ← behind (codes ".") whole.1
+  part ← two_at point
+  if nat_le (whole.0 * 100 + part.0) 10000 then Some (whole.0 * 100 + part.0, part.1) else None
+
+-- what a reading finds behind a label
+abbrev pub past : {A : Type 0} → List ℕ → (List ℕ → Option A) → List ℕ → Option A
+past label read bytes = behind label bytes >>= read
+
+-- the line on a level at the front, and what stands behind it
+unfoldable pub line_at : Level → List ℕ → Option (PressureLine × List ℕ)
+line_at level bytes = do
+  start ← behind (level_word level) bytes
+  short ← past (codes " avg10=") average_at start
+  middle ← past (codes " avg60=") average_at short.1
+  long ← past (codes " avg300=") average_at middle.1
+  total ← past (codes " total=") number_at long.1
+  end ← behind (codes "\n") total.1
+  Some (record { hundredths = short.0 ∷ middle.0 ∷ long.0 ∷ []; total_us = total.0 }, end)
+
+-- the file where nothing is left
+abbrev pub if_end : List ℕ → PressureFile → Option PressureFile
+if_end [] file = Some file
+if_end (byte ∷ bytes) file = None
+
+-- the pressure file that all the bytes are
+unfoldable pub file_at : List ℕ → Option PressureFile
+file_at bytes = do
+  first ← line_at SomeStalled bytes
+  second ← line_at FullStalled first.1
+  if_end second.1 (record { some_line = first.0; full_line = second.0 })
+
+-- the call found what the definition finds, and this is left
+abbrev pub Takes : {A : Type 0} → Option A → List ℕ → Option (A × List ℕ) → Type 0
+Takes None rest read = read ≡ None
+Takes (Some x) rest read = read ≡ Some (x, rest)

@@ -1,0 +1,58 @@
+-- Which bytes are a pressure file, and what it tells.
+use Rattle.std.specs.Prelude.{◌≡◌, ℕ, ◌/◌, ◌^◌, ◌<◌, List, [], ◌∷◌, ◌++◌, All}
+use Rattle.std.specs.Prelude.{slice_index, slice_index_or, ◌&&◌, Bool, if◌then◌else◌}
+use Rattle.psi_base.specs.declared.event.Res.{Res}
+use Rattle.psi_base.specs.declared.event.Level.{Level}
+use Rattle.psi_base.specs.declared.event.Level.TheVariants.{SomeStalled, FullStalled}
+use Rattle.psi_spec.specs.Stall.{number_of}
+use Rattle.pressure_spec.specs.Average.{IsRow}
+use Rattle.pressure_spec.specs.File.{CanTell, file_text, in_hundredths, is_cpu, told_line}
+use Rattle.pressure_spec.specs.Samples.{state_of}
+use Rattle.pressure_text.specs.declared.read.PressureLine.{PressureLine}
+use Rattle.pressure_text.specs.declared.read.PressureFile.{PressureFile}
+
+-- a line on a level, as it tells its numbers
+abbrev pub spelled_line : Level → PressureLine → List ℕ
+spelled_line level line = told_line level line.hundredths line.total_us
+
+-- the numbers of a line are ones that a line can tell
+abbrev pub IsTold : PressureLine → Type 0
+IsTold line = CanTell line.hundredths line.total_us
+
+-- The bytes are the pressure file that tells these numbers: the line on some tasks, the line on all, and
+-- nothing else.
+pub record Tells (bytes : List ℕ) (file : PressureFile) : Type 0 where
+  pub some_line : IsTold file.some_line
+  pub full_line : IsTold file.full_line
+  pub spelled : bytes ≡ spelled_line SomeStalled file.some_line ++ spelled_line FullStalled file.full_line
+
+-- three averages in hundredths of a percent
+abbrev pub three_hundredths : List ℕ → List ℕ
+three_hundredths averages =
+    in_hundredths (slice_index averages 0) ∷ in_hundredths (slice_index averages 1)
+    ∷ in_hundredths (slice_index averages 2) ∷ []
+
+-- what a line tells of three averages and a total (ns): whole hundredths of a percent and microseconds
+abbrev pub told : List ℕ → ℕ → PressureLine
+told averages total = record { hundredths = three_hundredths averages; total_us = total / 1000 }
+
+-- what the line of a resource on some or all tasks tells
+abbrev pub told_of : Res → Level → List ℕ → List (List ℕ) → PressureLine
+told_of res level totals averages =
+    told (slice_index_or averages (number_of (state_of res level)) [])
+    (slice_index totals (number_of (state_of res level)))
+
+-- what a pressure file tells of totals (ns) and averages; of the processor and all tasks of the root it
+-- tells zeros
+abbrev pub told_file : Res → Bool → List ℕ → List (List ℕ) → PressureFile
+told_file res is_root totals averages = record {
+  some_line = told_of res SomeStalled totals averages;
+  full_line = if is_root && is_cpu res then told [] 0 else told_of res FullStalled totals averages;
+}
+
+-- What is written of totals of 64 bits (ns) and of averages of at most 100 percent is read again, as
+-- whole microseconds and hundredths of a percent.
+abbrev pub ReadsAgain : Type 0
+ReadsAgain = (res : Res) (is_root : Bool) (totals : List ℕ) (averages : List (List ℕ)) →
+    All (λ total. total < 2 ^ 64) totals → All (λ row. IsRow row) averages →
+    Tells (file_text res is_root totals averages) (told_file res is_root totals averages)

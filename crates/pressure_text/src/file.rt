@@ -1,0 +1,156 @@
+//! Pressure files, and reports of them.
+ghost use Rattle.std.specs.Prelude.{◌≡◌};
+ghost use Rattle.psi_base.specs.Outside.{HasCause, PutsAll, StaysOver};
+ghost use Rattle.pressure_spec.specs.File.{file_line, file_text, full_line, state_line};
+ghost use Rattle.pressure_spec.specs.Samples as samples;
+ghost use Rattle.run_spec.specs.Lines.{report_head, report_text};
+
+use crate::pieces::{Piece, level_word, put_pieces, resource_word};
+use fixed_average::Averages;
+use psi_base::{Level, Ns, Path, Res, Sink, State, WriteFailed};
+
+// A line of a pressure file: three averages, and a total (ns).
+fn put_line<K: Sink>(
+    out: &mut K,
+    level: Level,
+    averages: [u64; 3],
+    total: Ns,
+) -> Result<(), WriteFailed>
+    ensures bytes { PutsAll (K.has out.old) (K.has out.new) result
+        (file_line level averages total) }
+    ensures cause { HasCause (K.faults out.old) (K.faults out.new) result }
+    ensures below { StaysOver (K.below out.old) (K.below out.new) }
+{
+    put_pieces(
+        out,
+        &[
+            Piece::Text(level_word(level)),
+            Piece::Text(b" avg10="),
+            Piece::Percent(averages[0]),
+            Piece::Text(b" avg60="),
+            Piece::Percent(averages[1]),
+            Piece::Text(b" avg300="),
+            Piece::Percent(averages[2]),
+            Piece::Text(b" total="),
+            Piece::Number(total / 1000),
+            Piece::Text(b"\n"),
+        ],
+    )
+}
+
+// The state of a resource, on some or all tasks.
+fn state_of(res: Res, level: Level) -> State
+    ensures { result ≡ samples.state_of res level }
+{
+    match (res, level) {
+        (Res::Io, Level::SomeStalled) => State::IoSome,
+        (Res::Io, Level::FullStalled) => State::IoFull,
+        (Res::Memory, Level::SomeStalled) => State::MemSome,
+        (Res::Memory, Level::FullStalled) => State::MemFull,
+        (Res::Cpu, Level::SomeStalled) => State::CpuSome,
+        (Res::Cpu, Level::FullStalled) => State::CpuFull,
+    }
+}
+
+// The line of a resource on some or all tasks.
+fn put_state<K: Sink>(
+    out: &mut K,
+    res: Res,
+    level: Level,
+    totals: &[u64; 6],
+    averages: &Averages,
+) -> Result<(), WriteFailed>
+    ensures bytes { PutsAll (K.has out.old) (K.has out.new) result
+        (state_line res level totals.now averages.now.averages) }
+    ensures cause { HasCause (K.faults out.old) (K.faults out.new) result }
+    ensures below { StaysOver (K.below out.old) (K.below out.new) }
+{
+    let state = state_of(res, level);
+    put_line(out, level, averages.get(state), totals[state as usize])
+}
+
+// The line of a resource on all tasks.
+fn put_full<K: Sink>(
+    out: &mut K,
+    res: Res,
+    root: bool,
+    totals: &[u64; 6],
+    averages: &Averages,
+) -> Result<(), WriteFailed>
+    ensures bytes { PutsAll (K.has out.old) (K.has out.new) result
+        (full_line res root totals.now averages.now.averages) }
+    ensures cause { HasCause (K.faults out.old) (K.faults out.new) result }
+    ensures below { StaysOver (K.below out.old) (K.below out.new) }
+{
+    if root && res == Res::Cpu {
+        return put_line(out, Level::FullStalled, [0; 3], 0);
+    }
+    put_state(out, res, Level::FullStalled, totals, averages)
+}
+
+/// Writes the pressure file of a resource of a group, as `Documentation/accounting/psi.rst` has it: the
+/// line on some and the line on all of its tasks, by the group's totals (ns) of all states but nonidle, in
+/// their order, and its averages. The processor's line on all tasks of the root has zeros, as the kernel's
+/// has.
+pub fn write_file<K: Sink>(
+    out: &mut K,
+    res: Res,
+    root: bool,
+    totals: [u64; 6],
+    averages: &Averages,
+) -> Result<(), WriteFailed>
+    ensures bytes { PutsAll (K.has out.old) (K.has out.new) result
+        (file_text res root totals averages.now.averages) }
+    ensures cause { HasCause (K.faults out.old) (K.faults out.new) result }
+    ensures below { StaysOver (K.below out.old) (K.below out.new) }
+{
+    put_state(out, res, Level::SomeStalled, &totals, averages)?;
+    put_full(out, res, root, &totals, averages)
+}
+
+/// Writes the line ahead of a pressure file: the tick (ns), the group's path and the resource.
+#[tactic(auto, using(psi_base::proofs::Grows::chain))]
+pub fn write_report_head<K: Sink>(
+    out: &mut K,
+    at: Ns,
+    path: &Path,
+    res: Res,
+) -> Result<(), WriteFailed>
+    ensures bytes { PutsAll (K.has out.old) (K.has out.new) result (report_head at path.now res) }
+    ensures cause { HasCause (K.faults out.old) (K.faults out.new) result }
+    ensures below { StaysOver (K.below out.old) (K.below out.new) }
+{
+    put_pieces(
+        out,
+        &[
+            Piece::Text(b"report "),
+            Piece::Number(at),
+            Piece::Text(b" "),
+            Piece::Text(path.bytes()),
+            Piece::Text(b" "),
+            Piece::Text(resource_word(res)),
+            Piece::Text(b"\n"),
+        ],
+    )
+}
+
+/// Writes a report on a resource of a group at a tick (ns): its head, as [`write_report_head`], and its
+/// pressure file, as [`write_file`].
+#[tactic(auto, using(psi_base::proofs::Grows::chain))]
+pub fn write_report<K: Sink>(
+    out: &mut K,
+    at: Ns,
+    path: &Path,
+    res: Res,
+    root: bool,
+    totals: [u64; 6],
+    averages: &Averages,
+) -> Result<(), WriteFailed>
+    ensures bytes { PutsAll (K.has out.old) (K.has out.new) result
+        (report_text at path.now res root totals averages.now.averages) }
+    ensures cause { HasCause (K.faults out.old) (K.faults out.new) result }
+    ensures below { StaysOver (K.below out.old) (K.below out.new) }
+{
+    write_report_head(out, at, path, res)?;
+    write_file(out, res, root, totals, averages)
+}

@@ -1,0 +1,11 @@
+//! The lines that commands print, and the pressure files among them, which can be read again.
+#![tactic(auto)]
+
+mod file;
+mod lines;
+mod pieces;
+mod read;
+
+pub use file::{write_file, write_report, write_report_head};
+pub use lines::{write_check, write_end, write_fired, write_kill, write_live, write_stall};
+pub use read::{PressureFile, PressureLine, law_read_again, read_file};

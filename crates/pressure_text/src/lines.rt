@@ -1,0 +1,199 @@
+//! The lines that stand alone.
+ghost use Rattle.std.specs.Prelude.{◌≡◌, ◌-◌, ◌<◌, ◌^◌};
+ghost use Rattle.psi_base.specs.Outside.{HasCause, PutsAll, StaysOver};
+ghost use Rattle.psi_spec.specs.Fields as fields;
+ghost use Rattle.run_spec.specs.Lines.{check_line, end_line, event_line, kill_line};
+ghost use Rattle.run_spec.specs.Lines.{live_line, stall_line};
+ghost use Rattle.pressure_text.specs.Pieces.{with_numbers};
+
+use crate::pieces::{Piece, level_word, put_numbers, put_pieces, resource_word};
+use psi_base::{Cpu, Ns, Path, Sink, TriggerSpec, WriteFailed, put_all};
+
+// A line that ends with the times (ns) in the seven states.
+#[tactic(auto, using(psi_base::proofs::Grows::chain))]
+fn put_timed<K: Sink>(out: &mut K, head: &[Piece], seven: &[Ns; 7]) -> Result<(), WriteFailed>
+    ensures bytes { PutsAll (K.has out.old) (K.has out.new) result
+        (with_numbers head.now seven.now) }
+    ensures cause { HasCause (K.faults out.old) (K.faults out.new) result }
+    ensures below { StaysOver (K.below out.old) (K.below out.new) }
+{
+    put_pieces(out, head)?;
+    put_numbers(out, seven)?;
+    put_all(out, b"\n")
+}
+
+/// Writes the line of a group on a processor: its times (ns) in the seven states, in their order.
+#[tactic(auto, using(crate::proofs::Puts::times))]
+pub fn write_stall<K: Sink>(
+    out: &mut K,
+    cpu: Cpu,
+    path: &Path,
+    seven: [Ns; 7],
+) -> Result<(), WriteFailed>
+    ensures bytes { PutsAll (K.has out.old) (K.has out.new) result
+        (stall_line cpu.0 path.now seven) }
+    ensures cause { HasCause (K.faults out.old) (K.faults out.new) result }
+    ensures below { StaysOver (K.below out.old) (K.below out.new) }
+{
+    put_timed(
+        out,
+        &[
+            Piece::Text(b"stall cpu="),
+            Piece::Number(u64::from(cpu.0)),
+            Piece::Text(b" "),
+            Piece::Text(path.bytes()),
+        ],
+        &seven,
+    )
+}
+
+/// Writes the line of an accepted trace: how many events it has, the end among them, and its end moment
+/// (ns).
+#[tactic(auto, using(psi_base::proofs::Grows::chain))]
+pub fn write_check<K: Sink>(out: &mut K, events: u64, end: Ns) -> Result<(), WriteFailed>
+    requires { events < 2 ^ 64 - 1 }
+    ensures bytes { PutsAll (K.has out.old) (K.has out.new) result (check_line events end) }
+    ensures cause { HasCause (K.faults out.old) (K.faults out.new) result }
+    ensures below { StaysOver (K.below out.old) (K.below out.new) }
+{
+    put_pieces(
+        out,
+        &[
+            Piece::Text(b"ok lines="),
+            Piece::Number(events + 1),
+            Piece::Text(b" events="),
+            Piece::Number(events),
+            Piece::Text(b" end="),
+            Piece::Number(end),
+            Piece::Text(b"\n"),
+        ],
+    )
+}
+
+/// Writes a sample of a clock of the watched group, taken at a tick (ns): the processor, after how many of
+/// its changes it was taken, and its times (ns) in the seven states, in their order.
+#[tactic(auto, using(crate::proofs::Puts::times))]
+pub fn write_live<K: Sink>(
+    out: &mut K,
+    at: Ns,
+    cpu: Cpu,
+    count: u64,
+    seven: [Ns; 7],
+) -> Result<(), WriteFailed>
+    ensures bytes { PutsAll (K.has out.old) (K.has out.new) result
+        (live_line at cpu.0 count seven) }
+    ensures cause { HasCause (K.faults out.old) (K.faults out.new) result }
+    ensures below { StaysOver (K.below out.old) (K.below out.new) }
+{
+    put_timed(
+        out,
+        &[
+            Piece::Text(b"live "),
+            Piece::Number(at),
+            Piece::Text(b" cpu="),
+            Piece::Number(u64::from(cpu.0)),
+            Piece::Text(b" count="),
+            Piece::Number(count),
+        ],
+        &seven,
+    )
+}
+
+/// Writes a signal of a trigger at a tick (ns): its number, the path of the group that it watches, and what
+/// it watches, with threshold and window in us.
+#[tactic(auto, using(psi_base::proofs::Grows::chain))]
+pub fn write_fired<K: Sink>(
+    out: &mut K,
+    at: Ns,
+    index: u32,
+    path: &Path,
+    spec: &TriggerSpec,
+) -> Result<(), WriteFailed>
+    ensures bytes { PutsAll (K.has out.old) (K.has out.new) result
+        (event_line at index path.now spec.now) }
+    ensures cause { HasCause (K.faults out.old) (K.faults out.new) result }
+    ensures below { StaysOver (K.below out.old) (K.below out.new) }
+{
+    put_pieces(
+        out,
+        &[
+            Piece::Text(b"event "),
+            Piece::Number(at),
+            Piece::Text(b" trigger="),
+            Piece::Number(u64::from(index)),
+            Piece::Text(b" "),
+            Piece::Text(path.bytes()),
+            Piece::Text(b" "),
+            Piece::Text(resource_word(spec.res)),
+            Piece::Text(b" "),
+            Piece::Text(level_word(spec.level)),
+            Piece::Text(b" "),
+            Piece::Number(spec.threshold_us),
+            Piece::Text(b" "),
+            Piece::Number(spec.window_us),
+            Piece::Text(b"\n"),
+        ],
+    )
+}
+
+/// Writes a kill at a tick (ns): the numbers of the ruleset and of its action, both from 0, and the
+/// victim's path.
+#[tactic(auto, using(psi_base::proofs::Grows::chain))]
+pub fn write_kill<K: Sink>(
+    out: &mut K,
+    at: Ns,
+    rule: u32,
+    action: u32,
+    path: &Path,
+) -> Result<(), WriteFailed>
+    ensures bytes { PutsAll (K.has out.old) (K.has out.new) result
+        (kill_line at rule action path.now) }
+    ensures cause { HasCause (K.faults out.old) (K.faults out.new) result }
+    ensures below { StaysOver (K.below out.old) (K.below out.new) }
+{
+    put_pieces(
+        out,
+        &[
+            Piece::Text(b"kill "),
+            Piece::Number(at),
+            Piece::Text(b" ruleset="),
+            Piece::Number(u64::from(rule)),
+            Piece::Text(b" action="),
+            Piece::Number(u64::from(action)),
+            Piece::Text(b" "),
+            Piece::Text(path.bytes()),
+            Piece::Text(b"\n"),
+        ],
+    )
+}
+
+/// Writes the last line of a replay: the end moment (ns), and how many ticks, signals and kills there
+/// were.
+#[tactic(auto, using(psi_base::proofs::Grows::chain))]
+pub fn write_end<K: Sink>(
+    out: &mut K,
+    at: Ns,
+    ticks: u64,
+    events: u64,
+    kills: u64,
+) -> Result<(), WriteFailed>
+    ensures bytes { PutsAll (K.has out.old) (K.has out.new) result
+        (end_line at ticks events kills) }
+    ensures cause { HasCause (K.faults out.old) (K.faults out.new) result }
+    ensures below { StaysOver (K.below out.old) (K.below out.new) }
+{
+    put_pieces(
+        out,
+        &[
+            Piece::Text(b"end "),
+            Piece::Number(at),
+            Piece::Text(b" ticks="),
+            Piece::Number(ticks),
+            Piece::Text(b" events="),
+            Piece::Number(events),
+            Piece::Text(b" kills="),
+            Piece::Number(kills),
+            Piece::Text(b"\n"),
+        ],
+    )
+}

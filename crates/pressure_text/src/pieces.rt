@@ -1,0 +1,116 @@
+//! A text in pieces, each sent as it is made.
+ghost use Rattle.std.specs.Prelude.{◌≡◌, ◌++◌, codes, decimal};
+ghost use Rattle.std.specs.List.{flat_map};
+ghost use Rattle.psi_base.specs.Outside.{HasCause, PutsAll, StaysOver};
+ghost use Rattle.pressure_spec.specs.File.{hundredths, percent_text, two_digits};
+ghost use Rattle.psi_spec.specs.Fields as fields;
+ghost use Rattle.pressure_text.specs.Pieces.{piece_bytes, spaced};
+
+use psi_base::{Level, Res, Sink, WriteFailed, put_all, put_number};
+
+/// One percent of an average in fixed point.
+const PERCENT: u64 = 2048;
+
+/// A piece of a line.
+#[derive(Clone, Copy)]
+pub(crate) enum Piece<'a> {
+    /// A number in decimal digits.
+    Number(u64),
+    /// A text as it stands.
+    Text(&'a [u8]),
+    /// An average, of which 2048 is one percent, in percent with two digits behind the point.
+    Percent(u64),
+}
+
+/// The word of a resource.
+pub(crate) fn resource_word(res: Res) -> &'static [u8]
+    ensures { result.now ≡ fields.resource_word res }
+{
+    match res {
+        Res::Io => b"io".as_slice(),
+        Res::Memory => b"memory".as_slice(),
+        Res::Cpu => b"cpu".as_slice(),
+    }
+}
+
+/// The word of a level.
+pub(crate) fn level_word(level: Level) -> &'static [u8]
+    ensures { result.now ≡ fields.level_word level }
+{
+    match level {
+        Level::SomeStalled => b"some".as_slice(),
+        Level::FullStalled => b"full".as_slice(),
+    }
+}
+
+// A point, and an average's hundredths of a percent in two digits.
+#[tactic(auto, using(std::proofs::lemmas::Fmt::decimal_digit))]
+fn fraction_of(average: u64) -> [u8; 3]
+    ensures { result ≡ codes "." ++ two_digits (hundredths average) }
+{
+    let hundredths = (average % PERCENT) * 100 / PERCENT;
+    let tens = (hundredths / 10) as u8;
+    let ones = (hundredths % 10) as u8;
+    [b'.', b'0' + tens, b'0' + ones]
+}
+
+// An average in percent.
+#[tactic(auto, using(psi_base::proofs::Grows::chain))]
+fn put_percent<K: Sink>(out: &mut K, average: u64) -> Result<(), WriteFailed>
+    ensures bytes { PutsAll (K.has out.old) (K.has out.new) result (percent_text average) }
+    ensures cause { HasCause (K.faults out.old) (K.faults out.new) result }
+    ensures below { StaysOver (K.below out.old) (K.below out.new) }
+{
+    put_number(out, average / PERCENT)?;
+    put_all(out, &fraction_of(average))
+}
+
+fn put_piece<K: Sink>(out: &mut K, piece: Piece) -> Result<(), WriteFailed>
+    ensures bytes { PutsAll (K.has out.old) (K.has out.new) result (piece_bytes piece.entry) }
+    ensures cause { HasCause (K.faults out.old) (K.faults out.new) result }
+    ensures below { StaysOver (K.below out.old) (K.below out.new) }
+{
+    match piece {
+        Piece::Number(n) => put_number(out, n),
+        Piece::Text(text) => put_all(out, text),
+        Piece::Percent(average) => put_percent(out, average),
+    }
+}
+
+/// Sends the pieces in order. A failure leaves a prefix of their joined bytes in the sink.
+#[tactic(auto, using(psi_base::proofs::Grows::growth))]
+pub(crate) fn put_pieces<K: Sink>(out: &mut K, pieces: &[Piece]) -> Result<(), WriteFailed>
+    ensures bytes { PutsAll (K.has out.old) (K.has out.new) result
+        (flat_map piece_bytes pieces.now) }
+    ensures cause { HasCause (K.faults out.old) (K.faults out.new) result }
+    ensures below { StaysOver (K.below out.old) (K.below out.new) }
+{
+    for piece in pieces {
+        put_piece(out, *piece)?;
+    }
+    Ok(())
+}
+
+// A number behind a space.
+#[tactic(auto, using(psi_base::proofs::Grows::chain))]
+fn put_spaced<K: Sink>(out: &mut K, number: u64) -> Result<(), WriteFailed>
+    ensures bytes { PutsAll (K.has out.old) (K.has out.new) result (spaced number) }
+    ensures cause { HasCause (K.faults out.old) (K.faults out.new) result }
+    ensures below { StaysOver (K.below out.old) (K.below out.new) }
+{
+    put_all(out, b" ")?;
+    put_number(out, number)
+}
+
+/// Sends numbers, each behind a space.
+#[tactic(auto, using(psi_base::proofs::Grows::growth))]
+pub(crate) fn put_numbers<K: Sink>(out: &mut K, numbers: &[u64]) -> Result<(), WriteFailed>
+    ensures bytes { PutsAll (K.has out.old) (K.has out.new) result (flat_map spaced numbers.now) }
+    ensures cause { HasCause (K.faults out.old) (K.faults out.new) result }
+    ensures below { StaysOver (K.below out.old) (K.below out.new) }
+{
+    for number in numbers {
+        put_spaced(out, *number)?;
+    }
+    Ok(())
+}

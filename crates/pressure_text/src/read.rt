@@ -1,0 +1,188 @@
+//! Pressure files as they are read.
+ghost use Rattle.std.specs.Prelude.{◌≡◌, ◌↔◌, ◌≤◌, ◌<◌, IfSome, IsNone, MatchOption, None, Some};
+ghost use Rattle.std.specs.Prelude.{length};
+ghost use Rattle.std.specs.Char.{is_ascii_digit};
+ghost use Rattle.std.specs.List.{prefix_len};
+ghost use Rattle.pressure_text.specs.Reading.{Takes, average_at, behind, file_at, line_at};
+ghost use Rattle.pressure_text.specs.Reading.{number_at, past, two_at};
+ghost use Rattle.pressure_text.specs.Told.{ReadsAgain, Tells};
+ghost use Rattle.pressure_text.specs.declared.read.PressureFile.{PressureFile};
+
+use crate::pieces::level_word;
+use psi_base::{Level, read_number};
+use std::marker::Model;
+
+/// The greatest average, in hundredths of a percent.
+const ALL_TIME: u32 = 10_000;
+
+/// What a line of a pressure file tells.
+#[derive(Clone, Copy, Debug, PartialEq, Eq)]
+pub struct PressureLine {
+    /// The averages over 10, 60 and 300 seconds, in hundredths of a percent.
+    pub hundredths: [u32; 3],
+    /// The total, in us.
+    pub total_us: u64,
+}
+
+/// What a pressure file tells.
+#[derive(Clone, Copy, Debug, PartialEq, Eq)]
+pub struct PressureFile {
+    /// Of the time in which some tasks were held up.
+    pub some_line: PressureLine,
+    /// Of the time in which all were.
+    pub full_line: PressureLine,
+}
+
+// How many digits stand at the front.
+fn digits_at(bytes: &[u8]) -> usize
+    ensures count { result ≡ prefix_len is_ascii_digit bytes.now }
+    ensures within { result ≤ length bytes.now }
+{
+    bytes
+        .iter()
+        .take_while(|byte| byte.is_ascii_digit())
+        .count()
+}
+
+// What is left of a text. Contracts see its bytes.
+#[derive(Drop)]
+struct Rest<'a> {
+    bytes: &'a [u8],
+}
+
+impl<'a> Model for Rest<'a> {
+    ghost use Rattle.std.specs.Prelude.{List, ℕ};
+
+    ghost Value = { List ℕ };
+
+    ghost view = { λ r. r.bytes.now };
+}
+
+impl<'a> Rest<'a> {
+    // Goes on behind a text, if it stands at the front.
+    fn skip(&mut self, text: &[u8]) -> Option<()>
+        ensures { MatchOption result (behind text.now self.old ≡ None)
+            (λ _. behind text.now self.old ≡ Some self.new) }
+    {
+        match self.bytes.strip_prefix(text) {
+            Some(bytes) => {
+                self.bytes = bytes;
+                Some(())
+            }
+            None => None,
+        }
+    }
+
+    // Takes the number of all the digits at the front.
+    #[tactic(auto, unfolding(crate::specs::Reading::number_at))]
+    fn number(&mut self) -> Option<u64>
+        ensures { Takes result self.new (number_at self.old) }
+    {
+        let digits = digits_at(self.bytes);
+        let number = read_number(&self.bytes[..digits])?;
+        self.bytes = &self.bytes[digits..];
+        Some(number)
+    }
+
+    // Takes the number of two digits at the front.
+    #[tactic(auto, unfolding(crate::specs::Reading::two_at))]
+    fn two_digits(&mut self) -> Option<u32>
+        ensures found { Takes result self.new (two_at self.old) }
+        ensures small { IfSome result (λ n. n < 100) }
+    {
+        if self.bytes.len() < 2 {
+            return None;
+        }
+        let tens = self.bytes[0];
+        let ones = self.bytes[1];
+        if !tens.is_ascii_digit() || !ones.is_ascii_digit() {
+            return None;
+        }
+        self.bytes = &self.bytes[2..];
+        Some(u32::from(tens - b'0') * 10 + u32::from(ones - b'0'))
+    }
+
+    // Takes an average, in hundredths of a percent.
+    #[tactic(auto, unfolding(crate::specs::Reading::average_at))]
+    fn average(&mut self) -> Option<u32>
+        ensures { Takes result self.new (average_at self.old) }
+    {
+        let whole = self.number()?;
+        self.skip(b".")?;
+        let part = self.two_digits()?;
+        if whole > 100 {
+            return None;
+        }
+        let hundredths = whole as u32 * 100 + part;
+        if hundredths > ALL_TIME {
+            return None;
+        }
+        Some(hundredths)
+    }
+
+    // Takes the average behind this label.
+    fn average_past(&mut self, label: &[u8]) -> Option<u32>
+        ensures { Takes result self.new (past label.now average_at self.old) }
+    {
+        self.skip(label)?;
+        self.average()
+    }
+
+    // Takes the number behind this label.
+    fn number_past(&mut self, label: &[u8]) -> Option<u64>
+        ensures { Takes result self.new (past label.now number_at self.old) }
+    {
+        self.skip(label)?;
+        self.number()
+    }
+
+    // Takes a line.
+    #[tactic(auto, unfolding(crate::specs::Reading::line_at))]
+    fn line(&mut self, level: Level) -> Option<PressureLine>
+        ensures { Takes result self.new (line_at level self.old) }
+    {
+        self.skip(level_word(level))?;
+        let short = self.average_past(b" avg10=")?;
+        let middle = self.average_past(b" avg60=")?;
+        let long = self.average_past(b" avg300=")?;
+        let total_us = self.number_past(b" total=")?;
+        self.skip(b"\n")?;
+        Some(PressureLine {
+            hundredths: [short, middle, long],
+            total_us,
+        })
+    }
+}
+
+// The whole file, read from its front.
+#[tactic(auto, unfolding(crate::specs::Reading::file_at))]
+fn file_of(bytes: &[u8]) -> Option<PressureFile>
+    ensures { result ≡ file_at bytes.now }
+{
+    let mut rest = Rest { bytes };
+    let some_line = rest.line(Level::SomeStalled)?;
+    let full_line = rest.line(Level::FullStalled)?;
+    if !rest.bytes.is_empty() {
+        return None;
+    }
+    Some(PressureFile {
+        some_line,
+        full_line,
+    })
+}
+
+/// Reads a pressure file: the line on some tasks and the line on all, each with its newline, and nothing
+/// behind them. Averages are from 0.00 to 100.00 percent with two digits behind the point, totals are below
+/// 2^64 us, and numbers have no leading zeros. None exactly where the bytes are no such file.
+pub fn read_file(bytes: &[u8]) -> Option<PressureFile>
+    ensures exact { (file : PressureFile) → (result ≡ Some file) ↔ Tells bytes.now file }
+    ensures none { IsNone result ↔ ((file : PressureFile) → ¬ Tells bytes.now file) }
+{
+    file_of(bytes)
+}
+
+/// What [`write_file`](crate::write_file) writes of totals of 64 bits is read again by [`read_file`], as
+/// whole microseconds and hundredths of a percent.
+pub fn law_read_again()
+    ensures { ReadsAgain }
+{}
