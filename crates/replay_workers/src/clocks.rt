@@ -1,0 +1,34 @@
+//! The clocks of processors before any change, and up to one.
+ghost use Rattle.std.specs.Prelude.{◌≡◌, ◌<◌, ◌≤◌, ℕ, length, IfOk};
+ghost use Rattle.proc_plan.specs.Plans.{plan_at};
+ghost use Rattle.replay_workers.specs.Crew.{AreOnPlans, clocks_at};
+
+use proc_plan::{PlainClocks, Plans, ProcClocks};
+use psi_base::{Cpu, NoMemory};
+use std::alloc::Global;
+
+/// The clocks of all processors before the first change. They take all the memory that their changes need.
+pub fn first_clocks(alloc: Global, plans: &Plans) -> Result<Vec<PlainClocks<'_>>, NoMemory>
+    ensures on { IfOk result (λ clocks. AreOnPlans plans.now clocks.items) }
+    ensures fresh { IfOk result (λ clocks. (cpu : ℕ) → cpu < length clocks.items →
+        clocks_at clocks.items cpu ≡ record { plan = plan_at plans.now cpu; made = 0 }) }
+{
+    let slots = plans.groups().len() as u32;
+    let mut clocks = Vec::new(alloc);
+    'cpus: for cpu in 0..plans.cpus() {
+        clocks.push(PlainClocks::make(alloc, plans.plan(Cpu(cpu)), slots)?)?;
+    }
+    Ok(clocks)
+}
+
+/// Makes the changes of a plan that are left up to so many.
+pub fn make_until<C: ProcClocks>(clocks: &mut C, changes: u64)
+    requires all { changes ≤ length (C.plan clocks.old).changes }
+    requires within { C.made clocks.old ≤ changes }
+    ensures plan { C.plan clocks.new ≡ C.plan clocks.old }
+    ensures made { C.made clocks.new ≡ changes }
+{
+    'changes: while clocks.count() < changes {
+        clocks.apply();
+    }
+}
