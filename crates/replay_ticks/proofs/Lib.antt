@@ -1,0 +1,5 @@
+pub mod Pieces
+pub mod PutLaws
+pub mod ReportLaws
+pub mod StartLaws
+pub mod TickLaws

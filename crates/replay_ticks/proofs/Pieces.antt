@@ -1,0 +1,17 @@
+-- Texts that are written in pieces.
+use Rattle.std.proofs.Common.{◌≡◌, ℕ, List, [], ◌++◌, ap}
+use Rattle.std.specs.Prelude.{Option}
+use Rattle.std.specs.Io.KnownBytes.{Appends}
+use Rattle.std.proofs.lemmas.List.{append-nil}
+use Rattle.psi_base.specs.Outside.{AppendsFront}
+use Rattle.psi_base.proofs.Grows.{Appends-none, AppendsFront-then}
+
+-- a front of the first text is one of both
+pub front_of_both : (old new : Option (List ℕ)) (xs ys : List ℕ) → AppendsFront old new xs → AppendsFront old new (xs ++ ys)
+front_of_both old new xs ys front = AppendsFront-then old old new [] xs ys (Appends-none old) front
+
+-- the first text, and then a front of the second, are a front of both
+pub front_then : (old mid new : Option (List ℕ)) (xs ys : List ℕ) → Appends old mid xs → AppendsFront mid new ys → AppendsFront old new (xs ++ ys)
+front_then old mid new xs ys first front =
+    let all : xs ++ (ys ++ []) ≡ xs ++ ys = ap (λ zs. xs ++ zs) (append-nil ys) in
+    rw (← all) (AppendsFront-then old mid new xs ys [] first front)

@@ -1,0 +1,217 @@
+-- The lines of a tick that was sampled.
+use Rattle.std.proofs.Common.{◌≡◌, ℕ, suc, ◌+◌, ◌-◌, ◌*◌, ◌≤◌, ◌<◌, List, [], ◌∷◌, ◌++◌, length, refl, sym, ap, subst, ◌∙◌, arith, Bool, true, false}
+use Rattle.std.specs.Prelude.{All, Option, if◌then◌else◌}
+use Rattle.std.specs.Io.KnownBytes.{Appends}
+use Rattle.std.specs.List.{flat_map, range_with_len}
+use Rattle.std.proofs.Math.Nat.{le-div_iff_mul-le}
+use Rattle.std.proofs.lemmas.List.{append-nil, get_or-map, length-map}
+use Rattle.std.proofs.lemmas.List.Elements.{All-filter}
+use Rattle.std.proofs.lemmas.List.FromFn.{get_or-range_with_len, length-range_with_len}
+use Rattle.std.proofs.lemmas.List.Sorted.{All-permutation}
+use Rattle.psi_base.specs.Outside.{AppendsFront}
+use Rattle.psi_base.proofs.Grows.{Appends-then}
+use Rattle.psi_base.specs.declared.event.Slot.{Slot}
+use Rattle.psi_base.specs.declared.event.TriggerSpec.{TriggerSpec}
+use Rattle.psi_spec.specs.declared.machine.GroupLife.{GroupLife}
+use Rattle.psi_spec.specs.Groups.{IsPathOrder}
+use Rattle.psi_spec.specs.Told.{triggers_of}
+use Rattle.psi_spec.specs.Trace.{Trace, last_moment, limits_of}
+use Rattle.psi_spec.specs.World.{after}
+use Rattle.psi_laws.proofs.PlanStates.{legal_after}
+use Rattle.pressure_spec.specs.Average.{AverageState}
+use Rattle.pressure_spec.specs.Ticks.{Tick, is_report, tick_moment, tick_of, ticks_of}
+use Rattle.pressure_spec.specs.Samples.{fired_at, fires_by_number}
+use Rattle.run_spec.specs.Replay.{Pace, fired_in, lives_of, nothing_beside, reports, signal_lines, tick_count, tick_text}
+use Rattle.run_laws.specs.Reports.{averages_at, slot_report, slot_reports, totals_at}
+use Rattle.run_laws.proofs.OneMore.{ticks_more}
+use Rattle.run_laws.proofs.ByOrder.{reports_by_order}
+use Rattle.proc_plan.specs.Plans.{PlansView}
+use Rattle.tick_engine.specs.Engine.{EngineView, averages_in, totals_in}
+use Rattle.tick_engine.specs.declared.group.Group.{Group}
+use Rattle.replay_ticks.specs.declared.pacing.Pacing.{Pacing}
+use Rattle.replay_ticks.specs.Replays.{HasTicked, IsPaced, IsPlanned, IsToPut, numbers_of}
+use Rattle.replay_ticks.proofs.Pieces.{front_of_both, front_then}
+use Rattle.replay_ticks.proofs.StartLaws.{latest_within, triggers_within}
+
+-- ---- moments
+
+-- no tick of a planned trace is later than the last moment
+pub tick_within : (plans : PlansView) (trace : Trace) (pace : Pace) (number : ℕ) → IsPlanned plans trace pace → number ≤ tick_count trace pace → tick_moment pace.length number ≤ last_moment
+tick_within plans trace pace number planned within =
+    let early = (legal_after (limits_of pace.length trace.cpus) trace.events planned.accepted.legal).early in
+    let here : number * pace.length ≤ (after trace.events).last = (le-div_iff_mul-le planned.some).0 within in
+    omega (arith, here, early, latest_within pace.length planned.short)
+
+-- its moment fits 64 bits
+pub moment_fits : (plans : PlansView) (engine : EngineView) (order : List Slot) (pacing : Pacing) (trace : Trace) (pace : Pace) (number : ℕ) →
+    IsToPut plans engine order pacing trace pace number → tick_moment pacing.length number < 18446744073709551616
+moment_fits plans engine order pacing trace pace number is =
+    let here : tick_moment pacing.length number ≤ last_moment = rw is.paced.length (tick_within plans trace pace number is.planned is.within) in
+    omega (arith, here)
+
+-- ---- what is below a bound
+
+-- the first numbers are below how many they are
+pub range_below : (n : ℕ) → All (λ k. k < n) (range_with_len 0 n)
+range_below n = λ k d below.
+    let inside : k < n = omega (arith, below, length-range_with_len 0 n) in
+    omega (arith, inside, get_or-range_with_len 0 n k d inside)
+
+-- the numbers of triggers that signal are those of triggers that there are
+fired_below : (cpus : ℕ) (lives : List GroupLife) (triggers : List TriggerSpec) (ticks : List Tick) (tick : Tick) → All (λ number. number < length triggers) (fired_at cpus lives triggers ticks tick)
+unfolding fired_at
+fired_below cpus lives triggers ticks tick =
+    All-filter (fires_by_number cpus lives triggers ticks tick) (λ number. number < length triggers) (range_with_len 0 (length triggers)) (range_below (length triggers))
+
+-- an order of all slots by path has no slots but those that there are
+order_below : (lives : List GroupLife) (order : List ℕ) → IsPathOrder lives order → All (λ slot. slot < length lives) order
+order_below lives order is = All-permutation (λ slot. slot < length lives) (range_with_len 0 (length lives)) order is.each (range_below (length lives))
+
+-- so it is of slots
+slots_below : (n : ℕ) (slots : List Slot) → All (λ slot. slot < n) (numbers_of slots) → All (λ (slot : Slot). slot.0 < n) slots
+slots_below n slots all = λ k d below.
+    let number : Slot → ℕ = λ (slot : Slot). slot.0 in
+    subst (λ s. s < n) (get_or-map number slots k d 0 below) (all k 0 (omega (arith, below, length-map slots number)))
+
+pub order_made : (lives : List GroupLife) (slots : List Slot) → IsPathOrder lives (numbers_of slots) → All (λ (slot : Slot). slot.0 < length lives) slots
+order_made lives slots is = slots_below (length lives) slots (order_below lives (numbers_of slots) is)
+
+-- each trigger watches a group that there is
+pub triggers_made : (plans : PlansView) (trace : Trace) (pace : Pace) → IsPlanned plans trace pace → All (λ (trigger : TriggerSpec). trigger.slot.0 < length plans.lives) plans.triggers
+triggers_made plans trace pace planned = λ k d below. ((triggers_within plans trace pace planned).each k d below).slot
+
+-- ---- signals
+
+-- the engine tells the signals of the last tick
+pub fired_is : (engine : EngineView) (trace : Trace) (pace : Pace) (number : ℕ) → 0 < number → HasTicked engine trace pace number → engine.fired ≡ fired_in trace pace number
+fired_is engine trace pace number some stands =
+    let back : number - 1 + 1 ≡ number = omega (arith, some) in
+    let front = ticks_of trace.cpus trace.events pace.length (number - 1) in
+    stands.fired front (tick_of trace.cpus trace.events pace.length number)
+    (subst (λ n. ticks_of trace.cpus trace.events pace.length n ≡ front ++ tick_of trace.cpus trace.events pace.length n ∷ []) back (ticks_more trace.cpus trace.events pace.length (number - 1)))
+
+-- their numbers are those of triggers that there are
+pub fired_made : (plans : PlansView) (engine : EngineView) (trace : Trace) (pace : Pace) (number : ℕ) → IsPlanned plans trace pace → 0 < number → HasTicked engine trace pace number → All (λ number. number < length plans.triggers) engine.fired
+fired_made plans engine trace pace number planned some stands =
+    rw (fired_is engine trace pace number some stands, planned.stand.triggers)
+    (fired_below trace.cpus (lives_of trace) (triggers_of trace.events) (ticks_of trace.cpus trace.events pace.length (number - 1)) (tick_of trace.cpus trace.events pace.length number))
+
+-- the lines of the signals of a tick
+abbrev pub signals_text : Trace → Pace → ℕ → List ℕ
+signals_text trace pace number = signal_lines (tick_moment pace.length number) (lives_of trace) (triggers_of trace.events) (fired_in trace pace number)
+
+pub signals_are : (plans : PlansView) (engine : EngineView) (order : List Slot) (pacing : Pacing) (trace : Trace) (pace : Pace) (number : ℕ) →
+    IsToPut plans engine order pacing trace pace number →
+    signal_lines (tick_moment pacing.length number) plans.lives plans.triggers engine.fired ≡ signals_text trace pace number
+signals_are plans engine order pacing trace pace number is =
+    rw (is.paced.length, is.planned.stand.lives, is.planned.stand.triggers, fired_is engine trace pace number is.some is.ticked) refl
+
+-- ---- reports
+
+-- pieces of numbers below a bound, where both tell the same of each
+same_pieces : (f g : ℕ → List ℕ) (n : ℕ) (xs : List ℕ) → ((x : ℕ) → x < n → f x ≡ g x) → All (λ x. x < n) xs → flat_map f xs ≡ flat_map g xs
+same_pieces f g n [] same below = refl
+same_pieces f g n (x ∷ xs) same below =
+    let first : x < n = below 0 x (omega arith) in
+    let rest = same_pieces f g n xs same (λ k d inside. below (suc k) d (omega (arith, inside))) in
+    ap (λ t. t ++ flat_map f xs) (same x first) ∙ ap (λ t. g x ++ t) rest
+
+report_same : (at : ℕ) (lives : List GroupLife) (t u : ℕ → List ℕ) (a b : ℕ → AverageState) (slot : ℕ) → t slot ≡ u slot → a slot ≡ b slot → slot_report at lives t a slot ≡ slot_report at lives u b slot
+report_same at lives t u a b slot totals averages = rw (totals, averages) refl
+
+-- the reports by an engine that stands for ticks are those at the last of them
+pub reports_are : (plans : PlansView) (engine : EngineView) (order : List Slot) (pacing : Pacing) (trace : Trace) (pace : Pace) (number : ℕ) →
+    IsToPut plans engine order pacing trace pace number →
+    slot_reports (tick_moment pacing.length number) plans.lives (totals_in engine) (averages_in engine) (numbers_of order) ≡ reports trace pace number
+reports_are plans engine order pacing trace pace number is =
+    let at = tick_moment pace.length number in
+    let lives = lives_of trace in
+    let ordered : IsPathOrder lives (numbers_of order) = subst (λ lives. IsPathOrder lives (numbers_of order)) is.planned.stand.lives is.by_path in
+    let same : (slot : ℕ) → slot < length lives → slot_report at lives (totals_in engine) (averages_in engine) slot ≡ slot_report at lives (totals_at trace pace number) (averages_at trace pace number) slot = λ slot below.
+    report_same at lives (totals_in engine) (totals_at trace pace number) (averages_in engine) (averages_at trace pace number) slot
+    (ap (λ (group : Group). group.totals) (is.ticked.groups slot below)) (ap (λ (group : Group). group.averages) (is.ticked.groups slot below)) in
+    ap (λ n. slot_reports (tick_moment n number) plans.lives (totals_in engine) (averages_in engine) (numbers_of order)) is.paced.length
+    ∙ ap (λ lives. slot_reports at lives (totals_in engine) (averages_in engine) (numbers_of order)) is.planned.stand.lives
+    ∙ same_pieces (slot_report at lives (totals_in engine) (averages_in engine)) (slot_report at lives (totals_at trace pace number) (averages_at trace pace number)) (length lives) (numbers_of order) same (order_below lives (numbers_of order) ordered)
+    ∙ sym (reports_by_order (limits_of pace.length trace.cpus) trace pace number (numbers_of order) is.planned.accepted.legal ordered)
+
+-- ---- the whole text
+
+-- the reports of a tick, where they are due
+abbrev pub due_text : Trace → Pace → ℕ → List ℕ
+due_text trace pace number = if is_report pace.report pace.length (tick_count trace pace) number then reports trace pace number else []
+
+pub text_is : (trace : Trace) (pace : Pace) (number : ℕ) → tick_text trace pace nothing_beside number ≡ signals_text trace pace number ++ due_text trace pace number
+unfolding tick_text
+text_is trace pace number =
+    let signals = signals_text trace pace number in
+    ap (λ t. t ++ due_text trace pace number) (append-nil signals)
+
+due_true : (b : Bool) (text : List ℕ) → b ≡ true → (if b then text else []) ≡ text
+due_true b text is = rw is refl
+
+due_false : (b : Bool) (text : List ℕ) → b ≡ false → (if b then text else []) ≡ []
+due_false b text is = rw is refl
+
+paced_due : (pacing : Pacing) (trace : Trace) (pace : Pace) (number : ℕ) → IsPaced pacing trace pace → is_report pace.report pace.length (tick_count trace pace) number ≡ is_report pacing.report pacing.length pacing.last number
+paced_due pacing trace pace number paced = rw (paced.report, paced.length, paced.last) refl
+
+-- the text of a tick with reports
+pub text_due : (pacing : Pacing) (trace : Trace) (pace : Pace) (number : ℕ) → IsPaced pacing trace pace → is_report pacing.report pacing.length pacing.last number ≡ true →
+    tick_text trace pace nothing_beside number ≡ signals_text trace pace number ++ reports trace pace number
+text_due pacing trace pace number paced due =
+    text_is trace pace number ∙ ap (λ t. signals_text trace pace number ++ t) (due_true _ (reports trace pace number) (paced_due pacing trace pace number paced ∙ due))
+
+-- the text of a tick without
+pub text_plain : (pacing : Pacing) (trace : Trace) (pace : Pace) (number : ℕ) → IsPaced pacing trace pace → is_report pacing.report pacing.length pacing.last number ≡ false →
+    tick_text trace pace nothing_beside number ≡ signals_text trace pace number
+text_plain pacing trace pace number paced due =
+    text_is trace pace number ∙ ap (λ t. signals_text trace pace number ++ t) (due_false _ (reports trace pace number) (paced_due pacing trace pace number paced ∙ due)) ∙ append-nil (signals_text trace pace number)
+
+-- ---- what is put
+
+-- the lines of signals that were put are those of the tick
+pub signals_put : (plans : PlansView) (engine : EngineView) (order : List Slot) (pacing : Pacing) (trace : Trace) (pace : Pace) (number : ℕ) →
+    IsToPut plans engine order pacing trace pace number → (at : ℕ) (lives : List GroupLife) (triggers : List TriggerSpec) (fired : List ℕ) →
+    at ≡ tick_moment pacing.length number → lives ≡ plans.lives → triggers ≡ plans.triggers → fired ≡ engine.fired →
+    signal_lines at lives triggers fired ≡ signals_text trace pace number
+signals_put plans engine order pacing trace pace number is at lives triggers fired at_is lives_are triggers_are fired_are =
+    rw (at_is, lives_are, triggers_are, fired_are) (signals_are plans engine order pacing trace pace number is)
+
+-- the reports that were put are those of the tick
+pub reports_put : (plans : PlansView) (engine : EngineView) (order : List Slot) (pacing : Pacing) (trace : Trace) (pace : Pace) (number : ℕ) →
+    IsToPut plans engine order pacing trace pace number → (at : ℕ) (lives : List GroupLife) →
+    at ≡ tick_moment pacing.length number → lives ≡ plans.lives →
+    slot_reports at lives (totals_in engine) (averages_in engine) (numbers_of order) ≡ reports trace pace number
+reports_put plans engine order pacing trace pace number is at lives at_is lives_are =
+    rw (at_is, lives_are) (reports_are plans engine order pacing trace pace number is)
+
+-- a front of the signals is one of the tick's text
+pub signals_front : (old new : Option (List ℕ)) (trace : Trace) (pace : Pace) (number : ℕ) (signals : List ℕ) → signals ≡ signals_text trace pace number →
+    AppendsFront old new signals → AppendsFront old new (tick_text trace pace nothing_beside number)
+signals_front old new trace pace number signals same front =
+    subst (AppendsFront old new) (sym (text_is trace pace number))
+    (front_of_both old new (signals_text trace pace number) (due_text trace pace number) (subst (AppendsFront old new) same front))
+
+-- the signals, and a front of the reports, are a front of the text of a tick with reports
+pub reports_front : (old mid new : Option (List ℕ)) (pacing : Pacing) (trace : Trace) (pace : Pace) (number : ℕ) (signals behind : List ℕ) → IsPaced pacing trace pace →
+    is_report pacing.report pacing.length pacing.last number ≡ true → signals ≡ signals_text trace pace number → behind ≡ reports trace pace number →
+    Appends old mid signals → AppendsFront mid new behind → AppendsFront old new (tick_text trace pace nothing_beside number)
+reports_front old mid new pacing trace pace number signals behind paced due same reported first front =
+    subst (AppendsFront old new) (sym (text_due pacing trace pace number paced due))
+    (front_then old mid new (signals_text trace pace number) (reports trace pace number) (subst (Appends old mid) same first) (subst (AppendsFront mid new) reported front))
+
+-- the signals and the reports are all of it
+pub reports_all : (old mid new : Option (List ℕ)) (pacing : Pacing) (trace : Trace) (pace : Pace) (number : ℕ) (signals behind : List ℕ) → IsPaced pacing trace pace →
+    is_report pacing.report pacing.length pacing.last number ≡ true → signals ≡ signals_text trace pace number → behind ≡ reports trace pace number →
+    Appends old mid signals → Appends mid new behind → Appends old new (tick_text trace pace nothing_beside number)
+reports_all old mid new pacing trace pace number signals behind paced due same reported first second =
+    subst (Appends old new) (sym (text_due pacing trace pace number paced due))
+    (Appends-then old mid new (signals_text trace pace number) (reports trace pace number) (subst (Appends old mid) same first) (subst (Appends mid new) reported second))
+
+-- the signals alone are all of a tick without reports
+pub signals_all : (old new : Option (List ℕ)) (pacing : Pacing) (trace : Trace) (pace : Pace) (number : ℕ) (signals : List ℕ) → IsPaced pacing trace pace →
+    is_report pacing.report pacing.length pacing.last number ≡ false → signals ≡ signals_text trace pace number →
+    Appends old new signals → Appends old new (tick_text trace pace nothing_beside number)
+signals_all old new pacing trace pace number signals paced due same first =
+    subst (Appends old new) (sym (text_plain pacing trace pace number paced due)) (subst (Appends old new) same first)

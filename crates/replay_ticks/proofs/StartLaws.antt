@@ -1,0 +1,105 @@
+-- A replay before its first tick.
+use Rattle.std.proofs.Common.{◌≡◌, ℕ, ◌*◌, ◌≤◌, ◌<◌, List, [], length, get_or, sym, subst, arith}
+use Rattle.std.specs.Prelude.{All, IfSome, Option, None, Some}
+use Rattle.psi_base.specs.declared.event.TriggerSpec.{TriggerSpec}
+use Rattle.psi_spec.specs.declared.machine.GroupLife.{GroupLife}
+use Rattle.psi_spec.specs.Groups.{IsPathOrder}
+use Rattle.psi_spec.specs.Told.{AreTriggersWithin, IsTriggerWithin, triggers_of}
+use Rattle.psi_spec.specs.Trace.{Trace, last_moment, limits_of, longest_tick}
+use Rattle.psi_spec.specs.World.{after}
+use Rattle.psi_laws.specs.Moments.{IsLife}
+use Rattle.psi_laws.proofs.PlanStates.{legal_after}
+use Rattle.psi_laws.proofs.MomentsLives.{lives_are_in_order}
+use Rattle.psi_laws.proofs.MomentsTriggers.{triggers_are_within}
+use Rattle.pressure_spec.specs.Ticks.{ticks_of}
+use Rattle.run_spec.specs.Replay.{Pace, lives_of}
+use Rattle.proc_plan.specs.Plans.{PlansView}
+use Rattle.aggregate.specs.Table.{new_table}
+use Rattle.aggregate.proofs.TableLaws.{keeps_sizes}
+use Rattle.tick_engine.specs.Engine.{EngineView, IsLifeWithin, StandsFor}
+use Rattle.replay_workers.specs.Crew.{AreOnPlans, clocks_at}
+use Rattle.replay_ticks.specs.Replays.{HasTicked, IsPaced, IsPlanned, IsReplay, ReplayView, numbers_of}
+
+-- ---- lives and triggers
+
+gone_within : (last latest made : ℕ) (gone : Option ℕ) → last ≤ latest → IfSome gone (λ gone. (made ≤ gone) × (gone ≤ last)) → IfSome gone (λ gone. gone ≤ latest)
+gone_within last latest made None early is = is
+gone_within last latest made (Some gone) early is = omega (arith, early, is.1)
+
+life_within : (last latest : ℕ) (life : GroupLife) → last ≤ latest → IsLife last life → IsLifeWithin latest life
+life_within last latest life early is = record {
+  made = omega (arith, early, is.made);
+  gone = gone_within last latest life.made life.gone early is.gone;
+}
+
+-- the latest moment that may be named is within the last
+pub latest_within : (length : ℕ) → length ≤ longest_tick → 1000000 * length ≤ last_moment
+latest_within length short = omega (arith, short)
+
+-- the lives of a planned trace are within the last moment
+pub lives_within : (plans : PlansView) (trace : Trace) (pace : Pace) → IsPlanned plans trace pace → All (λ life. IsLifeWithin last_moment life) plans.lives
+lives_within plans trace pace planned =
+    let limits = limits_of pace.length trace.cpus in
+    let legal = planned.accepted.legal in
+    let lives = lives_are_in_order limits trace.events legal in
+    let early : (after trace.events).last ≤ last_moment = omega (arith, (legal_after limits trace.events legal).early, latest_within pace.length planned.short) in
+    subst (All (λ life. IsLifeWithin last_moment life)) (sym planned.stand.lives)
+    (λ k d below. life_within (after trace.events).last last_moment (get_or (after trace.events).groups k d) early (lives.each k d below))
+
+trigger_within : (latest last slots : ℕ) (trigger : TriggerSpec) → latest ≤ last → IsTriggerWithin latest slots trigger → IsTriggerWithin last slots trigger
+trigger_within latest last slots trigger early is = record {
+  early = omega (arith, early, is.early);
+  slot = is.slot;
+  window = is.window;
+}
+
+triggers_later : (latest last slots : ℕ) (triggers : List TriggerSpec) → latest ≤ last → AreTriggersWithin latest slots triggers → AreTriggersWithin last slots triggers
+triggers_later latest last slots triggers early are = record {
+  few = are.few;
+  each = λ k d below. trigger_within latest last slots (get_or triggers k d) early (are.each k d below);
+}
+
+-- the triggers of a planned trace are few, and each is in its range
+pub triggers_within : (plans : PlansView) (trace : Trace) (pace : Pace) → IsPlanned plans trace pace → AreTriggersWithin last_moment (length plans.lives) plans.triggers
+triggers_within plans trace pace planned =
+    let limits = limits_of pace.length trace.cpus in
+    let set = triggers_later limits.latest last_moment (length (after trace.events).groups) (triggers_of trace.events) (latest_within pace.length planned.short) (triggers_are_within limits trace.events planned.accepted.legal) in
+    rw (planned.stand.lives, planned.stand.triggers) set
+
+-- ---- before the first tick
+
+no_ticks : (engine : EngineView) (trace : Trace) (pace : Pace) → StandsFor engine trace.cpus (lives_of trace) (triggers_of trace.events) [] → HasTicked engine trace pace 0
+unfolding ticks_of
+no_ticks engine trace pace stands = stands
+
+-- an engine that was made of plans has made no tick of their trace
+pub engine_new : (plans : PlansView) (engine : EngineView) (trace : Trace) (pace : Pace) → IsPlanned plans trace pace → StandsFor engine (length plans.plans) plans.lives plans.triggers [] → HasTicked engine trace pace 0
+engine_new plans engine trace pace planned stands =
+    let cpus = subst (λ cpus. StandsFor engine cpus plans.lives plans.triggers []) planned.stand.each stands in
+    let lives = subst (λ lives. StandsFor engine trace.cpus lives plans.triggers []) planned.stand.lives cpus in
+    no_ticks engine trace pace (subst (λ triggers. StandsFor engine trace.cpus (lives_of trace) triggers []) planned.stand.triggers lives)
+
+-- what was made of plans is a replay of their trace before its first tick
+pub replay_new : (replay : ReplayView) (trace : Trace) (pace : Pace) → IsPlanned replay.plans trace pace →
+    replay.crew.plans ≡ replay.plans → AreOnPlans replay.crew.plans replay.crew.clocks →
+    ((cpu : ℕ) → cpu < length replay.crew.plans.plans → (clocks_at replay.crew.clocks cpu).made ≡ 0) →
+    replay.rows ≡ new_table (length replay.plans.plans) (length replay.plans.lives) →
+    StandsFor replay.engine (length replay.plans.plans) replay.plans.lives replay.plans.triggers [] →
+    IsPathOrder replay.plans.lives (numbers_of replay.order) → IsPaced replay.pacing trace pace → replay.made ≡ 0 → replay.signals ≡ 0 → IsReplay replay trace pace 0
+replay_new replay trace pace planned same on fresh rows stands order paced made signals =
+    let here = subst (λ plans. AreOnPlans plans replay.crew.clocks) same on in
+    record {
+      planned = planned;
+      paced = paced;
+      made = made;
+      within = omega arith;
+      crew = same;
+      behind = record {
+        on_plans = here;
+        behind = λ cpu below. omega (arith, fresh cpu (omega (arith, below, on.each)));
+      };
+      sizes = rw rows (keeps_sizes.new (length replay.plans.plans) (length replay.plans.lives));
+      engine = engine_new replay.plans replay.engine trace pace planned stands;
+      order = order;
+      signals = signals;
+    }

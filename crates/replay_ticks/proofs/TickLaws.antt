@@ -1,0 +1,276 @@
+-- What one tick more makes of a replay.
+use Rattle.std.proofs.Common.{◌≡◌, ℕ, zero, suc, ◌+◌, ◌-◌, ◌*◌, ◌/◌, ◌<◌, ◌≤◌, ◌^◌, List, [], ◌∷◌, ◌++◌, length, sym, ap, ◌∙◌, subst, arith, cond}
+use Rattle.std.specs.Prelude.{Bool, Err, IsErr, Ok, Option, Result, nat_le}
+use Rattle.std.specs.List.{count_by, range_with_len}
+use Rattle.std.proofs.Math.Nat.{le-div_iff_mul-le, mul-le-mul_left}
+use Rattle.std.proofs.lemmas.List.FromFn.{length-range_with_len}
+use Rattle.std.proofs.lemmas.List.Sums.{length-filter, count_by-le-length, sum_by-cons}
+use Rattle.psi_spec.specs.Told.{triggers_of}
+use Rattle.psi_spec.specs.Trace.{Trace, last_moment, limits_of}
+use Rattle.psi_laws.specs.declared.changes.Change.{Change}
+use Rattle.psi_laws.specs.Plan.{changes_up_to, PlanView}
+use Rattle.psi_laws.proofs.PlanStates.{legal_after}
+use Rattle.psi_laws.proofs.MomentsTriggers.{triggers_are_within}
+use Rattle.pressure_spec.specs.Samples.{fired_at, fires_by_number}
+use Rattle.pressure_spec.specs.Ticks.{IsNextTick, table_until, tick_moment, tick_of, ticks_of}
+use Rattle.run_spec.specs.Replay.{Pace, fired_in, lives_of, nothing_beside, signals_until, tick_count, tick_text}
+use Rattle.run_spec.specs.Text.{end_of}
+use Rattle.run_laws.proofs.OneMore.{signals_more, ticks_more}
+use Rattle.run_laws.proofs.Following.{ticks_follow}
+use Rattle.proc_plan.specs.Plans.{PlansView, plan_at}
+use Rattle.aggregate.specs.Table.{HasSizes}
+use Rattle.tick_engine.specs.Engine.{EngineView, StandsFor, Takes}
+use Rattle.tick_engine.specs.Tables.{tick_at}
+use Rattle.proc_plan.specs.Clocks.{OnPlan}
+use Rattle.replay_workers.specs.Crew.{AreAt, AreBehind, CrewView, IsTableAt}
+use Rattle.replay_workers.proofs.Tables.{table_is_of_events}
+use Rattle.psi_base.specs.Outside.{AppendsFront}
+use Rattle.psi_base.specs.declared.event.Slot.{Slot}
+use Rattle.psi_spec.specs.Groups.{IsPathOrder}
+use Rattle.replay_ticks.specs.declared.replay.TickFault.{TickFault}
+use Rattle.replay_ticks.specs.Replays.{HasPlaces, HasTicked, IsPlanned, IsReplay, IsSampled, IsToPut, IsToSample, ReplayView, TickGives, numbers_of}
+
+-- ---- moments
+
+-- each tick that a trace has comes up to its end
+within_end : (length end n : ℕ) → 0 < length → n ≤ end / length → n * length ≤ end
+within_end length end n some few = (le-div_iff_mul-le some).0 few
+
+-- so it comes within the last moment
+pub moment_early : (plans : PlansView) (trace : Trace) (pace : Pace) (n : ℕ) → IsPlanned plans trace pace → n ≤ tick_count trace pace → tick_moment pace.length n ≤ last_moment
+moment_early plans trace pace n planned few =
+    let before = within_end pace.length (end_of trace.events) n planned.some few in
+    let world = legal_after (limits_of pace.length trace.cpus) trace.events planned.accepted.legal in
+    omega (arith, before, world.early, planned.short)
+
+-- ---- one tick
+
+-- the table that a crew fills is that of the tick
+pub tick_is : (plans : PlansView) (trace : Trace) (pace : Pace) (n at : ℕ) (table : List (List (List ℕ))) → IsPlanned plans trace pace → at ≡ tick_moment pace.length n → IsTableAt table plans at
+    → tick_at at table ≡ tick_of trace.cpus trace.events pace.length n
+tick_is plans trace pace n at table planned moment is =
+    let filled : table ≡ table_until trace.cpus trace.events at = table_is_of_events (limits_of pace.length trace.cpus) trace.cpus trace.events plans table at planned.accepted.legal planned.stand is in
+    ap (tick_at at) filled ∙ ap (λ m. tick_at m (table_until trace.cpus trace.events m)) moment
+
+-- it comes next
+pub tick_next : (plans : PlansView) (engine : EngineView) (trace : Trace) (pace : Pace) (i at : ℕ) (table : List (List (List ℕ))) → IsPlanned plans trace pace → i < tick_count trace pace → at ≡ tick_moment pace.length (i + 1)
+    → HasTicked engine trace pace i → IsTableAt table plans at → IsNextTick engine.last (tick_at at table)
+tick_next plans engine trace pace i at table planned left moment stands is =
+    let same = tick_is plans trace pace (i + 1) at table planned moment is in
+    let early = moment_early plans trace pace (i + 1) planned (omega (arith, left)) in
+    let next = ticks_follow (limits_of pace.length trace.cpus) trace.cpus trace.events pace.length i planned.accepted.legal planned.some planned.short early in
+    rw (stands.last, same) next
+
+-- the table has the sizes of the engine
+pub tick_fits : (plans : PlansView) (engine : EngineView) (trace : Trace) (pace : Pace) (i : ℕ) (table : List (List (List ℕ))) → IsPlanned plans trace pace → HasTicked engine trace pace i → HasPlaces plans table
+    → HasSizes engine.cpus (length engine.groups) table
+tick_fits plans engine trace pace i table planned stands sizes =
+    let cpus : length plans.plans ≡ engine.cpus = planned.stand.each ∙ sym stands.cpus_are in
+    let slots : length plans.lives ≡ length engine.groups = ap length planned.stand.lives ∙ sym stands.slots in
+    subst (λ n. HasSizes n (length engine.groups) table) cpus (subst (λ n. HasSizes (length plans.plans) n table) slots sizes)
+
+-- the engine stands for it too then
+pub tick_taken : (plans : PlansView) (engine new : EngineView) (trace : Trace) (pace : Pace) (i at : ℕ) (table : List (List (List ℕ))) → IsPlanned plans trace pace → at ≡ tick_moment pace.length (i + 1)
+    → HasTicked engine trace pace i → IsTableAt table plans at → Takes engine (tick_at at table) new → HasTicked new trace pace (i + 1)
+tick_taken plans engine new trace pace i at table planned moment stands is takes =
+    let same = tick_is plans trace pace (i + 1) at table planned moment is in
+    let after_it = takes trace.cpus (lives_of trace) (triggers_of trace.events) (ticks_of trace.cpus trace.events pace.length i) stands in
+    subst (StandsFor new trace.cpus (lives_of trace) (triggers_of trace.events)) (ap (λ t. ticks_of trace.cpus trace.events pace.length i ++ t ∷ []) same ∙ sym (ticks_more trace.cpus trace.events pace.length i)) after_it
+
+-- the next tick is sampled
+pub is_sampled : (plans : PlansView) (crew : CrewView) (rows : List (List (List ℕ))) (engine new : EngineView) (trace : Trace) (pace : Pace) (i at : ℕ) → IsPlanned plans trace pace → at ≡ tick_moment pace.length (i + 1)
+    → HasTicked engine trace pace i → crew.plans ≡ plans → AreAt plans crew.clocks at → IsTableAt rows plans at → Takes engine (tick_at at rows) new → IsSampled plans crew rows new trace pace (i + 1) at
+is_sampled plans crew rows engine new trace pace i at planned moment stands same there is takes = record {
+  same = same;
+  there = there;
+  sizes = is.sizes;
+  ticked = tick_taken plans engine new trace pace i at rows planned moment stands is takes;
+}
+
+-- ---- clocks
+
+one_change : (moment at later : ℕ) → at ≤ later → cond (nat_le moment at) 1 0 ≤ cond (nat_le moment later) 1 0
+one_change moment at later forward = grind arith
+
+counts_more : (at later : ℕ) → at ≤ later → (changes : List Change) → count_by (λ (change : Change). nat_le change.at at) changes ≤ count_by (λ (change : Change). nat_le change.at later) changes
+counts_more at later forward [] = omega arith
+counts_more at later forward (change ∷ changes) =
+    let before = sum_by-cons (λ (change : Change). cond (nat_le change.at at) 1 0) change changes in
+    let behind = sum_by-cons (λ (change : Change). cond (nat_le change.at later) 1 0) change changes in
+    let one = one_change change.at at later forward in
+    let others = counts_more at later forward changes in
+    omega (arith, before, behind, one, others)
+
+-- no fewer changes come up to a later moment
+changes_more : (plan : PlanView) (at later : ℕ) → at ≤ later → changes_up_to plan at ≤ changes_up_to plan later
+changes_more plan at later forward =
+    let few = length-filter (λ (change : Change). nat_le change.at at) plan.changes in
+    let more = length-filter (λ (change : Change). nat_le change.at later) plan.changes in
+    let counts = counts_more at later forward plan.changes in
+    omega (arith, few, more, counts)
+
+pub behind_later : (plans : PlansView) (clocks : List OnPlan) (at later : ℕ) → at ≤ later → AreBehind plans clocks at → AreBehind plans clocks later
+behind_later plans clocks at later forward behind = record {
+  on_plans = behind.on_plans;
+  behind = λ cpu below.
+      let made = behind.behind cpu below in
+      let more = changes_more (plan_at plans cpu) at later forward in
+      omega (arith, made, more);
+}
+
+pub at_is_behind : (plans : PlansView) (clocks : List OnPlan) (at : ℕ) → AreAt plans clocks at → AreBehind plans clocks at
+at_is_behind plans clocks at there = record {
+  on_plans = there.on_plans;
+  behind = λ cpu below. let made = there.there cpu below in omega (arith, made);
+}
+
+-- ---- signals
+
+fired_few : (plans : PlansView) (trace : Trace) (pace : Pace) (n : ℕ) → IsPlanned plans trace pace → length (fired_in trace pace n) ≤ 256
+unfolding fired_at
+fired_few plans trace pace n planned =
+    let few = (triggers_are_within (limits_of pace.length trace.cpus) trace.events planned.accepted.legal).few in
+    let test = fires_by_number trace.cpus (lives_of trace) (triggers_of trace.events) (ticks_of trace.cpus trace.events pace.length (n - 1)) (tick_of trace.cpus trace.events pace.length n) in
+    let numbers = range_with_len 0 (length (triggers_of trace.events)) in
+    let passed = length-filter test numbers in
+    let most = count_by-le-length test numbers in
+    let many : length numbers ≡ length (triggers_of trace.events) = length-range_with_len 0 (length (triggers_of trace.events)) in
+    omega (arith, few, passed, most, many)
+
+signals_few : (plans : PlansView) (trace : Trace) (pace : Pace) (n : ℕ) → IsPlanned plans trace pace → signals_until trace pace n ≤ 256 * n
+signals_few plans trace pace zero planned = omega arith
+signals_few plans trace pace (suc n) planned =
+    let next : suc n ≡ n + 1 = omega arith in
+    let before = signals_few plans trace pace n planned in
+    let more = signals_more trace pace n in
+    let one = fired_few plans trace pace (n + 1) planned in
+    subst (λ k. signals_until trace pace k ≤ 256 * k) (sym next) (let all : signals_until trace pace (n + 1) ≤ 256 * (n + 1) = omega (arith, before, more, one) in all)
+
+-- the engine has the triggers that signal at the last tick
+pub fired_is : (engine : EngineView) (trace : Trace) (pace : Pace) (i : ℕ) → HasTicked engine trace pace (i + 1) → engine.fired ≡ fired_in trace pace (i + 1)
+fired_is engine trace pace i stands =
+    let same : i + 1 - 1 ≡ i = omega arith in
+    let fired = stands.fired (ticks_of trace.cpus trace.events pace.length i) (tick_of trace.cpus trace.events pace.length (i + 1)) (ticks_more trace.cpus trace.events pace.length i) in
+    rw same fired
+
+-- the signals are counted on
+pub signals_are : (engine : EngineView) (trace : Trace) (pace : Pace) (i signals : ℕ) → HasTicked engine trace pace (i + 1) → signals ≡ signals_until trace pace i → signals + length engine.fired ≡ signals_until trace pace (i + 1)
+signals_are engine trace pace i signals stands so_far =
+    let fired = ap length (fired_is engine trace pace i stands) in
+    let more = signals_more trace pace i in
+    omega (arith, fired, more, so_far)
+
+-- no more ticks than ns
+pub ticks_few : (plans : PlansView) (trace : Trace) (pace : Pace) (n : ℕ) → IsPlanned plans trace pace → n ≤ tick_count trace pace → n ≤ last_moment
+ticks_few plans trace pace n planned within =
+    let early = moment_early plans trace pace n planned within in
+    let many : n * 1 ≤ n * pace.length = mul-le-mul_left n (let one : 1 ≤ pace.length = omega (arith, planned.some) in one) in
+    omega (arith, early, many)
+
+-- so the signals can be counted
+pub signals_fit : (plans : PlansView) (engine : EngineView) (trace : Trace) (pace : Pace) (i signals : ℕ) → IsPlanned plans trace pace → i < tick_count trace pace → HasTicked engine trace pace (i + 1) → signals ≡ signals_until trace pace i
+    → signals + length engine.fired < 2 ^ 64
+signals_fit plans engine trace pace i signals planned left stands so_far =
+    let all = signals_are engine trace pace i signals stands so_far in
+    let few = signals_few plans trace pace (i + 1) planned in
+    let ticks = ticks_few plans trace pace (i + 1) planned (omega (arith, left)) in
+    omega (arith, all, few, ticks)
+
+-- ---- the whole replay
+
+-- a replay whose next tick was sampled
+abbrev pub ticked_replay : ReplayView → CrewView → List (List (List ℕ)) → EngineView → ReplayView
+ticked_replay old crew rows engine =
+    record { plans = old.plans; crew = crew; rows = rows; engine = engine; order = old.order; pacing = old.pacing; made = old.made + 1; signals = old.signals + length engine.fired }
+
+-- where not all ticks were made, one is left
+pub one_left : (replay : ReplayView) (trace : Trace) (pace : Pace) (i : ℕ) → IsReplay replay trace pace i → (replay.made ≡ replay.pacing.last → ⊥) → i < tick_count trace pace
+one_left replay trace pace i is open_ =
+    let made = is.made in
+    let within = is.within in
+    let last = is.paced.last in
+    let other : i ≡ tick_count trace pace → ⊥ = λ same. open_ (made ∙ same ∙ sym last) in
+    grind (arith, within, other)
+
+-- its moment
+pub moment_is : (replay : ReplayView) (trace : Trace) (pace : Pace) (i : ℕ) → IsReplay replay trace pace i → tick_moment replay.pacing.length (replay.made + 1) ≡ tick_moment pace.length (i + 1)
+moment_is replay trace pace i is =
+    ap (λ length. tick_moment length (replay.made + 1)) is.paced.length ∙ ap (λ n. tick_moment pace.length (n + 1)) is.made
+
+-- it fits
+pub moment_fits : (replay : ReplayView) (trace : Trace) (pace : Pace) (i : ℕ) → IsReplay replay trace pace i → (replay.made ≡ replay.pacing.last → ⊥) → tick_moment replay.pacing.length (replay.made + 1) < 2 ^ 64
+moment_fits replay trace pace i is open_ =
+    let left = one_left replay trace pace i is open_ in
+    let early = moment_early replay.plans trace pace (i + 1) is.planned (omega (arith, left)) in
+    let same = moment_is replay trace pace i is in
+    omega (arith, early, same)
+
+planned_by_crew : (replay : ReplayView) (trace : Trace) (pace : Pace) (i : ℕ) → IsReplay replay trace pace i → IsPlanned replay.crew.plans trace pace
+planned_by_crew replay trace pace i is = subst (λ plans. IsPlanned plans trace pace) (sym is.crew) is.planned
+
+-- all is there to sample it
+pub to_sample : (replay : ReplayView) (trace : Trace) (pace : Pace) (i at : ℕ) → IsReplay replay trace pace i → (replay.made ≡ replay.pacing.last → ⊥) → at ≡ tick_moment replay.pacing.length (replay.made + 1)
+    → IsToSample replay.crew replay.rows replay.engine trace pace i at
+to_sample replay trace pace i at is open_ moment =
+    let here : at ≡ tick_moment pace.length (i + 1) = moment ∙ moment_is replay trace pace i is in
+    let apart : tick_moment pace.length (i + 1) ≡ tick_moment pace.length i + pace.length = grind arith in
+    let behind = behind_later replay.plans replay.crew.clocks (tick_moment pace.length i) at (omega (arith, here, apart)) is.behind in
+    record {
+      planned = planned_by_crew replay trace pace i is;
+      left = one_left replay trace pace i is open_;
+      at_is = here;
+      behind = subst (λ plans. AreBehind plans replay.crew.clocks at) (sym is.crew) behind;
+      sizes = subst (λ plans. HasPlaces plans replay.rows) (sym is.crew) is.sizes;
+      ticked = is.engine;
+    }
+
+-- all is there to write its lines
+pub to_put : (replay : ReplayView) (crew : CrewView) (rows : List (List (List ℕ))) (engine : EngineView) (order : List Slot) (trace : Trace) (pace : Pace) (i at : ℕ) → IsReplay replay trace pace i → (replay.made ≡ replay.pacing.last → ⊥)
+    → order ≡ replay.order → IsSampled replay.crew.plans crew rows engine trace pace (i + 1) at → IsToPut replay.plans engine order replay.pacing trace pace (replay.made + 1)
+to_put replay crew rows engine order trace pace i at is open_ ordered sampled =
+    let left = one_left replay trace pace i is open_ in
+    let made = is.made in
+    record {
+      planned = is.planned;
+      paced = is.paced;
+      some = omega arith;
+      within = omega (arith, left, made);
+      ticked = subst (λ n. HasTicked engine trace pace (n + 1)) (sym made) sampled.ticked;
+      by_path = subst (λ slots. IsPathOrder replay.plans.lives (numbers_of slots)) (sym ordered) is.order;
+    }
+
+-- its signals can be counted
+pub count_fits : (replay : ReplayView) (crew : CrewView) (rows : List (List (List ℕ))) (engine : EngineView) (trace : Trace) (pace : Pace) (i at : ℕ) → IsReplay replay trace pace i → (replay.made ≡ replay.pacing.last → ⊥)
+    → IsSampled replay.crew.plans crew rows engine trace pace (i + 1) at → replay.signals + length engine.fired < 2 ^ 64
+count_fits replay crew rows engine trace pace i at is open_ sampled =
+    signals_fit replay.plans engine trace pace i replay.signals is.planned (one_left replay trace pace i is open_) sampled.ticked is.signals
+
+-- one tick more was made
+pub is_ticked : (replay : ReplayView) (crew : CrewView) (rows : List (List (List ℕ))) (engine : EngineView) (trace : Trace) (pace : Pace) (i at : ℕ) → IsReplay replay trace pace i → (replay.made ≡ replay.pacing.last → ⊥)
+    → at ≡ tick_moment replay.pacing.length (replay.made + 1) → IsSampled replay.crew.plans crew rows engine trace pace (i + 1) at → IsReplay (ticked_replay replay crew rows engine) trace pace (i + 1)
+is_ticked replay crew rows engine trace pace i at is open_ moment sampled =
+    let left = one_left replay trace pace i is open_ in
+    let here : at ≡ tick_moment pace.length (i + 1) = moment ∙ moment_is replay trace pace i is in
+    let behind = at_is_behind replay.crew.plans crew.clocks at sampled.there in
+    record {
+      planned = is.planned;
+      paced = is.paced;
+      made = ap (λ n. n + 1) is.made;
+      within = omega (arith, left);
+      crew = sampled.same ∙ is.crew;
+      behind = subst (λ plans. AreBehind plans crew.clocks (tick_moment pace.length (i + 1))) is.crew (subst (AreBehind replay.crew.plans crew.clocks) here behind);
+      sizes = subst (λ plans. HasPlaces plans rows) is.crew sampled.sizes;
+      engine = sampled.ticked;
+      order = is.order;
+      signals = signals_are engine trace pace i replay.signals sampled.ticked is.signals;
+    }
+
+-- the lines of the next tick are those of the tick with the number to which the count went
+pub text_is : (replay : ReplayView) (trace : Trace) (pace : Pace) (i : ℕ) → IsReplay replay trace pace i → tick_text trace pace nothing_beside (replay.made + 1) ≡ tick_text trace pace nothing_beside (i + 1)
+text_is replay trace pace i is = ap (λ n. tick_text trace pace nothing_beside (n + 1)) is.made
+
+-- the next tick gives a front of its lines, where it fails
+pub gives_front : (trace : Trace) (pace : Pace) (i : ℕ) (new : ReplayView) (had has : Option (List ℕ)) (result : Result Bool TickFault) → IsErr result → i < tick_count trace pace
+    → AppendsFront had has (tick_text trace pace nothing_beside (i + 1)) → TickGives trace pace i new had has result
+gives_front trace pace i new had has (Ok x) failed left front = absurd (let no : ⊥ = cc in no)
+gives_front trace pace i new had has (Err fault) failed left front = (left, front)

@@ -1,0 +1,38 @@
+//! Which ticks a trace has, and which of them are reported.
+ghost use Rattle.std.specs.Prelude.{◌≡◌, ◌*◌, ◌<◌, ◌≤◌, ◌^◌};
+ghost use Rattle.pressure_spec.specs.Ticks.{is_report, tick_moment};
+
+use psi_base::Ns;
+
+/// How a trace is replayed.
+#[derive(Clone, Copy, Debug, PartialEq, Eq)]
+pub(crate) struct Pacing {
+    /// The length of a tick (ns).
+    pub(crate) length: Ns,
+    /// The period of reports (ns), 0 for none.
+    pub(crate) report: Ns,
+    /// How many ticks the trace has.
+    pub(crate) last: u64,
+}
+
+impl Pacing {
+    /// The moment (ns) of the tick with a number from 1.
+    pub(crate) fn moment(self, tick: u64) -> Ns
+        requires { tick_moment self.length tick < 2 ^ 64 }
+        ensures { result ≡ tick_moment self.length tick }
+    {
+        tick * self.length
+    }
+
+    /// Whether a tick is reported: the last one is, and each in whose interval a multiple of the period lies.
+    pub(crate) fn is_report(self, tick: u64) -> bool
+        requires some { 0 < tick }
+        requires early { tick_moment self.length tick < 2 ^ 64 }
+        ensures { result ≡ is_report self.report self.length self.last tick }
+    {
+        if tick == self.last {
+            return true;
+        }
+        self.report > 0 && self.moment(tick - 1) / self.report < self.moment(tick) / self.report
+    }
+}

@@ -1,0 +1,119 @@
+//! The lines of a tick.
+ghost use Rattle.std.specs.Prelude.{◌≡◌, ◌<◌, ◌≤◌, ℕ, length, ◌==◌};
+ghost use Rattle.std.specs.List.{All};
+ghost use Rattle.psi_base.specs.Outside.{HasCause, PutsAll, StaysOver};
+ghost use Rattle.psi_base.specs.declared.event.TriggerSpec.{TriggerSpec};
+ghost use Rattle.psi_spec.specs.Groups.{is_live_at};
+ghost use Rattle.run_spec.specs.Replay.{files_text, signal_lines};
+ghost use Rattle.run_laws.specs.Reports.{slot_report, slot_reports};
+ghost use Rattle.tick_engine.specs.Engine.{averages_in, totals_in};
+ghost use Rattle.replay_ticks.specs.Replays.{numbers_of};
+
+use fixed_average::Averages;
+use pressure_text::{write_fired, write_report};
+use psi_base::{Ns, Path, Res, Sink, Slot, TriggerSpec, WriteFailed};
+use psi_spec::GroupLife;
+use tick_engine::Engine;
+
+/// Whether a group is live at a moment (ns): it was made by then, and hasn't gone by then.
+fn is_live_at(life: &GroupLife, at: Ns) -> bool
+    ensures { result ≡ is_live_at life.now at }
+{
+    let is_gone = match life.gone {
+        Some(gone) => gone <= at,
+        None => false,
+    };
+    life.made <= at && !is_gone
+}
+
+/// Writes the lines of the triggers that signalled at a tick (ns), by their numbers.
+#[tactic(auto, using(psi_base::proofs::Grows::growth))]
+pub(crate) fn put_signals<K: Sink>(
+    out: &mut K,
+    at: Ns,
+    lives: &[GroupLife],
+    triggers: &[TriggerSpec],
+    fired: &[u32],
+) -> Result<(), WriteFailed>
+    requires numbers { All (λ number. number < length triggers.now) fired.now }
+    requires slots { All (λ (trigger : TriggerSpec). trigger.slot.0 < length lives.now) triggers.now }
+    ensures bytes { PutsAll (K.has out.old) (K.has out.new) result (signal_lines at lives.now triggers.now fired.now) }
+    ensures cause { HasCause (K.faults out.old) (K.faults out.new) result }
+    ensures below { StaysOver (K.below out.old) (K.below out.new) }
+{
+    'fired: for number in fired {
+        let trigger = &triggers[*number as usize];
+        let path = &lives[trigger.slot.0 as usize].path;
+        write_fired(out, at, *number, path, trigger)?;
+    }
+    Ok(())
+}
+
+// Writes the pressure files of a group at a moment (ns).
+#[tactic(auto, using(psi_base::proofs::Grows::growth))]
+fn put_files<K: Sink>(
+    out: &mut K,
+    at: Ns,
+    path: &Path,
+    slot: Slot,
+    totals: [u64; 6],
+    averages: &Averages,
+) -> Result<(), WriteFailed>
+    ensures bytes { PutsAll (K.has out.old) (K.has out.new) result (files_text at path.now slot.0 totals averages.now.averages) }
+    ensures cause { HasCause (K.faults out.old) (K.faults out.new) result }
+    ensures below { StaysOver (K.below out.old) (K.below out.new) }
+{
+    let is_root = slot.0 == 0;
+    write_report(out, at, path, Res::Io, is_root, totals, averages)?;
+    write_report(out, at, path, Res::Memory, is_root, totals, averages)?;
+    write_report(out, at, path, Res::Cpu, is_root, totals, averages)
+}
+
+// Writes the report of a group at a tick (ns), where it is live then.
+fn put_report<K: Sink>(
+    out: &mut K,
+    at: Ns,
+    lives: &[GroupLife],
+    slot: Slot,
+    engine: &Engine,
+) -> Result<(), WriteFailed>
+    requires made { slot.0 < length lives.now }
+    requires kept { length engine.now.groups ≡ length lives.now }
+    ensures bytes { PutsAll (K.has out.old) (K.has out.new) result (slot_report at lives.now (totals_in engine.now) (averages_in engine.now) slot.0) }
+    ensures cause { HasCause (K.faults out.old) (K.faults out.new) result }
+    ensures below { StaysOver (K.below out.old) (K.below out.new) }
+{
+    let life = &lives[slot.0 as usize];
+    if !is_live_at(life, at) {
+        return Ok(());
+    }
+    put_files(
+        out,
+        at,
+        &life.path,
+        slot,
+        engine.totals(slot),
+        engine.averages(slot),
+    )
+}
+
+/// Writes the reports of all groups that are live at a tick (ns), in this order of slots.
+#[tactic(auto, using(psi_base::proofs::Grows::growth))]
+pub(crate) fn put_reports<K: Sink>(
+    out: &mut K,
+    at: Ns,
+    lives: &[GroupLife],
+    order: &[Slot],
+    engine: &Engine,
+) -> Result<(), WriteFailed>
+    requires made { All (λ (slot : Slot). slot.0 < length lives.now) order.now }
+    requires kept { length engine.now.groups ≡ length lives.now }
+    ensures bytes { PutsAll (K.has out.old) (K.has out.new) result (slot_reports at lives.now (totals_in engine.now) (averages_in engine.now) (numbers_of order.now)) }
+    ensures cause { HasCause (K.faults out.old) (K.faults out.new) result }
+    ensures below { StaysOver (K.below out.old) (K.below out.new) }
+{
+    'slots: for slot in order {
+        put_report(out, at, lives, *slot, engine)?;
+    }
+    Ok(())
+}
