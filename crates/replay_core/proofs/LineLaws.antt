@@ -1,6 +1,6 @@
 -- Reading a trace line by line, against the definition over its bytes.
 use Rattle.std.proofs.Common.{◌≡◌, ◌≢◌, ℕ, ◌+◌, ◌<◌, ◌≤◌, List, [], ◌∷◌, ◌++◌, length, get_or, refl, sym, ap, ◌∙◌, subst, arith, ◌⊎◌, ⊎_elim, true, false, Bool}
-use Rattle.std.specs.Prelude.{Result, Ok, Err, Option, None, Some, nat_lt, if◌then◌else◌}
+use Rattle.std.specs.Prelude.{IfOk, Result, Ok, Err, Option, None, Some, nat_lt, if◌then◌else◌}
 use Rattle.std.proofs.lemmas.List.{append-nil, length-append}
 use Rattle.std.proofs.Math.Seq.{get_or-append_seam}
 use Rattle.psi_base.specs.Path.{parts_at}
@@ -13,14 +13,15 @@ use Rattle.psi_base.specs.declared.event.Fault.TheVariants as fault
 use Rattle.psi_lines.specs.Lines.{BeginsWithLine, IsTooLong, IsCut}
 use Rattle.psi_spec.specs.World.{World, Limits, after, after_event, first_world}
 use Rattle.psi_spec.specs.Refusal.{cause_of}
-use Rattle.psi_spec.specs.Grammar.{event_of, header_of}
-use Rattle.psi_spec.specs.Trace.{Trace, line_event, rest_cause, then_legal, at_end, or_refused, followed, refused, first_line, first_rest, headed, with_events, trace_of, limits_of}
+use Rattle.psi_spec.specs.Grammar.{Fits, event_of, header_of, spelling}
+use Rattle.psi_spec.specs.Trace.{AllFit, IsCpuCount, Trace, line_event, rest_cause, then_legal, at_end, or_refused, followed, refused, first_line, first_rest, headed, with_events, trace_of, limits_of}
 use Rattle.psi_spec.proofs.Splitting.{Cut, cut}
 use Rattle.psi_spec.proofs.Reading.{Events, rest_from-line, rest_from-rest, nothing_left, followed-followed}
-use Rattle.psi_spec.proofs.Accepting.{trace_of-line, trace_of-rest}
-use Rattle.psi_spec.proofs.PlanLaws.{after-push}
+use Rattle.psi_spec.proofs.Accepting.{last_end, trace_of-line, trace_of-rest}
+use Rattle.proc_plan.proofs.Taking.{legal_push}
+use Rattle.psi_laws.proofs.PlanLaws.{after-push}
 use Rattle.psi_base.specs.Gives.{Gives}
-use Rattle.replay_core.specs.Reads.{rest_from, FaultOf, IsFaultAt, NextGives, Plays, RestGives, TailGives, Takes, TakesLine, TakesRead, TracePlayed}
+use Rattle.replay_core.specs.Reads.{Legally, rest_from, FaultOf, IsFaultAt, NextGives, Plays, RestGives, TailGives, Takes, TakesLine, TakesRead, TracePlayed}
 use Rattle.replay_core.specs.declared.trace.TraceFault.{TraceFault}
 use Rattle.replay_core.specs.declared.trace.TraceFault.TheVariants.{Refused, NoFile, ReadFault, NoMemory}
 
@@ -226,6 +227,7 @@ pub closes : (Played : Plays) (limits : Limits) (events : List Event) (line : �
 closes Played limits events line before behind known (Ok x) played ended read tail = record {
   events = events;
   played = played;
+  ended = ended;
   read = λ bytes tells. all_read events limits (after events) line (behind bytes) (rest_from limits first_world 2 (before bytes)) (read bytes tells) (tail bytes tells) ended;
 }
 closes Played limits events line before behind known (Err (Refused refusal)) played ended read tail = λ bytes tells.
@@ -299,12 +301,41 @@ faults_here Before After Whole limits count before behind later known found so n
 
 -- ---- the trace
 
-pub trace_played : (Played : Plays) (tick cpus : ℕ) (named behind : List ℕ → List ℕ) (known : Option (List ℕ)) (x : Unit {0})
+pub trace_played : (Played : Plays) (tick cpus : ℕ) (named behind : List ℕ → List ℕ) (known : Option (List ℕ)) (x : Unit {0}) → IsCpuCount cpus
     → ((bytes : List ℕ) → known ≡ Some bytes → trace_of tick bytes ≡ with_events cpus (rest_from (limits_of tick cpus) first_world 2 (behind bytes)))
-    → RestGives Played (limits_of tick cpus) behind known (Ok x) → TracePlayed Played tick known
-trace_played Played tick cpus named behind known x headed rest = record {
+    → RestGives (Legally Played) (limits_of tick cpus) behind known (Ok x) → TracePlayed Played tick known
+trace_played Played tick cpus named behind known x counted headed rest = record {
   cpus = cpus;
+  counted = counted;
   events = rest.events;
-  played = rest.played;
+  played = rest.played.0;
+  accepted = record {
+    fit = rest.played.1;
+    legal = rest.played.2;
+    ends = last_end (limits_of tick cpus) first_world rest.events refl rest.played.2 rest.ended;
+  };
   read = λ bytes tells. headed bytes tells ∙ ap (with_events cpus) (rest.read bytes tells);
 }
+
+-- ---- players of legal events
+
+fits_push : (events : List Event) (event : Event) → AllFit events → Fits event → AllFit (events ++ event ∷ [])
+fits_push [] event all one = (one, tt)
+fits_push (first ∷ events) event all one = (all.0, fits_push events event all.1 one)
+
+-- an event that a player takes is taken behind events that can be spelled and are legal, where it can be spelled
+legally : (Before After : Plays) (event : Event) (result : Result (Unit {0}) (Fault Cause)) → Fits event → Takes Before After event result → Takes (Legally Before) (Legally After) event result
+legally Before After event (Ok x) fits takes = λ limits events played.
+    let taken = takes limits events played.0 in
+    (taken.0, (taken.1, fits_push events event played.1 fits, legal_push limits first_world events event played.2 taken.0), taken.2)
+legally Before After event (Err (fault.Refused why)) fits takes = λ limits events played. takes limits events played.0
+legally Before After event (Err fault.NoMemory) fits takes = tt
+
+pub legally_read : (Before After : Plays) (read : Result Event (Fault Cause)) (result : Result (Unit {0}) (Fault Cause)) → IfOk read Fits → TakesRead Before After read result → TakesRead (Legally Before) (Legally After) read result
+legally_read Before After (Ok event) result fits takes = legally Before After event result fits takes
+legally_read Before After (Err why) result fits same = same
+
+-- an event that was read can be spelled
+pub fits_read : (line : List ℕ) (read : Result Event (Fault Cause)) → IfOk read (λ event. Fits event × (line ≡ spelling event)) → IfOk read Fits
+fits_read line (Ok event) found = found.0
+fits_read line (Err why) found = tt

@@ -20,14 +20,16 @@ use Rattle.psi_spec.specs.World.{Limits, after, first_world, is_live}
 use Rattle.psi_spec.specs.Refusal.{AreLegal}
 use Rattle.psi_spec.specs.Stall.{stall}
 use Rattle.psi_spec.specs.Groups.{path_at}
-use Rattle.psi_spec.specs.Clock.{ClockView, opened, opened_time}
-use Rattle.psi_spec.specs.Plan.{IsClock, PlanView, last_change, plan_of, planned_time, until_change}
-use Rattle.psi_spec.specs.Text.{end_of, in_order, live_from, live_groups, stall_line, stall_lines, stall_text, stall_times}
-use Rattle.psi_spec.proofs.ClockLaws.{map_states}
+use Rattle.psi_laws.specs.Clock.{ClockView, opened, opened_time}
+use Rattle.psi_laws.specs.Plan.{IsClock, PlanView, last_change, plan_of, planned_time, until_change}
+use Rattle.run_spec.specs.Text.{end_of, stall_lines, stall_text, stall_times}
+use Rattle.run_spec.specs.Lines.{stall_line}
+use Rattle.psi_spec.specs.Groups.{in_order, live_from, live_groups}
+use Rattle.psi_laws.proofs.ClockLaws.{map_states}
 use Rattle.psi_spec.proofs.GroupLaws.{same_bytes}
-use Rattle.psi_spec.proofs.PlanLaws.{as_many}
-use Rattle.psi_spec.proofs.PlanStalls as stalls
-use Rattle.psi_spec.proofs.PlanStalls.{planned_is_stall, stall_by_own_changes}
+use Rattle.psi_laws.proofs.PlanLaws.{as_many}
+use Rattle.psi_laws.proofs.PlanStalls as stalls
+use Rattle.psi_laws.proofs.PlanStalls.{planned_is_stall, stall_by_own_changes}
 use Rattle.group_tree.specs.Tree.{live_slots, slot_at}
 use Rattle.proc_plan.specs.Plans.{PlansView, StandFor, plan_at}
 use Rattle.proc_plan.proofs.Finishing.{standing_plans}
@@ -40,7 +42,7 @@ pub taken_more : {X : Type 0} → (f : X → List ℕ) (xs : List X) (i : ℕ) (
 taken_more f xs i d inside =
     ap (flat_map f) (take_more xs i d inside) ∙ flat_map-append f (take i xs) (get_or xs i d ∷ []) ∙ ap (λ t. flat_map f (take i xs) ++ t) (append-nil (f (get_or xs i d)))
 
-range_parts : (a m k : ℕ) → range_with_len a (m + k) ≡ range_with_len a m ++ range_with_len (a + m) k
+pub range_parts : (a m k : ℕ) → range_with_len a (m + k) ≡ range_with_len a m ++ range_with_len (a + m) k
 range_parts a zero k = let e : a + 0 ≡ a = omega arith in
     let n : 0 + k ≡ k = omega arith in
     rw (e, n) refl

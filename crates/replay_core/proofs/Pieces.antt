@@ -1,15 +1,13 @@
 -- Texts that are written in pieces.
-use Rattle.std.proofs.Common.{◌≡◌, ℕ, List, [], ◌∷◌, ◌++◌, sym, ap, ◌∙◌, append_assoc, map}
+use Rattle.std.proofs.Common.{◌≡◌, ℕ, List, [], ◌∷◌, ◌++◌, sym, ap, ◌∙◌, append_assoc}
 use Rattle.std.specs.Prelude.{codes, decimal, Option, None, Some, Result, Ok, Err}
-use Rattle.std.specs.List.{flat_map}
 use Rattle.std.specs.Io.KnownBytes.{Appends}
 use Rattle.std.proofs.lemmas.List.{append-nil}
 use Rattle.psi_base.specs.Outside.{AppendsFront, PutsAll}
 use Rattle.psi_base.proofs.Grows.{Appends-none, Appends-then, AppendsFront-of, AppendsFront-then}
 use Rattle.psi_base.specs.declared.event.Cause.{Cause}
-use Rattle.psi_spec.specs.Text.{cause_name, field_number, field_text, stall_line}
-use Rattle.psi_spec.specs.Grammar.{joined}
-use Rattle.replay_core.specs.Status.{spaced, refusal_text}
+use Rattle.run_spec.specs.Text.{cause_name, field_number, field_text}
+use Rattle.run_spec.specs.Status.{refusal_text}
 
 -- ---- one text after another
 
@@ -46,19 +44,3 @@ pub refusal_some : (line field : ℕ) (why : Cause) → field_number why ≡ Som
 refusal_some line field why some =
     let name : cause_name why ++ (codes " " ++ (decimal field ++ codes "\n")) ≡ (cause_name why ++ field_text (field_number why)) ++ codes "\n" = rw some (sym (append_assoc (cause_name why) (codes " " ++ decimal field) (codes "\n"))) in
     ap (λ t. codes "trace line " ++ (decimal line ++ (codes ": " ++ t))) name
-
--- ---- stall lines
-
--- words joined by spaces are the first word, and the others each behind a space
-joined_numbers : (word : List ℕ) (ns : List ℕ) → joined (word ∷ map decimal ns) ≡ word ++ flat_map spaced ns
-joined_numbers word [] = sym (append-nil word)
-joined_numbers word (n ∷ ns) = ap (λ w. word ++ 32 ∷ w) (joined_numbers (decimal n) ns)
-
-head_line : (cpu path numbers line end : List ℕ) → line ≡ path ++ numbers → ((cpu ++ (32 ∷ (path ++ []))) ++ numbers) ++ end ≡ (cpu ++ (32 ∷ line)) ++ end
-head_line cpu path numbers line end is =
-    ap (λ t. t ++ end) (append_assoc cpu (32 ∷ (path ++ [])) numbers ∙ ap (λ t. cpu ++ (32 ∷ t)) (ap (λ p. p ++ numbers) (append-nil path) ∙ sym is))
-
--- the line of a group: its head in four pieces, the numbers, and a newline
-pub stall_pieces : (cpu : ℕ) (path times : List ℕ) → ((codes "stall cpu=" ++ (decimal cpu ++ (codes " " ++ (path ++ [])))) ++ flat_map spaced times) ++ codes "\n" ≡ stall_line cpu path times
-stall_pieces cpu path times =
-    ap (λ t. codes "stall cpu=" ++ t) (head_line (decimal cpu) path (flat_map spaced times) (joined (path ∷ map decimal times)) (codes "\n") (joined_numbers path times))

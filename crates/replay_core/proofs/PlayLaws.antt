@@ -12,7 +12,7 @@ use Rattle.proc_plan.specs.Plans as plans
 use Rattle.proc_plan.specs.Plans.{HasTaken, PlannerView}
 use Rattle.proc_plan.proofs.Taking.{lines_of}
 use Rattle.replay_core.specs.Reads.{IsPlayed, Takes}
-use Rattle.psi_spec.proofs.PlanLaws.{after-push}
+use Rattle.psi_laws.proofs.PlanLaws.{after-push}
 
 -- ---- the table as a player
 
@@ -36,5 +36,5 @@ table_takes limits_now limits_after w w_after event (Err fault.NoMemory) same le
 -- what a planner's clause tells is what a player owes
 pub planner_takes : (old new : PlannerView) (event : Event) (result : Result (Unit {0}) (Fault Cause)) → plans.Takes old new event result → Takes (HasTaken old) (HasTaken new) event result
 planner_takes old new event (Ok x) takes = takes
-planner_takes old new event (Err (fault.Refused why)) takes = takes.1
+planner_takes old new event (Err (fault.Refused why)) takes = takes
 planner_takes old new event (Err fault.NoMemory) takes = tt

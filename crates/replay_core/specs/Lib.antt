@@ -1,4 +1,3 @@
 pub mod Lines
 pub mod Reads
-pub mod Run
-pub mod Status
+pub mod Writes

@@ -1,17 +1,16 @@
 -- The lines of `stall`, by the plans of processors.
-use Rattle.std.specs.Prelude.{◌≡◌, ℕ, List, length, map, slice_index_or}
+use Rattle.std.specs.Prelude.{◌≡◌, ℕ, List, length, slice_index_or}
 use Rattle.std.specs.List.{flat_map, range_with_len}
 use Rattle.psi_base.specs.declared.event.Slot.{Slot}
 use Rattle.psi_spec.specs.declared.machine.GroupLife.{GroupLife}
 use Rattle.psi_spec.specs.Groups.{path_at}
-use Rattle.psi_spec.specs.Plan.{IsPlan, PlanView, no_plan, planned_time}
-use Rattle.psi_spec.specs.Stall.{states}
-use Rattle.psi_spec.specs.Text.{stall_line}
+use Rattle.psi_laws.specs.Plan.{IsPlan, PlanView, no_plan, planned}
+use Rattle.run_spec.specs.Lines.{stall_line}
 use Rattle.proc_plan.specs.Clocks.{OnPlan}
 
 -- the times (ns) of a slot in the states' order, by all changes of a plan and up to a moment behind them
 abbrev pub plan_times : PlanView → ℕ → ℕ → List ℕ
-plan_times plan slot at = map (λ state. planned_time state plan slot (length plan.changes) at) states
+plan_times plan slot at = planned plan slot (length plan.changes) at
 
 -- the line of a group on a processor by its plan, at the last moment (ns)
 abbrev pub plan_line : ℕ → List GroupLife → PlanView → ℕ → Slot → List ℕ
@@ -24,10 +23,6 @@ plan_lines groups order last plan cpu = flat_map (plan_line cpu groups plan last
 -- the lines of all processors
 abbrev pub all_lines : List GroupLife → List Slot → ℕ → List PlanView → List ℕ
 all_lines groups order last plans = flat_map (λ cpu. plan_lines groups order last (slice_index_or plans cpu no_plan) cpu) (range_with_len 0 (length plans))
-
--- the clocks of a processor, by its number
-abbrev pub clocks_at : List OnPlan → ℕ → OnPlan
-clocks_at clocks cpu = slice_index_or clocks cpu (record { plan = no_plan; made = 0 })
 
 -- the clocks of a processor made all changes of a whole plan
 pub record HasMadeAll (plan : PlanView) (clocks : OnPlan) : Type 0 where

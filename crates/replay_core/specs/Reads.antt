@@ -1,5 +1,6 @@
 -- What reading a trace gives, where its bytes are told.
-use Rattle.std.specs.Prelude.{◌≡◌, ◌≢◌, ℕ, ◌+◌, ◌<◌, List, [], ◌∷◌, ◌++◌, length, Option, None, Some, Result, Ok, Err, ⊤, false}
+use Rattle.std.specs.Prelude.{◌≡◌, ◌≢◌, ℕ, ◌+◌, ◌<◌, List, [], ◌∷◌, ◌++◌, length, Option, None, Some, Result, Ok, Err, IsErrOf, ⊤, true, false}
+use Rattle.psi_base.specs.Outside.{HasCauses, ShelfCounts}
 use Rattle.psi_base.specs.Path.{parts_at}
 use Rattle.psi_base.specs.declared.event.Event.{Event}
 use Rattle.psi_base.specs.declared.event.Refusal.{Refusal}
@@ -8,8 +9,8 @@ use Rattle.psi_base.specs.declared.event.Cause.TheVariants as cause
 use Rattle.psi_base.specs.declared.event.Fault.{Fault}
 use Rattle.psi_base.specs.declared.event.Fault.TheVariants as fault
 use Rattle.psi_spec.specs.World.{World, Limits, after, first_world}
-use Rattle.psi_spec.specs.Refusal.{cause_of}
-use Rattle.psi_spec.specs.Trace.{events_from, followed, limits_of, line_event, refused, trace_of, with_events}
+use Rattle.psi_spec.specs.Refusal.{AreLegal, cause_of}
+use Rattle.psi_spec.specs.Trace.{AllFit, IsAccepted, IsCpuCount, Trace, events_from, followed, limits_of, line_event, refused, trace_of, with_events}
 use Rattle.replay_core.specs.declared.trace.TraceFault.{TraceFault}
 use Rattle.replay_core.specs.declared.trace.TraceFault.TheVariants.{Refused, NoFile, ReadFault, NoMemory}
 
@@ -23,6 +24,10 @@ Plays = Limits → List Event → Type 0
 pub record IsPlayed (limits_now : Limits) (w : World) (limits : Limits) (events : List Event) : Type 0 where
   pub limits_are : limits_now ≡ limits
   pub world : w ≡ after events
+
+-- a player has played events that can each be spelled and are legal in their turn
+abbrev pub Legally : Plays → Plays
+Legally Played limits events = Played limits events × AllFit events × AreLegal limits first_world events
 
 -- What an event does to a player that has played any events: it is legal and played behind them, and there were fewer
 -- than 4,000,000; or it is refused with the first cause. Of want of memory nothing is said.
@@ -83,10 +88,11 @@ TailGives line bytes (Err NoMemory) = ⊤
 
 -- ---- all lines
 
--- a player has played all events of what was left of the input behind the header
+-- a player has played all events of what was left of the input behind the header, to the end of the trace
 pub record RestPlayed (Played : Plays) (limits : Limits) (before : List ℕ → List ℕ) (known : Option (List ℕ)) : Type 0 where
   pub events : List Event
   pub played : Played limits events
+  pub ended : (after events).ended ≡ true
   pub read : (bytes : List ℕ) → known ≡ Some bytes → rest_from limits first_world 2 (before bytes) ≡ Ok events
 
 -- what the lines behind the header give
@@ -99,16 +105,26 @@ abbrev pub HeadGives : ℕ → List ℕ → List ℕ → Result ℕ TraceFault �
 HeadGives tick before after (Ok cpus) = trace_of tick before ≡ with_events cpus (rest_from (limits_of tick cpus) first_world 2 after)
 HeadGives tick before after (Err fault) = FaultOf fault (trace_of tick before)
 
--- a player has played all events of an accepted trace
+-- a trace of version 1
+abbrev pub plain_trace : ℕ → List Event → Trace
+plain_trace cpus events = record { version = 1; cpus = cpus; events = events }
+
+-- A player has played all events of an accepted trace, which is that of the bytes where they are told.
 pub record TracePlayed (Played : Plays) (tick : ℕ) (known : Option (List ℕ)) : Type 0 where
   pub cpus : ℕ
+  pub counted : IsCpuCount cpus
   pub events : List Event
   pub played : Played (limits_of tick cpus) events
-  pub read : (bytes : List ℕ) → known ≡ Some bytes → trace_of tick bytes ≡ Ok (record { version = 1; cpus = cpus; events = events })
+  pub accepted : IsAccepted (limits_of tick cpus) events
+  pub read : (bytes : List ℕ) → known ≡ Some bytes → trace_of tick bytes ≡ Ok (plain_trace cpus events)
 
 -- a trace that can't be read has its first refusal
 abbrev pub TraceRefused : TraceFault → ℕ → Option (List ℕ) → Type 0
 TraceRefused fault tick known = (bytes : List ℕ) → known ≡ Some bytes → FaultOf fault (trace_of tick bytes)
+
+-- A shelf counted this fault of a trace and nothing else: a failed read, or a name that it hasn't.
+abbrev pub CausesTraceFault : {A : Type 0} → ShelfCounts → ShelfCounts → Result A TraceFault → Type 0
+CausesTraceFault before now result = HasCauses before now (IsErrOf result ReadFault) (IsErrOf result NoFile)
 
 -- nothing is said of any bytes
 abbrev pub TellsNothing : {A : Type 0} → Result A TraceFault → Type 0

@@ -2,14 +2,14 @@
 #![tactic(auto)]
 
 mod command;
+mod entry;
 mod lines;
 mod note;
 mod player;
+mod replay;
 mod stalls;
-mod status;
-mod text;
 mod trace;
-mod words;
 
-pub use command::run;
-pub use status::{Status, Which};
+pub use entry::run;
+pub use replay_ticks::{Replay, TickFault, prepare};
+pub use run_spec::{Status, Which};

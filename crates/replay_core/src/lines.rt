@@ -2,17 +2,18 @@
 
 ghost use Rattle.std.specs.Prelude.{◌≡◌, ℕ, ◌+◌, ◌<◌, ◌≤◌, List, length};
 ghost use Rattle.std.specs.List.{All};
-ghost use Rattle.psi_base.specs.Outside.{PutsAll, HasCause};
+ghost use Rattle.psi_base.specs.Outside.{HasCause, PutsAll, StaysOver};
 ghost use Rattle.psi_base.specs.declared.event.Event.{Event};
-ghost use Rattle.psi_spec.specs.Plan.{IsPlan, last_change};
-ghost use Rattle.psi_spec.specs.Share.{last_moment};
-ghost use Rattle.psi_spec.specs.Text.{check_text};
+ghost use Rattle.psi_laws.specs.Plan.{IsPlan, last_change};
+ghost use Rattle.psi_spec.specs.Trace.{last_moment};
+ghost use Rattle.run_spec.specs.Text.{check_text};
 ghost use Rattle.psi_spec.specs.World.{Limits};
 ghost use Rattle.proc_plan.specs.Plans.{plan_at};
-ghost use Rattle.replay_core.specs.Lines.{HasMadeAll, all_lines, clocks_at, plan_line, plan_lines};
-ghost use Rattle.replay_core.specs.Reads.{IsPlayed};
+ghost use Rattle.replay_core.specs.Lines.{HasMadeAll, all_lines, plan_line, plan_lines};
+ghost use Rattle.replay_workers.specs.Crew.{clocks_at};
+ghost use Rattle.replay_core.specs.Reads.{IsPlayed, plain_trace};
 
-use crate::text::{write_check, write_stall};
+use pressure_text::{write_check, write_stall};
 use proc_plan::{PlainClocks, Plans, ProcClocks};
 use psi_base::{Cpu, Ns, Sink, Slot, WriteFailed};
 use psi_spec::GroupLife;
@@ -28,6 +29,7 @@ fn put_group<K: Sink, C: ProcClocks>(
     last: Ns,
 ) -> Result<(), WriteFailed>
     requires made { slot.0 < length groups.now }
+    requires known { length (C.plan clocks.old).parents ≡ length groups.now }
     requires whole { IsPlan (C.plan clocks.old) }
     requires all { C.made clocks.old ≡ length (C.plan clocks.old).changes }
     requires later { last_change (C.plan clocks.old) (length (C.plan clocks.old).changes) ≤ last }
@@ -36,8 +38,9 @@ fn put_group<K: Sink, C: ProcClocks>(
     ensures made { C.made clocks.new ≡ C.made clocks.old }
     ensures bytes { PutsAll (K.has out.old) (K.has out.new) result (plan_line cpu.0 groups.now (C.plan clocks.old) last slot) }
     ensures cause { HasCause (K.faults out.old) (K.faults out.new) result }
+    ensures below { StaysOver (K.below out.old) (K.below out.new) }
 {
-    let path = groups[slot.0 as usize].path.bytes();
+    let path = &groups[slot.0 as usize].path;
     write_stall(out, cpu, path, clocks.own(slot).opened(last))
 }
 
@@ -52,12 +55,14 @@ fn put_processor<K: Sink, C: ProcClocks>(
     last: Ns,
 ) -> Result<(), WriteFailed>
     requires made { All (λ (slot : Slot). slot.0 < length groups.now) order.now }
+    requires known { length (C.plan clocks.old).parents ≡ length groups.now }
     requires whole { IsPlan (C.plan clocks.old) }
     requires all { C.made clocks.old ≡ length (C.plan clocks.old).changes }
     requires later { last_change (C.plan clocks.old) (length (C.plan clocks.old).changes) ≤ last }
     requires early { last ≤ last_moment }
     ensures bytes { PutsAll (K.has out.old) (K.has out.new) result (plan_lines groups.now order.now last (C.plan clocks.old) cpu.0) }
     ensures cause { HasCause (K.faults out.old) (K.faults out.new) result }
+    ensures below { StaysOver (K.below out.old) (K.below out.new) }
 {
     'groups: for slot in order {
         put_group(out, cpu, clocks, groups, *slot, last)?;
@@ -77,11 +82,13 @@ pub(crate) fn put_lines<K: Sink>(
     requires each { length clocks.old ≡ length plans.now.plans }
     requires few { length clocks.old ≤ 64 }
     requires all { (cpu : ℕ) → cpu < length clocks.old → HasMadeAll (plan_at plans.now cpu) (clocks_at clocks.old cpu) }
+    requires known { (cpu : ℕ) → cpu < length clocks.old → length (plan_at plans.now cpu).parents ≡ length plans.now.lives }
     requires made { All (λ (slot : Slot). slot.0 < length plans.now.lives) order.now }
     requires later { (cpu : ℕ) → cpu < length clocks.old → last_change (plan_at plans.now cpu) (length (plan_at plans.now cpu).changes) ≤ last }
     requires early { last ≤ last_moment }
     ensures bytes { PutsAll (K.has out.old) (K.has out.new) result (all_lines plans.now.lives order.now last plans.now.plans) }
     ensures cause { HasCause (K.faults out.old) (K.faults out.new) result }
+    ensures below { StaysOver (K.below out.old) (K.below out.new) }
 {
     let groups = plans.lives();
     'cpus: for place in 0..clocks.len() {
@@ -93,8 +100,9 @@ pub(crate) fn put_lines<K: Sink>(
 
 /// Writes the line of an accepted trace.
 pub(crate) fn put_check<K: Sink>(table: &Table, out: &mut K) -> Result<(), WriteFailed>
-    ensures bytes { (limits : Limits) (events : List Event) → IsPlayed table.now.limits table.now.world limits events → PutsAll (K.has out.old) (K.has out.new) result (check_text (record { version = 1; cpus = limits.cpus; events = events })) }
+    ensures bytes { (limits : Limits) (events : List Event) → IsPlayed table.now.limits table.now.world limits events → PutsAll (K.has out.old) (K.has out.new) result (check_text (plain_trace limits.cpus events)) }
     ensures cause { HasCause (K.faults out.old) (K.faults out.new) result }
+    ensures below { StaysOver (K.below out.old) (K.below out.new) }
 {
     write_check(out, u64::from(table.lines()), table.last())
 }

@@ -1,13 +1,12 @@
 //! What tells of a status.
-ghost use Rattle.std.specs.Prelude.{◌≡◌, codes};
+ghost use Rattle.std.specs.Prelude.{◌≡◌, codes, option_map};
 ghost use Rattle.psi_base.specs.Outside.{PutsAll, HasCause};
-ghost use Rattle.psi_spec.specs.Text.{cause_name, cause_text, field_number};
-ghost use Rattle.replay_core.specs.Status.{seen_all, status_text, name_text, refusal_text};
+ghost use Rattle.run_spec.specs.Text.{cause_name, cause_text, field_number};
+ghost use Rattle.run_spec.specs.Status.{status_text, name_text, refusal_text};
 
-use crate::status::Status;
-use crate::words::Request;
 use itoa::Buffer;
 use psi_base::{Cause, Sink, WriteFailed, put_all, put_each};
+use run_spec::{Command, Status, Which};
 
 // The name of a cause.
 fn name_of(cause: Cause) -> &'static [u8]
@@ -92,12 +91,19 @@ fn put_refusal<N: Sink>(note: &mut N, line: u32, cause: Cause) -> Result<(), Wri
     }
 }
 
-// The name of the trace of a command.
-fn trace_of(command: Option<Request<'_>>) -> &[u8]
-    ensures { result.now ≡ name_text (seen_all command.entry) }
+// The name of the rules file or of the trace of a command.
+fn file_name(command: Option<&Command>, which: Which) -> &[u8]
+    ensures { result.now ≡ name_text (option_map (λ command. command.now) command.entry) which }
 {
-    match command {
-        Some(Request::Stall { trace }) | Some(Request::Check { trace }) => trace.as_bytes(),
+    let name = match (which, command) {
+        (Which::TraceFile, Some(Command::Stall { trace }))
+        | (Which::TraceFile, Some(Command::Check { trace, .. }))
+        | (Which::TraceFile, Some(Command::Replay { trace, .. })) => Some(trace),
+        (Which::RulesFile, Some(Command::Replay { options, .. })) => options.rules.as_ref(),
+        _ => None,
+    };
+    match name {
+        Some(name) => name.bytes(),
         None => b"",
     }
 }
@@ -105,10 +111,10 @@ fn trace_of(command: Option<Request<'_>>) -> &[u8]
 /// Tells of a status in one line, and of `Done` in none. Takes no memory.
 pub(crate) fn put_status<N: Sink>(
     note: &mut N,
-    command: Option<Request<'_>>,
+    command: Option<&Command>,
     status: Status,
 ) -> Result<(), WriteFailed>
-    ensures bytes { PutsAll (N.has note.old) (N.has note.new) result (status_text (seen_all command.entry) status) }
+    ensures bytes { PutsAll (N.has note.old) (N.has note.new) result (status_text (option_map (λ command. command.now) command.entry) status) }
     ensures cause { HasCause (N.faults note.old) (N.faults note.new) result }
 {
     match status {
@@ -118,9 +124,13 @@ pub(crate) fn put_status<N: Sink>(
             b"usage: psi_oomd stall or check or replay or gen or stress\n",
         ),
         Status::Trace { line, cause } => put_refusal(note, line, cause),
-        Status::NoFile { .. } => put_each(
+        Status::NoFile { which } => put_each(
             note,
-            &[b"no file: ".as_slice(), trace_of(command), b"\n".as_slice()],
+            &[
+                b"no file: ".as_slice(),
+                file_name(command, which),
+                b"\n".as_slice(),
+            ],
         ),
         Status::ReadFault => put_all(note, b"read fault\n"),
         Status::WriteFault => put_all(note, b"write fault\n"),

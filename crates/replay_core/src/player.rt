@@ -3,10 +3,11 @@ ghost use Rattle.std.specs.Prelude.{◌≡◌, ◌≤◌, List, [], IfOk};
 ghost use Rattle.psi_base.specs.declared.event.Event.{Event};
 ghost use Rattle.psi_spec.specs.Grammar.{Fits};
 ghost use Rattle.psi_spec.specs.World.{Limits, after};
-ghost use Rattle.psi_spec.specs.Share.{last_moment};
+ghost use Rattle.psi_spec.specs.Trace.{last_moment};
 ghost use Rattle.psi_spec.specs.Trace.{IsCpuCount};
 ghost use Rattle.replay_core.specs.Reads.{Takes};
 
+use proc_plan::Planner;
 use psi_base::{Cause, Event, Fault, NoMemory, Ns};
 use std::alloc::Global;
 use task_table::Table;
@@ -16,11 +17,11 @@ pub(crate) trait Player: Sized {
     /// It has played these events of a trace with these limits.
     ghost Played: { Self → Limits → List Event → Type 0 };
 
-    /// The machine before a trace of version 1 with so many processors, 1 to 64, in which no event is later than `latest` (ns).
+    /// The machine before a trace with so many processors, 1 to 64, in which no event is later than `latest` (ns).
     fn start(alloc: Global, cpus: u32, latest: Ns) -> Result<Self, NoMemory>
         requires counted { IsCpuCount cpus }
         requires short { latest ≤ last_moment }
-        ensures { IfOk result (λ player. Self.Played player (record { version = 1; cpus = cpus; latest = latest }) []) };
+        ensures { IfOk result (λ player. Self.Played player (record { cpus = cpus; latest = latest }) []) };
 
     /// Plays one event more, whose numbers are in the ranges of the grammar: `Refused` with the first cause against it, where it isn't legal.
     fn take(&mut self, event: &Event) -> Result<(), Fault<Cause>>
@@ -48,5 +49,24 @@ impl Player for Table {
 
     fn is_ended(&self) -> bool {
         Table::is_ended(self)
+    }
+}
+
+/// To sum stalls, and to replay, a trace is taken apart by processor.
+impl Player for Planner {
+    ghost use Rattle.proc_plan.specs.Plans.{HasTaken};
+
+    ghost Played = { λ planner limits events. HasTaken planner limits events };
+
+    fn start(alloc: Global, cpus: u32, latest: Ns) -> Result<Self, NoMemory> {
+        Planner::new(alloc, cpus, latest)
+    }
+
+    fn take(&mut self, event: &Event) -> Result<(), Fault<Cause>> {
+        Planner::take(self, event)
+    }
+
+    fn is_ended(&self) -> bool {
+        Planner::is_ended(self)
     }
 }

@@ -1,67 +1,23 @@
 //! The stall sums of a trace: it is taken apart by processor, and then clocks make the changes of each.
 ghost use Rattle.std.specs.Prelude.{◌≡◌, ℕ, ◌<◌, ◌≤◌, List, length, IfOk};
 ghost use Rattle.psi_base.specs.declared.event.Event.{Event};
-ghost use Rattle.psi_spec.specs.Text.{stall_text};
+ghost use Rattle.psi_base.specs.Outside.{StaysOver};
+ghost use Rattle.run_spec.specs.Text.{stall_text};
+ghost use Rattle.replay_core.specs.Reads.{plain_trace};
 ghost use Rattle.psi_spec.specs.World.{Limits};
 ghost use Rattle.proc_plan.specs.Plans.{HasTaken, HasTrace, plan_at};
-ghost use Rattle.replay_core.specs.Lines.{HasMadeAll, clocks_at};
-ghost use Rattle.replay_core.specs.Run.{WritesText};
+ghost use Rattle.replay_core.specs.Lines.{HasMadeAll};
+ghost use Rattle.replay_workers.specs.Crew.{clocks_at};
+ghost use Rattle.replay_core.specs.Writes.{WritesText};
 
 use crate::lines::put_lines;
-use crate::player::Player;
-use crate::status::Status;
 use proc_plan::{PlainClocks, Planner, Plans, ProcClocks};
-use psi_base::{Cause, Cpu, Event, Fault, NoMemory, Ns, Sink, WriteFailed};
+use psi_base::{Cpu, Ns, Sink, WriteFailed};
+use replay_workers::{first_clocks, make_until};
+use run_spec::Status;
 use std::alloc::Global;
 use std::thread;
 use std::thread::Threads;
-
-/// To sum stalls a trace is taken apart by processor.
-impl Player for Planner {
-    ghost use Rattle.proc_plan.specs.Plans.{HasTaken};
-
-    ghost Played = { λ planner limits events. HasTaken planner limits events };
-
-    fn start(alloc: Global, cpus: u32, latest: Ns) -> Result<Self, NoMemory> {
-        Planner::new(alloc, cpus, latest)
-    }
-
-    fn take(&mut self, event: &Event) -> Result<(), Fault<Cause>> {
-        Planner::take(self, event)
-    }
-
-    fn is_ended(&self) -> bool {
-        Planner::is_ended(self)
-    }
-}
-
-// The clocks of all processors before the first change.
-fn first_clocks(alloc: Global, plans: &Plans) -> Result<Vec<PlainClocks<'_>>, NoMemory>
-    ensures each { IfOk result (λ clocks. length clocks.items ≡ length plans.now.plans) }
-    ensures fresh { IfOk result (λ clocks. (cpu : ℕ) → cpu < length clocks.items → clocks_at clocks.items cpu ≡ record { plan = plan_at plans.now cpu; made = 0 }) }
-{
-    let slots = plans.groups().len() as u32;
-    let mut clocks = Vec::new(alloc);
-    'cpus: for cpu in 0..plans.cpus() {
-        let fresh = PlainClocks::make(alloc, plans.plan(Cpu(cpu)), slots)?;
-        if clocks.push(fresh).is_err() {
-            return Err(NoMemory);
-        }
-    }
-    Ok(clocks)
-}
-
-// Makes all changes of a plan that are left.
-fn make_all<C: ProcClocks>(clocks: &mut C, changes: u64)
-    requires all { changes ≡ length (C.plan clocks.old).changes }
-    requires within { C.made clocks.old ≤ changes }
-    ensures plan { C.plan clocks.new ≡ C.plan clocks.old }
-    ensures made { C.made clocks.new ≡ changes }
-{
-    'changes: while clocks.count() < changes {
-        clocks.apply();
-    }
-}
 
 // Makes all changes of all processors, those of each in a thread of its own where it can be started: they tell nothing of
 // one another.
@@ -83,7 +39,7 @@ fn make_each<R: Threads + Sync>(rt: &R, plans: &Plans, clocks: &mut [PlainClocks
         &|place: usize, clocks: &mut PlainClocks<'_>|
             requires { (place < 64) × (place < length plans.now.plans) × (clocks.now ≡ record { plan = plan_at plans.now place; made = 0 }) }
             ensures { HasMadeAll (plan_at plans.entry.now place) clocks.new }
-        { make_all(clocks, plans.plan(Cpu(place as u32)).len()) },
+        { make_until(clocks, plans.plan(Cpu(place as u32)).len()) },
     );
 }
 
@@ -95,7 +51,9 @@ pub(crate) fn write_stalls<R: Threads + Sync, K: Sink>(
     out: &mut K,
 ) -> Status
     requires { HasTrace planner }
-    ensures { (limits : Limits) (events : List Event) → HasTaken planner limits events → WritesText (stall_text (record { version = 1; cpus = limits.cpus; events = events })) (K.faults out.old) (K.faults out.new) (K.has out.old) (K.has out.new) result }
+    ensures writes { (limits : Limits) (events : List Event) → HasTaken planner limits events →
+        WritesText (stall_text (plain_trace limits.cpus events)) (K.faults out.old) (K.faults out.new) (K.has out.old) (K.has out.new) result }
+    ensures below { StaysOver (K.below out.old) (K.below out.new) }
 {
     let Ok(plans) = planner.finish(alloc) else {
         return Status::NoMemory;

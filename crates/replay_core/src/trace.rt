@@ -1,11 +1,11 @@
 //! Traces from a shelf.
 ghost use Rattle.std.specs.Prelude.{◌≡◌, ◌+◌, ◌*◌, ◌<◌, ◌≤◌, ◌^◌, ℕ, List, [], OnOk, IfOk, IsErrOf, Some, None, Ok, MatchResult, false, length, IsErr};
-ghost use Rattle.psi_base.specs.Outside.{told, Lacks, HasCauses};
+ghost use Rattle.psi_base.specs.Outside.{told, Lacks, counts_of};
 ghost use Rattle.psi_base.specs.declared.event.Cause.TheVariants as cause;
 ghost use Rattle.psi_lines.specs.Lines.{left};
 ghost use Rattle.psi_spec.specs.Grammar.{Fits};
 ghost use Rattle.psi_spec.specs.Trace.{IsCpuCount, limits_of, refused};
-ghost use Rattle.replay_core.specs.Reads.{HeadGives, IsFaultAt, NextGives, RestGives, TailGives, TakesLine, TakesRead, TellsNothing, TracePlayed, TraceRefused};
+ghost use Rattle.replay_core.specs.Reads.{CausesTraceFault, HeadGives, IsFaultAt, Legally, NextGives, RestGives, TailGives, TakesLine, TakesRead, TellsNothing, TracePlayed, TraceRefused};
 
 use crate::player::Player;
 use psi_base::{Cause, Event, Fault, NoMemory, Ns, Refusal, Shelf};
@@ -79,7 +79,7 @@ fn take_read<P: Player>(
 // a third of the time of reading it.
 fn take_line<P: Player>(alloc: Global, player: &mut P, line: &[u8]) -> Result<(), Fault<Cause>>
     requires short { length line.now ≤ 512 }
-    ensures { TakesLine (P.Played player.old) (P.Played player.new) line.now result }
+    ensures { TakesLine (Legally (P.Played player.old)) (Legally (P.Played player.new)) line.now result }
 {
     take_read(player, &read_event(alloc, line))
 }
@@ -96,9 +96,10 @@ fn next_event<S: Shelf, P: Player>(
     ensures kept { S.holds shelf.new ≡ S.holds shelf.old }
     ensures name { lines.new.name ≡ lines.old.name }
     ensures number { OnOk result (lines.new.number ≡ line + 1) }
-    ensures content { NextGives (P.Played player.old) (P.Played player.new) line (left lines.old) (left lines.new) (told (S.holds shelf.old) lines.old.name) result }
+    ensures content { NextGives (Legally (P.Played player.old)) (Legally (P.Played player.new)) line (left lines.old) (left lines.new) (told (S.holds shelf.old) lines.old.name) result }
     ensures missed { IsErrOf result TraceFault.NoFile → told (S.holds shelf.old) lines.old.name ≡ None }
-    ensures cause { HasCauses (S.faults shelf.old) (S.faults shelf.new) (S.absent shelf.old) (S.absent shelf.new) (IsErrOf result TraceFault.ReadFault) (IsErrOf result TraceFault.NoFile) }
+    ensures cause { CausesTraceFault (counts_of (S.faults shelf.old) (S.absent shelf.old))
+        (counts_of (S.faults shelf.new) (S.absent shelf.new)) result }
 {
     match lines.next_bytes(shelf) {
         Ok(Some(bytes)) => match take_line(alloc, player, bytes) {
@@ -119,7 +120,8 @@ fn close<S: Shelf>(lines: &mut Lines, shelf: &mut S, line: u32) -> Result<(), Tr
     ensures kept { S.holds shelf.new ≡ S.holds shelf.old }
     ensures content { (bytes : List ℕ) → told (S.holds shelf.old) lines.old.name ≡ Some bytes → TailGives line (left lines.old bytes) result }
     ensures missed { IsErrOf result TraceFault.NoFile → told (S.holds shelf.old) lines.old.name ≡ None }
-    ensures cause { HasCauses (S.faults shelf.old) (S.faults shelf.new) (S.absent shelf.old) (S.absent shelf.new) (IsErrOf result TraceFault.ReadFault) (IsErrOf result TraceFault.NoFile) }
+    ensures cause { CausesTraceFault (counts_of (S.faults shelf.old) (S.absent shelf.old))
+        (counts_of (S.faults shelf.new) (S.absent shelf.new)) result }
 {
     match lines.is_at_end(shelf) {
         Ok(true) => Ok(()),
@@ -143,9 +145,10 @@ fn play_events<S: Shelf, P: Player>(
     requires number { lines.old.number ≡ 2 }
     requires fresh { P.Played player.old (limits_of tick cpus) [] }
     ensures kept { S.holds shelf.new ≡ S.holds shelf.old }
-    ensures content { RestGives (P.Played player.new) (limits_of tick cpus) (left lines.old) (told (S.holds shelf.old) lines.old.name) result }
+    ensures content { RestGives (Legally (P.Played player.new)) (limits_of tick cpus) (left lines.old) (told (S.holds shelf.old) lines.old.name) result }
     ensures missed { IsErrOf result TraceFault.NoFile → told (S.holds shelf.old) lines.old.name ≡ None }
-    ensures cause { HasCauses (S.faults shelf.old) (S.faults shelf.new) (S.absent shelf.old) (S.absent shelf.new) (IsErrOf result TraceFault.ReadFault) (IsErrOf result TraceFault.NoFile) }
+    ensures cause { CausesTraceFault (counts_of (S.faults shelf.old) (S.absent shelf.old))
+        (counts_of (S.faults shelf.new) (S.absent shelf.new)) result }
 {
     'lines: for count in 0..4_000_001u32 {
         match next_event(alloc, lines, shelf, player, count + 2) {
@@ -169,7 +172,8 @@ fn read_cpus<S: Shelf>(lines: &mut Lines, shelf: &mut S, tick: Ns) -> Result<u32
     ensures content { (bytes : List ℕ) → told (S.holds shelf.old) lines.old.name ≡ Some bytes → HeadGives tick (left lines.old bytes) (left lines.new bytes) result }
     ensures missing { lines.old.held ≡ [] → Lacks (S.holds shelf.old) lines.old.name → TellsNothing result }
     ensures missed { IsErrOf result TraceFault.NoFile → told (S.holds shelf.old) lines.old.name ≡ None }
-    ensures cause { HasCauses (S.faults shelf.old) (S.faults shelf.new) (S.absent shelf.old) (S.absent shelf.new) (IsErrOf result TraceFault.ReadFault) (IsErrOf result TraceFault.NoFile) }
+    ensures cause { CausesTraceFault (counts_of (S.faults shelf.old) (S.absent shelf.old))
+        (counts_of (S.faults shelf.new) (S.absent shelf.new)) result }
 {
     match lines.next_bytes(shelf) {
         Ok(Some(bytes)) => match read_header(bytes) {
@@ -197,7 +201,8 @@ pub(crate) fn play_trace<S: Shelf, P: Player + Drop>(
     ensures content { MatchResult result (λ player. TracePlayed (P.Played player) tick (told (S.holds shelf.old) name.now)) (λ fault. TraceRefused fault tick (told (S.holds shelf.old) name.now)) }
     ensures missing { Lacks (S.holds shelf.old) name.now → TellsNothing result }
     ensures missed { IsErrOf result TraceFault.NoFile → told (S.holds shelf.old) name.now ≡ None }
-    ensures cause { HasCauses (S.faults shelf.old) (S.faults shelf.new) (S.absent shelf.old) (S.absent shelf.new) (IsErrOf result TraceFault.ReadFault) (IsErrOf result TraceFault.NoFile) }
+    ensures cause { CausesTraceFault (counts_of (S.faults shelf.old) (S.absent shelf.old))
+        (counts_of (S.faults shelf.new) (S.absent shelf.new)) result }
 {
     let mut lines = Lines::new(alloc, name)?;
     let cpus = match read_cpus(&mut lines, shelf, tick) {

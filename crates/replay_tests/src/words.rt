@@ -25,7 +25,7 @@ fn words_and_names(rt: HostRuntime) -> Result<(), Fail> {
         ("check -q", Status::Usage, usage),
         ("stall t --tick-ms 5", Status::Usage, usage),
         ("Stall t", Status::Usage, usage),
-        ("replay t", Status::Usage, usage),
+        ("replay t --rules r", Status::Usage, usage),
         ("stall u", no_file, b"no file: u\n".as_slice()),
         ("check u", no_file, b"no file: u\n".as_slice()),
         ("stall -", no_file, b"no file: -\n".as_slice()),

@@ -4,7 +4,7 @@ use Rattle.std.specs.Io.KnownBytes.{Appends}
 use Rattle.std.proofs.lemmas.List.{get_or_default, get_or-set_other, length-set}
 use Rattle.psi_base.proofs.Grows.{Appends-then, AppendsFront-then, PutsAll-failed}
 use Rattle.psi_base.specs.Outside.{AppendsFront}
-use Rattle.psi_spec.specs.Plan.{IsPlan, no_plan}
+use Rattle.psi_laws.specs.Plan.{IsPlan, no_plan}
 use Rattle.proc_plan.specs.Clocks.{OnPlan}
 use Rattle.proc_plan.specs.Plans.{plan_at}
 use Rattle.replay_core.specs.Lines.{HasMadeAll, plan_lines}
@@ -20,7 +20,7 @@ put_processor-requires-clause-whole g c =
 pub returns-in_err-put_processor-clause-bytes : goal.returns-in_err-put_processor-clause-bytes
 returns-in_err-put_processor-clause-bytes g c =
     let lines : ℕ → List ℕ = λ cpu. plan_lines c.args.plans.now.lives c.args.order.now c.args.last (plan_at c.args.plans.now cpu) cpu in
-    let facts = rw c.lives-groups.ensures at c.in_err-put_processor.ensures.bytes in
+    let facts = rw c.lives-groups.ensures.lives at c.in_err-put_processor.ensures.bytes in
     let here = get_or_default c.cpus.clocks c.cpus.place (record { plan = no_plan; made = 0 }) c.index-clocks-place.result (omega (arith, c.cpus-test.true, c.cpus.invariant.each)) in
     let view = ap (λ (on : OnPlan). on.plan) (sym here) ∙ (c.cpus.invariant.all c.cpus.place (omega arith) (omega (arith, c.cpus-test.true, c.cpus.invariant.each))).same in
     PutsAll-failed _ _ _ _ c.from_residual.ensures.0
@@ -31,7 +31,7 @@ returns-in_err-put_processor-clause-bytes g c =
 pub cpus-preserved : goal.cpus-preserved
 cpus-preserved g c =
     let lines : ℕ → List ℕ = λ cpu. plan_lines c.args.plans.now.lives c.args.order.now c.args.last (plan_at c.args.plans.now cpu) cpu in
-    let facts = rw c.lives-groups.ensures at c.in_ok-put_processor.ensures.bytes in
+    let facts = rw c.lives-groups.ensures.lives at c.in_ok-put_processor.ensures.bytes in
     let here = get_or_default c.cpus.clocks c.cpus.place (record { plan = no_plan; made = 0 }) c.index-clocks-place.result (omega (arith, c.cpus-test.true, c.cpus.invariant.each)) in
     let view = ap (λ (on : OnPlan). on.plan) (sym here) ∙ (c.cpus.invariant.all c.cpus.place (omega arith) (omega (arith, c.cpus-test.true, c.cpus.invariant.each))).same in
     let many = length-set c.cpus.clocks c.cpus.place c.put_processor.new.clocks in
@@ -41,5 +41,6 @@ cpus-preserved g c =
       sent = subst (Appends (g.K.Sink.has c.args.out.now) (g.K.Sink.has c.put_processor.new.out)) (sym (piece_more lines c.cpus.place (c.cpus.place + 1) refl))
           (Appends-then _ _ _ _ _ c.cpus.invariant.sent
           (subst (λ plan. Appends (g.K.Sink.has c.cpus.out) (g.K.Sink.has c.put_processor.new.out) (plan_lines c.args.plans.now.lives c.args.order.now c.args.last plan c.cpus.place)) view facts));
-      later = omega (arith, c.cpus.invariant.later, c.in_ok-put_processor.ensures.cause);
+      cause = record { later = omega (arith, c.cpus.invariant.cause.later, c.in_ok-put_processor.ensures.cause.later); failed = tt; same = omega (arith, c.cpus.invariant.cause.same, c.in_ok-put_processor.ensures.cause.same) };
+      below = record { same = c.in_ok-put_processor.ensures.below.same ∙ c.cpus.invariant.below.same; more = omega (arith, c.cpus.invariant.below.more, c.in_ok-put_processor.ensures.below.more) };
     }

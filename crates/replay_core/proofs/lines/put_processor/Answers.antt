@@ -21,5 +21,6 @@ groups-preserved g c =
       sent = subst (Appends (g.K.Sink.has c.args.out.now) (g.K.Sink.has c.put_group.new.out))
           (sym (taken_more (plan_line c.args.cpu.0 c.args.groups.now (g.C.ProcClocks.plan c.args.clocks.now) c.args.last) c.args.order.now c.groups.slot-index (record { 0 = 0 }) (omega arith)))
           (Appends-then _ _ _ _ _ c.groups.invariant.sent bytes);
-      later = omega (arith, c.groups.invariant.later, c.in_ok-put_group.ensures.cause);
+      cause = record { later = omega (arith, c.groups.invariant.cause.later, c.in_ok-put_group.ensures.cause.later); failed = tt; same = omega (arith, c.groups.invariant.cause.same, c.in_ok-put_group.ensures.cause.same) };
+      below = record { same = c.in_ok-put_group.ensures.below.same ∙ c.groups.invariant.below.same; more = omega (arith, c.groups.invariant.below.more, c.in_ok-put_group.ensures.below.more) };
     }

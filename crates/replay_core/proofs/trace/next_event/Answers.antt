@@ -1,16 +1,17 @@
 use Rattle.psi_base.specs.Outside.{told}
 use Rattle.psi_lines.specs.Lines.{left}
+use Rattle.replay_core.specs.Reads.{Legally}
 use Rattle.replay_core.proofs.LineLaws as laws
 use Rattle.replay_core.proofs.trace.next_event.Goals as goal
 
 pub returns-in-Ok-clause-content : goal.returns-in-Ok-clause-content
 returns-in-Ok-clause-content g c =
-    laws.line_played (g.P.Player.Played c.args.player.now) (g.P.Player.Played c.take_line.new.player) c.args.line c.in-Ok-Some.bytes.now (left c.args.lines.now) (left c.next_bytes.follows.lender-at-none) (told (g.S.Shelf.holds c.args.shelf.now) c.args.lines.now.name) tt c.in-Ok.ensures
+    laws.line_played (Legally (g.P.Player.Played c.args.player.now)) (Legally (g.P.Player.Played c.take_line.new.player)) c.args.line c.in-Ok-Some.bytes.now (left c.args.lines.now) (left c.next_bytes.follows.lender-at-none) (told (g.S.Shelf.holds c.args.shelf.now) c.args.lines.now.name) tt c.in-Ok.ensures
     (λ bytes tells. let found = rw (c.in-Ok-Some.is, c.in-Ok-Some.field-0-is) at c.next_bytes.follows.holds-at-none.line bytes tells in found.0)
 
 pub returns-in-Err-clause-content : goal.returns-in-Err-clause-content
 returns-in-Err-clause-content g c =
-    laws.line_faulted (g.P.Player.Played c.args.player.now) (g.P.Player.Played c.take_line.new.player) c.args.line c.in-Ok-Some.bytes.now (left c.args.lines.now) (left c.next_bytes.follows.lender-at-none) (told (g.S.Shelf.holds c.args.shelf.now) c.args.lines.now.name) c.in-Err.fault _ c.fault_at.ensures c.in-Err.ensures
+    laws.line_faulted (Legally (g.P.Player.Played c.args.player.now)) (Legally (g.P.Player.Played c.take_line.new.player)) c.args.line c.in-Ok-Some.bytes.now (left c.args.lines.now) (left c.next_bytes.follows.lender-at-none) (told (g.S.Shelf.holds c.args.shelf.now) c.args.lines.now.name) c.in-Err.fault _ c.fault_at.ensures c.in-Err.ensures
     (λ bytes tells. let found = rw (c.in-Ok-Some.is, c.in-Ok-Some.field-0-is) at c.next_bytes.follows.holds-at-none.line bytes tells in found.0)
 
 pub returns-in-Ok-None-clause-content : goal.returns-in-Ok-None-clause-content

@@ -1,6 +1,7 @@
 use Rattle.std.proofs.Common.{◌≡◌, ◌+◌, ◌≤◌}
 use Rattle.psi_base.specs.Outside.{told}
 use Rattle.psi_lines.specs.Lines.{left}
+use Rattle.replay_core.specs.Reads.{Legally}
 use Rattle.psi_spec.specs.Trace.{limits_of}
 use Rattle.replay_core.proofs.LineLaws.{SoFar}
 use Rattle.replay_core.proofs.trace.play_events.Given as goal
@@ -8,10 +9,10 @@ use Rattle.replay_core.proofs.trace.play_events.Given as goal
 abbrev pub invariant-lines : goal.invariant-lines
 invariant-lines g l = record {
   kept : g.S.Shelf.holds l.shelf ≡ g.S.Shelf.holds l.fn.shelf;
-  faults : g.S.Shelf.faults l.fn.shelf ≤ g.S.Shelf.faults l.shelf;
-  absent : g.S.Shelf.absent l.fn.shelf ≤ g.S.Shelf.absent l.shelf;
+  faults : g.S.Shelf.faults l.shelf ≡ g.S.Shelf.faults l.fn.shelf;
+  absent : g.S.Shelf.absent l.shelf ≡ g.S.Shelf.absent l.fn.shelf;
   name : l.lines.name ≡ l.fn.lines.name;
   number : l.lines.number ≡ l.count + 2;
   few : l.count ≤ 4000000;
-  so_far : SoFar (g.P.Player.Played l.player) (limits_of l.tick l.cpus) l.count (left l.fn.lines) (left l.lines) (told (g.S.Shelf.holds l.fn.shelf) l.fn.lines.name);
+  so_far : SoFar (Legally (g.P.Player.Played l.player)) (limits_of l.tick l.cpus) l.count (left l.fn.lines) (left l.lines) (told (g.S.Shelf.holds l.fn.shelf) l.fn.lines.name);
 }

@@ -1,0 +1,18 @@
+use Rattle.std.proofs.Common.{◌≡◌, ℕ, ◌-◌}
+use Rattle.std.specs.Prelude.{Ok}
+use Rattle.psi_base.specs.Outside.{HasCause, StaysOver}
+use Rattle.psi_spec.specs.Trace.{Trace}
+use Rattle.run_spec.specs.Replay.{Pace}
+use Rattle.replay_ticks.specs.Replays.{IsReplay}
+use Rattle.replay_core.proofs.ReplayLaws.{TickedTo}
+use Rattle.replay_core.proofs.replay.put_replay.Given as goal
+
+abbrev pub invariant-ticks : goal.invariant-ticks
+invariant-ticks g l = record {
+  so_far : (trace : Trace) (pace : Pace) → IsReplay l.fn.replay trace pace 0 → TickedTo l.replay trace pace (g.K.Sink.has l.fn.out) (g.K.Sink.has l.out);
+  cause : HasCause {T = Unit {0}} {E = Unit {0}} (g.K.Sink.faults l.fn.out) (g.K.Sink.faults l.out) (Ok tt);
+  below : StaysOver (g.K.Sink.below l.fn.out) (g.K.Sink.below l.out);
+}
+
+abbrev pub decreases-ticks : goal.decreases-ticks
+decreases-ticks g l = l.replay.pacing.last - l.replay.made

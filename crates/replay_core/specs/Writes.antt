@@ -1,0 +1,43 @@
+-- What reading and writing come to as the status of a run.
+use Rattle.std.specs.Prelude.{◌≡◌, ◌≤◌, ℕ, List, Option, ⊤}
+use Rattle.std.specs.Io.KnownBytes.{Appends, Keeps}
+use Rattle.psi_base.specs.Outside.{AppendsFront, Rose}
+use Rattle.psi_base.specs.declared.event.Event.{Event}
+use Rattle.psi_spec.specs.Trace.{IsAccepted, limits_of}
+use Rattle.psi_spec.specs.World.{Limits}
+use Rattle.proc_plan.specs.Plans.{HasTaken, PlannerView}
+use Rattle.run_spec.specs.Outputs.{of_ms}
+use Rattle.run_spec.specs.declared.command.Options.{Options}
+use Rattle.run_spec.specs.declared.status.Status.{Status}
+use Rattle.run_spec.specs.declared.status.Status.TheVariants as status
+use Rattle.run_spec.specs.declared.status.Which.TheVariants.{RulesFile, TraceFile}
+use Rattle.replay_core.specs.declared.trace.TraceFault.{TraceFault}
+use Rattle.replay_core.specs.declared.trace.TraceFault.TheVariants as fault
+
+-- What writing a text gave: all of it, a front of it where a write failed, or nothing for want of memory. The count of failed
+-- writes rose where one failed, and else is as it was.
+abbrev pub WritesText : List ℕ → ℕ → ℕ → Option (List ℕ) → Option (List ℕ) → Status → Type 0
+WritesText text before now had has status.Done = Appends had has text × (now ≡ before)
+WritesText text before now had has status.WriteFault = AppendsFront had has text × Rose before now
+WritesText text before now had has status.NoMemory = Keeps had has × (now ≡ before)
+WritesText text before now had has _ = ⊥
+
+-- the status of a trace that can't be read
+abbrev pub IsStatusOf : TraceFault → Status → Type 0
+IsStatusOf (fault.Refused refusal) result = result ≡ status.Trace refusal.line refusal.cause
+IsStatusOf fault.NoFile result = result ≡ status.NoFile TraceFile
+IsStatusOf fault.ReadFault result = result ≡ status.ReadFault
+IsStatusOf fault.NoMemory result = result ≡ status.NoMemory
+
+-- a trace that was taken apart is to be replayed with options: it is accepted at their length of a tick
+pub record IsToReplay (planner : PlannerView) (options : Options) (limits : Limits) (events : List Event) : Type 0 where
+  pub taken : HasTaken planner limits events
+  pub ended : IsAccepted limits events
+  pub latest : limits ≡ limits_of (of_ms options.tick_ms) limits.cpus
+  pub some : 1 ≤ options.tick_ms
+  pub short : options.tick_ms ≤ 60000
+
+-- a status doesn't tell of a rules file
+abbrev pub IsOfTrace : Status → Type 0
+IsOfTrace (status.NoFile RulesFile) = ⊥
+IsOfTrace _ = ⊤

@@ -1,0 +1,122 @@
+//! The top call.
+ghost use Rattle.std.specs.Prelude.{◌≡◌, ◌⊎◌, ◌≢◌, ℕ, List, Some, None, Ok, Err, IsSome, map, string_bytes};
+ghost use Rattle.std.specs.Io.KnownBytes.{Appends, Keeps};
+ghost use Rattle.psi_base.specs.Outside.{AppendsFront, Lacks, Rose};
+ghost use Rattle.psi_base.specs.declared.event.Cause.{Cause};
+ghost use Rattle.psi_spec.specs.Trace.{Trace, refused, trace_of};
+ghost use Rattle.psi_words.specs.Reads.{HasTextNames};
+ghost use Rattle.run_spec.specs.declared.command.Command.{Command};
+ghost use Rattle.run_spec.specs.declared.command.Options.{Options};
+ghost use Rattle.run_spec.specs.Outputs.{pace_of, tick_length, trace_name};
+ghost use Rattle.run_spec.specs.Replay.{nothing_beside, replay_text};
+ghost use Rattle.run_spec.specs.Run.{CountsTell, IsOfMissing, IsTold, Runs, run_counts};
+ghost use Rattle.run_spec.specs.Status.{status_text};
+ghost use Rattle.run_spec.specs.Words.{IsCommand, command_of};
+ghost use Rattle.replay_core.specs.Writes.{IsOfTrace};
+
+use crate::command::run_command;
+use crate::note::put_status;
+use psi_base::{BufferedSink, Fault, Gate, Pending, Shelf, Sink};
+use psi_words::{BadWords, read_words};
+use run_spec::{Command, Status};
+use std::alloc::Global;
+use std::thread::Threads;
+
+// Runs a command, and sends its output on in large pieces.
+fn run_buffered<R: Threads + Sync, S: Shelf, K: Sink>(
+    rt: &R,
+    alloc: Global,
+    command: &Command,
+    shelf: &mut S,
+    out: &mut K,
+) -> Status
+    requires ranges { IsCommand command.now }
+    requires texts { HasTextNames command.now }
+    requires over { IsSome (trace_name command.now) }
+    ensures kept { S.holds shelf.new ≡ S.holds shelf.old }
+    ensures runs { Runs command.now (S.holds shelf.old)
+        (run_counts (S.faults shelf.old) (S.absent shelf.old) (K.faults out.old))
+        (run_counts (S.faults shelf.new) (S.absent shelf.new) (K.faults out.new)) (K.has out.old) (K.has out.new) result }
+    ensures file { IsOfTrace result }
+{
+    let Ok(mut pending) = Pending::new(alloc) else {
+        return Status::NoMemory;
+    };
+    let mut buffered = BufferedSink::new(out, &mut pending);
+    match run_command(rt, alloc, command, shelf, &mut buffered) {
+        Status::Done => match buffered.flush() {
+            Ok(()) => Status::Done,
+            Err(_) => Status::WriteFault,
+        },
+        status => status,
+    }
+}
+
+/// Runs the command of these words, the command line without the program's name. The output goes to `out`, and one
+/// line that tells of the status to `note`; of `Done` nothing is told. A fault of `note` changes no status. The gate
+/// isn't used yet.
+pub fn run<R: Threads + Sync, S: Shelf, K: Sink, N: Sink, G: Gate>(
+    rt: &R,
+    alloc: Global,
+    words: &[String],
+    shelf: &mut S,
+    out: &mut K,
+    note: &mut N,
+    _gate: &G,
+) -> Status
+    // Files stay as they are.
+    ensures kept { S.holds shelf.new ≡ S.holds shelf.old }
+
+    // Usage comes exactly where the words aren't those of a command.
+    ensures usage { result ≡ Status.Usage → command_of (map string_bytes words.now) ≡ None }
+    ensures unknown { command_of (map string_bytes words.now) ≡ None → (result ≡ Status.Usage) ⊎ (result ≡ Status.NoMemory) }
+
+    // What each status says of the command's files and of the output, and which counts of failures rose.
+    ensures runs { (command : Command) → command_of (map string_bytes words.now) ≡ Some command →
+        Runs command (S.holds shelf.old)
+        (run_counts (S.faults shelf.old) (S.absent shelf.old) (K.faults out.old))
+        (run_counts (S.faults shelf.new) (S.absent shelf.new) (K.faults out.new)) (K.has out.old) (K.has out.new) result }
+
+    // The headline: where a replay is done, the output grew by exactly the text that the definitions give for its trace.
+    ensures headline { (name : List ℕ) (options : Options) (bytes : List ℕ) →
+        command_of (map string_bytes words.now) ≡ Some (Command.Replay name options) → IsTold (Command.Replay name options) (S.holds shelf.old) bytes →
+        result ≡ Status.Done → (trace : Trace) × (trace_of (tick_length (Command.Replay name options)) bytes ≡ Ok trace)
+        × Appends (K.has out.old) (K.has out.new) (replay_text trace (pace_of options) nothing_beside) }
+
+    // An accepted trace gives its whole output, unless a count of faults rose or memory was wanting.
+    ensures complete { (command : Command) (bytes : List ℕ) (trace : Trace) → command_of (map string_bytes words.now) ≡ Some command →
+        IsTold command (S.holds shelf.old) bytes → trace_of (tick_length command) bytes ≡ Ok trace →
+        (Rose (S.faults shelf.old) (S.faults shelf.new) → ⊥) → (Rose (K.faults out.old) (K.faults out.new) → ⊥) → (result ≡ Status.Done) ⊎ (result ≡ Status.NoMemory) }
+
+    // A refused trace gives its first refused line with its cause, unless a fault of reading rose or memory was wanting.
+    ensures refuses { (command : Command) (bytes : List ℕ) (line : ℕ) (why : Cause) → command_of (map string_bytes words.now) ≡ Some command →
+        IsTold command (S.holds shelf.old) bytes → trace_of (tick_length command) bytes ≡ Err (refused line why) →
+        (Rose (S.faults shelf.old) (S.faults shelf.new) → ⊥) → (result ≡ Status.Trace line why) ⊎ (result ≡ Status.NoMemory) }
+
+    // Each count of failures rose exactly where the status tells of its failure.
+    ensures counts { CountsTell (run_counts (S.faults shelf.old) (S.absent shelf.old) (K.faults out.old))
+        (run_counts (S.faults shelf.new) (S.absent shelf.new) (K.faults out.new)) result }
+
+    // Nothing is written but by Done and WriteFault.
+    ensures quiet { result ≢ Status.Done → result ≢ Status.WriteFault → Keeps (K.has out.old) (K.has out.new) }
+
+    // The note tells of the status, in whole where its count didn't rise.
+    ensures note { (Rose (N.faults note.old) (N.faults note.new) → ⊥) → Appends (N.has note.old) (N.has note.new) (status_text (command_of (map string_bytes words.now)) result) }
+    ensures note_front { AppendsFront (N.has note.old) (N.has note.new) (status_text (command_of (map string_bytes words.now)) result) }
+{
+    match read_words(alloc, words) {
+        Ok(command) => {
+            let status = run_buffered(rt, alloc, &command, shelf, out);
+            let _ = put_status(note, Some(&command), status);
+            status
+        }
+        Err(Fault::Refused(BadWords)) => {
+            let _ = put_status(note, None, Status::Usage);
+            Status::Usage
+        }
+        Err(Fault::NoMemory) => {
+            let _ = put_status(note, None, Status::NoMemory);
+            Status::NoMemory
+        }
+    }
+}

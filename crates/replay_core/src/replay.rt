@@ -1,0 +1,58 @@
+//! The output of `replay`.
+ghost use Rattle.std.specs.Prelude.{◌≡◌, ℕ, List};
+ghost use Rattle.psi_base.specs.Outside.{HasCause, PutsAll, StaysOver};
+ghost use Rattle.psi_base.specs.declared.event.Event.{Event};
+ghost use Rattle.psi_spec.specs.Trace.{Trace};
+ghost use Rattle.psi_spec.specs.World.{Limits};
+ghost use Rattle.run_spec.specs.Outputs.{pace_of};
+ghost use Rattle.run_spec.specs.Replay.{Pace, nothing_beside, replay_text};
+ghost use Rattle.replay_ticks.specs.Replays.{IsReplay};
+ghost use Rattle.replay_core.specs.Reads.{plain_trace};
+ghost use Rattle.replay_core.specs.Writes.{IsToReplay, WritesText};
+
+use proc_plan::Planner;
+use psi_base::{Sink, WriteFailed};
+use replay_ticks::{Replay, TickFault, prepare};
+use run_spec::{Options, Status};
+use std::alloc::Global;
+
+// Makes all ticks that are left, and writes their lines and the last line.
+fn put_replay<K: Sink>(replay: &mut Replay<'_>, out: &mut K) -> Result<(), WriteFailed>
+    requires { (trace : Trace) × (pace : Pace) × IsReplay replay.old trace pace 0 }
+    ensures bytes { (trace : Trace) (pace : Pace) → IsReplay replay.old trace pace 0 →
+        PutsAll (K.has out.old) (K.has out.new) result (replay_text trace pace nothing_beside) }
+    ensures cause { HasCause (K.faults out.old) (K.faults out.new) result }
+    ensures below { StaysOver (K.below out.old) (K.below out.new) }
+{
+    'ticks: loop {
+        match replay.tick(out) {
+            Ok(true) => {}
+            Ok(false) => return replay.finish(out),
+            Err(TickFault::WriteFault) => return Err(WriteFailed),
+        }
+    }
+}
+
+/// Writes the output of `replay` for a trace that was taken apart. Where memory is wanting, nothing is written.
+pub(crate) fn write_replay<K: Sink>(
+    alloc: Global,
+    planner: Planner,
+    options: &Options,
+    out: &mut K,
+) -> Status
+    requires { (limits : Limits) × (events : List Event) × IsToReplay planner options.now limits events }
+    ensures writes { (limits : Limits) (events : List Event) → IsToReplay planner options.now limits events →
+        WritesText (replay_text (plain_trace limits.cpus events) (pace_of options.now) nothing_beside) (K.faults out.old) (K.faults out.new) (K.has out.old) (K.has out.new) result }
+    ensures below { StaysOver (K.below out.old) (K.below out.new) }
+{
+    let Ok(plans) = planner.finish(alloc) else {
+        return Status::NoMemory;
+    };
+    let Ok(mut replay) = prepare(alloc, &plans, options) else {
+        return Status::NoMemory;
+    };
+    match put_replay(&mut replay, out) {
+        Ok(()) => Status::Done,
+        Err(WriteFailed) => Status::WriteFault,
+    }
+}
