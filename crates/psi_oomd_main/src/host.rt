@@ -1,53 +1,37 @@
 //! The system's files and streams. They tell nothing of their content: here trust begins.
-ghost use Rattle.std.specs.Prelude.{None, ◌≤◌, IfOk, length};
+ghost use Rattle.std.specs.Prelude.{◌≡◌, ◌≢◌, ◌<◌, ◌≤◌, ℕ, List, None, Some, IfErr, IfOk, IsErrOf, OnOk, length};
+ghost use Rattle.std.specs.Io.KnownBytes.{Keeps, ReadConsumes};
+ghost use Rattle.psi_oomd_main.specs.Host.{GoesOn, LeavesFromPlace, ReadsFront, StandsAt};
 
+use crate::name::Name;
 use psi_base::{Shelf, ShelfFault, Sink, WriteFailed};
-use std::alloc::Global;
 use std::fs;
-use std::io::{ErrorKind, Read, Seek, SeekFrom, Write};
+use std::io::{AsBytes, Cursor, ErrorKind, Read, Seek, SeekFrom, Write};
 use std::rt::Files;
 
-/// A file that stays open, so that one that can't seek, as a pipe, is read in order.
-#[derive(Drop)]
-struct Opened<F> {
-    name: String,
-    file: F,
-    place: u64,
+// What it means that a file can't be opened: there is none only where the system says that it isn't there.
+fn open_fault(kind: ErrorKind) -> ShelfFault
+    ensures missing { kind ≡ ErrorKind.NotFound → result ≡ ShelfFault.NoFile }
+    ensures other { kind ≢ ErrorKind.NotFound → result ≡ ShelfFault.Failed }
+{
+    if kind == ErrorKind::NotFound {
+        ShelfFault::NoFile
+    } else {
+        ShelfFault::Failed
+    }
 }
 
-// Reads on from a place. It is sought only where the last read ended elsewhere.
-fn read_on<F: Read + Seek>(
-    opened: &mut Opened<F>,
-    at: u64,
-    into: &mut [u8],
-) -> Result<usize, ShelfFault>
-    ensures { IfOk result (λ n. n ≤ length into.new) }
+// Reads on, and keeps count of the place.
+fn read_next<I: Read>(stream: &mut I, place: &mut u64, into: &mut [u8]) -> Result<usize, ShelfFault>
+    ensures bound { IfOk result (λ n. n ≤ length into.new) }
+    ensures bytes { ReadConsumes (I.remaining stream.old) (I.remaining stream.new) result into.new }
+    ensures place { GoesOn place.old place.new result }
 {
-    if opened.place != at && opened.file.seek(SeekFrom::Start(at)).is_err() {
-        return Err(ShelfFault::Failed);
-    }
-    match opened.file.read(into) {
+    match stream.read(into) {
         Ok(count) => {
-            opened.place = at.saturating_add(count as u64);
+            *place = place.saturating_add(count as u64);
             Ok(count)
         }
-        Err(_) => Err(ShelfFault::Failed),
-    }
-}
-
-// Opens a file. One that isn't there has no bytes, and each other reason is a failure.
-fn open<R: Files>(rt: &R, alloc: Global, name: &str) -> Result<Opened<R::File>, ShelfFault> {
-    let file = match fs::open(rt, name) {
-        Ok(file) => file,
-        Err(error) if error.kind() == ErrorKind::NotFound => return Err(ShelfFault::NoFile),
-        Err(_) => return Err(ShelfFault::Failed),
-    };
-    match String::from_str(alloc, name) {
-        Ok(name) => Ok(Opened {
-            name,
-            file,
-            place: 0,
-        }),
         Err(_) => Err(ShelfFault::Failed),
     }
 }
@@ -59,25 +43,101 @@ fn read_input<I: Read>(
     at: u64,
     into: &mut [u8],
 ) -> Result<usize, ShelfFault>
-    ensures { IfOk result (λ n. n ≤ length into.new) }
+    ensures bound { IfOk result (λ n. n ≤ length into.new) }
+    ensures order { at ≢ place.old → IsErrOf result ShelfFault.Failed }
+    ensures bytes { ReadConsumes (I.remaining input.old) (I.remaining input.new) result into.new }
+    ensures place { GoesOn place.old place.new result }
 {
     if at != *place {
         return Err(ShelfFault::Failed);
     }
-    match input.read(into) {
-        Ok(count) => {
-            *place = place.saturating_add(count as u64);
-            Ok(count)
+    read_next(input, place, into)
+}
+
+// Goes to a place of a file.
+fn seek_to<F: Seek>(file: &mut F, at: u64) -> Result<(), ShelfFault>
+    ensures bytes { Keeps (F.stream_bytes file.old) (F.stream_bytes file.new) }
+    ensures place { (from : ℕ) → F.stream_position file.old ≡ Some from
+        → OnOk result (F.stream_position file.new ≡ Some at) }
+    ensures fault { IfErr result (λ fault. fault ≡ ShelfFault.Failed) }
+{
+    if file.seek(SeekFrom::Start(at)).is_err() {
+        return Err(ShelfFault::Failed);
+    }
+    Ok(())
+}
+
+/// A file that stays open, so that one that can't seek, as a pipe, is read in order.
+#[derive(Drop)]
+struct Opened<F> {
+    name: Name,
+    file: F,
+    place: u64,
+}
+
+impl<F: Read + Seek> Opened<F> {
+    // Reads from a place on. It is sought only where the last read ended elsewhere.
+    fn read_at(&mut self, at: u64, into: &mut [u8]) -> Result<usize, ShelfFault>
+        ensures bound { IfOk result (λ n. n ≤ length into.new) }
+        ensures bytes { (bytes : List ℕ) → LeavesFromPlace F.remaining F.stream_position F.stream_bytes
+            → StandsAt F.stream_position F.stream_bytes self.old.file self.old.place bytes
+            → IfOk result (λ n. ReadsFront bytes at n into.new) }
+        ensures place { OnOk result (GoesOn at self.new.place result) }
+        ensures fault { IfErr result (λ fault. fault ≡ ShelfFault.Failed) }
+        ensures name { self.new.name ≡ self.old.name }
+    {
+        if self.place != at {
+            seek_to(&mut self.file, at)?;
+            self.place = at;
         }
-        Err(_) => Err(ShelfFault::Failed),
+        read_next(&mut self.file, &mut self.place, into)
     }
 }
 
-/// Files by name, and an input under the name `-`, which is read in order.
+// Opens a file at its first byte. The system opens no name that is too long to be kept.
+fn open<R: Files>(rt: &R, name: &str) -> Result<Opened<R::File>, ShelfFault>
+    ensures name { IfOk result (λ opened. opened.name ≡ name.now) }
+    ensures place { IfOk result (λ opened. opened.place ≡ 0) }
+{
+    let file = match fs::open(rt, name) {
+        Ok(file) => file,
+        Err(error) => return Err(open_fault(error.kind())),
+    };
+    match Name::new(name) {
+        Some(name) => Ok(Opened {
+            name,
+            file,
+            place: 0,
+        }),
+        None => Err(ShelfFault::Failed),
+    }
+}
+
+// Reads a file, and keeps it open.
+fn read_file<R: Files>(
+    rt: &R,
+    opened: &mut Option<Opened<R::File>>,
+    name: &str,
+    at: u64,
+    into: &mut [u8],
+) -> Result<usize, ShelfFault>
+    ensures { IfOk result (λ n. n ≤ length into.new) }
+{
+    if let Some(file) = opened {
+        if file.name.is(name) {
+            return file.read_at(at, into);
+        }
+    }
+    let mut file = open(rt, name)?;
+    let count = file.read_at(at, into)?;
+    *opened = Some(file);
+    Ok(count)
+}
+
+/// Files by name, and an input under the name `-`, which is read in order. It takes no memory.
 #[derive(Drop)]
 pub struct HostShelf<'a, R: Files, I> {
     rt: &'a R,
-    alloc: Global,
     input: I,
     place: u64,
     opened: Option<Opened<R::File>>,
@@ -87,10 +147,9 @@ pub struct HostShelf<'a, R: Files, I> {
 
 impl<'a, R: Files, I: Read> HostShelf<'a, R, I> {
     /// A shelf over the system's files, with this input.
-    pub fn new(rt: &'a R, alloc: Global, input: I) -> Self {
+    pub fn new(rt: &'a R, input: I) -> Self {
         HostShelf {
             rt,
-            alloc,
             input,
             place: 0,
             opened: None,
@@ -98,28 +157,6 @@ impl<'a, R: Files, I: Read> HostShelf<'a, R, I> {
             absent: 0,
         }
     }
-}
-
-// Reads a file, and keeps it open.
-fn read_file<R: Files>(
-    rt: &R,
-    alloc: Global,
-    opened: &mut Option<Opened<R::File>>,
-    name: &str,
-    at: u64,
-    into: &mut [u8],
-) -> Result<usize, ShelfFault>
-    ensures { IfOk result (λ n. n ≤ length into.new) }
-{
-    if let Some(file) = opened {
-        if file.name.as_str() == name {
-            return read_on(file, at, into);
-        }
-    }
-    let mut file = open(rt, alloc, name)?;
-    let count = read_on(&mut file, at, into)?;
-    *opened = Some(file);
-    Ok(count)
 }
 
 impl<'a, R: Files, I: Read> Shelf for HostShelf<'a, R, I> {
@@ -133,7 +170,7 @@ impl<'a, R: Files, I: Read> Shelf for HostShelf<'a, R, I> {
         let read = if name == "-" {
             read_input(&mut self.input, &mut self.place, at, into)
         } else {
-            read_file(self.rt, self.alloc, &mut self.opened, name, at, into)
+            read_file(self.rt, &mut self.opened, name, at, into)
         };
         match read {
             Ok(count) => Ok(count),
@@ -149,7 +186,8 @@ impl<'a, R: Files, I: Read> Shelf for HostShelf<'a, R, I> {
     }
 }
 
-/// Standard output or standard error. A write that takes nothing of a piece that isn't empty has failed.
+/// Standard output or standard error, which has what its stream tells: the system's tell nothing. A write that takes
+/// nothing of a piece that isn't empty has failed.
 #[derive(Drop)]
 pub struct HostSink<W> {
     stream: W,
@@ -164,7 +202,7 @@ impl<W: Write> HostSink<W> {
 }
 
 impl<W: Write> Sink for HostSink<W> {
-    ghost has = { λ _. None };
+    ghost has = { λ s. W.contents s.stream };
 
     ghost faults = { λ s. s.faults };
 
@@ -178,3 +216,9 @@ impl<W: Write> Sink for HostSink<W> {
         }
     }
 }
+
+// A cursor over bytes is such a stream as reading at a place speaks of.
+fn law_cursors_leave_from_place<T: AsBytes>()
+    ensures { LeavesFromPlace ⟦<Cursor<T> as Read>⟧.remaining ⟦<Cursor<T> as Seek>⟧.stream_position
+        ⟦<Cursor<T> as Seek>⟧.stream_bytes }
+{}

@@ -1,0 +1,32 @@
+//! The words of the command line.
+ghost use Rattle.std.specs.Prelude.{◌≡◌, ◌≢◌, [], IfErr, IfOk, IsErr, IsOk, drop};
+ghost use Rattle.std.specs.IoError.{error_kind};
+ghost use Rattle.std.specs.Vec.Iter.{into_iter_items};
+
+use psi_base::NoMemory;
+use std::alloc::{AllocError, Global};
+use std::env::Args;
+use std::io;
+use std::io::ErrorKind;
+
+// All but the first, which is the program's name.
+fn behind_the_name(alloc: Global, words: Args) -> Result<Vec<String>, AllocError>
+    ensures { IfOk result (λ kept. kept.items ≡ drop 1 (into_iter_items words)) }
+{
+    words.skip(1).collect(alloc)
+}
+
+/// The words of a command line, of which the first is the program's name. Where one isn't UTF-8 there are none: that is
+/// no command either.
+pub fn words_of(alloc: Global, given: io::Result<Args>) -> Result<Vec<String>, NoMemory>
+    ensures words { IfOk given (λ args. IfOk result (λ words. words.items ≡ drop 1 (into_iter_items args))) }
+    ensures none { IfErr given (λ error. IfOk result (λ words. words.items ≡ [])) }
+    ensures memory { IfErr given (λ error. error_kind error ≡ ErrorKind.OutOfMemory → IsErr result) }
+    ensures other { IfErr given (λ error. error_kind error ≢ ErrorKind.OutOfMemory → IsOk result) }
+{
+    match given {
+        Ok(words) => Ok(behind_the_name(alloc, words)?),
+        Err(error) if error.kind() == ErrorKind::OutOfMemory => Err(NoMemory),
+        Err(_) => Ok(Vec::new(alloc)),
+    }
+}
