@@ -48,5 +48,5 @@ def main():
             print(f"{command:<8} {seconds:.3f} s, {seconds / count:.2f} times wc -lw, {memory / 1e6:.0f} MB at most")
 
 
-COMMANDS = ["check", "stall"]
+COMMANDS = ["check", "stall", "replay"]
 main()
