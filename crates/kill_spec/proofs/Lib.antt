@@ -1,0 +1,5 @@
+pub mod DurationLaws
+pub mod Foremost
+pub mod ChoiceLaws
+pub mod VictimLaws
+pub mod KillLaws

@@ -1,0 +1,161 @@
+-- When a detector is true, and when a ruleset fires: oomd's detectors in this profile. A detector
+-- sees the readings of all evaluations, the newest first.
+use Rattle.std.specs.Prelude.{◌≡◌, ◌↔◌, ℕ, ◌-◌, ◌*◌, ◌≤◌, max, List, [], ◌∷◌, ◌++◌, map, filter, fold, All}
+use Rattle.std.specs.Prelude.{nat_le, nat_lt, ◌&&◌, ◌||◌, not, Bool, true, false, if◌then◌else◌}
+use Rattle.std.specs.List.{list_all, list_any}
+use Rattle.psi_base.specs.declared.event.Res.{Res}
+use Rattle.psi_spec.specs.declared.machine.GroupLife.{GroupLife}
+use Rattle.path_match.specs.Match.{Pattern, is_match}
+use Rattle.ruleset_json.specs.declared.types.Size.{Size}
+use Rattle.ruleset_json.specs.declared.types.Size.TheVariants as size
+use Rattle.ruleset_json.specs.declared.types.DetectorSpec.{DetectorSpec}
+use Rattle.ruleset_json.specs.declared.types.DetectorSpec.TheVariants as detector
+use Rattle.ruleset_json.specs.declared.types.DetectorGroup.{DetectorGroup}
+use Rattle.ruleset_json.specs.declared.types.Rule.{Rule}
+use Rattle.kill_spec.specs.declared.reading.GroupReading.{GroupReading}
+use Rattle.kill_spec.specs.declared.reading.HostReading.{HostReading}
+use Rattle.kill_spec.specs.Readings.{Reading, full_average, path_of, rise, sixty_seconds, ten_seconds}
+
+-- ---- matches
+
+-- the live groups that some pattern matches, in the order of their paths
+abbrev pub matches : List GroupLife → List Pattern → Reading → List GroupReading
+matches lives patterns reading =
+    filter (λ (group : GroupReading). is_match patterns (path_of lives group)) reading.groups
+
+-- ---- durations
+
+-- a number of seconds in ns
+abbrev pub of_seconds : ℕ → ℕ
+of_seconds n = n * 1000000000
+
+-- A condition has held for a duration (ns) up to a moment (ns): at the newest readings without a
+-- break, back to one that is at least so long before that moment.
+abbrev pub held_for : (Reading → Bool) → ℕ → ℕ → List Reading → Bool
+held_for condition duration at [] = false
+held_for condition duration at (reading ∷ past) =
+    condition reading && (nat_le duration (at - reading.at) || held_for condition duration at past)
+
+-- a condition is true for a duration (s) at a reading, after others
+abbrev pub holds_for : (Reading → Bool) → ℕ → Reading → List Reading → Bool
+holds_for condition duration_s now past = held_for condition (of_seconds duration_s) now.at (now ∷ past)
+
+-- ---- conditions on a reading
+
+-- the greatest full average of a resource over a window among the matches, and 0 among none
+abbrev pub greatest_full : List GroupLife → List Pattern → Res → ℕ → Reading → ℕ
+greatest_full lives patterns resource window reading =
+    fold max 0 (map (full_average resource window) (matches lives patterns reading))
+
+-- the greatest full average of the matches is above a threshold (percent)
+abbrev pub is_pressed : List GroupLife → List Pattern → Res → ℕ → ℕ → Reading → Bool
+is_pressed lives patterns resource window threshold reading =
+    nat_lt (threshold * 2048) (greatest_full lives patterns resource window reading)
+
+-- memory in use (bytes) is above a size: of so many bytes, or of so many percent of the host's memory
+abbrev pub is_above : Size → HostReading → ℕ → Bool
+is_above (size.Bytes n) host current = nat_lt n current
+is_above (size.Percent n) host current = nat_lt (n * host.mem_total) (current * 100)
+
+-- some match uses more memory than a size
+abbrev pub is_memory_above : List GroupLife → List Pattern → Size → Reading → Bool
+is_memory_above lives patterns threshold reading =
+    list_any (λ (group : GroupReading). is_above threshold reading.host group.current) (matches lives patterns reading)
+
+-- less swap is free than so many percent of all
+abbrev pub is_swap_short : ℕ → Reading → Bool
+is_swap_short percent reading = nat_lt (reading.host.swap_free * 100) (percent * reading.host.swap_total)
+
+-- ---- conditions on a reading after others
+
+-- the greatest full average over 10 s at the reading before, and 0 where there is none
+abbrev pub greatest_before : List GroupLife → List Pattern → Res → List Reading → ℕ
+greatest_before lives patterns resource [] = 0
+greatest_before lives patterns resource (before ∷ past) = greatest_full lives patterns resource ten_seconds before
+
+-- the greatest full average over 10 s hasn't fallen below a part (thousandths) of that at the reading
+-- before
+abbrev pub keeps_up : List GroupLife → List Pattern → Res → ℕ → Reading → List Reading → Bool
+keeps_up lives patterns resource ratio now past =
+    nat_le (ratio * greatest_before lives patterns resource past) (greatest_full lives patterns resource ten_seconds now * 1000)
+
+-- pages were scanned for some match since the reading before
+abbrev pub is_scanned : List GroupLife → List Pattern → Reading → List Reading → Bool
+is_scanned lives patterns now past =
+    list_any (λ (group : GroupReading). nat_lt 0 (rise past group)) (matches lives patterns now)
+
+-- at some reading at most so long (ns) before a moment (ns), pages had been scanned for some match since
+-- the reading before it
+abbrev pub is_scanned_within : List GroupLife → List Pattern → ℕ → ℕ → List Reading → Bool
+is_scanned_within lives patterns duration at [] = false
+is_scanned_within lives patterns duration at (reading ∷ past) =
+    (nat_le (at - reading.at) duration && is_scanned lives patterns reading past)
+    || is_scanned_within lives patterns duration at past
+
+-- there is a match
+abbrev pub has_match : List GroupLife → List Pattern → Reading → Bool
+has_match lives patterns reading =
+    list_any (λ (group : GroupReading). is_match patterns (path_of lives group)) reading.groups
+
+-- ---- detectors
+
+-- The table of detectors: whether one is true at a reading, after others.
+unfoldable pub is_true : List GroupLife → DetectorSpec → Reading → List Reading → Bool
+is_true lives (detector.PressureAbove cgroup resource threshold duration_s) now past =
+    holds_for (is_pressed lives cgroup resource ten_seconds threshold) duration_s now past
+is_true lives (detector.PressureRisingBeyond cgroup resource threshold duration_s ratio) now past =
+    holds_for (is_pressed lives cgroup resource sixty_seconds threshold) duration_s now past
+    && is_pressed lives cgroup resource ten_seconds threshold now
+    && keeps_up lives cgroup resource ratio now past
+is_true lives (detector.MemoryAbove cgroup threshold duration_s) now past =
+    holds_for (is_memory_above lives cgroup threshold) duration_s now past
+is_true lives (detector.MemoryReclaim cgroup duration_s) now past =
+    is_scanned_within lives cgroup (of_seconds duration_s) now.at (now ∷ past)
+is_true lives (detector.SwapFree threshold_pct) now past = is_swap_short threshold_pct now
+is_true lives (detector.Exists cgroup negate) now past =
+    if negate then not (has_match lives cgroup now) else has_match lives cgroup now
+
+-- a group of detectors holds where all its detectors are true; one without detectors always holds
+abbrev pub group_holds : List GroupLife → DetectorGroup → Reading → List Reading → Bool
+group_holds lives group now past =
+    list_all (λ (spec : DetectorSpec). is_true lives spec now past) group.detectors
+
+-- a ruleset fires where one of its groups of detectors holds
+abbrev pub fires : List GroupLife → Rule → Reading → List Reading → Bool
+fires lives rule now past =
+    list_any (λ (group : DetectorGroup). group_holds lives group now past) rule.groups
+
+-- ---- laws
+
+-- Readings, the newest first, in which a condition has held for a duration (ns) up to a moment (ns):
+-- it holds at some reading that is at least so long ago, and at each one since.
+pub record HeldFor (condition : Reading → Bool) (duration at : ℕ) (readings : List Reading) : Type 0 where
+  pub since : List Reading
+  pub first : Reading
+  pub earlier : List Reading
+  pub all : readings ≡ since ++ first ∷ earlier
+  pub each : All (λ reading. condition reading ≡ true) since
+  pub starts : condition first ≡ true
+  pub long : duration ≤ at - first.at
+
+-- The test says whether a condition has held for a duration.
+abbrev pub HeldForTells : Type 0
+HeldForTells = (condition : Reading → Bool) (duration at : ℕ) (readings : List Reading) →
+    (held_for condition duration at readings ≡ true) ↔ HeldFor condition duration at readings
+
+-- For a duration of 0 a condition is true where it holds at the present reading.
+abbrev pub HoldsAtOnce : Type 0
+HoldsAtOnce = (condition : Reading → Bool) (now : Reading) (past : List Reading) →
+    holds_for condition 0 now past ≡ condition now
+
+-- One reading at which a condition doesn't hold starts its duration anew: what was before it counts
+-- for nothing.
+abbrev pub BreakStartsAnew : Type 0
+BreakStartsAnew = (condition : Reading → Bool) (duration_s : ℕ) (now broken : Reading) (newer older : List Reading) →
+    condition broken ≡ false →
+    holds_for condition duration_s now (newer ++ broken ∷ older) ≡ holds_for condition duration_s now newer
+
+-- For a longer duration a condition is never true where it isn't for a shorter one.
+abbrev pub LongerIsLater : Type 0
+LongerIsLater = (condition : Reading → Bool) (shorter_s longer_s : ℕ) (now : Reading) (past : List Reading) →
+    shorter_s ≤ longer_s → holds_for condition longer_s now past ≡ true → holds_for condition shorter_s now past ≡ true

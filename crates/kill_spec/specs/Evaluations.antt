@@ -1,0 +1,119 @@
+-- The readings of a trace: what is seen at each of its evaluations.
+use Rattle.std.specs.Prelude.{ℕ, zero, suc, ◌==◌, List, [], ◌∷◌, map, Bool, if◌then◌else◌}
+use Rattle.std.specs.List.{list_any}
+use Rattle.std.specs.FinMap as tasks_by
+use Rattle.psi_base.specs.declared.event.Act.{Act}
+use Rattle.psi_base.specs.declared.event.Act.TheVariants as act
+use Rattle.psi_base.specs.declared.event.Event.{Event}
+use Rattle.psi_base.specs.declared.event.Preference.{Preference}
+use Rattle.psi_base.specs.declared.event.Preference.TheVariants.{Plain}
+use Rattle.psi_spec.specs.declared.machine.Task.{Task}
+use Rattle.psi_spec.specs.declared.machine.GroupLife.{GroupLife}
+use Rattle.psi_spec.specs.World.{World, first_world, after, up_to}
+use Rattle.psi_spec.specs.Stall.{parents_of, is_under}
+use Rattle.psi_spec.specs.Groups.{live_groups}
+use Rattle.psi_spec.specs.Told.{slot_named, told_from}
+use Rattle.pressure_spec.specs.Ticks.{is_evaluation, tick_moment, ticks_of}
+use Rattle.pressure_spec.specs.Samples.{group_averages}
+use Rattle.kill_spec.specs.declared.reading.GroupReading.{GroupReading}
+use Rattle.kill_spec.specs.declared.reading.HostReading.{HostReading}
+use Rattle.kill_spec.specs.Readings.{Reading, no_host}
+
+-- the last of what a list has, and where it is empty what was before
+abbrev pub last_or : {A : Type 0} → A → List A → A
+last_or before [] = before
+last_or before (x ∷ xs) = last_or x xs
+
+-- ---- the last samples
+
+-- a sample of a group's memory: memory and swap in use (bytes), and how many pages were scanned
+pub record MemorySample : Type 0 where
+  pub current : ℕ
+  pub swap : ℕ
+  pub scan : ℕ
+
+-- the memory of a group of which there is no sample
+abbrev pub no_memory : MemorySample
+no_memory = record { current = 0; swap = 0; scan = 0 }
+
+-- the sample that an act tells of the group in a slot, if it tells one
+abbrev pub memory_told : ℕ → List GroupLife → Act → List MemorySample
+memory_told slot groups (act.Mem path current swap scan) =
+    if (slot_named groups path).0 == slot then record { current = current; swap = swap; scan = scan } ∷ [] else []
+memory_told slot groups _ = []
+
+-- the last sample of the memory of the group in a slot, and zeros where there is none
+abbrev pub memory_of : ℕ → List Event → MemorySample
+memory_of slot events =
+    last_or no_memory (told_from (λ (w : World) (event : Event). memory_told slot w.groups event.act) first_world events)
+
+-- the preference that an act tells of the group in a slot, if it tells one
+abbrev pub preference_told : ℕ → List GroupLife → Act → List Preference
+preference_told slot groups (act.Prefer path preference) =
+    if (slot_named groups path).0 == slot then preference ∷ [] else []
+preference_told slot groups _ = []
+
+-- the last preference of the group in a slot: at first it is neither preferred nor avoided
+abbrev pub preference_of : ℕ → List Event → Preference
+preference_of slot events =
+    last_or Plain (told_from (λ (w : World) (event : Event). preference_told slot w.groups event.act) first_world events)
+
+-- the sample that an act tells of the host, if it tells one
+abbrev pub host_told : Act → List HostReading
+host_told (act.Host mem_total swap_total swap_free) =
+    record { mem_total = mem_total; swap_total = swap_total; swap_free = swap_free } ∷ []
+host_told _ = []
+
+-- the last sample of the host's memory, and zeros where there is none
+abbrev pub host_of : List Event → HostReading
+host_of events =
+    last_or no_host (told_from (λ (w : World) (event : Event). host_told event.act) first_world events)
+
+-- some live task is in the group in a slot, or below it
+abbrev pub is_populated : World → ℕ → Bool
+is_populated w slot =
+    list_any (λ (task : Task). is_under (parents_of w.groups) task.slot.0 slot) (tasks_by.values w.tasks)
+
+-- ---- readings
+
+-- the group in a slot as events tell of it, with its averages over 10, 60 and 300 seconds
+abbrev pub group_seen : List Event → List (List ℕ) → ℕ → GroupReading
+group_seen events averages slot = record {
+  slot = record { 0 = slot };
+  averages = averages;
+  current = (memory_of slot events).current;
+  swap = (memory_of slot events).swap;
+  scan = (memory_of slot events).scan;
+  preference = preference_of slot events;
+  populated = is_populated (after events) slot;
+}
+
+-- the averages of the group in a slot after the tick with a number, of a trace with so many processors and
+-- ticks of a length (ns)
+abbrev pub averages_at : ℕ → List Event → ℕ → ℕ → ℕ → List (List ℕ)
+averages_at cpus events length i slot =
+    (group_averages cpus (after events).groups (ticks_of cpus events length i) slot).averages
+
+-- the reading at the tick with a number: of the groups that are live then, in the byte order of their paths
+unfoldable pub reading_at : ℕ → List Event → ℕ → ℕ → Reading
+reading_at cpus events length i = record {
+  at = tick_moment length i;
+  host = host_of (up_to events (tick_moment length i));
+  groups = map
+      (λ (group : List ℕ × ℕ). group_seen (up_to events (tick_moment length i)) (averages_at cpus events length i group.1) group.1)
+      (live_groups (after (up_to events (tick_moment length i))).groups);
+}
+
+-- the evaluations among the first so many ticks, by their numbers, the newest first: those at which the
+-- interval (ns) is due
+abbrev pub evaluations : ℕ → ℕ → ℕ → List ℕ
+evaluations interval length zero = []
+evaluations interval length (suc i) =
+    if is_evaluation interval length (suc i)
+    then suc i ∷ evaluations interval length i
+    else evaluations interval length i
+
+-- the readings at them, the newest first
+unfoldable pub readings_until : ℕ → List Event → ℕ → ℕ → ℕ → List Reading
+readings_until cpus events length interval count =
+    map (reading_at cpus events length) (evaluations interval length count)

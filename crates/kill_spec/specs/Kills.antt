@@ -1,0 +1,133 @@
+-- Which groups are killed at an evaluation: chains of actions, and rulesets that rest after a kill.
+use Rattle.std.specs.Prelude.{◌≡◌, ℕ, ◌+◌, ◌≤◌, List, [], ◌∷◌, ◌++◌, find, nat_lt, ◌&&◌, not}
+use Rattle.std.specs.Prelude.{Bool, true, false, if◌then◌else◌, slice_get, Option, None, Some, Any, Contains}
+use Rattle.psi_spec.specs.declared.machine.GroupLife.{GroupLife}
+use Rattle.ruleset_json.specs.declared.types.Action.{Action}
+use Rattle.ruleset_json.specs.declared.types.Rule.{Rule}
+use Rattle.kill_spec.specs.declared.reading.GroupReading.{GroupReading}
+use Rattle.kill_spec.specs.declared.kill.Kill.{Kill}
+use Rattle.kill_spec.specs.Readings.{AreReadings, Reading}
+use Rattle.kill_spec.specs.Detectors.{fires, of_seconds}
+use Rattle.kill_spec.specs.Victims.{◌or_else◌, after_of, victim}
+
+-- ---- chains
+
+-- the kill of a group by an action of a ruleset, both by their numbers from 0, at a moment (ns)
+abbrev pub kill_of : ℕ → ℕ → ℕ → GroupReading → Kill
+kill_of at rule act group = record { at = at; rule = rule; action = act; victim = group.slot }
+
+-- what an action's turn in a chain gives: where it has no victim, what the rest of the chain gives; else
+-- its kill, and behind it that of the rest where the chain goes on all the same
+abbrev pub and_then : Bool → Option Kill → List Kill → List Kill
+and_then goes_on None rest = rest
+and_then goes_on (Some kill) rest = kill ∷ (if goes_on then rest else [])
+
+-- the kill of an action, where it has a victim
+abbrev pub kill_by : ℕ → ℕ → Reading → Option GroupReading → Option Kill
+kill_by rule act now None = None
+kill_by rule act now (Some group) = Some (kill_of now.at rule act group)
+
+-- The kills of a chain of actions at a reading, after others: the actions are taken in order, each with a
+-- victim kills it, and the first of these that doesn't always continue ends the chain. The ruleset has
+-- this number, and the first action this one.
+abbrev pub chain : List GroupLife → ℕ → ℕ → List Action → Reading → List Reading → List Kill
+chain lives rule act [] now past = []
+chain lives rule act (first ∷ rest) now past =
+    and_then (after_of first).always_continue (kill_by rule act now (victim lives first now past))
+    (chain lives rule (act + 1) rest now past)
+
+-- ---- pauses
+
+-- a test of an action that may be missing: a missing one passes none
+abbrev pub test_action : Option Action → (Action → Bool) → Bool
+test_action None test = false
+test_action (Some act) test = test act
+
+-- a kill by one of these actions ended its chain: the action doesn't always continue
+abbrev pub ends_chain : List Action → Kill → Bool
+ends_chain actions kill = test_action (slice_get actions kill.action) (λ act. not (after_of act).always_continue)
+
+-- the last kill that ended a chain, of the kills at each reading, the newest first
+abbrev pub last_ending : List Action → List (List Kill) → Option Kill
+last_ending actions [] = None
+last_ending actions (kills ∷ earlier) = find (ends_chain actions) kills or_else last_ending actions earlier
+
+-- the delay (ns) of the action that gave a kill, and 0 where there is none
+abbrev pub delay_of : Option Action → ℕ
+delay_of None = 0
+delay_of (Some act) = of_seconds (after_of act).delay_s
+
+-- a ruleset rests at a moment (ns): its last chain-ending kill is less than its action's delay ago
+abbrev pub is_paused : List Action → ℕ → Option Kill → Bool
+is_paused actions at None = false
+is_paused actions at (Some kill) = nat_lt at (kill.at + delay_of (slice_get actions kill.action))
+
+-- ---- kills
+
+-- the kills of a ruleset at a reading, after others with these kills: those of its chain, where it fires
+-- and doesn't rest
+abbrev pub kills_at : List GroupLife → ℕ → Rule → Reading → List Reading → List (List Kill) → List Kill
+kills_at lives number rule now past earlier =
+    if fires lives rule now past && not (is_paused rule.actions now.at (last_ending rule.actions earlier))
+    then chain lives number 0 rule.actions now past
+    else []
+
+-- the kills of a ruleset at each of readings, the newest first
+unfoldable pub kills_of : List GroupLife → ℕ → Rule → List Reading → List (List Kill)
+kills_of lives number rule [] = []
+kills_of lives number rule (now ∷ past) =
+    kills_at lives number rule now past (kills_of lives number rule past) ∷ kills_of lives number rule past
+
+-- the kills of rulesets at a reading, after others, by ruleset and action; the first ruleset has this
+-- number
+abbrev pub kills_from : List GroupLife → ℕ → List Rule → Reading → List Reading → List Kill
+kills_from lives number [] now past = []
+kills_from lives number (rule ∷ rules) now past =
+    kills_at lives number rule now past (kills_of lives number rule past)
+    ++ kills_from lives (number + 1) rules now past
+
+-- the kills of a rules file's rulesets at a reading, after others
+unfoldable pub kills : List GroupLife → List Rule → Reading → List Reading → List Kill
+kills lives rules now past = kills_from lives 0 rules now past
+
+-- ---- laws
+
+-- A kill ended the chain of a ruleset at a moment: it is among the ruleset's kills at some of these readings.
+abbrev pub EndedBy : List GroupLife → ℕ → Rule → List Reading → Kill → Type 0
+EndedBy lives number rule readings kill =
+    Any (λ kills. Contains kills kill) (kills_of lives number rule readings) × (ends_chain rule.actions kill ≡ true)
+
+-- A ruleset never has two chain-ending kills closer than the delay of the first: the later of two comes no sooner than the
+-- earlier's action allows.
+abbrev pub EndingsApart : Type 0
+EndingsApart = (lives : List GroupLife) (number : ℕ) (rule : Rule) (now : Reading) (past : List Reading) (first second : Kill) →
+    AreReadings lives (now ∷ past) →
+    EndedBy lives number rule past first →
+    Contains (kills_at lives number rule now past (kills_of lives number rule past)) second →
+    ends_chain rule.actions second ≡ true →
+    first.at + delay_of (slice_get rule.actions first.action) ≤ second.at
+
+-- At one reading it never has two: the first kill that ends a chain is its last.
+abbrev pub EndsOnce : Type 0
+EndsOnce = (lives : List GroupLife) (number : ℕ) (rule : Rule) (now : Reading) (past : List Reading)
+    (first second : Kill) →
+    Contains (kills_at lives number rule now past (kills_of lives number rule past)) first →
+    Contains (kills_at lives number rule now past (kills_of lives number rule past)) second →
+    ends_chain rule.actions first ≡ true → ends_chain rule.actions second ≡ true → first ≡ second
+
+-- A kill is of its ruleset and by the action that it names, whose victim it is.
+pub record IsKillOf (lives : List GroupLife) (number : ℕ) (rule : Rule) (now : Reading) (past : List Reading) (kill : Kill) : Type 0 where
+  pub at : kill.at ≡ now.at
+  pub rule_is : kill.rule ≡ number
+  pub act : Action
+  pub by : slice_get rule.actions kill.action ≡ Some act
+  pub group : GroupReading
+  pub chosen : victim lives act now past ≡ Some group
+  pub slot : kill.victim ≡ group.slot
+  pub fired : fires lives rule now past ≡ true
+
+-- Each kill of a ruleset is so: no group is killed but as the victim of an action of a ruleset that fires.
+abbrev pub KillsAreOfActions : Type 0
+KillsAreOfActions = (lives : List GroupLife) (number : ℕ) (rule : Rule) (now : Reading) (past : List Reading) (kill : Kill) →
+    Contains (kills_at lives number rule now past (kills_of lives number rule past)) kill →
+    IsKillOf lives number rule now past kill

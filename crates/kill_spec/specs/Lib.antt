@@ -1,0 +1,6 @@
+pub mod Readings
+pub mod Detectors
+pub mod Victims
+pub mod Choices
+pub mod Kills
+pub mod Evaluations

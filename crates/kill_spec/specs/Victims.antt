@@ -1,0 +1,253 @@
+-- Which group an action kills: oomd's choices in this profile.
+use Rattle.std.specs.Prelude.{◌≡◌, ℕ, zero, suc, ◌+◌, ◌-◌, ◌*◌, ◌/◌, max, List, [], ◌∷◌, ◌++◌}
+use Rattle.std.specs.Prelude.{filter, find, length, take, sum, sum_by, option_map, nat_le, nat_lt, ◌==◌, ◌&&◌, ◌||◌, not}
+use Rattle.std.specs.Prelude.{Bool, true, false, if◌then◌else◌, Option, None, Some}
+use Rattle.std.specs.Prelude.{slice_index_or, Contains}
+use Rattle.std.specs.List.{list_any}
+use Rattle.std.specs.Ordering.{nat_cmp}
+use Rattle.std.specs.declared.cmp.Ordering.{Ordering}
+use Rattle.std.specs.declared.cmp.Ordering.TheVariants.{Less, Equal, Greater}
+use Rattle.std.specs.Cmp.Lexicographic.{slice_cmp}
+use Rattle.psi_base.specs.declared.event.Res.{Res}
+use Rattle.psi_base.specs.declared.event.Preference.{Preference}
+use Rattle.psi_base.specs.declared.event.Preference.TheVariants.{Prefer, Plain, Avoid}
+use Rattle.psi_spec.specs.declared.machine.GroupLife.{GroupLife}
+use Rattle.psi_spec.specs.Stall.{parents_of}
+use Rattle.psi_spec.specs.Groups.{AreOlder}
+use Rattle.path_match.specs.Match.{Pattern, is_match}
+use Rattle.ruleset_json.specs.declared.types.Size.{Size}
+use Rattle.ruleset_json.specs.declared.types.Size.TheVariants as size
+use Rattle.ruleset_json.specs.declared.types.After.{After}
+use Rattle.ruleset_json.specs.declared.types.Action.{Action}
+use Rattle.ruleset_json.specs.declared.types.Action.TheVariants as action
+use Rattle.kill_spec.specs.declared.reading.GroupReading.{GroupReading}
+use Rattle.kill_spec.specs.declared.reading.HostReading.{HostReading}
+use Rattle.kill_spec.specs.Readings.{IsReading, Reading, full_average, group_in, path_of, rise, sixty_seconds, ten_seconds}
+use Rattle.kill_spec.specs.Detectors.{matches}
+
+-- ---- what actions say
+
+-- the patterns of an action
+abbrev pub patterns_of : Action → List Pattern
+patterns_of (action.SizeOrGrowth cgroup size_threshold percentile ratio after) = cgroup
+patterns_of (action.SwapUsage cgroup threshold after) = cgroup
+patterns_of (action.Pressure cgroup resource after) = cgroup
+patterns_of (action.PgScan cgroup after) = cgroup
+
+-- what an action says of the time after it
+abbrev pub after_of : Action → After
+after_of (action.SizeOrGrowth cgroup size_threshold percentile ratio after) = after
+after_of (action.SwapUsage cgroup threshold after) = after
+after_of (action.Pressure cgroup resource after) = after
+after_of (action.PgScan cgroup after) = after
+
+-- ---- candidates
+
+-- the candidates of an action: the matches in which, or below which, some task is live
+abbrev pub candidates : List GroupLife → List Pattern → Reading → List GroupReading
+candidates lives patterns reading =
+    filter (λ (group : GroupReading). group.populated) (matches lives patterns reading)
+
+-- a slot, if there is one, is this one
+abbrev pub is_slot : ℕ → Option ℕ → Bool
+is_slot slot None = false
+is_slot slot (Some other) = other == slot
+
+-- the live groups right below the group in a slot in which, or below which, some task is live
+abbrev pub children : List GroupLife → ℕ → Reading → List GroupReading
+children lives slot reading =
+    filter (λ (group : GroupReading). group.populated && is_slot slot (slice_index_or (parents_of lives) group.slot.0 None))
+    reading.groups
+
+-- ---- choices among groups
+
+-- the first of groups that no other one of them beats
+abbrev pub unbeaten : (GroupReading → GroupReading → Bool) → List GroupReading → Option GroupReading
+unbeaten beats groups =
+    find (λ group. not (list_any (λ other. beats other group) groups)) groups
+
+-- the rank of a preference: what is preferred is chosen first, and what is avoided last
+abbrev pub rank : Preference → ℕ
+rank Prefer = 2
+rank Plain = 1
+rank Avoid = 0
+
+-- the rank of a group
+abbrev pub rank_of : GroupReading → ℕ
+rank_of group = rank group.preference
+
+-- an order says that the first comes before the second
+abbrev pub is_less : Ordering → Bool
+is_less Less = true
+is_less Equal = false
+is_less Greater = false
+
+-- a group's path comes before another's in byte order
+abbrev pub has_path_before : List GroupLife → GroupReading → GroupReading → Bool
+has_path_before lives first second = is_less (slice_cmp nat_cmp (path_of lives first) (path_of lives second))
+
+-- a group has a greater measure than another, or the same and the path that comes first
+abbrev pub is_greater_by : List GroupLife → (GroupReading → ℕ) → GroupReading → GroupReading → Bool
+is_greater_by lives measure first second =
+    nat_lt (measure second) (measure first)
+    || (measure first == measure second && has_path_before lives first second)
+
+-- a group beats another: its preference is better, or the same and its measure is greater, or both are
+-- the same and its path comes first
+abbrev pub beats_by : List GroupLife → (GroupReading → ℕ) → GroupReading → GroupReading → Bool
+beats_by lives measure first second =
+    nat_lt (rank_of second) (rank_of first)
+    || (rank_of first == rank_of second && is_greater_by lives measure first second)
+
+-- ---- swap, pressure and scans
+
+-- swap in use (bytes) is at least a size: of so many bytes, or of so many percent of the host's swap
+abbrev pub is_at_least : Size → HostReading → ℕ → Bool
+is_at_least (size.Bytes n) host swap = nat_le n swap
+is_at_least (size.Percent n) host swap = nat_le (n * host.swap_total) (swap * 100)
+
+-- the full averages of a resource over 10 s and 60 s together
+abbrev pub pressure_measure : Res → GroupReading → ℕ
+pressure_measure resource group =
+    full_average resource ten_seconds group + full_average resource sixty_seconds group
+
+-- the choice among groups of those that are eligible: the one that none beats by a measure
+abbrev pub chosen_by : List GroupLife → (GroupReading → Bool) → (GroupReading → ℕ) → List GroupReading → Option GroupReading
+chosen_by lives is_eligible measure groups = unbeaten (beats_by lives measure) (filter is_eligible groups)
+
+-- ---- size or growth
+
+-- a group's memory in use (bytes)
+abbrev pub size_of : GroupReading → ℕ
+size_of group = group.current
+
+-- one group is larger than another: it uses more memory, or the same and its path comes first
+abbrev pub is_larger : List GroupLife → GroupReading → GroupReading → Bool
+is_larger lives first second = is_greater_by lives size_of first second
+
+-- the largest of groups
+abbrev pub largest : List GroupLife → List GroupReading → Option GroupReading
+largest lives groups = unbeaten (is_larger lives) groups
+
+-- those of groups whose preference is the best that one of them has
+abbrev pub best_of : List GroupReading → List GroupReading
+best_of groups = filter (λ group. not (list_any (λ other. nat_lt (rank_of group) (rank_of other)) groups)) groups
+
+-- the memory (bytes) that groups use together
+abbrev pub total_size : List GroupReading → ℕ
+total_size groups = sum_by size_of groups
+
+-- the first choice: the largest of the best with at least so many percent of the memory of all
+abbrev pub large_choice : List GroupLife → ℕ → List GroupReading → Option GroupReading
+large_choice lives size_threshold groups =
+    largest lives (filter (λ group. nat_le (size_threshold * total_size groups) (size_of group * 100)) (best_of groups))
+
+-- how many of so many groups stand above a percentile: rounded up, and at least one
+abbrev pub count_above : ℕ → ℕ → ℕ
+count_above percentile count = max 1 ((count * (100 - percentile) + 99) / 100)
+
+-- the so many largest of groups
+abbrev pub largest_few : List GroupLife → ℕ → List GroupReading → List GroupReading
+largest_few lives count groups =
+    filter (λ group. nat_lt (length (filter (λ other. is_larger lives other group) groups)) count) groups
+
+-- the size (bytes) of a group, if it was live
+abbrev pub size_at : Option GroupReading → List ℕ
+size_at None = []
+size_at (Some group) = group.current ∷ []
+
+-- the sizes (bytes) that the group in a slot had at readings at which it was live, the newest first
+abbrev pub sizes_in : ℕ → List Reading → List ℕ
+sizes_in slot [] = []
+sizes_in slot (reading ∷ past) = size_at (group_in reading slot) ++ sizes_in slot past
+
+-- the past of a group: its last four sizes (bytes) at most, from before the present reading
+abbrev pub past_of : List Reading → GroupReading → List ℕ
+past_of past group = take 4 (sizes_in group.slot.0 past)
+
+-- a group is growing: it has a past with memory in use, and its size is at least so many thousandths of
+-- the mean of its past
+abbrev pub is_growing : ℕ → List Reading → GroupReading → Bool
+is_growing ratio past group =
+    nat_lt 0 (sum (past_of past group))
+    && nat_le (ratio * sum (past_of past group)) (size_of group * length (past_of past group) * 1000)
+
+-- a group's size over the mean of its past, times the sums of its own past and another's: compared with
+-- the same of the other it tells which quotient is greater
+abbrev pub growth_by : List Reading → GroupReading → GroupReading → ℕ
+growth_by past group other = size_of group * length (past_of past group) * sum (past_of past other)
+
+-- A group has grown more than another: the quotient of its size and the mean of its past is greater, as
+-- an exact fraction, or the same and the group is larger.
+abbrev pub has_grown_more : List GroupLife → List Reading → GroupReading → GroupReading → Bool
+has_grown_more lives past first second =
+    nat_lt (growth_by past second first) (growth_by past first second)
+    || (growth_by past first second == growth_by past second first && is_larger lives first second)
+
+-- the second choice: among the largest of the best, the growing one that has grown most
+abbrev pub growing_choice : List GroupLife → ℕ → ℕ → List Reading → List GroupReading → Option GroupReading
+growing_choice lives percentile ratio past groups =
+    unbeaten (has_grown_more lives past)
+    (filter (is_growing ratio past)
+    (largest_few lives (count_above percentile (length (best_of groups))) (best_of groups)))
+
+-- what is found, and else another
+infixr 5 ◌or_else◌
+abbrev pub ◌or_else◌ : {A : Type 0} → Option A → Option A → Option A
+(Some x) or_else other = Some x
+None or_else other = other
+
+-- ---- victims
+
+-- the choice of an action among groups at a reading, after others
+unfoldable pub choice : List GroupLife → Action → Reading → List Reading → List GroupReading → Option GroupReading
+choice lives (action.SizeOrGrowth cgroup size_threshold percentile ratio after) now past groups =
+    large_choice lives size_threshold groups
+    or_else growing_choice lives percentile ratio past groups
+    or_else largest lives (best_of groups)
+choice lives (action.SwapUsage cgroup threshold after) now past groups =
+    chosen_by lives (λ group. is_at_least threshold now.host group.swap) (λ group. group.swap) groups
+choice lives (action.Pressure cgroup resource after) now past groups =
+    chosen_by lives (λ group. nat_lt 0 (pressure_measure resource group)) (pressure_measure resource) groups
+choice lives (action.PgScan cgroup after) now past groups =
+    chosen_by lives (λ group. nat_lt 0 (rise past group)) (rise past) groups
+
+-- the group at which choices among children end: the one chosen, or where there is none this one
+abbrev pub below : Option GroupReading → GroupReading → (GroupReading → GroupReading) → GroupReading
+below None group next = group
+below (Some child) group next = next child
+
+-- The group that is chosen last when, from this one on, the choice is made again among the children
+-- of the one just chosen, until none of them is chosen or so many choices were made.
+abbrev pub descended : List GroupLife → Action → Reading → List Reading → ℕ → GroupReading → GroupReading
+descended lives act now past zero group = group
+descended lives act now past (suc n) group =
+    below (choice lives act now past (children lives group.slot.0 now)) group (descended lives act now past n)
+
+-- The victim of an action at a reading, after others, if it has one: its choice among the candidates.
+-- Where the action is recursive, the choice is made again among the children of the one that was chosen,
+-- until no child is; a group's slot is smaller than its children's, so there are no more such choices
+-- than groups.
+unfoldable pub victim : List GroupLife → Action → Reading → List Reading → Option GroupReading
+victim lives act now past =
+    if (after_of act).recursive
+    then option_map (descended lives act now past (length lives)) (choice lives act now past (candidates lives (patterns_of act) now))
+    else choice lives act now past (candidates lives (patterns_of act) now)
+
+-- ---- laws
+
+-- A group is a live one in which, or below which, some task is live, as a reading tells.
+abbrev pub IsPopulatedIn : Reading → GroupReading → Type 0
+IsPopulatedIn reading group = Contains reading.groups group × (group.populated ≡ true)
+
+-- The victim of an action is populated; and it matches the action's patterns, unless the action is recursive.
+abbrev pub VictimsMatch : Type 0
+VictimsMatch = (lives : List GroupLife) (act : Action) (now : Reading) (past : List Reading) (group : GroupReading) →
+    victim lives act now past ≡ Some group →
+    IsPopulatedIn now group × ((after_of act).recursive ≡ false → is_match (patterns_of act) (path_of lives group) ≡ true)
+
+-- More choices below the one that was chosen change nothing, once there are as many as groups.
+abbrev pub DescentEnds : Type 0
+DescentEnds = (lives : List GroupLife) (act : Action) (now : Reading) (past : List Reading) (more : ℕ) (group : GroupReading) →
+    AreOlder (parents_of lives) → IsReading lives now →
+    descended lives act now past (length lives + more) group ≡ descended lives act now past (length lives) group
