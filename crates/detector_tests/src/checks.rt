@@ -1,0 +1,64 @@
+//! What a test must see before it calls a reading.
+
+ghost use Rattle.std.specs.Prelude.{◌≡◌, ◌<◌, ◌≤◌, All, length, true};
+ghost use Rattle.pressure_spec.specs.Average.{IsRow};
+ghost use Rattle.kill_spec.specs.Readings.{IsGroupReading, IsHostReading};
+ghost use Rattle.detectors.specs.Views.{ComesLast};
+
+use detectors::{GroupReading, HostReading, Reading};
+
+/// The most bytes and scans (2^60).
+const MOST: u64 = 1 << 60;
+
+/// The greatest average, 100 percent.
+const WHOLE: u64 = 204_800;
+
+/// A sample of the host is in its ranges.
+pub fn is_host(host: &HostReading) -> bool
+    ensures { result ≡ true → IsHostReading host.now }
+{
+    host.mem_total <= MOST && host.swap_total <= MOST && host.swap_free <= MOST
+}
+
+/// A row of averages is.
+fn is_row(row: &[u64; 3]) -> bool
+    ensures { result ≡ true → IsRow row.now }
+{
+    'averages: for average in row {
+        if *average > WHOLE {
+            return false;
+        }
+    }
+    true
+}
+
+/// All rows are.
+fn are_rows(rows: &[[u64; 3]]) -> bool
+    ensures { result ≡ true → All IsRow rows.now }
+{
+    'rows: for row in rows {
+        if !is_row(row) {
+            return false;
+        }
+    }
+    true
+}
+
+/// A group is, of so many.
+pub fn is_group(group: &GroupReading, slots: usize) -> bool
+    ensures { result ≡ true → IsGroupReading slots group.now }
+{
+    let is_small = group.current <= MOST && group.swap <= MOST && group.scan <= MOST;
+    (group.slot.0 as usize) < slots && is_small && are_rows(&group.averages)
+}
+
+/// A group's path comes after those of a reading.
+pub fn comes_last(reading: &Reading, group: &GroupReading) -> bool
+    requires { group.now.slot.0 < length reading.now.lives }
+    ensures { result ≡ true → ComesLast reading.now group.now }
+{
+    match reading.groups().last() {
+        Some(before) => reading.path(before.slot) < reading.path(group.slot),
+        None => true,
+    }
+}

@@ -1,0 +1,84 @@
+-- What contracts see of a reading and of a detector.
+use Rattle.std.specs.Prelude.{ℕ, ◌<◌, ◌≤◌, List, [], ◌∷◌, ◌++◌, length, map, Bool, Option, None}
+use Rattle.std.specs.Prelude.{Some}
+use Rattle.psi_spec.specs.declared.machine.GroupLife.{GroupLife}
+use Rattle.ruleset_json.specs.declared.types.DetectorSpec.{DetectorSpec}
+use Rattle.kill_spec.specs.declared.reading.GroupReading.{GroupReading}
+use Rattle.kill_spec.specs.declared.reading.HostReading.{HostReading}
+use Rattle.kill_spec.specs.Readings.{Ascend, IsReading, Reading, path_of}
+
+-- ---- readings
+
+-- A reading: all groups that a trace ever makes, by slot, and what is seen of the live ones.
+pub record ReadingView : Type 0 where
+  pub lives : List GroupLife
+  pub seen : Reading
+
+-- what is seen at a moment (ns) of a host and of groups
+abbrev pub seen_at : ℕ → HostReading → List GroupReading → Reading
+seen_at at host groups = record { at = at; host = host; groups = groups }
+
+-- a reading of these groups
+abbrev pub reading_of : List GroupLife → Reading → ReadingView
+reading_of lives seen = record { lives = lives; seen = seen }
+
+-- a reading with one group more behind the others
+abbrev pub with_group : Reading → GroupReading → Reading
+with_group seen group = seen_at seen.at seen.host (seen.groups ++ group ∷ [])
+
+-- a group's path comes after those of the groups of a reading, in byte order
+abbrev pub ComesLast : ReadingView → GroupReading → Type 0
+ComesLast reading group =
+    Ascend (map (path_of reading.lives) (with_group reading.seen group).groups)
+
+-- What holds of each reading: there are at most 1,024 groups, and it is one of them.
+pub record IsReadingView (reading : ReadingView) : Type 0 where
+  pub few : length reading.lives ≤ 1024
+  pub within : IsReading reading.lives reading.seen
+
+-- there is room for as many
+pub record IsRoom (count capacity : ℕ) : Type 0 where
+  pub room : count ≤ capacity
+
+-- ---- detectors
+
+-- A detector: its arguments; the moment (ns) of its last reading; by slot, whether it matches the
+-- group; the moment (ns) at which the present run of its condition began; the greatest full average
+-- over 10 s of its matches at the last reading; by slot, the count of scans of the group at the
+-- last reading, if it was live; and the last moment (ns) at which a match's count had risen.
+pub record DetectorView : Type 0 where
+  pub spec : DetectorSpec
+  pub last : Option ℕ
+  pub matched : List Bool
+  pub run : Option ℕ
+  pub greatest : ℕ
+  pub scans : List (Option ℕ)
+  pub rose : Option ℕ
+
+-- a detector with these parts
+abbrev pub detector_of : DetectorSpec → Option ℕ → List Bool → Option ℕ → ℕ → List (Option ℕ) →
+    Option ℕ → DetectorView
+detector_of spec last matched run greatest scans rose = record {
+  spec = spec;
+  last = last;
+  matched = matched;
+  run = run;
+  greatest = greatest;
+  scans = scans;
+  rose = rose;
+}
+
+-- how many groups a detector is for
+abbrev pub slots_of : DetectorView → ℕ
+slots_of detector = length detector.matched
+
+-- a moment (ns) comes after another, if there is one
+abbrev pub IsAfter : Option ℕ → ℕ → Type 0
+IsAfter None at = Unit {0}
+IsAfter (Some last) at = last < at
+
+-- a moment (ns), if there is one, isn't after another
+abbrev pub IsBy : Option ℕ → Option ℕ → Type 0
+IsBy None last = Unit {0}
+IsBy (Some moment) None = ⊥
+IsBy (Some moment) (Some last) = moment ≤ last

@@ -1,0 +1,174 @@
+//! Conditions on a reading and its matches.
+ghost use Rattle.std.specs.Prelude.{◌≡◌, ◌≤◌, ◌<◌, ◌^◌, All, false, length};
+ghost use Rattle.std.specs.List.{list_any};
+ghost use Rattle.psi_base.specs.declared.event.Level.TheVariants.{FullStalled};
+ghost use Rattle.psi_spec.specs.Stall.{number_of};
+ghost use Rattle.pressure_spec.specs.Samples.{state_of};
+ghost use Rattle.kill_spec.specs.declared.reading.GroupReading.{GroupReading};
+ghost use Rattle.kill_spec.specs.Detectors.{is_above};
+ghost use Rattle.kill_spec.specs.Readings.{IsGroupReading, IsHostReading, full_average};
+ghost use Rattle.path_match.specs.Match.{is_match};
+ghost use Rattle.detectors.specs.Tables.{condition_among, found, greatest_among, greatest_of, has};
+ghost use Rattle.detectors.specs.Tables.{is_some_above, is_swap_below, patterns_of, table_of};
+
+use kill_spec::{GroupReading, HostReading};
+use psi_base::{Path, Res, State};
+use psi_spec::GroupLife;
+use ruleset_json::{DetectorSpec, Size};
+
+/// The places of the averages over 10 s and over 60 s.
+const TEN_SECONDS: usize = 0;
+
+const SIXTY_SECONDS: usize = 1;
+
+/// A table has a group as matched.
+pub(crate) fn has(matched: &[bool], group: &GroupReading) -> bool
+    ensures { result ≡ has matched.now group.now }
+{
+    match matched.get(group.slot.0 as usize) {
+        Some(is_matched) => *is_matched,
+        None => false,
+    }
+}
+
+/// Some pattern of a detector matches a path. One of the host's swap has no pattern.
+#[tactic(auto, unfolding(path_match::specs::Match::is_match))]
+fn is_match(spec: &DetectorSpec, path: &Path) -> bool
+    ensures { result ≡ is_match (patterns_of spec.now) path.now }
+{
+    match spec {
+        DetectorSpec::PressureAbove { cgroup, .. } => cgroup.matches(path),
+        DetectorSpec::PressureRisingBeyond { cgroup, .. } => cgroup.matches(path),
+        DetectorSpec::MemoryAbove { cgroup, .. } => cgroup.matches(path),
+        DetectorSpec::MemoryReclaim { cgroup, .. } => cgroup.matches(path),
+        DetectorSpec::SwapFree { .. } => false,
+        DetectorSpec::Exists { cgroup, .. } => cgroup.matches(path),
+    }
+}
+
+/// Finds for each group, by slot, whether the detector matches it.
+pub(crate) fn find_matches(matched: &mut [bool], spec: &DetectorSpec, lives: &[GroupLife])
+    requires { length matched.old ≡ length lives.now }
+    ensures { matched.new ≡ table_of lives.now (patterns_of spec.now) }
+{
+    'lives: for (slot, life) in lives.iter().enumerate() {
+        matched[slot] = is_match(spec, &life.path);
+    }
+}
+
+/// The state of which a resource's full pressure is told.
+fn full_state(resource: Res) -> State
+    ensures value { result ≡ state_of resource FullStalled }
+    ensures pressure { number_of result < 6 }
+{
+    match resource {
+        Res::Io => State::IoFull,
+        Res::Memory => State::MemFull,
+        Res::Cpu => State::CpuFull,
+    }
+}
+
+/// The full average of a resource over a window.
+fn full_average(group: &GroupReading, resource: Res, window: usize) -> u64
+    requires { window < 3 }
+    ensures { result ≡ full_average resource window group.now }
+{
+    group.averages[full_state(resource) as usize][window]
+}
+
+/// The greatest full average of a resource over a window among the matches, and 0 among none.
+fn greatest_full(matched: &[bool], groups: &[GroupReading], resource: Res, window: usize) -> u64
+    requires { window < 3 }
+    ensures { result ≡ greatest_among resource window (found matched.now groups.now) }
+{
+    groups
+        .iter()
+        .filter(|group| has(matched, group))
+        .map(|group| full_average(group, resource, window))
+        .fold(0, |greatest, average| greatest.max(average))
+}
+
+/// The greatest full average over 10 s of the matches, for a detector that asks whether it is
+/// rising, and 0 for others.
+pub(crate) fn greatest_of(spec: &DetectorSpec, matched: &[bool], groups: &[GroupReading]) -> u64
+    ensures { result ≡ greatest_of spec.now (found matched.now groups.now) }
+{
+    match spec {
+        DetectorSpec::PressureRisingBeyond { resource, .. } => {
+            greatest_full(matched, groups, *resource, TEN_SECONDS)
+        }
+        _ => 0,
+    }
+}
+
+/// Memory in use is above a size, of so many bytes or of so many percent of the host's memory.
+fn is_above(threshold: Size, host: &HostReading, current: u64) -> bool
+    ensures { result ≡ is_above threshold host.now current }
+{
+    match threshold {
+        Size::Bytes(bytes) => current > bytes,
+        Size::Percent(percent) => {
+            u128::from(current) * 100 > u128::from(percent) * u128::from(host.mem_total)
+        }
+    }
+}
+
+/// Memory in use by some match is above a size.
+fn is_some_above(
+    matched: &[bool],
+    groups: &[GroupReading],
+    threshold: Size,
+    host: &HostReading,
+) -> bool
+    ensures { result ≡ is_some_above threshold host.now (found matched.now groups.now) }
+{
+    groups
+        .iter()
+        .filter(|group| has(matched, group))
+        .any(|group| is_above(threshold, host, group.current))
+}
+
+/// The condition that the detector wants for its duration holds.
+pub(crate) fn has_condition(
+    spec: &DetectorSpec,
+    matched: &[bool],
+    host: &HostReading,
+    groups: &[GroupReading],
+) -> bool
+    ensures { result ≡ condition_among spec.now host.now (found matched.now groups.now) }
+{
+    match spec {
+        DetectorSpec::PressureAbove {
+            resource,
+            threshold,
+            ..
+        } => {
+            greatest_full(matched, groups, *resource, TEN_SECONDS) > u64::from(*threshold) * 2048
+        }
+        DetectorSpec::PressureRisingBeyond {
+            resource,
+            threshold,
+            ..
+        } => {
+            greatest_full(matched, groups, *resource, SIXTY_SECONDS) > u64::from(*threshold) * 2048
+        }
+        DetectorSpec::MemoryAbove { threshold, .. } => {
+            is_some_above(matched, groups, *threshold, host)
+        }
+        _ => false,
+    }
+}
+
+/// There is a match.
+pub(crate) fn has_match(matched: &[bool], groups: &[GroupReading]) -> bool
+    ensures { result ≡ list_any (has matched.now) groups.now }
+{
+    groups.iter().any(|group| has(matched, group))
+}
+
+/// Less of the host's swap is free than so many percent.
+pub(crate) fn is_swap_short(percent: u32, host: &HostReading) -> bool
+    ensures { result ≡ is_swap_below percent host.now }
+{
+    u128::from(host.swap_free) * 100 < u128::from(percent) * u128::from(host.swap_total)
+}

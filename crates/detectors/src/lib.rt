@@ -1,0 +1,13 @@
+//! Readings of groups, and whether oomd's detectors are true at them.
+#![tactic(auto)]
+
+mod conditions;
+mod copies;
+mod detector;
+mod moments;
+mod reading;
+mod scans;
+
+pub use detector::Detector;
+pub use kill_spec::{GroupReading, HostReading};
+pub use reading::Reading;

@@ -1,0 +1,56 @@
+//! The moments that a detector keeps.
+ghost use Rattle.std.specs.Prelude.{◌≡◌, None, Some, if◌then◌else◌};
+ghost use Rattle.detectors.specs.Tables.{is_long, is_recent, run_after};
+ghost use Rattle.detectors.specs.Views.{IsBy};
+ghost use Rattle.kill_spec.specs.Detectors.{of_seconds};
+
+use psi_base::Ns;
+
+/// A number of seconds in ns.
+pub(crate) fn of_seconds(seconds: u32) -> Ns
+    ensures { result ≡ of_seconds seconds }
+{
+    u64::from(seconds) * 1_000_000_000
+}
+
+/// When the present run of a condition began (ns), once it holds or not now (ns).
+pub(crate) fn run_after(run: Option<Ns>, holds: bool, now: Ns) -> Option<Ns>
+    ensures { result ≡ run_after run holds now }
+{
+    if !holds {
+        return None;
+    }
+    match run {
+        Some(start) => Some(start),
+        None => Some(now),
+    }
+}
+
+/// When there was a rise last (ns), once there is one or not now (ns).
+pub(crate) fn rise_after(rose: Option<Ns>, has_risen: bool, now: Ns) -> Option<Ns>
+    ensures { result ≡ (if has_risen then Some now else rose) }
+{
+    if has_risen { Some(now) } else { rose }
+}
+
+/// A run is at least so long (ns) now.
+pub(crate) fn is_long(run: Option<Ns>, duration: Ns, now: Ns) -> bool
+    requires { IsBy run (Some now) }
+    ensures { result ≡ is_long run duration now }
+{
+    match run {
+        Some(start) => now - start >= duration,
+        None => false,
+    }
+}
+
+/// A moment, if there is one, is at most so long (ns) ago now.
+pub(crate) fn is_recent(moment: Option<Ns>, duration: Ns, now: Ns) -> bool
+    requires { IsBy moment (Some now) }
+    ensures { result ≡ is_recent moment duration now }
+{
+    match moment {
+        Some(moment) => now - moment <= duration,
+        None => false,
+    }
+}

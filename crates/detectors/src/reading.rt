@@ -1,0 +1,117 @@
+//! Readings.
+ghost use Rattle.std.specs.Prelude.{◌≡◌, ◌<◌, ◌≤◌, [], IfOk, length};
+ghost use Rattle.psi_spec.specs.Groups.{path_at};
+ghost use Rattle.kill_spec.specs.Readings.{IsGroupReading, IsHostReading, IsReading, no_host};
+ghost use Rattle.detectors.specs.Views.{ComesLast, reading_of, seen_at, with_group};
+
+use crate::copies::copy_lives;
+use kill_spec::{GroupReading, HostReading};
+use psi_base::{NoMemory, Ns, Path, Slot};
+use psi_spec::GroupLife;
+use std::alloc::Global;
+use std::marker::Model;
+
+/// What is seen at an evaluation: the moment, the host's memory, and the live groups in the byte
+/// order of their paths. It has all groups that a trace ever makes, and takes all memory at first.
+#[derive(Drop)]
+pub struct Reading {
+    lives: Vec<GroupLife>,
+    at: Ns,
+    host: HostReading,
+    /// The live groups, with room for all.
+    groups: Vec<GroupReading>,
+}
+
+impl Model for Reading {
+    ghost use Rattle.std.specs.Prelude.{length, vec_capacity};
+    ghost use Rattle.detectors.specs.Views.{IsReadingView, IsRoom, ReadingView};
+    ghost use Rattle.detectors.specs.Views.{reading_of, seen_at};
+
+    ghost Value = { ReadingView };
+
+    ghost view = { λ r. reading_of r.lives.items (seen_at r.at r.host r.groups.items) };
+
+    ghost invariant = { λ r. IsRoom (length r.lives.items) (vec_capacity r.groups)
+        × IsReadingView (reading_of r.lives.items (seen_at r.at r.host r.groups.items)) };
+}
+
+impl Reading {
+    /// A reading of none of these groups, at 0, with room for all.
+    pub fn make(alloc: Global, lives: &[GroupLife]) -> Result<Reading, NoMemory>
+        requires { length lives.now ≤ 1024 }
+        ensures { IfOk result (λ reading. reading ≡ reading_of lives.now (seen_at 0 no_host [])) }
+    {
+        Ok(Reading {
+            lives: copy_lives(alloc, lives)?,
+            at: 0,
+            host: HostReading {
+                mem_total: 0,
+                swap_total: 0,
+                swap_free: 0,
+            },
+            groups: Vec::with_capacity(alloc, lives.len())?,
+        })
+    }
+
+    /// Begins a reading at a moment (ns), with the last sample of the host's memory, and no group
+    /// yet.
+    pub fn start(&mut self, at: Ns, host: HostReading)
+        requires { IsHostReading host }
+        ensures { self.new ≡ reading_of self.old.lives (seen_at at host []) }
+    {
+        self.at = at;
+        self.host = host;
+        self.groups.clear();
+    }
+
+    /// Puts a live group behind the others. Its path comes after theirs in byte order, so there is
+    /// room. Takes no memory.
+    pub fn push(&mut self, group: GroupReading)
+        requires group { IsGroupReading (length self.old.lives) group }
+        requires order { ComesLast self.old group }
+        ensures { self.new ≡ reading_of self.old.lives (with_group self.old.seen group) }
+    {
+        if self.groups.push(group).is_err() {
+            unreachable!();
+        }
+    }
+
+    /// The moment, in ns.
+    pub fn at(&self) -> Ns
+        ensures { result ≡ self.now.seen.at }
+    {
+        self.at
+    }
+
+    /// The host's memory by its last sample.
+    pub fn host(&self) -> HostReading
+        ensures host { result ≡ self.now.seen.host }
+        ensures within { IsHostReading result }
+    {
+        self.host
+    }
+
+    /// The live groups, in the byte order of their paths.
+    pub fn groups(&self) -> &[GroupReading]
+        ensures groups { result.now ≡ self.now.seen.groups }
+        ensures within { IsReading self.now.lives self.now.seen }
+    {
+        &self.groups
+    }
+
+    /// All groups that a trace ever makes, by slot.
+    pub fn lives(&self) -> &[GroupLife]
+        ensures lives { result.now ≡ self.now.lives }
+        ensures few { length result.now ≤ 1024 }
+    {
+        &self.lives
+    }
+
+    /// The path of the group in a slot, whether it is live or not.
+    pub fn path(&self, slot: Slot) -> &Path
+        requires { slot.0 < length self.now.lives }
+        ensures { result.now ≡ path_at self.now.lives slot.0 }
+    {
+        &self.lives[slot.0 as usize].path
+    }
+}

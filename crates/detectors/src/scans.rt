@@ -1,0 +1,81 @@
+//! Counts of scans of pages.
+ghost use Rattle.std.specs.Prelude.{◌≡◌, ◌<◌, ℕ, All, length, nat_lt};
+ghost use Rattle.detectors.specs.Tables.{found, have_risen, last_rise, risen_from, scan_after};
+ghost use Rattle.detectors.specs.Tables.{scan_among, scan_in, scan_slots};
+ghost use Rattle.kill_spec.specs.declared.reading.GroupReading.{GroupReading};
+
+use crate::conditions::has;
+use crate::moments::rise_after;
+use kill_spec::GroupReading;
+use psi_base::{Ns, Slot};
+use ruleset_json::DetectorSpec;
+
+/// The count of the group in a slot, if the table has it.
+fn scan_in(scans: &[Option<u64>], slot: Slot) -> Option<u64>
+    ensures { result ≡ scan_in scans.now slot.0 }
+{
+    match scans.get(slot.0 as usize) {
+        Some(scan) => *scan,
+        None => None,
+    }
+}
+
+/// A count is above one before it, if there is one.
+fn has_risen(before: Option<u64>, scan: u64) -> bool
+    ensures { result ≡ nat_lt 0 (risen_from before scan) }
+{
+    match before {
+        Some(before) => scan > before,
+        None => false,
+    }
+}
+
+/// The count of some match is above that of the table.
+pub(crate) fn have_risen(scans: &[Option<u64>], matched: &[bool], groups: &[GroupReading]) -> bool
+    ensures { result ≡ have_risen scans.now (found matched.now groups.now) }
+{
+    groups
+        .iter()
+        .filter(|group| has(matched, group))
+        .any(|group| has_risen(scan_in(scans, group.slot), group.scan))
+}
+
+/// Takes the counts of these groups and forgets all others. Of groups in one slot, which there
+/// aren't, the first stands.
+pub(crate) fn take_scans(scans: &mut [Option<u64>], groups: &[GroupReading])
+    requires { All (λ (group : GroupReading). group.slot.0 < length scans.old) groups.now }
+    ensures { (slot : ℕ) → scan_in scans.new slot ≡ scan_among groups.now slot }
+{
+    'clear: for scan in scans.iter_mut() {
+        *scan = None;
+    }
+    'groups: for group in groups {
+        let slot = group.slot.0 as usize;
+        scans[slot] = scans[slot].or(Some(group.scan));
+    }
+}
+
+/// Takes the counts of a reading at a moment (ns) where the detector asks for scans, and tells when
+/// some match's count had risen last (ns). Else all stays as it is.
+pub(crate) fn take_rise(
+    spec: &DetectorSpec,
+    scans: &mut [Option<u64>],
+    rose: Option<Ns>,
+    matched: &[bool],
+    groups: &[GroupReading],
+    now: Ns,
+) -> Option<Ns>
+    requires scans { length scans.old ≡ scan_slots spec.now (length matched.now) }
+    requires slots { All (λ (group : GroupReading). group.slot.0 < length matched.now) groups.now }
+    ensures rose { result ≡
+        last_rise spec.now scans.old rose (found matched.now groups.now) now }
+    ensures scans { (slot : ℕ) →
+        scan_in scans.new slot ≡ scan_after spec.now scans.old groups.now slot }
+{
+    let DetectorSpec::MemoryReclaim { .. } = spec else {
+        return rose;
+    };
+    let has_risen = have_risen(scans, matched, groups);
+    take_scans(scans, groups);
+    rise_after(rose, has_risen, now)
+}
