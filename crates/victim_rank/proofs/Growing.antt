@@ -1,0 +1,145 @@
+-- Growth orders groups, and the walk finds the group that has grown most.
+use Rattle.std.proofs.Common.{◌≡◌, ℕ, ◌*◌, ◌<◌, ◌≤◌, List, [], length, sum, refl, sym, ap, ◌∙◌}
+use Rattle.std.proofs.Common.{arith, true, mul-lt-mul_of_pos_right, mul-le-mul_right}
+use Rattle.std.proofs.Common.{lt_of_mul-lt-mul_right, ⊎_elim, inl, inr}
+use Rattle.std.proofs.Math.Nat.{eq_of_mul-eq-mul_right}
+use Rattle.std.specs.Prelude.{Bool, Option, None, ◌&&◌, ◌||◌, ◌==◌, filter, map, nat_le, nat_lt}
+use Rattle.std.proofs.lemmas.Bool.{and_parts}
+use Rattle.std.proofs.lemmas.Bool.Decides.{nat_tests}
+use Rattle.psi_spec.specs.declared.machine.GroupLife.{GroupLife}
+use Rattle.kill_spec.specs.declared.reading.GroupReading.{GroupReading}
+use Rattle.kill_spec.specs.Readings.{Ascend, path_of}
+use Rattle.kill_spec.specs.Victims.{is_larger, largest_few, size_of, unbeaten}
+use Rattle.kill_spec.proofs.Foremost.{Orders, each_map, each_passes, foremost, pairs_filter}
+use Rattle.kill_spec.proofs.ChoiceLaws.{IsBefore, greater_order, in_order, then_first, then_one_way}
+use Rattle.kill_spec.proofs.ChoiceLaws.{then_same, then_tells, then_told, walk_unbeaten}
+use Rattle.victim_rank.specs.declared.growth.Grown.{Grown}
+use Rattle.victim_rank.specs.Growth.{growth_over, has_grown_more_over, is_growing_over}
+use Rattle.victim_rank.specs.Grown.{IsGrown, leads_grown}
+use Rattle.victim_rank.proofs.Scoped.{filter_filter, foremost_none, leads_plainly}
+
+-- a group leads one before it: it has grown more, or as much and it uses more memory
+abbrev pub leads_over : (GroupReading → List ℕ) → GroupReading → GroupReading → Bool
+leads_over sizes next best =
+    nat_lt (growth_over sizes best next) (growth_over sizes next best)
+    || (growth_over sizes next best == growth_over sizes best next && nat_lt (size_of best)
+    (size_of next))
+
+-- ---- quotients, compared by products
+
+-- a/s is at least b/t, and b/t is above c/u
+then_above : (a b c s t u : ℕ) → 0 < s → b * s ≤ a * t → c * t < b * u → c * s < a * u
+then_above a b c s t u some first second =
+    let low : c * t * s < b * u * s = mul-lt-mul_of_pos_right second some in
+    let high : b * s * u ≤ a * t * u = mul-le-mul_right u first in
+    lt_of_mul-lt-mul_right t (omega (arith, low, high))
+
+-- a/s is above b/t, and b/t is at least c/u
+above_then : (a b c s t u : ℕ) → 0 < u → b * s < a * t → c * t ≤ b * u → c * s < a * u
+above_then a b c s t u some first second =
+    let low : c * t * s ≤ b * u * s = mul-le-mul_right s second in
+    let high : b * s * u < a * t * u = mul-lt-mul_of_pos_right first some in
+    lt_of_mul-lt-mul_right t (omega (arith, low, high))
+
+-- a/s, b/t and c/u are the same
+all_same : (a b c s t u : ℕ) → 0 < t → a * t ≡ b * s → b * u ≡ c * t → a * u ≡ c * s
+all_same a b c s t u some first second =
+    let low : b * u * s ≡ c * t * s = ap (λ n. n * s) second in
+    let high : a * t * u ≡ b * s * u = ap (λ n. n * u) first in
+    eq_of_mul-eq-mul_right t some (a * u) (c * s) (omega (arith, low, high))
+
+by_products : (a b c s t u : ℕ) (f g h : Bool) → 0 < s → 0 < t → 0 < u →
+    (f ≡ true → g ≡ true → h ≡ true) →
+    (nat_lt (b * s) (a * t) || (a * t == b * s && f)) ≡ true →
+    (nat_lt (c * t) (b * u) || (b * u == c * t && g)) ≡ true →
+    (nat_lt (c * s) (a * u) || (a * u == c * s && h)) ≡ true
+by_products a b c s t u f g h some_s some_t some_u onward first second =
+    then_told (a * u) (c * s) h (h ≡ true) (λ is. is) (⊎_elim
+    (λ above. ⊎_elim
+    (λ too. inl (above_then a b c s t u some_u above (omega (arith, too))))
+    (λ same. inl (above_then a b c s t u some_u above (omega (arith, same.0))))
+    (then_tells (b * u) (c * t) g (g ≡ true) (λ is. is) second))
+    (λ same. ⊎_elim
+    (λ above. inl (then_above a b c s t u some_s (omega (arith, same.0)) above))
+    (λ too. inr (all_same a b c s t u some_t same.0 too.0, onward same.1 too.1))
+    (then_tells (b * u) (c * t) g (g ≡ true) (λ is. is) second))
+    (then_tells (a * t) (b * s) f (f ≡ true) (λ is. is) first))
+
+-- a group's past has memory in use
+abbrev pub HasPast : (GroupReading → List ℕ) → GroupReading → Type 0
+HasPast sizes group = 0 < sum (sizes group)
+
+pub growth_order : (lives : List GroupLife) (sizes : GroupReading → List ℕ) →
+    Orders (HasPast sizes) (IsBefore lives) (has_grown_more_over sizes lives) (leads_over sizes)
+growth_order lives sizes =
+    let larger = greater_order lives size_of in
+    record {
+      one_way = λ x y over. then_one_way (growth_over sizes x y) (growth_over sizes y x)
+          (is_larger lives x y) (is_larger lives y x) (larger.one_way x y) over;
+      onward = λ x y z p q r first second.
+          by_products (size_of x * length (sizes x)) (size_of y * length (sizes y))
+          (size_of z * length (sizes z)) (sum (sizes x)) (sum (sizes y)) (sum (sizes z))
+          (is_larger lives x y) (is_larger lives y z) (is_larger lives x z) p q r
+          (larger.onward x y z tt tt tt) first second;
+      second = λ x y before leads. then_same (growth_over sizes y x) (growth_over sizes x y)
+          (nat_lt (size_of x) (size_of y)) (is_larger lives y x)
+          (λ more. larger.second x y before (rw (leads_plainly y x) more)) leads;
+      first = λ x y before trails. then_first (growth_over sizes y x) (growth_over sizes x y)
+          (nat_lt (size_of x) (size_of y)) (is_larger lives x y)
+          (λ less. larger.first x y before (rw (leads_plainly y x) less)) trails;
+    }
+
+-- ---- the walk
+
+-- the groups of which the one is chosen that has grown most, by one test
+abbrev pub is_choosable : (GroupReading → List ℕ) → List GroupLife → ℕ → ℕ → (GroupReading → Bool) →
+    List GroupReading → GroupReading → Bool
+is_choosable sizes lives ratio few p groups group =
+    p group && (nat_lt (length (filter (λ other. is_larger lives other group) (filter p groups)))
+    few && is_growing_over sizes ratio group)
+
+pub choosable_is : (sizes : GroupReading → List ℕ) (lives : List GroupLife) (ratio few : ℕ)
+    (p : GroupReading → Bool) (groups : List GroupReading) →
+    filter (is_growing_over sizes ratio) (largest_few lives few (filter p groups)) ≡ filter
+    (is_choosable sizes lives ratio few p groups) groups
+choosable_is sizes lives ratio few p groups =
+    filter_filter (λ group. nat_lt (length (filter (λ other. is_larger lives other group)
+    (filter p groups))) few) (is_growing_over sizes ratio) (filter p groups)
+    ∙ filter_filter p (λ group. nat_lt (length
+    (filter (λ other. is_larger lives other group) (filter p groups))) few && is_growing_over
+    sizes ratio group) groups
+
+has_past : (sizes : GroupReading → List ℕ) (ratio : ℕ) (group : GroupReading) →
+    is_growing_over sizes ratio group ≡ true → HasPast sizes group
+has_past sizes ratio group growing =
+    let some = (and_parts (nat_lt 0 (sum (sizes group)))
+    (nat_le (ratio * sum (sizes group)) (size_of group * length (sizes group) * 1000))
+    growing).0 in
+    grind (arith, nat_tests)
+
+-- where the walk has passed all groups, the best so far is the one that has grown most
+pub walked_growth : (lives : List GroupLife) (sizes : GroupReading → List ℕ) (ratio few : ℕ)
+    (p : GroupReading → Bool) (groups : List GroupReading) → Ascend (map (path_of lives) groups) →
+    (best : Option GroupReading) → foremost (leads_over sizes) best [] ≡ foremost (leads_over sizes)
+    None (filter (is_choosable sizes lives ratio few p groups) groups) →
+    best ≡ unbeaten (has_grown_more_over sizes lives)
+    (filter (is_growing_over sizes ratio) (largest_few lives few (filter p groups)))
+walked_growth lives sizes ratio few p groups ascend best rest =
+    let chosen = filter (is_growing_over sizes ratio) (largest_few lives few (filter p groups)) in
+    sym (foremost_none (leads_over sizes) best) ∙ rest ∙
+    ap (foremost (leads_over sizes) None) (sym (choosable_is sizes lives ratio few p groups))
+    ∙ walk_unbeaten (HasPast sizes) (IsBefore lives) (has_grown_more_over sizes lives)
+    (leads_over sizes) (growth_order lives sizes) chosen
+    (each_map _ (HasPast sizes) chosen (has_past sizes ratio)
+    (each_passes (is_growing_over sizes ratio) (largest_few lives few (filter p groups))))
+    (pairs_filter (IsBefore lives) (is_growing_over sizes ratio)
+    (largest_few lives few (filter p groups))
+    (pairs_filter (IsBefore lives) _ (filter p groups)
+    (pairs_filter (IsBefore lives) p groups (in_order lives groups ascend))))
+
+-- ---- one group more
+
+-- the growths that are kept lead as those of their groups
+pub leads_as : (sizes : GroupReading → List ℕ) (next best : Grown) → IsGrown sizes next next.group →
+    IsGrown sizes best best.group → leads_grown next best ≡ leads_over sizes next.group best.group
+leads_as sizes next best is was = rw (is.sizes_is, is.sum_is, was.sizes_is, was.sum_is) refl

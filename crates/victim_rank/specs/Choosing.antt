@@ -1,0 +1,38 @@
+-- What a past that is kept makes of choices.
+use Rattle.std.specs.Prelude.{◌≡◌, ℕ, List, length, filter, option_map, Option}
+use Rattle.psi_base.specs.declared.event.Slot.{Slot}
+use Rattle.psi_spec.specs.declared.machine.GroupLife.{GroupLife}
+use Rattle.ruleset_json.specs.declared.types.Action.{Action}
+use Rattle.kill_spec.specs.declared.reading.GroupReading.{GroupReading}
+use Rattle.kill_spec.specs.Readings.{Reading}
+use Rattle.kill_spec.specs.Victims.{◌or_else◌, best_of, choice, count_above, descended}
+use Rattle.kill_spec.specs.Victims.{large_choice, largest, largest_few, unbeaten, victim}
+use Rattle.victim_rank.specs.Pasts.{IsPastOf, Kept}
+use Rattle.victim_rank.specs.Growth.{has_grown_more_over, is_growing_over}
+use Rattle.victim_rank.specs.Scopes.{ScopeView, among}
+
+-- The victim of an action at a reading: where what is kept stands for the readings before it,
+-- newest first, it is the slot of the group that the action kills after them, if it kills one.
+abbrev pub IsVictim : List GroupLife → Action → Reading → Kept → Option Slot → Type 0
+IsVictim lives act now kept result = (history : List Reading) → IsPastOf kept history →
+    result ≡ option_map (λ (group : GroupReading). group.slot) (victim lives act now history)
+
+-- a choice by a scope is that of its action after the readings for which what is kept stands
+abbrev pub Chooses : ScopeView → Reading → Kept → Option GroupReading → Type 0
+Chooses scope now kept result = (history : List Reading) → IsPastOf kept history →
+    result ≡ choice scope.lives scope.act now history (among scope.lives scope.act scope.above now)
+
+-- the group at which at most so many more choices among children end
+abbrev pub Descends : ScopeView → Reading → Kept → ℕ → GroupReading → GroupReading → Type 0
+Descends scope now kept count chosen result = (history : List Reading) → IsPastOf kept history →
+    result ≡ descended scope.lives scope.act now history count chosen
+
+-- the choice by size or growth over sizes that each group had
+abbrev pub size_choice : (GroupReading → List ℕ) → List GroupLife → ℕ → ℕ → ℕ →
+    List GroupReading → Option GroupReading
+size_choice sizes lives size_threshold percentile ratio groups =
+    large_choice lives size_threshold groups
+    or_else unbeaten (has_grown_more_over sizes lives)
+    (filter (is_growing_over sizes ratio)
+    (largest_few lives (count_above percentile (length (best_of groups))) (best_of groups)))
+    or_else largest lives (best_of groups)

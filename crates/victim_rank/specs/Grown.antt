@@ -1,0 +1,23 @@
+-- How the group that has grown most so far is told from the next.
+use Rattle.std.specs.Prelude.{◌≡◌, ℕ, ◌*◌, ◌≤◌, ◌^◌, List, length, sum, nat_lt, ◌==◌, ◌&&◌, ◌||◌}
+use Rattle.std.specs.Prelude.{Bool}
+use Rattle.kill_spec.specs.declared.reading.GroupReading.{GroupReading}
+use Rattle.kill_spec.specs.Victims.{size_of}
+use Rattle.victim_rank.specs.declared.growth.Grown.{Grown}
+
+-- a group with its growth over sizes that each group had
+pub record IsGrown (sizes_had : GroupReading → List ℕ) (grown : Grown) (seen : GroupReading)
+    : Type 0 where
+  pub itself : grown.group ≡ seen
+  pub sizes_is : grown.sizes ≡ size_of seen * length (sizes_had seen)
+  pub sum_is : grown.sum ≡ sum (sizes_had seen)
+  pub sizes_fit : grown.sizes ≤ 2 ^ 62
+  pub sum_fits : grown.sum ≤ 2 ^ 62
+
+-- a group with its growth leads one before it: it has grown more, or as much and it uses more
+-- memory
+abbrev pub leads_grown : Grown → Grown → Bool
+leads_grown next best =
+    nat_lt (best.sizes * next.sum) (next.sizes * best.sum)
+    || (next.sizes * best.sum == best.sizes * next.sum
+    && nat_lt (size_of best.group) (size_of next.group))

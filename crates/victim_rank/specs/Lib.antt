@@ -1,0 +1,7 @@
+pub mod Pasts
+pub mod Tables
+pub mod Scopes
+pub mod Growth
+pub mod Walks
+pub mod Grown
+pub mod Choosing

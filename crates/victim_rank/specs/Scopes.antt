@@ -1,0 +1,87 @@
+-- Among which groups a choice is made, and how an action compares them.
+use Rattle.std.specs.Prelude.{◌≡◌, ℕ, length, ◌-◌, ◌&&◌, ◌==◌, List, Option, None, Some, Bool, true}
+use Rattle.std.specs.Prelude.{nat_lt, slice_index_or}
+use Rattle.psi_base.specs.declared.event.Slot.{Slot}
+use Rattle.psi_spec.specs.declared.machine.GroupLife.{GroupLife}
+use Rattle.psi_spec.specs.Stall.{parents_of}
+use Rattle.path_match.specs.Match.{is_match}
+use Rattle.ruleset_json.specs.declared.types.Action.{Action}
+use Rattle.ruleset_json.specs.declared.types.Action.TheVariants as action
+use Rattle.ruleset_json.specs.Ranges.{FitsAction}
+use Rattle.kill_spec.specs.declared.reading.GroupReading.{GroupReading}
+use Rattle.kill_spec.specs.declared.reading.HostReading.{HostReading}
+use Rattle.kill_spec.specs.Readings.{Reading, path_of}
+use Rattle.kill_spec.specs.Victims.{candidates, children, is_at_least, is_slot, patterns_of}
+use Rattle.kill_spec.specs.Victims.{pressure_measure, rank_of, size_of}
+use Rattle.detectors.specs.Views.{ReadingView}
+use Rattle.victim_rank.specs.Pasts.{Kept}
+
+-- ---- scopes
+
+-- A choice of an action: of all groups that a trace ever makes, among the candidates of the action
+-- or, where a group was chosen before, among the children of that one.
+pub record ScopeView : Type 0 where
+  pub lives : List GroupLife
+  pub act : Action
+  pub above : Option Slot
+
+-- the groups at a reading among which a choice is made
+abbrev pub among : List GroupLife → Action → Option Slot → Reading → List GroupReading
+among lives act None now = candidates lives (patterns_of act) now
+among lives act (Some above) now = children lives above.0 now
+
+-- a group is one of them, if it was read
+abbrev pub is_among : List GroupLife → Action → Option Slot → GroupReading → Bool
+is_among lives act None group = group.populated && is_match (patterns_of act) (path_of lives group)
+is_among lives act (Some above) group =
+    group.populated && is_slot above.0 (slice_index_or (parents_of lives) group.slot.0 None)
+
+-- the same by a scope
+abbrev pub is_in : ScopeView → GroupReading → Bool
+is_in scope group = is_among scope.lives scope.act scope.above group
+
+-- a group is one of a scope, and its preference has a rank
+abbrev pub is_in_rank : ScopeView → ℕ → GroupReading → Bool
+is_in_rank scope best_rank group = is_in scope group && rank_of group == best_rank
+
+-- A scope is used with a reading and a past of the same groups, and its action is in its ranges.
+pub record IsUse (scope : ScopeView) (reading : ReadingView) (kept : Kept) : Type 0 where
+  pub fits : FitsAction scope.act
+  pub lives : reading.lives ≡ scope.lives
+  pub slots : length kept.sizes ≡ length scope.lives
+
+-- an action chooses by size or growth
+abbrev pub IsSizes : Action → Type 0
+IsSizes (action.SizeOrGrowth cgroup size_threshold percentile ratio after) = Unit {0}
+IsSizes (action.SwapUsage cgroup threshold after) = ⊥
+IsSizes (action.Pressure cgroup resource after) = ⊥
+IsSizes (action.PgScan cgroup after) = ⊥
+
+-- ---- measures
+
+-- how far a count of scans is above an earlier one, if there is one
+abbrev pub above_count : ℕ → Option ℕ → ℕ
+above_count scan None = 0
+above_count scan (Some before) = scan - before
+
+-- the rise of a group's scans, by what is kept
+abbrev pub rise_from : Kept → GroupReading → ℕ
+rise_from kept group = above_count group.scan (slice_index_or kept.scans group.slot.0 None)
+
+-- the measure by which an action compares groups
+abbrev pub measure_of : Action → Kept → GroupReading → ℕ
+measure_of (action.SizeOrGrowth cgroup size_threshold percentile ratio after) kept group =
+    size_of group
+measure_of (action.SwapUsage cgroup threshold after) kept group = group.swap
+measure_of (action.Pressure cgroup resource after) kept group = pressure_measure resource group
+measure_of (action.PgScan cgroup after) kept group = rise_from kept group
+
+-- whether an action can choose a group at all
+abbrev pub is_eligible : Action → HostReading → Kept → GroupReading → Bool
+is_eligible (action.SizeOrGrowth cgroup size_threshold percentile ratio after) host kept group =
+    true
+is_eligible (action.SwapUsage cgroup threshold after) host kept group =
+    is_at_least threshold host group.swap
+is_eligible (action.Pressure cgroup resource after) host kept group =
+    nat_lt 0 (pressure_measure resource group)
+is_eligible (action.PgScan cgroup after) host kept group = nat_lt 0 (rise_from kept group)

@@ -1,0 +1,104 @@
+//! The victim of an action.
+ghost use Rattle.std.specs.Prelude.{◌≡◌, filter, length};
+ghost use Rattle.ruleset_json.specs.Ranges.{FitsAction, IsPercent, IsRatio};
+ghost use Rattle.victim_rank.specs.Choosing.{Chooses, Descends, IsVictim, size_choice};
+ghost use Rattle.victim_rank.specs.Growth.{sizes_from};
+ghost use Rattle.victim_rank.specs.Scopes.{IsSizes, IsUse, among};
+
+use crate::foremost::foremost;
+use crate::growth::grown_most;
+use crate::measure::rank;
+use crate::past::Past;
+use crate::scope::{Scope, after};
+use crate::size::{count_above, count_in_rank, is_large, total_size};
+use detectors::Reading;
+use kill_spec::GroupReading;
+use psi_base::Slot;
+use psi_spec::GroupLife;
+use ruleset_json::Action;
+
+// The choice by size or growth: the largest group of the best preference, if it has a share of the memory of all; else the
+// one of its preference that has grown most, if one is growing; else the largest all the same.
+fn by_size_or_growth(
+    scope: &Scope<'_>,
+    reading: &Reading,
+    past: &Past,
+    size_threshold: u32,
+    percentile: u32,
+    ratio: u32,
+) -> Option<GroupReading>
+    requires used { IsUse scope.now reading.now past.now }
+    requires sizes { IsSizes scope.now.act }
+    requires size_threshold { IsPercent size_threshold }
+    requires percentile { IsPercent percentile }
+    requires ratio { IsRatio ratio }
+    ensures { result ≡ size_choice (sizes_from past.now) scope.now.lives size_threshold percentile ratio
+        (among scope.now.lives scope.now.act scope.now.above reading.now.seen) }
+{
+    let Some(largest) = foremost(scope, reading, past) else {
+        return None;
+    };
+    if is_large(size_threshold, total_size(scope, reading), &largest) {
+        return Some(largest);
+    }
+    let best_rank = rank(&largest);
+    let few = count_above(percentile, count_in_rank(scope, best_rank, reading));
+    match grown_most(scope, best_rank, reading, past, ratio, few) {
+        Some(growing) => Some(growing),
+        None => Some(largest),
+    }
+}
+
+// The choice of an action among the groups of a scope.
+fn choose(scope: &Scope<'_>, reading: &Reading, past: &Past) -> Option<GroupReading>
+    requires { IsUse scope.now reading.now past.now }
+    ensures { Chooses scope.now reading.now.seen past.now result }
+{
+    match scope.action() {
+        Action::SizeOrGrowth {
+            size_threshold,
+            percentile,
+            ratio,
+            ..
+        } => by_size_or_growth(scope, reading, past, *size_threshold, *percentile, *ratio),
+        Action::SwapUsage { .. } => foremost(scope, reading, past),
+        Action::Pressure { .. } => foremost(scope, reading, past),
+        Action::PgScan { .. } => foremost(scope, reading, past),
+    }
+}
+
+// The group at which choices end that are made again and again among the children of the one that was chosen.
+fn descend(scope: &Scope<'_>, reading: &Reading, past: &Past, chosen: GroupReading) -> GroupReading
+    requires { IsUse scope.now reading.now past.now }
+    ensures { Descends scope.now reading.now.seen past.now (length scope.now.lives) chosen result }
+{
+    let mut last = chosen;
+    'levels: for _ in 0..scope.lives().len() {
+        match choose(&scope.below(last.slot), reading, past) {
+            Some(child) => last = child,
+            None => return last,
+        }
+    }
+    last
+}
+
+/// The group that an action kills at a reading, after those for which the past stands, if it has a victim: the choice among
+/// the populated groups that its patterns match, and for a recursive action again and again among the children of the one
+/// that was chosen. It takes no memory. A choice walks the groups once, and for growth once more for each group that has
+/// grown more than all before it.
+pub fn victim(action: &Action, reading: &Reading, past: &Past, lives: &[GroupLife]) -> Option<Slot>
+    requires fits { FitsAction action.now }
+    requires lives { reading.now.lives ≡ lives.now }
+    requires slots { length past.now.sizes ≡ length lives.now }
+    ensures { IsVictim lives.now action.now reading.now.seen past.now result }
+{
+    let scope = Scope::candidates(lives, action);
+    let Some(chosen) = choose(&scope, reading, past) else {
+        return None;
+    };
+    if after(action).recursive {
+        Some(descend(&scope, reading, past, chosen).slot)
+    } else {
+        Some(chosen.slot)
+    }
+}

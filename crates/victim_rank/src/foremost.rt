@@ -1,0 +1,93 @@
+//! The group that none beats by an action's measure.
+ghost use Rattle.std.specs.Prelude.{◌≡◌, ◌&&◌, ◌<◌, MatchOption, false, filter, length, map, true, if◌then◌else◌};
+ghost use Rattle.ruleset_json.specs.Ranges.{FitsAction};
+ghost use Rattle.kill_spec.specs.Readings.{Ascend, IsGroupReading, IsHostReading, path_of};
+ghost use Rattle.kill_spec.specs.Victims.{beats_by, unbeaten};
+ghost use Rattle.victim_rank.specs.Scopes.{IsUse, among, is_eligible, is_in, measure_of};
+ghost use Rattle.victim_rank.specs.Walks.{leads_measured};
+
+use crate::measure::{measured, rank};
+use crate::past::Past;
+use crate::scope::Scope;
+use detectors::Reading;
+use kill_spec::{GroupReading, HostReading};
+
+/// A group and its measure.
+#[derive(Clone, Copy)]
+pub(crate) struct Measured {
+    group: GroupReading,
+    measure: u64,
+}
+
+// A group leads one before it: its preference is better, or the same and its measure is greater.
+fn leads(next: &Measured, best: &Measured) -> bool
+    ensures { result ≡ leads_measured next.now best.now }
+{
+    let next_rank = rank(&next.group);
+    let best_rank = rank(&best.group);
+    next_rank > best_rank || (next_rank == best_rank && next.measure > best.measure)
+}
+
+// The better one of two, if there is one before.
+fn better(best: Option<Measured>, next: Measured) -> Measured
+    ensures { MatchOption best (result ≡ next)
+        (λ before. result ≡ (if leads_measured next before then next else before)) }
+{
+    match best {
+        Some(best) => { if leads(&next, &best) { next } else { best } }
+        None => next,
+    }
+}
+
+// The measure of a group, if the choice is made among others with it and it is eligible.
+fn measured_in(
+    scope: &Scope<'_>,
+    host: HostReading,
+    past: &Past,
+    group: &GroupReading,
+) -> Option<u64>
+    requires fits { FitsAction scope.now.act }
+    requires host { IsHostReading host }
+    requires slots { length past.now.sizes ≡ length scope.now.lives }
+    requires group { IsGroupReading (length scope.now.lives) group.now }
+    ensures { MatchOption result
+        ((is_in scope.now group.now && is_eligible scope.now.act host past.now group.now) ≡ false)
+        (λ measure. ((is_in scope.now group.now && is_eligible scope.now.act host past.now group.now) ≡ true)
+        × (measure ≡ measure_of scope.now.act past.now group.now)) }
+{
+    let measure = measured(scope.action(), host, past, group)?;
+    if scope.has(group) {
+        Some(measure)
+    } else {
+        None
+    }
+}
+
+/// The eligible group that none beats: by preference, then by the action's measure, then by path. It walks the groups
+/// once.
+pub(crate) fn foremost(scope: &Scope<'_>, reading: &Reading, past: &Past) -> Option<GroupReading>
+    requires { IsUse scope.now reading.now past.now }
+    ensures choice { result
+        ≡ unbeaten (beats_by scope.now.lives (measure_of scope.now.act past.now))
+        (filter (is_eligible scope.now.act reading.now.seen.host past.now)
+        (among scope.now.lives scope.now.act scope.now.above reading.now.seen)) }
+    ensures order { Ascend (map (path_of scope.now.lives) reading.now.seen.groups) }
+{
+    let host = reading.host();
+    let mut best: Option<Measured> = None;
+    'groups: for group in reading.groups() {
+        if let Some(measure) = measured_in(scope, host, past, group) {
+            best = Some(better(
+                best,
+                Measured {
+                    group: *group,
+                    measure,
+                },
+            ));
+        }
+    }
+    match best {
+        Some(best) => Some(best.group),
+        None => None,
+    }
+}

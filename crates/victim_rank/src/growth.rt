@@ -1,0 +1,114 @@
+//! The growth of groups over their past.
+ghost use Rattle.std.specs.Prelude.{◌≡◌, ◌≤◌, ◌<◌, ◌^◌, ◌*◌, All, MatchOption, filter, if◌then◌else◌, length, nat_le, nat_lt, sum, true, ◌&&◌};
+ghost use Rattle.ruleset_json.specs.Ranges.{IsRatio};
+ghost use Rattle.kill_spec.specs.Victims.{largest_few, unbeaten};
+ghost use Rattle.victim_rank.specs.Growth.{has_grown_more_over, is_growing_over, sizes_from};
+ghost use Rattle.victim_rank.specs.Scopes.{IsUse, is_in_rank};
+ghost use Rattle.victim_rank.specs.Grown.{IsGrown, leads_grown};
+
+use crate::past::Past;
+use crate::scope::Scope;
+use crate::size::{is_among_largest, is_in_rank};
+use detectors::Reading;
+use kill_spec::GroupReading;
+
+/// A group, its size times the number of sizes of its past, and their sum. The quotient is its size over the mean of its
+/// past.
+#[derive(Clone, Copy)]
+pub(crate) struct Grown {
+    group: GroupReading,
+    sizes: u64,
+    sum: u64,
+}
+
+// The sum of sizes.
+fn sum(sizes: &[u64]) -> u64
+    requires few { length sizes.now ≤ 4 }
+    requires each { All (λ size. size ≤ 2 ^ 60) sizes.now }
+    ensures sum { result ≡ sum sizes.now }
+    ensures fits { result ≤ 2 ^ 62 }
+{
+    let mut total = 0;
+    'sizes: for size in sizes {
+        total += *size;
+    }
+    total
+}
+
+// A group against its past.
+fn growth_of(past: &Past, group: &GroupReading) -> Grown
+    requires { group.now.current ≤ 2 ^ 60 }
+    ensures { IsGrown (sizes_from past.now) result group.now }
+{
+    let sizes = past.sizes(group);
+    Grown {
+        group: *group,
+        sizes: group.current * sizes.len() as u64,
+        sum: sum(sizes),
+    }
+}
+
+// The growth is at least a ratio (thousandths).
+fn is_growing(ratio: u32, grown: &Grown) -> bool
+    requires ratio { IsRatio ratio }
+    requires sizes { grown.now.sizes ≤ 2 ^ 62 }
+    requires sum { grown.now.sum ≤ 2 ^ 62 }
+    ensures { result
+        ≡ (nat_lt 0 grown.now.sum && nat_le (ratio * grown.now.sum) (grown.now.sizes * 1000)) }
+{
+    grown.sum > 0 && u128::from(grown.sizes) * 1000 >= u128::from(ratio) * u128::from(grown.sum)
+}
+
+// A group leads one before it: it has grown more, or as much and it uses more memory.
+fn leads(next: &Grown, best: &Grown) -> bool
+    ensures { result ≡ leads_grown next.now best.now }
+{
+    let next_growth = u128::from(next.sizes) * u128::from(best.sum);
+    let best_growth = u128::from(best.sizes) * u128::from(next.sum);
+    next_growth > best_growth
+        || (next_growth == best_growth && next.group.current > best.group.current)
+}
+
+// There is no group before, or the next one leads it.
+fn leads_any(next: &Grown, best: Option<Grown>) -> bool
+    ensures { MatchOption best (result ≡ true) (λ before. result ≡ leads_grown next.now before) }
+{
+    match best {
+        Some(best) => leads(next, &best),
+        None => true,
+    }
+}
+
+/// The growing group that has grown most, among the so many largest of a scope and a rank. It walks the groups once, and once
+/// more for each group that has grown more than all before it.
+pub(crate) fn grown_most(
+    scope: &Scope<'_>,
+    best_rank: u8,
+    reading: &Reading,
+    past: &Past,
+    ratio: u32,
+    few: u128,
+) -> Option<GroupReading>
+    requires used { IsUse scope.now reading.now past.now }
+    requires ratio { IsRatio ratio }
+    requires few { 0 < few }
+    ensures { result ≡ unbeaten (has_grown_more_over (sizes_from past.now) scope.now.lives)
+        (filter (is_growing_over (sizes_from past.now) ratio)
+        (largest_few scope.now.lives few (filter (is_in_rank scope.now best_rank) reading.now.seen.groups))) }
+{
+    let mut best: Option<Grown> = None;
+    'groups: for group in reading.groups() {
+        let next = growth_of(past, group);
+        if is_growing(ratio, &next)
+            && leads_any(&next, best)
+            && is_in_rank(scope, best_rank, group)
+            && is_among_largest(scope, best_rank, reading, few, group)
+        {
+            best = Some(next);
+        }
+    }
+    match best {
+        Some(best) => Some(best.group),
+        None => None,
+    }
+}

@@ -1,0 +1,16 @@
+//! Which group an action kills: its choice among the groups of a reading, after those that came before.
+//!
+//! [`Past`] keeps what later choices need of each reading, and [`victim`] chooses. Both take no memory once a past is
+//! made.
+#![tactic(auto)]
+
+mod choice;
+mod foremost;
+mod growth;
+mod measure;
+mod past;
+mod scope;
+mod size;
+
+pub use choice::victim;
+pub use past::Past;

@@ -1,0 +1,99 @@
+//! How an action compares groups.
+ghost use Rattle.std.specs.Prelude.{◌≡◌, ◌<◌, ◌≤◌, ◌^◌, All, MatchOption, false, length, true};
+ghost use Rattle.psi_base.specs.declared.event.Level.TheVariants.{FullStalled};
+ghost use Rattle.psi_spec.specs.Stall.{number_of};
+ghost use Rattle.pressure_spec.specs.Average.{IsRow};
+ghost use Rattle.pressure_spec.specs.Samples.{state_of};
+ghost use Rattle.pressure_spec.specs.Share.{pressure_places};
+ghost use Rattle.ruleset_json.specs.Ranges.{FitsAction, IsSize};
+ghost use Rattle.kill_spec.specs.Readings.{IsGroupReading, IsHostReading};
+ghost use Rattle.kill_spec.specs.Victims.{is_at_least, pressure_measure, rank_of};
+ghost use Rattle.victim_rank.specs.Scopes.{is_eligible, measure_of, rise_from};
+
+use crate::past::Past;
+use kill_spec::{GroupReading, HostReading};
+use psi_base::{Preference, Res, State};
+use ruleset_json::{Action, Size};
+
+/// The rank of a group's preference: what is preferred is chosen first, and what is avoided last.
+pub(crate) fn rank(group: &GroupReading) -> u8
+    ensures { result ≡ rank_of group.now }
+{
+    match group.preference {
+        Preference::Prefer => 2,
+        Preference::Plain => 1,
+        Preference::Avoid => 0,
+    }
+}
+
+// The state of which a resource's full pressure is told.
+fn full_state(resource: Res) -> State
+    ensures value { result ≡ state_of resource FullStalled }
+    ensures pressure { number_of result < 6 }
+{
+    match resource {
+        Res::Io => State::IoFull,
+        Res::Memory => State::MemFull,
+        Res::Cpu => State::CpuFull,
+    }
+}
+
+// The full averages of a resource over 10 s and 60 s together.
+fn pressure(group: &GroupReading, resource: Res) -> u64
+    requires rows { length group.now.averages ≡ length pressure_places }
+    requires each { All IsRow group.now.averages }
+    ensures { result ≡ pressure_measure resource group.now }
+{
+    let averages = group.averages[full_state(resource) as usize];
+    averages[0] + averages[1]
+}
+
+// Swap in use is at least a size.
+fn is_at_least(threshold: Size, host: HostReading, swap: u64) -> bool
+    requires threshold { IsSize threshold }
+    requires host { IsHostReading host }
+    requires swap { swap ≤ 2 ^ 60 }
+    ensures { result ≡ is_at_least threshold host swap }
+{
+    match threshold {
+        Size::Bytes(bytes) => swap >= bytes,
+        Size::Percent(percent) => {
+            u128::from(swap) * 100 >= u128::from(percent) * u128::from(host.swap_total)
+        }
+    }
+}
+
+// A number above 0.
+fn above_zero(measure: u64) -> Option<u64>
+    ensures { MatchOption result (measure ≡ 0) (λ same. (0 < measure) × (same ≡ measure)) }
+{
+    if measure > 0 { Some(measure) } else { None }
+}
+
+/// The measure by which an action compares a group with others, if it can choose the group at all.
+pub(crate) fn measured(
+    action: &Action,
+    host: HostReading,
+    past: &Past,
+    group: &GroupReading,
+) -> Option<u64>
+    requires fits { FitsAction action.now }
+    requires host { IsHostReading host }
+    requires group { IsGroupReading (length past.now.sizes) group.now }
+    ensures { MatchOption result (is_eligible action.now host past.now group.now ≡ false)
+        (λ measure. (is_eligible action.now host past.now group.now ≡ true)
+        × (measure ≡ measure_of action.now past.now group.now)) }
+{
+    match action {
+        Action::SizeOrGrowth { .. } => Some(group.current),
+        Action::SwapUsage { threshold, .. } => {
+            if is_at_least(*threshold, host, group.swap) {
+                Some(group.swap)
+            } else {
+                None
+            }
+        }
+        Action::Pressure { resource, .. } => above_zero(pressure(group, *resource)),
+        Action::PgScan { .. } => above_zero(past.rise(group)),
+    }
+}

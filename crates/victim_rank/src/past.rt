@@ -1,0 +1,152 @@
+//! What is kept of earlier readings.
+ghost use Rattle.std.specs.Prelude.{◌≡◌, ◌≤◌, ◌^◌, ℕ, [], ◌∷◌, All, IfOk, List, Some, length, map, option_map, replicate, slice_index_or, take, None};
+ghost use Rattle.kill_spec.specs.declared.reading.GroupReading.{GroupReading};
+ghost use Rattle.kill_spec.specs.Readings.{group_in};
+ghost use Rattle.kill_spec.specs.Victims.{size_at};
+ghost use Rattle.victim_rank.specs.Pasts.{AreSizes, IsPastOf, Takes, sizes_of};
+ghost use Rattle.victim_rank.specs.Growth.{sizes_from};
+ghost use Rattle.victim_rank.specs.Scopes.{rise_from};
+ghost use Rattle.victim_rank.specs.Tables.{newer_sizes};
+
+use detectors::Reading;
+use kill_spec::GroupReading;
+use psi_base::NoMemory;
+use std::alloc::Global;
+use std::marker::Model;
+
+/// The last sizes of a group, at most four, the newest first.
+#[derive(Clone, Copy)]
+pub(crate) struct Sizes {
+    /// In bytes; those that count come first.
+    bytes: [u64; 4],
+    /// How many count.
+    count: usize,
+}
+
+// No size, for each of so many groups.
+fn no_sizes(alloc: Global, slots: u32) -> Result<Vec<Sizes>, NoMemory>
+    ensures sizes { IfOk result (λ sizes. map sizes_of sizes.items ≡ replicate slots []) }
+    ensures within { IfOk result (λ sizes. All AreSizes sizes.items) }
+{
+    let none = Sizes {
+        bytes: [0; 4],
+        count: 0,
+    };
+    match vec![in alloc; none; slots as usize] {
+        Ok(sizes) => Ok(sizes),
+        Err(_) => Err(NoMemory),
+    }
+}
+
+// No count of scans, for each of so many groups.
+fn no_scans(alloc: Global, slots: u32) -> Result<Vec<Option<u64>>, NoMemory>
+    ensures { IfOk result (λ scans. scans.items ≡ replicate slots None) }
+{
+    match vec![in alloc; None; slots as usize] {
+        Ok(scans) => Ok(scans),
+        Err(_) => Err(NoMemory),
+    }
+}
+
+// These sizes behind a newer one, without the fifth.
+fn behind(newest: u64, sizes: Sizes) -> Sizes
+    requires newest { newest ≤ 2 ^ 60 }
+    requires within { AreSizes sizes }
+    ensures sizes { sizes_of result ≡ take 4 (newest ∷ sizes_of sizes) }
+    ensures within { AreSizes result }
+{
+    let [first, second, third, _] = sizes.bytes;
+    Sizes {
+        bytes: [newest, first, second, third],
+        count: if sizes.count < 4 { sizes.count + 1 } else { 4 },
+    }
+}
+
+// Puts the size of each group that was read before its others.
+fn take_sizes(sizes: &mut [Sizes], reading: &Reading)
+    requires slots { length sizes.old ≡ length reading.now.lives }
+    requires within { All AreSizes sizes.old }
+    ensures within { All AreSizes sizes.new }
+    ensures sizes { (slot : ℕ) → slice_index_or (map sizes_of sizes.new) slot []
+        ≡ newer_sizes (group_in reading.now.seen slot) (slice_index_or (map sizes_of sizes.old) slot []) }
+{
+    'groups: for group in reading.groups() {
+        let slot = group.slot.0 as usize;
+        sizes[slot] = behind(group.current, sizes[slot]);
+    }
+}
+
+// Takes the counts of the groups that were read, and forgets all others.
+fn take_scans(scans: &mut [Option<u64>], reading: &Reading)
+    requires { length scans.old ≡ length reading.now.lives }
+    ensures { (slot : ℕ) → slice_index_or scans.new slot None
+        ≡ option_map (λ (group : GroupReading). group.scan) (group_in reading.now.seen slot) }
+{
+    scans.fill(None);
+    'groups: for group in reading.groups() {
+        scans[group.slot.0 as usize] = Some(group.scan);
+    }
+}
+
+/// What is kept of each group, by its slot: its sizes (bytes) at the last four evaluations at which it was live, and
+/// its count of scans at the last evaluation, if it was live then.
+#[derive(Drop)]
+pub struct Past {
+    sizes: Vec<Sizes>,
+    scans: Vec<Option<u64>>,
+}
+
+impl Model for Past {
+    ghost use Rattle.victim_rank.specs.Pasts.{IsPast, Kept, kept_of};
+
+    ghost Value = { Kept };
+
+    ghost view = { λ p. kept_of p.sizes.items p.scans.items };
+
+    ghost invariant = { λ p. IsPast p.sizes.items p.scans.items };
+}
+
+impl Past {
+    /// The past of so many groups before the first evaluation.
+    pub fn make(alloc: Global, slots: u32) -> Result<Past, NoMemory>
+        ensures slots { IfOk result (λ past. length past.sizes ≡ slots) }
+        ensures first { IfOk result (λ past. IsPastOf past []) }
+    {
+        Ok(Past {
+            sizes: no_sizes(alloc, slots)?,
+            scans: no_scans(alloc, slots)?,
+        })
+    }
+
+    /// Takes the reading of one more evaluation, without taking memory.
+    pub fn push(&mut self, reading: &Reading)
+        requires { length self.old.sizes ≡ length reading.now.lives }
+        ensures slots { length self.new.sizes ≡ length self.old.sizes }
+        ensures next { Takes self.old reading.now.seen self.new }
+    {
+        take_sizes(&mut self.sizes, reading);
+        take_scans(&mut self.scans, reading);
+    }
+
+    // How many pages were scanned for a group since the last evaluation, and 0 where it wasn't live at it.
+    pub(crate) fn rise(&self, group: &GroupReading) -> u64
+        ensures { result ≡ rise_from self.now group.now }
+    {
+        match self.scans.get(group.slot.0 as usize) {
+            Some(Some(before)) => group.scan.saturating_sub(*before),
+            _ => 0,
+        }
+    }
+
+    // The last sizes of a group, in bytes, at most four, the newest first.
+    pub(crate) fn sizes(&self, group: &GroupReading) -> &[u64]
+        ensures sizes { result.now ≡ sizes_from self.now group.now }
+        ensures few { length result.now ≤ 4 }
+        ensures each { All (λ size. size ≤ 2 ^ 60) result.now }
+    {
+        match self.sizes.get(group.slot.0 as usize) {
+            Some(sizes) => &sizes.bytes[..sizes.count],
+            None => &[],
+        }
+    }
+}

@@ -1,0 +1,107 @@
+//! Among which groups a choice is made.
+ghost use Rattle.std.specs.Prelude.{◌≡◌, ◌<◌, None, Some, length};
+ghost use Rattle.path_match.specs.Match.{is_match};
+ghost use Rattle.kill_spec.specs.Victims.{after_of, patterns_of};
+ghost use Rattle.victim_rank.specs.Scopes.{is_in};
+
+use kill_spec::GroupReading;
+use path_match::Patterns;
+use psi_base::Slot;
+use psi_spec::GroupLife;
+use ruleset_json::{Action, After};
+use std::marker::Model;
+
+/// Among which groups a choice of an action is made, of all groups that a trace ever makes: its candidates, or the children
+/// of a group in which or below which some task is live.
+#[derive(Drop)]
+pub(crate) struct Scope<'a> {
+    lives: &'a [GroupLife],
+    action: &'a Action,
+    /// The group whose children they are.
+    above: Option<Slot>,
+}
+
+impl<'a> Model for Scope<'a> {
+    ghost use Rattle.victim_rank.specs.Scopes.{ScopeView};
+
+    ghost Value = { ScopeView };
+
+    ghost view = { λ s. record { lives = s.lives.now; act = s.action.now; above = s.above } };
+}
+
+// The patterns of an action.
+fn patterns(action: &Action) -> &Patterns
+    ensures { result.now ≡ patterns_of action.now }
+{
+    match action {
+        Action::SizeOrGrowth { cgroup, .. } => cgroup,
+        Action::SwapUsage { cgroup, .. } => cgroup,
+        Action::Pressure { cgroup, .. } => cgroup,
+        Action::PgScan { cgroup, .. } => cgroup,
+    }
+}
+
+/// What an action says of the time after it.
+pub(crate) fn after(action: &Action) -> After
+    ensures { result ≡ after_of action.now }
+{
+    match action {
+        Action::SizeOrGrowth { after, .. } => *after,
+        Action::SwapUsage { after, .. } => *after,
+        Action::Pressure { after, .. } => *after,
+        Action::PgScan { after, .. } => *after,
+    }
+}
+
+impl<'a> Scope<'a> {
+    /// Among the candidates of an action.
+    pub(crate) fn candidates(lives: &'a [GroupLife], action: &'a Action) -> Scope<'a>
+        ensures { result ≡ record { lives = lives.now; act = action.now; above = None } }
+    {
+        Scope {
+            lives,
+            action,
+            above: None,
+        }
+    }
+
+    /// Among the children of a group.
+    pub(crate) fn below(&self, above: Slot) -> Scope<'a>
+        ensures { result ≡ record { lives = self.now.lives; act = self.now.act; above = Some above } }
+    {
+        Scope {
+            lives: self.lives,
+            action: self.action,
+            above: Some(above),
+        }
+    }
+
+    /// The action.
+    pub(crate) fn action(&self) -> &'a Action
+        ensures { result.now ≡ self.now.act }
+    {
+        self.action
+    }
+
+    /// All groups that a trace ever makes.
+    pub(crate) fn lives(&self) -> &'a [GroupLife]
+        ensures { result.now ≡ self.now.lives }
+    {
+        self.lives
+    }
+
+    /// Whether the choice is made among others with this group, which was read.
+    pub(crate) fn has(&self, group: &GroupReading) -> bool
+        requires { group.now.slot.0 < length self.now.lives }
+        ensures { result ≡ is_in self.now group.now }
+    {
+        if !group.populated {
+            return false;
+        }
+        let life = &self.lives[group.slot.0 as usize];
+        match self.above {
+            Some(above) => life.parent == Some(above),
+            None => patterns(self.action).matches(&life.path),
+        }
+    }
+}

@@ -1,0 +1,103 @@
+//! The sizes of groups against one another.
+ghost use Rattle.std.specs.Prelude.{◌≡◌, ◌≤◌, ◌<◌, ◌^◌, ◌*◌, filter, length, nat_le, nat_lt};
+ghost use Rattle.ruleset_json.specs.Ranges.{IsPercent};
+ghost use Rattle.kill_spec.specs.Victims.{count_above, is_larger, rank_of, size_of, total_size};
+ghost use Rattle.victim_rank.specs.Scopes.{is_in, is_in_rank};
+
+use crate::measure::rank;
+use crate::scope::Scope;
+use detectors::Reading;
+use kill_spec::GroupReading;
+use psi_spec::GroupLife;
+
+/// The memory that the groups of a scope use together, in bytes.
+pub(crate) fn total_size(scope: &Scope<'_>, reading: &Reading) -> u128
+    requires { reading.now.lives ≡ scope.now.lives }
+    ensures sum { result ≡ total_size (filter (is_in scope.now) reading.now.seen.groups) }
+    ensures fits { result < 2 ^ 120 }
+{
+    let mut total: u128 = 0;
+    'groups: for group in reading.groups() {
+        if scope.has(group) {
+            total += u128::from(group.current);
+        }
+    }
+    total
+}
+
+/// A group uses at least so many percent of the memory of all.
+pub(crate) fn is_large(size_threshold: u32, total: u128, group: &GroupReading) -> bool
+    requires percent { IsPercent size_threshold }
+    requires total { total < 2 ^ 120 }
+    ensures { result ≡ nat_le (size_threshold * total) (size_of group.now * 100) }
+{
+    u128::from(group.current) * 100 >= u128::from(size_threshold) * total
+}
+
+/// A group is one of a scope, and of a rank.
+pub(crate) fn is_in_rank(scope: &Scope<'_>, best_rank: u8, group: &GroupReading) -> bool
+    requires { group.now.slot.0 < length scope.now.lives }
+    ensures { result ≡ is_in_rank scope.now best_rank group.now }
+{
+    rank(group) == best_rank && scope.has(group)
+}
+
+/// How many groups of a scope have a rank.
+pub(crate) fn count_in_rank(scope: &Scope<'_>, best_rank: u8, reading: &Reading) -> usize
+    requires { reading.now.lives ≡ scope.now.lives }
+    ensures { result ≡ length (filter (is_in_rank scope.now best_rank) reading.now.seen.groups) }
+{
+    let mut count = 0;
+    'groups: for group in reading.groups() {
+        if is_in_rank(scope, best_rank, group) {
+            count += 1;
+        }
+    }
+    count
+}
+
+/// How many of so many groups stand above a percentile: rounded up, and at least one.
+pub(crate) fn count_above(percentile: u32, count: usize) -> u128
+    requires { IsPercent percentile }
+    ensures { result ≡ count_above percentile count }
+{
+    ((count as u128 * u128::from(100 - percentile) + 99) / 100).max(1)
+}
+
+// A group is larger than another: it uses more memory, or the same and its path comes first.
+fn is_larger(lives: &[GroupLife], first: &GroupReading, second: &GroupReading) -> bool
+    requires first { first.now.slot.0 < length lives.now }
+    requires second { second.now.slot.0 < length lives.now }
+    ensures { result ≡ is_larger lives.now first.now second.now }
+{
+    if first.current != second.current {
+        return first.current > second.current;
+    }
+    lives[first.slot.0 as usize].path < lives[second.slot.0 as usize].path
+}
+
+/// Fewer groups of a scope and a rank than so many are larger than a group. It walks the groups until so many are found.
+pub(crate) fn is_among_largest(
+    scope: &Scope<'_>,
+    best_rank: u8,
+    reading: &Reading,
+    few: u128,
+    group: &GroupReading,
+) -> bool
+    requires lives { reading.now.lives ≡ scope.now.lives }
+    requires few { 0 < few }
+    requires slot { group.now.slot.0 < length scope.now.lives }
+    ensures { result ≡ nat_lt (length (filter (λ other. is_larger scope.now.lives other group.now)
+        (filter (is_in_rank scope.now best_rank) reading.now.seen.groups))) few }
+{
+    let mut larger: u128 = 0;
+    'groups: for other in reading.groups() {
+        if is_in_rank(scope, best_rank, other) && is_larger(scope.lives(), other, group) {
+            larger += 1;
+            if larger == few {
+                return false;
+            }
+        }
+    }
+    true
+}
