@@ -1,0 +1,77 @@
+-- How a chain goes on behind an action, and when a ruleset rests.
+use Rattle.std.proofs.Common.{◌≡◌, ℕ, ◌+◌, ◌<◌, List, [], ◌∷◌, length, drop, get_or, refl, sym, subst, true, false, Option, None, Some}
+use Rattle.std.specs.Prelude.{find, slice_get, option_map}
+use Rattle.std.proofs.lemmas.List.{drop_more}
+use Rattle.std.proofs.lemmas.Option.{slice_get_read}
+use Rattle.psi_spec.specs.declared.machine.GroupLife.{GroupLife}
+use Rattle.ruleset_json.specs.declared.types.Action.{Action}
+use Rattle.kill_spec.specs.declared.reading.GroupReading.{GroupReading}
+use Rattle.kill_spec.specs.declared.kill.Kill.{Kill}
+use Rattle.kill_spec.specs.Readings.{Reading}
+use Rattle.kill_spec.specs.Detectors.{of_seconds}
+use Rattle.kill_spec.specs.Victims.{after_of, victim}
+use Rattle.kill_spec.specs.Kills.{and_then, chain, ends_chain, kill_by, kill_of}
+use Rattle.kill_engine.specs.Rulesets.{rest_of}
+
+-- the kills of a chain from the action with a number on
+abbrev pub behind : List GroupLife → ℕ → List Action → Reading → List Reading → ℕ → List Kill
+behind lives number actions now past act = chain lives number act (drop act actions) now past
+
+-- what the action with a number gives
+abbrev pub turn : List GroupLife → ℕ → Reading → List Reading → ℕ → Action → Option Kill
+turn lives number now past act action = kill_by number act now (victim lives action now past)
+
+-- where an action stands among others
+abbrev pub StandsAt : List Action → ℕ → Action → Type 0
+StandsAt actions act action = action ≡ get_or actions act action
+
+-- the chain from an action on is what it gives, and then the rest
+turn_next : (lives : List GroupLife) (number : ℕ) (actions : List Action) (now : Reading) (past : List Reading) (act : ℕ) (action : Action) → act < length actions → StandsAt actions act action →
+    behind lives number actions now past act ≡ and_then (after_of action).always_continue (turn lives number now past act action) (behind lives number actions now past (act + 1))
+turn_next lives number actions now past act action below here = rw (drop_more actions act action below, sym here) refl
+
+-- a kill has its moment and the number of its action
+record IsOf (now : Reading) (act : ℕ) (kill : Kill) : Type 0 where
+  pub at : kill.at ≡ now.at
+  pub by : kill.action ≡ act
+
+is_of : (number act : ℕ) (now : Reading) (chosen : Option GroupReading) (kill : Kill) → Some kill ≡ kill_by number act now chosen → IsOf now act kill
+is_of number act now None kill is = absurd (cc is)
+is_of number act now (Some group) kill is =
+    let same : kill_of now.at number act group ≡ kill = cc is in
+    subst (λ k. IsOf now act k) same (record { at = refl; by = refl })
+
+-- the action that gave a kill is found again by its number
+again : (actions : List Action) (act : ℕ) (action : Action) (kill : Kill) → act < length actions → StandsAt actions act action → kill.action ≡ act → slice_get actions kill.action ≡ Some action
+again actions act action kill below here by = rw by (slice_get_read actions (length actions) act action refl below here)
+
+-- A kill by an action that always continues: the rest of the chain is behind it.
+pub goes_on : (lives : List GroupLife) (number : ℕ) (actions : List Action) (now : Reading) (past : List Reading) (act : ℕ) (action : Action) (kill : Kill) → act < length actions → StandsAt actions act action →
+    Some kill ≡ turn lives number now past act action → (after_of action).always_continue ≡ true →
+    behind lives number actions now past act ≡ kill ∷ behind lives number actions now past (act + 1)
+goes_on lives number actions now past act action kill below here given on = rw (turn_next lives number actions now past act action below here, sym given, on) refl
+
+-- It doesn't end the chain.
+pub not_ended : (lives : List GroupLife) (number : ℕ) (actions : List Action) (now : Reading) (past : List Reading) (act : ℕ) (action : Action) (kill : Kill) → act < length actions → StandsAt actions act action →
+    Some kill ≡ turn lives number now past act action → (after_of action).always_continue ≡ true →
+    find (ends_chain actions) (behind lives number actions now past (act + 1)) ≡ find (ends_chain actions) (behind lives number actions now past act)
+not_ended lives number actions now past act action kill below here given on =
+    let of = is_of number act now (victim lives action now past) kill given in
+    let mine : ends_chain actions kill ≡ false = rw (again actions act action kill below here of.by, on) refl in
+    rw (goes_on lives number actions now past act action kill below here given on, mine) refl
+
+-- A kill by another ends it, and nothing is behind it.
+pub stops : (lives : List GroupLife) (number : ℕ) (actions : List Action) (now : Reading) (past : List Reading) (act : ℕ) (action : Action) (kill : Kill) → act < length actions → StandsAt actions act action →
+    Some kill ≡ turn lives number now past act action → (after_of action).always_continue ≡ false →
+    behind lives number actions now past act ≡ kill ∷ []
+stops lives number actions now past act action kill below here given off = rw (turn_next lives number actions now past act action below here, sym given, off) refl
+
+-- The ruleset rests for its action's delay.
+pub rests : (lives : List GroupLife) (number : ℕ) (actions : List Action) (now : Reading) (past : List Reading) (act : ℕ) (action : Action) (kill : Kill) (until : ℕ) → act < length actions → StandsAt actions act action →
+    Some kill ≡ turn lives number now past act action → (after_of action).always_continue ≡ false → until ≡ kill.at + of_seconds (after_of action).delay_s →
+    Some until ≡ option_map (rest_of actions) (find (ends_chain actions) (behind lives number actions now past act))
+rests lives number actions now past act action kill until below here given off is =
+    let of = is_of number act now (victim lives action now past) kill given in
+    let found = again actions act action kill below here of.by in
+    let mine : ends_chain actions kill ≡ true = rw (found, off) refl in
+    rw (stops lives number actions now past act action kill below here given off, mine, found, is) refl

@@ -1,0 +1,4 @@
+pub mod ZipLaws
+pub mod ChainLaws
+pub mod RestLaws
+pub mod RulesetLaws

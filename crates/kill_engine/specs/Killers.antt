@@ -1,0 +1,91 @@
+-- A killer, and for which readings it stands.
+use Rattle.std.specs.Prelude.{◌≡◌, ℕ, ◌+◌, ◌≤◌, List, [], ◌∷◌, length, Option, All}
+use Rattle.psi_spec.specs.declared.machine.GroupLife.{GroupLife}
+use Rattle.ruleset_json.specs.declared.types.Rule.{Rule}
+use Rattle.kill_spec.specs.declared.kill.Kill.{Kill}
+use Rattle.kill_spec.specs.Readings.{Reading}
+use Rattle.kill_spec.specs.Kills.{kills}
+use Rattle.detectors.specs.Views.{ReadingView}
+use Rattle.detectors.specs.Stands.{last_of}
+use Rattle.victim_rank.specs.Pasts.{IsPastOf, Kept}
+use Rattle.kill_engine.specs.Rulesets.{IsRulesetAt, RulesetStands, RulesetView}
+
+-- A killer: its rulesets, what it keeps of the past of groups, the moment (ns) of its last reading,
+-- and the kills at it.
+pub record KillerView : Type 0 where
+  pub rulesets : List RulesetView
+  pub past : Kept
+  pub last : Option ℕ
+  pub found : List Kill
+
+-- a killer with these parts
+abbrev pub killer_of : List RulesetView → Kept → Option ℕ → List Kill → KillerView
+killer_of rulesets past last found =
+    record { rulesets = rulesets; past = past; last = last; found = found }
+
+-- of how many groups a killer takes readings
+abbrev pub slots_of : KillerView → ℕ
+slots_of killer = length killer.past.sizes
+
+-- ---- what a killer stands for
+
+-- rulesets stand for readings, the first of them as the one with this number
+abbrev pub RulesetsStand :
+    List GroupLife → List Reading → ℕ → List RulesetView → List Rule → Type 0
+RulesetsStand lives history number [] [] = Unit {0}
+RulesetsStand lives history number [] (rule ∷ rules) = ⊥
+RulesetsStand lives history number (state ∷ states) [] = ⊥
+RulesetsStand lives history number (state ∷ states) (rule ∷ rules) =
+    RulesetStands lives history number state rule
+    × RulesetsStand lives history (number + 1) states rules
+
+-- the kills at the newest reading, if there is one
+abbrev pub newest_kills : List GroupLife → List Rule → List Reading → List Kill
+newest_kills lives rules [] = []
+newest_kills lives rules (now ∷ past) = kills lives rules now past
+
+-- A killer with rules stands for readings of groups, the newest first: it has a place for each
+-- group, each ruleset stands for them and so does the past, it has the moment of the newest, and the
+-- kills at it.
+pub record StandsFor (killer : KillerView) (lives : List GroupLife) (rules : List Rule)
+    (history : List Reading) : Type 0 where
+  pub slots : slots_of killer ≡ length lives
+  pub rulesets : RulesetsStand lives history 0 killer.rulesets rules
+  pub past : IsPastOf killer.past history
+  pub last : killer.last ≡ last_of history
+  pub found : killer.found ≡ newest_kills lives rules history
+
+-- A killer decides at a reading: where it stood for readings before, these are the kills at this
+-- one, after them.
+abbrev pub Decides : KillerView → ReadingView → List Kill → Type 0
+Decides old reading found = (rules : List Rule) (history : List Reading) →
+    StandsFor old reading.lives rules history →
+    found ≡ kills reading.lives rules reading.seen history
+
+-- It takes the reading: it stands for it and those before it afterwards.
+abbrev pub Takes : KillerView → ReadingView → KillerView → Type 0
+Takes old reading new = (rules : List Rule) (history : List Reading) →
+    StandsFor old reading.lives rules history →
+    StandsFor new reading.lives rules (reading.seen ∷ history)
+
+-- ---- rulesets one after another
+
+-- the kills of rulesets at a reading, after those for which they stood
+abbrev pub AllDecide : List RulesetView → ReadingView → Kept → List Kill → Type 0
+AllDecide old reading past found = (rules : List Rule) (history : List Reading) →
+    RulesetsStand reading.lives history 0 old rules → IsPastOf past history →
+    found ≡ kills reading.lives rules reading.seen history
+
+-- rulesets that stood for readings stand for one more and those before it afterwards
+abbrev pub RulesetsTake : List RulesetView → ReadingView → Kept → List RulesetView → Type 0
+RulesetsTake old reading past new = (rules : List Rule) (history : List Reading) →
+    RulesetsStand reading.lives history 0 old rules → IsPastOf past history →
+    RulesetsStand reading.lives (reading.seen ∷ history) 0 new rules
+
+-- ---- what is kept of each killer
+
+-- What holds of each killer: its rulesets are few, and their detectors are for as many groups as it
+-- and had their last reading when it did.
+pub record IsKiller (killer : KillerView) : Type 0 where
+  pub few : length killer.rulesets ≤ 64
+  pub at : All (λ state. IsRulesetAt killer.last (slots_of killer) state) killer.rulesets

@@ -1,0 +1,155 @@
+-- What is kept of a ruleset, and for which readings it stands.
+use Rattle.std.specs.Prelude.{◌≡◌, ℕ, ◌+◌, List, ◌∷◌, ◌++◌, length, find, option_map, slice_get}
+use Rattle.std.specs.Prelude.{Bool, Option, None, Some, All}
+use Rattle.std.specs.List.{AllZip, list_all, list_any}
+use Rattle.psi_spec.specs.declared.machine.GroupLife.{GroupLife}
+use Rattle.ruleset_json.specs.declared.types.Action.{Action}
+use Rattle.ruleset_json.specs.declared.types.DetectorSpec.{DetectorSpec}
+use Rattle.ruleset_json.specs.declared.types.DetectorGroup.{DetectorGroup}
+use Rattle.ruleset_json.specs.declared.types.Rule.{Rule}
+use Rattle.kill_spec.specs.declared.kill.Kill.{Kill}
+use Rattle.kill_spec.specs.Readings.{Reading}
+use Rattle.kill_spec.specs.Detectors.{group_holds, is_true}
+use Rattle.kill_spec.specs.Victims.{victim}
+use Rattle.kill_spec.specs.Kills.{chain, delay_of, ends_chain, kill_by}
+use Rattle.kill_spec.specs.Kills.{kills_at, kills_of, last_ending}
+use Rattle.detectors.specs.Views.{DetectorView, IsAfter, ReadingView, slots_of}
+use Rattle.detectors.specs.Stands.{StandsFor}
+use Rattle.victim_rank.specs.Pasts.{IsPastOf, Kept}
+
+-- ---- which readings detectors can take
+
+-- a detector can take a reading: it is of as many groups, and later than the detector's last
+pub record IsReady (reading : ReadingView) (detector : DetectorView) : Type 0 where
+  pub later : IsAfter detector.last reading.seen.at
+  pub slots : length reading.lives ≡ slots_of detector
+
+-- a detector is for so many groups, and its last reading was at a moment (ns), if there was one
+pub record IsAt (moment : Option ℕ) (slots : ℕ) (detector : DetectorView) : Type 0 where
+  pub last : detector.last ≡ moment
+  pub places : slots_of detector ≡ slots
+
+-- ---- groups of detectors
+
+-- detectors stand for readings, each with its arguments
+abbrev pub DetectorsStand :
+    List GroupLife → List Reading → List DetectorView → List DetectorSpec → Type 0
+DetectorsStand lives history detectors specs =
+    AllZip (λ (detector : DetectorView) (spec : DetectorSpec).
+    StandsFor detector lives spec history)
+    detectors specs
+
+-- detectors that stood for readings answer at one more: whether all are true
+abbrev pub AllAnswer : List DetectorView → ReadingView → Bool → Type 0
+AllAnswer old reading answer = (specs : List DetectorSpec) (history : List Reading) →
+    DetectorsStand reading.lives history old specs →
+    answer ≡
+    list_all (λ (spec : DetectorSpec). is_true reading.lives spec reading.seen history) specs
+
+-- and they stand for it and those before it afterwards
+abbrev pub AllTake : List DetectorView → ReadingView → List DetectorView → Type 0
+AllTake old reading new = (specs : List DetectorSpec) (history : List Reading) →
+    DetectorsStand reading.lives history old specs →
+    DetectorsStand reading.lives (reading.seen ∷ history) new specs
+
+-- groups of detectors stand for readings
+abbrev pub GroupsStand :
+    List GroupLife → List Reading → List (List DetectorView) → List DetectorGroup → Type 0
+GroupsStand lives history groups specs =
+    AllZip (λ (group : List DetectorView) (spec : DetectorGroup).
+    DetectorsStand lives history group spec.detectors)
+    groups specs
+
+-- groups of detectors that stood for readings answer at one more: whether one of them holds
+abbrev pub SomeAnswers : List (List DetectorView) → ReadingView → Bool → Type 0
+SomeAnswers old reading answer = (specs : List DetectorGroup) (history : List Reading) →
+    GroupsStand reading.lives history old specs →
+    answer ≡
+    list_any (λ (group : DetectorGroup). group_holds reading.lives group reading.seen history) specs
+
+-- and they stand for it and those before it afterwards
+abbrev pub GroupsTake : List (List DetectorView) → ReadingView → List (List DetectorView) → Type 0
+GroupsTake old reading new = (specs : List DetectorGroup) (history : List Reading) →
+    GroupsStand reading.lives history old specs →
+    GroupsStand reading.lives (reading.seen ∷ history) new specs
+
+-- each detector of groups is so
+abbrev pub EachDetector : (DetectorView → Type 0) → List (List DetectorView) → Type 0
+EachDetector Holds groups = All (λ (group : List DetectorView). All Holds group) groups
+
+-- ---- chains
+
+-- the moment (ns) until which a ruleset rests after a kill that ended its chain
+abbrev pub rest_of : List Action → Kill → ℕ
+rest_of actions kill = kill.at + delay_of (slice_get actions kill.action)
+
+-- the moment (ns) until which it rests after its last such kill; without one it never rested
+abbrev pub rest_after : List Action → Option Kill → ℕ
+rest_after actions None = 0
+rest_after actions (Some kill) = rest_of actions kill
+
+-- the kill of an action of a ruleset, both by their numbers, at a reading after those that are past
+abbrev pub IsKillBy : ℕ → ℕ → Action → ReadingView → Kept → Option Kill → Type 0
+IsKillBy number act action reading past kill = (history : List Reading) → IsPastOf past history →
+    kill ≡ kill_by number act reading.seen (victim reading.lives action reading.seen history)
+
+-- kills, of which the last are those of a ruleset's chain, from the action with a number on
+abbrev pub HasChain :
+    ℕ → ℕ → List Action → ReadingView → Kept → List Kill → List Kill → Type 0
+HasChain number act actions reading past before after =
+    (history : List Reading) → IsPastOf past history →
+    after ≡ before ++ chain reading.lives number act actions reading.seen history
+
+-- the moment (ns) until which a ruleset rests after its chain, if a kill ends it
+abbrev pub IsRest : ℕ → List Action → ReadingView → Kept → Option ℕ → Type 0
+IsRest number actions reading past until = (history : List Reading) → IsPastOf past history →
+    until ≡
+    option_map (rest_of actions)
+    (find (ends_chain actions) (chain reading.lives number 0 actions reading.seen history))
+
+-- ---- rulesets
+
+-- A ruleset: its detectors in groups, its actions, and the moment (ns) until which it rests.
+pub record RulesetView : Type 0 where
+  pub groups : List (List DetectorView)
+  pub actions : List Action
+  pub rests_until : ℕ
+
+-- a ruleset with these parts
+abbrev pub ruleset_of : List (List DetectorView) → List Action → ℕ → RulesetView
+ruleset_of groups actions rests_until =
+    record { groups = groups; actions = actions; rests_until = rests_until }
+
+-- A ruleset stands for readings, the newest first, as the one with a number: its detectors do, it
+-- has the actions, and it rests until its last chain-ending kill at these readings is as long ago as
+-- the delay of the action that gave it.
+pub record RulesetStands (lives : List GroupLife) (history : List Reading) (number : ℕ)
+    (state : RulesetView) (rule : Rule) : Type 0 where
+  pub groups : GroupsStand lives history state.groups rule.groups
+  pub actions : state.actions ≡ rule.actions
+  pub rests : state.rests_until ≡
+      rest_after rule.actions (last_ending rule.actions (kills_of lives number rule history))
+
+-- a ruleset can take a reading: each of its detectors can
+abbrev pub IsRulesetReady : ReadingView → RulesetView → Type 0
+IsRulesetReady reading state = EachDetector (IsReady reading) state.groups
+
+-- each detector of a ruleset is for so many groups, and its last reading was at a moment (ns), if
+-- there was one
+abbrev pub IsRulesetAt : Option ℕ → ℕ → RulesetView → Type 0
+IsRulesetAt moment slots state = EachDetector (IsAt moment slots) state.groups
+
+-- kills, of which the last are those of a ruleset at a reading, after those for which it stood
+abbrev pub HasKills : ℕ → RulesetView → ReadingView → Kept → List Kill → List Kill → Type 0
+HasKills number old reading past before after = (rule : Rule) (history : List Reading) →
+    RulesetStands reading.lives history number old rule → IsPastOf past history →
+    after ≡
+    before
+    ++ kills_at reading.lives number rule reading.seen history
+    (kills_of reading.lives number rule history)
+
+-- a ruleset that stood for readings stands for one more and those before it afterwards
+abbrev pub RulesetTakes : ℕ → RulesetView → ReadingView → Kept → RulesetView → Type 0
+RulesetTakes number old reading past new = (rule : Rule) (history : List Reading) →
+    RulesetStands reading.lives history number old rule → IsPastOf past history →
+    RulesetStands reading.lives (reading.seen ∷ history) number new rule

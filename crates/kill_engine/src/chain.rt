@@ -1,0 +1,91 @@
+//! Chains of actions.
+ghost use Rattle.std.specs.Prelude.{◌≡◌, ◌≤◌, ◌+◌, ◌++◌, ◌∷◌, [], length, vec_capacity, vec_len};
+ghost use Rattle.kill_spec.specs.Detectors.{of_seconds};
+ghost use Rattle.kill_spec.specs.Victims as victims;
+ghost use Rattle.kill_engine.specs.Rulesets.{HasChain, IsKillBy, IsRest};
+ghost use Rattle.ruleset_json.specs.Ranges.{FitsAction, FitsActions};
+
+use detectors::Reading;
+use kill_spec::Kill;
+use psi_base::Ns;
+use ruleset_json::{Action, After};
+use victim_rank::{Past, victim};
+
+/// What an action says of the time after it.
+fn after_of(action: &Action) -> After
+    requires { FitsAction action.now }
+    ensures value { result ≡ victims.after_of action.now }
+    ensures short { result.delay_s ≤ 1000000 }
+{
+    match action {
+        Action::SizeOrGrowth { after, .. } => *after,
+        Action::SwapUsage { after, .. } => *after,
+        Action::Pressure { after, .. } => *after,
+        Action::PgScan { after, .. } => *after,
+    }
+}
+
+/// The end (ns) of a rest of so many seconds. It may be later than any moment of 64 bits.
+fn end_of_rest(at: Ns, delay_s: u32) -> u128
+    ensures { result ≡ at + of_seconds delay_s }
+{
+    u128::from(at) + u128::from(delay_s) * 1_000_000_000
+}
+
+/// The kill of an action, if it has a victim.
+fn kill_by(number: u32, act: u32, action: &Action, reading: &Reading, past: &Past) -> Option<Kill>
+    requires fits { FitsAction action.now }
+    requires slots { length past.now.sizes ≡ length reading.now.lives }
+    ensures { IsKillBy number act action.now reading.now past.now result }
+{
+    let victim = victim(action, reading, past, reading.lives())?;
+    Some(Kill {
+        at: reading.at(),
+        rule: number,
+        action: act,
+        victim,
+    })
+}
+
+/// Puts a kill behind others. There is room.
+fn put(found: &mut Vec<Kill>, kill: Kill)
+    requires { vec_len found.old + 1 ≤ vec_capacity found.old }
+    ensures items { found.new.items ≡ found.old.items ++ kill ∷ [] }
+    ensures len { vec_len found.new ≡ vec_len found.old + 1 }
+    ensures room { vec_capacity found.old ≤ vec_capacity found.new }
+{
+    if found.push(kill).is_err() {
+        unreachable!()
+    }
+}
+
+/// Takes the actions of a ruleset in turn, and puts their kills behind others, up to the first by an action that
+/// doesn't always continue: then it gives the moment (ns) until which the ruleset rests. Takes no memory.
+pub(crate) fn take_chain(
+    actions: &[Action],
+    number: u32,
+    reading: &Reading,
+    past: &Past,
+    found: &mut Vec<Kill>,
+) -> Option<u128>
+    requires fits { FitsActions actions.now }
+    requires slots { length past.now.sizes ≡ length reading.now.lives }
+    requires room { vec_len found.old + 16 ≤ vec_capacity found.old }
+    ensures kills { HasChain number 0 actions.now reading.now past.now
+        found.old.items found.new.items }
+    ensures rest { IsRest number actions.now reading.now past.now result }
+    ensures few { vec_len found.new ≤ vec_len found.old + 16 }
+    ensures room { vec_capacity found.old ≤ vec_capacity found.new }
+{
+    'actions: for (act, action) in actions.iter().enumerate() {
+        let Some(kill) = kill_by(number, act as u32, action, reading, past) else {
+            continue;
+        };
+        put(found, kill);
+        let after = after_of(action);
+        if !after.always_continue {
+            return Some(end_of_rest(kill.at, after.delay_s));
+        }
+    }
+    None
+}

@@ -1,0 +1,70 @@
+//! A group of detectors.
+ghost use Rattle.std.specs.Prelude.{◌≡◌, ◌≤◌, [], IfOk, All, Some, length};
+ghost use Rattle.kill_engine.specs.Rulesets.{AllAnswer, AllTake, DetectorsStand, IsAt, IsReady};
+
+use detectors::{Detector, Reading};
+use psi_base::NoMemory;
+use psi_spec::GroupLife;
+use ruleset_json::DetectorSpec;
+use std::alloc::Global;
+use std::marker::Model;
+
+/// The detectors of a group, which holds where all of them are true.
+#[derive(Drop)]
+pub(crate) struct GroupState {
+    detectors: Vec<Detector>,
+}
+
+impl Model for GroupState {
+    ghost use Rattle.std.specs.Prelude.{List};
+    ghost use Rattle.detectors.specs.Views.{DetectorView};
+
+    ghost Value = { List DetectorView };
+
+    ghost view = { λ g. g.detectors.items };
+}
+
+/// Steps all detectors, also behind a false one. True where all are.
+fn step_all(detectors: &mut [Detector], reading: &Reading) -> bool
+    requires ready { All (IsReady reading.now) detectors.old }
+    ensures answer { AllAnswer detectors.old reading.now result }
+    ensures take { AllTake detectors.old reading.now detectors.new }
+    ensures at { All (IsAt (Some reading.now.seen.at) (length reading.now.lives)) detectors.new }
+{
+    let mut hold = true;
+    'detectors: for detector in detectors.iter_mut() {
+        hold &= detector.step(reading);
+    }
+    hold
+}
+
+impl GroupState {
+    /// The detectors with these arguments, before the first reading.
+    pub(crate) fn of(
+        alloc: Global,
+        specs: &[DetectorSpec],
+        lives: &[GroupLife],
+    ) -> Result<GroupState, NoMemory>
+        requires { length lives.now ≤ 1024 }
+        ensures { IfOk result (λ group. DetectorsStand lives.now [] group specs.now) }
+    {
+        let mut detectors = Vec::with_capacity(alloc, specs.len())?;
+        'specs: for spec in specs {
+            let detector = Detector::new(alloc, spec, lives.len() as u32)?;
+            let Ok(_) = detectors.push(detector) else {
+                return Err(NoMemory);
+            };
+        }
+        Ok(GroupState { detectors })
+    }
+
+    /// The next reading. True where the group holds at it. Takes no memory.
+    pub(crate) fn step(&mut self, reading: &Reading) -> bool
+        requires ready { All (IsReady reading.now) self.old }
+        ensures answer { AllAnswer self.old reading.now result }
+        ensures take { AllTake self.old reading.now self.new }
+        ensures at { All (IsAt (Some reading.now.seen.at) (length reading.now.lives)) self.new }
+    {
+        step_all(&mut self.detectors, reading)
+    }
+}

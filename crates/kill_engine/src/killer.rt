@@ -1,0 +1,122 @@
+//! The killer.
+ghost use Rattle.std.specs.Prelude.{◌≡◌, ◌≤◌, ◌+◌, ℕ, [], IfOk, All, Some, length, vec_capacity};
+ghost use Rattle.detectors.specs.Views.{IsAfter};
+ghost use Rattle.kill_engine.specs.Killers.{Decides, RulesetsStand, StandsFor, Takes, slots_of};
+ghost use Rattle.kill_engine.specs.Killers.{AllDecide, RulesetsTake};
+ghost use Rattle.kill_engine.specs.Rulesets.{IsRulesetAt, IsRulesetReady};
+
+use crate::ruleset::RuleState;
+use detectors::Reading;
+use kill_spec::Kill;
+use psi_base::{NoMemory, Ns};
+use psi_spec::GroupLife;
+use ruleset_json::{Rule, Rules};
+use std::alloc::Global;
+use std::marker::Model;
+use victim_rank::Past;
+
+/// How many kills there can be at an evaluation: of 16 actions of each of 64 rulesets.
+const MOST_KILLS: usize = 1024;
+
+/// All rulesets, as the readings so far left them, and the kills at the last of these.
+#[derive(Drop)]
+pub struct Killer {
+    rulesets: Vec<RuleState>,
+    past: Past,
+    /// The moment of the last reading (ns).
+    last: Option<Ns>,
+    /// The kills at the last reading, with room for as many as there can be.
+    found: Vec<Kill>,
+}
+
+impl Model for Killer {
+    ghost use Rattle.std.specs.Prelude.{vec_capacity};
+    ghost use Rattle.detectors.specs.Views.{IsRoom};
+    ghost use Rattle.kill_engine.specs.Killers.{IsKiller, KillerView, killer_of};
+
+    ghost Value = { KillerView };
+
+    ghost view = { λ k. killer_of k.rulesets.items k.past k.last k.found.items };
+
+    ghost invariant = { λ k. IsRoom 1024 (vec_capacity k.found)
+        × IsKiller (killer_of k.rulesets.items k.past k.last k.found.items) };
+}
+
+/// The rulesets before the first reading.
+fn rulesets_of(
+    alloc: Global,
+    rules: Vec<Rule>,
+    lives: &[GroupLife],
+) -> Result<Vec<RuleState>, NoMemory>
+    requires { length lives.now ≤ 1024 }
+    ensures { IfOk result (λ states. RulesetsStand lives.now [] 0 states.items rules.items) }
+{
+    let mut rulesets = Vec::with_capacity(alloc, rules.len())?;
+    'rules: for rule in rules {
+        let ruleset = RuleState::of(alloc, rule, lives)?;
+        let Ok(_) = rulesets.push(ruleset) else {
+            return Err(NoMemory);
+        };
+    }
+    Ok(rulesets)
+}
+
+/// Has all rulesets take a reading, in order, and puts their kills one after another.
+fn evaluate_all(rulesets: &mut [RuleState], reading: &Reading, past: &Past, found: &mut Vec<Kill>)
+    requires few { length rulesets.old ≤ 64 }
+    requires ready { All (IsRulesetReady reading.now) rulesets.old }
+    requires slots { length past.now.sizes ≡ length reading.now.lives }
+    requires empty { found.old.items ≡ [] }
+    requires room { 1024 ≤ vec_capacity found.old }
+    ensures kills { AllDecide rulesets.old reading.now past.now found.new.items }
+    ensures take { RulesetsTake rulesets.old reading.now past.now rulesets.new }
+    ensures at { All (IsRulesetAt (Some reading.now.seen.at) (length reading.now.lives))
+        rulesets.new }
+    ensures count { length rulesets.new ≡ length rulesets.old }
+    ensures room { vec_capacity found.old ≤ vec_capacity found.new }
+{
+    'rulesets: for (number, ruleset) in rulesets.iter_mut().enumerate() {
+        ruleset.evaluate(number as u32, reading, past, found);
+    }
+}
+
+impl Killer {
+    /// A killer by these rules of groups with these lives, by slot, before the first reading. Takes all memory that it
+    /// will need.
+    pub fn make(alloc: Global, rules: Rules, lives: &[GroupLife]) -> Result<Killer, NoMemory>
+        requires { length lives.now ≤ 1024 }
+        ensures { IfOk result (λ killer. StandsFor killer lives.now rules.rules []) }
+    {
+        Ok(Killer {
+            rulesets: rulesets_of(alloc, rules.rules.into_items(), lives)?,
+            past: Past::make(alloc, lives.len() as u32)?,
+            last: None,
+            found: Vec::with_capacity(alloc, MOST_KILLS)?,
+        })
+    }
+
+    /// The next reading, later than the last: each ruleset that fires at it, and doesn't rest, takes its actions in turn.
+    /// [`Killer::kills`] has the kills then. Takes no memory.
+    pub fn evaluate(&mut self, reading: &Reading)
+        requires later { IsAfter self.old.last reading.now.seen.at }
+        requires slots { length reading.now.lives ≡ slots_of self.old }
+        ensures kills { Decides self.old reading.now self.new.found }
+        ensures stands { Takes self.old reading.now self.new }
+
+        // Also of a killer of which nothing is known.
+        ensures last { self.new.last ≡ Some reading.now.seen.at }
+        ensures slots { slots_of self.new ≡ slots_of self.old }
+    {
+        self.found.clear();
+        evaluate_all(&mut self.rulesets, reading, &self.past, &mut self.found);
+        self.past.push(reading);
+        self.last = Some(reading.at());
+    }
+
+    /// The kills at the last reading, by ruleset and action; none before the first.
+    pub fn kills(&self) -> &[Kill]
+        ensures { result.now ≡ self.now.found }
+    {
+        &self.found
+    }
+}

@@ -1,0 +1,129 @@
+//! A ruleset.
+ghost use Rattle.std.specs.Prelude.{◌≡◌, ◌≤◌, ◌+◌, ℕ, [], IfOk, All, Some, length, nat_lt, vec_capacity, vec_len};
+ghost use Rattle.kill_engine.specs.Rulesets.{EachDetector, GroupsStand, GroupsTake, HasKills, IsAt, IsReady};
+ghost use Rattle.kill_engine.specs.Rulesets.{IsRulesetAt, IsRulesetReady, RulesetStands, RulesetTakes, SomeAnswers};
+
+use crate::chain::take_chain;
+use crate::group::GroupState;
+use detectors::Reading;
+use kill_spec::Kill;
+use psi_base::{NoMemory, Ns};
+use psi_spec::GroupLife;
+use ruleset_json::{ActionList, DetectorGroup, Rule};
+use std::alloc::Global;
+use std::marker::Model;
+use victim_rank::Past;
+
+/// A ruleset, as the readings so far left it.
+#[derive(Drop)]
+pub(crate) struct RuleState {
+    groups: Vec<GroupState>,
+    actions: ActionList,
+    /// The moment (ns) until which it rests: 0 where no kill ended its chain. It may be later than any of 64 bits.
+    rests_until: u128,
+}
+
+impl Model for RuleState {
+    ghost use Rattle.kill_engine.specs.Rulesets.{RulesetView, ruleset_of};
+
+    ghost Value = { RulesetView };
+
+    ghost view = { λ r. ruleset_of r.groups.items r.actions r.rests_until };
+}
+
+/// Groups of detectors with these arguments, before the first reading.
+fn groups_of(
+    alloc: Global,
+    specs: &[DetectorGroup],
+    lives: &[GroupLife],
+) -> Result<Vec<GroupState>, NoMemory>
+    requires { length lives.now ≤ 1024 }
+    ensures { IfOk result (λ groups. GroupsStand lives.now [] groups.items specs.now) }
+{
+    let mut groups = Vec::with_capacity(alloc, specs.len())?;
+    'specs: for spec in specs {
+        let group = GroupState::of(alloc, spec.detectors.items(), lives)?;
+        let Ok(_) = groups.push(group) else {
+            return Err(NoMemory);
+        };
+    }
+    Ok(groups)
+}
+
+/// Steps the detectors of all groups, also behind one that holds. True where one does.
+fn step_groups(groups: &mut [GroupState], reading: &Reading) -> bool
+    requires ready { EachDetector (IsReady reading.now) groups.old }
+    ensures answer { SomeAnswers groups.old reading.now result }
+    ensures take { GroupsTake groups.old reading.now groups.new }
+    ensures at { EachDetector (IsAt (Some reading.now.seen.at) (length reading.now.lives))
+        groups.new }
+{
+    let mut fires = false;
+    'groups: for group in groups.iter_mut() {
+        fires |= group.step(reading);
+    }
+    fires
+}
+
+impl RuleState {
+    /// A ruleset before the first reading.
+    pub(crate) fn of(alloc: Global, rule: Rule, lives: &[GroupLife]) -> Result<RuleState, NoMemory>
+        requires { length lives.now ≤ 1024 }
+        ensures { IfOk result (λ state. (number : ℕ) →
+            RulesetStands lives.now [] number state rule) }
+    {
+        let groups = groups_of(alloc, rule.groups.items(), lives)?;
+        Ok(RuleState {
+            groups,
+            actions: rule.actions,
+            rests_until: 0,
+        })
+    }
+
+    /// Steps all its detectors. True where it fires at the reading.
+    fn fires(&mut self, reading: &Reading) -> bool
+        requires ready { IsRulesetReady reading.now self.old }
+        ensures answer { SomeAnswers self.old.groups reading.now result }
+        ensures take { GroupsTake self.old.groups reading.now self.new.groups }
+        ensures at { IsRulesetAt (Some reading.now.seen.at) (length reading.now.lives) self.new }
+        ensures actions { self.new.actions ≡ self.old.actions }
+        ensures rests { self.new.rests_until ≡ self.old.rests_until }
+    {
+        step_groups(&mut self.groups, reading)
+    }
+
+    /// It rests at a moment (ns).
+    fn is_resting(&self, at: Ns) -> bool
+        ensures { result ≡ nat_lt at self.now.rests_until }
+    {
+        u128::from(at) < self.rests_until
+    }
+
+    /// The next reading: puts its kills behind others, as the ruleset with this number. Takes no memory.
+    pub(crate) fn evaluate(
+        &mut self,
+        number: u32,
+        reading: &Reading,
+        past: &Past,
+        found: &mut Vec<Kill>,
+    )
+        requires ready { IsRulesetReady reading.now self.old }
+        requires slots { length past.now.sizes ≡ length reading.now.lives }
+        requires room { vec_len found.old + 16 ≤ vec_capacity found.old }
+        ensures kills { HasKills number self.old reading.now past.now
+            found.old.items found.new.items }
+        ensures take { RulesetTakes number self.old reading.now past.now self.new }
+        ensures at { IsRulesetAt (Some reading.now.seen.at) (length reading.now.lives) self.new }
+        ensures few { vec_len found.new ≤ vec_len found.old + 16 }
+        ensures room { vec_capacity found.old ≤ vec_capacity found.new }
+    {
+        let fires = self.fires(reading);
+        if !fires || self.is_resting(reading.at()) {
+            return;
+        }
+        let rest = take_chain(self.actions.items(), number, reading, past, found);
+        if let Some(until) = rest {
+            self.rests_until = until;
+        }
+    }
+}
