@@ -1,0 +1,3 @@
+pub mod Sides
+pub mod Watch
+pub mod Laws

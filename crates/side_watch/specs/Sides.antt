@@ -1,0 +1,119 @@
+-- What sides tell of a group and of the host, one after the other.
+use Rattle.std.specs.Prelude.{◌≡◌, ℕ, ◌+◌, ◌-◌, ◌^◌, ◌<◌, List, [], ◌∷◌, drop, length, min}
+use Rattle.std.specs.Prelude.{nat_le, slice_index_or, ◌==◌, Bool, true, false, if◌then◌else◌}
+use Rattle.std.specs.Prelude.{Option, Some, ℤ, pos, negsuc}
+use Rattle.psi_base.specs.declared.event.Preference.{Preference}
+use Rattle.psi_base.specs.declared.event.Preference.TheVariants.{Plain}
+use Rattle.psi_spec.specs.Groups.{leads_to}
+use Rattle.kill_spec.specs.declared.reading.HostReading.{HostReading}
+use Rattle.kill_spec.specs.Evaluations.{MemorySample}
+use Rattle.proc_plan.specs.declared.side.Side.{Side}
+use Rattle.proc_plan.specs.declared.side.SideAct.{SideAct}
+use Rattle.proc_plan.specs.declared.side.SideAct.TheVariants as side
+use Rattle.side_watch.specs.declared.cell.Cell.{Cell}
+use Rattle.side_watch.specs.declared.cell.GroupMemory.{GroupMemory}
+
+-- ---- a group
+
+-- a sample by its fields, as readings have it
+abbrev pub sample_of : GroupMemory → MemorySample
+sample_of memory = record { current = memory.current; swap = memory.swap; scan = memory.scan }
+
+-- a group of which no side told: no memory, neither preferred nor avoided, and no task in it
+abbrev pub zero_cell : Cell
+zero_cell = record {
+  memory = record { current = 0; swap = 0; scan = 0 };
+  preference = Plain;
+  tasks = 0;
+}
+
+-- what is kept of the group in a slot; a slot beyond the last is as a group of which no side told
+abbrev pub cell_in : List Cell → ℕ → Cell
+cell_in cells slot = slice_index_or cells slot zero_cell
+
+-- a task came: otherwise it left
+abbrev pub is_coming : ℤ → Bool
+is_coming (pos n) = true
+is_coming (negsuc n) = false
+
+-- a number of tasks after one came or left, in 32 bits
+abbrev pub moved : Bool → ℕ → ℕ
+moved came tasks = if came then min (tasks + 1) (2 ^ 32 - 1) else tasks - 1
+
+-- a group after a task came into it or below it, or left
+abbrev pub counted : Bool → Cell → Cell
+counted came cell = record cell { tasks = moved came cell.tasks }
+
+-- a group after a task came or left whose own group leads to this slot, if it does
+abbrev pub cell_counted : List (Option ℕ) → Option ℕ → Bool → ℕ → Cell → Cell
+cell_counted parents start came slot cell =
+    if leads_to parents start slot then counted came cell else cell
+
+-- the group in a slot after a sample of the memory of the group in another or in the same slot
+abbrev pub with_memory : ℕ → GroupMemory → ℕ → Cell → Cell
+with_memory of memory slot cell = if of == slot then record cell { memory = memory } else cell
+
+-- it after the preference of the group in another or in the same slot was set
+abbrev pub with_preference : ℕ → Preference → ℕ → Cell → Cell
+with_preference of preference slot cell =
+    if of == slot then record cell { preference = preference } else cell
+
+-- the group in a slot after one more side
+abbrev pub cell_after : List (Option ℕ) → ℕ → Cell → SideAct → Cell
+cell_after parents slot cell (side.Mem of current swap scan) =
+    with_memory of.0 (record { current = current; swap = swap; scan = scan }) slot cell
+cell_after parents slot cell (side.Prefer of preference) = with_preference of.0 preference slot cell
+cell_after parents slot cell (side.Host mem_total swap_total swap_free) = cell
+cell_after parents slot cell (side.Tasks of added) =
+    cell_counted parents (Some of.0) (is_coming added) slot cell
+
+-- it after some more sides
+abbrev pub cell_by : List (Option ℕ) → ℕ → Cell → List Side → Cell
+cell_by parents slot cell [] = cell
+cell_by parents slot cell (side ∷ sides) =
+    cell_by parents slot (cell_after parents slot cell side.what) sides
+
+-- ---- the host
+
+-- the host's memory after one more side
+abbrev pub host_after : HostReading → SideAct → HostReading
+host_after host (side.Mem of current swap scan) = host
+host_after host (side.Prefer of preference) = host
+host_after host (side.Host mem_total swap_total swap_free) =
+    record { mem_total = mem_total; swap_total = swap_total; swap_free = swap_free }
+host_after host (side.Tasks of added) = host
+
+-- it after some more sides
+abbrev pub host_by : HostReading → List Side → HostReading
+host_by host [] = host
+host_by host (side ∷ sides) = host_by (host_after host side.what) sides
+
+-- ---- sides up to a moment
+
+-- the first sides of a list, as far as their moments are at most this one (ns)
+abbrev pub due_by : ℕ → List Side → List Side
+due_by at [] = []
+due_by at (side ∷ sides) = if nat_le side.at at then side ∷ due_by at sides else []
+
+-- the sides behind so many that are due by a moment (ns)
+abbrev pub due_from : ℕ → ℕ → List Side → List Side
+due_from taken at sides = due_by at (drop taken sides)
+
+-- ---- all groups
+
+-- each group comes out of what it was before
+abbrev pub EachIs : List Cell → List Cell → (ℕ → Cell → Cell) → Type 0
+EachIs old new step =
+    (slot : ℕ) → slot < length old → cell_in new slot ≡ step slot (cell_in old slot)
+
+-- the group in a slot and all above it count a task that came into it or left it
+abbrev pub EachCounts : List (Option ℕ) → ℕ → Bool → List Cell → List Cell → Type 0
+EachCounts parents of came old new = EachIs old new (cell_counted parents (Some of) came)
+
+-- each group went through one side
+abbrev pub EachTook : List (Option ℕ) → SideAct → List Cell → List Cell → Type 0
+EachTook parents what old new = EachIs old new (λ slot cell. cell_after parents slot cell what)
+
+-- each group went through these sides
+abbrev pub Took : List (Option ℕ) → List Side → List Cell → List Cell → Type 0
+Took parents sides old new = EachIs old new (λ slot cell. cell_by parents slot cell sides)

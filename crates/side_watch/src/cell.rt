@@ -1,0 +1,56 @@
+//! What is kept of one group.
+
+ghost use Rattle.std.specs.Prelude.{◌≡◌};
+ghost use Rattle.side_watch.specs.Sides.{counted, zero_cell};
+
+use psi_base::Preference;
+
+/// A sample of a group's memory.
+#[derive(Clone, Copy, Debug, PartialEq, Eq)]
+pub struct GroupMemory {
+    /// Memory in use, in bytes.
+    pub current: u64,
+    /// Swap in use, in bytes.
+    pub swap: u64,
+    /// How many pages were scanned for it so far.
+    pub scan: u64,
+}
+
+/// What the sides so far tell of a group.
+#[derive(Clone, Copy, Debug)]
+pub(crate) struct Cell {
+    /// The last sample of its memory.
+    pub(crate) memory: GroupMemory,
+    /// The last preference.
+    pub(crate) preference: Preference,
+    /// How many live tasks are in it or below it.
+    pub(crate) tasks: u32,
+}
+
+impl Cell {
+    /// A group of which no side told.
+    pub(crate) fn zero() -> Cell
+        ensures { result ≡ zero_cell }
+    {
+        Cell {
+            memory: GroupMemory {
+                current: 0,
+                swap: 0,
+                scan: 0,
+            },
+            preference: Preference::Plain,
+            tasks: 0,
+        }
+    }
+
+    /// Counts a task that came into the group or below it, or one that left.
+    pub(crate) fn count(&mut self, came: bool)
+        ensures { self.new ≡ counted came self.old }
+    {
+        self.tasks = if came {
+            self.tasks.saturating_add(1)
+        } else {
+            self.tasks.saturating_sub(1)
+        };
+    }
+}

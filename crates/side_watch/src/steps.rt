@@ -1,0 +1,147 @@
+//! Sides, one after the other.
+
+ghost use Rattle.std.specs.Prelude.{◌≡◌, ◌+◌, length};
+ghost use Rattle.psi_spec.specs.Groups.{AreOlder};
+ghost use Rattle.slot_clocks.specs.Clocks.{numbers_of};
+ghost use Rattle.kill_spec.specs.Readings.{IsHostReading};
+ghost use Rattle.proc_plan.specs.Plans.{AreSmall};
+ghost use Rattle.proc_plan.specs.Sides.{IsSmall};
+ghost use Rattle.side_watch.specs.Sides.{Took, EachCounts, EachIs, EachTook, due_from};
+ghost use Rattle.side_watch.specs.Sides.{host_after, host_by, with_memory, with_preference};
+ghost use Rattle.side_watch.specs.Watch.{AreSmallCells, IsSmallMemory};
+
+use crate::cell::{Cell, GroupMemory};
+use kill_spec::HostReading;
+use proc_plan::{Side, SideAct};
+use psi_base::{Ns, Preference, Slot};
+
+// Counts a task that came into a group or left it, for the group and for all above it.
+fn count_task(cells: &mut [Cell], parents: &[Option<Slot>], slot: Slot, came: bool)
+    requires older { AreOlder (numbers_of parents.now) }
+    requires each { length cells.old ≡ length parents.now }
+    requires small { AreSmallCells cells.old }
+    ensures each { length cells.new ≡ length cells.old }
+    ensures small { AreSmallCells cells.new }
+    ensures counted { EachCounts (numbers_of parents.now) slot.0 came cells.old cells.new }
+{
+    let mut next = Some(slot);
+    'up: while let Some(slot) = next {
+        let place = slot.0 as usize;
+        if place >= cells.len() {
+            return;
+        }
+        cells[place].count(came);
+        next = parents[place];
+    }
+}
+
+// Sets the last sample of a group's memory, if there is such a group.
+fn set_memory(cells: &mut [Cell], slot: Slot, memory: GroupMemory)
+    requires fits { IsSmallMemory memory }
+    requires small { AreSmallCells cells.old }
+    ensures each { length cells.new ≡ length cells.old }
+    ensures small { AreSmallCells cells.new }
+    ensures set { EachIs cells.old cells.new (with_memory slot.0 memory) }
+{
+    let place = slot.0 as usize;
+    if place < cells.len() {
+        cells[place].memory = memory;
+    }
+}
+
+// Sets a group's preference, if there is such a group.
+fn set_preference(cells: &mut [Cell], slot: Slot, preference: Preference)
+    requires small { AreSmallCells cells.old }
+    ensures each { length cells.new ≡ length cells.old }
+    ensures small { AreSmallCells cells.new }
+    ensures set { EachIs cells.old cells.new (with_preference slot.0 preference) }
+{
+    let place = slot.0 as usize;
+    if place < cells.len() {
+        cells[place].preference = preference;
+    }
+}
+
+// Takes all groups through one more side.
+fn take_cells(cells: &mut [Cell], parents: &[Option<Slot>], what: SideAct)
+    requires older { AreOlder (numbers_of parents.now) }
+    requires each { length cells.old ≡ length parents.now }
+    requires fits { IsSmall what }
+    requires small { AreSmallCells cells.old }
+    ensures each { length cells.new ≡ length cells.old }
+    ensures small { AreSmallCells cells.new }
+    ensures taken { EachTook (numbers_of parents.now) what cells.old cells.new }
+{
+    match what {
+        SideAct::Mem {
+            slot,
+            current,
+            swap,
+            scan,
+        } => set_memory(
+            cells,
+            slot,
+            GroupMemory {
+                current,
+                swap,
+                scan,
+            },
+        ),
+        SideAct::Prefer { slot, preference } => set_preference(cells, slot, preference),
+        SideAct::Host { .. } => {}
+        SideAct::Tasks { slot, added } => count_task(cells, parents, slot, added >= 0),
+    }
+}
+
+// The host's memory after one more side.
+fn host_after(host: HostReading, what: SideAct) -> HostReading
+    requires fits { IsSmall what }
+    requires small { IsHostReading host }
+    ensures after { result ≡ host_after host what }
+    ensures small { IsHostReading result }
+{
+    match what {
+        SideAct::Host {
+            mem_total,
+            swap_total,
+            swap_free,
+        } => HostReading {
+            mem_total,
+            swap_total,
+            swap_free,
+        },
+        _ => host,
+    }
+}
+
+/// Takes all groups and the host through the sides up to a moment (ns), behind so many that were
+/// taken, and tells how many are taken then.
+pub(crate) fn take_due(
+    cells: &mut [Cell],
+    parents: &[Option<Slot>],
+    host: &mut HostReading,
+    sides: &[Side],
+    from: usize,
+    at: Ns,
+) -> usize
+    requires older { AreOlder (numbers_of parents.now) }
+    requires each { length cells.old ≡ length parents.now }
+    requires fit { AreSmall sides.now }
+    requires small { AreSmallCells cells.old }
+    requires host { IsHostReading host.old }
+    ensures each { length cells.new ≡ length cells.old }
+    ensures small { AreSmallCells cells.new }
+    ensures host { IsHostReading host.new }
+    ensures cells { Took (numbers_of parents.now) (due_from from at sides.now) cells.old cells.new }
+    ensures hosts { host.new ≡ host_by host.old (due_from from at sides.now) }
+    ensures taken { result ≡ from + length (due_from from at sides.now) }
+{
+    let mut taken = from;
+    'sides: while taken < sides.len() && sides[taken].at <= at {
+        let what = sides[taken].what;
+        take_cells(cells, parents, what);
+        *host = host_after(*host, what);
+        taken += 1;
+    }
+    taken
+}

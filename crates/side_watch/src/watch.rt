@@ -1,0 +1,140 @@
+//! What a trace tells of its groups up to a moment.
+
+ghost use Rattle.std.specs.Prelude.{◌≡◌, IfOk};
+ghost use Rattle.psi_spec.specs.Groups.{AreGroups};
+ghost use Rattle.psi_spec.specs.Stall.{parents_of};
+ghost use Rattle.slot_clocks.specs.Clocks.{numbers_of};
+ghost use Rattle.kill_spec.specs.Readings.{IsHostReading};
+ghost use Rattle.proc_plan.specs.Plans.{AreSmall};
+ghost use Rattle.side_watch.specs.Watch.{Advances, Begins, IsSmallMemory};
+ghost use Rattle.side_watch.specs.Watch.{cell_at, first_watch, has_tasks};
+
+use crate::cell::{Cell, GroupMemory};
+use crate::steps::take_due;
+use kill_spec::HostReading;
+use proc_plan::Side;
+use psi_base::{NoMemory, Ns, Preference, Slot};
+use psi_spec::GroupLife;
+use std::alloc::Global;
+use std::marker::Model;
+
+/// What the sides of a trace up to a moment tell of all its groups and of the host. Contracts see
+/// all of it.
+#[derive(Drop)]
+pub struct Watch {
+    /// By slot.
+    cells: Vec<Cell>,
+    /// By slot, None for the root.
+    parents: Vec<Option<Slot>>,
+    host: HostReading,
+    /// How many sides were taken.
+    taken: usize,
+}
+
+impl Model for Watch {
+    ghost use Rattle.side_watch.specs.Watch.{IsWatch, WatchView, watch_view};
+
+    ghost Value = { WatchView };
+
+    ghost view = { λ w. watch_view w.cells.items w.parents.items w.host w.taken };
+
+    ghost invariant = { λ w. IsWatch (watch_view w.cells.items w.parents.items w.host w.taken) };
+}
+
+// The parents of groups, in the order of their slots.
+fn parents_of(alloc: Global, lives: &[GroupLife]) -> Result<Vec<Option<Slot>>, NoMemory>
+    ensures { IfOk result (λ parents. numbers_of parents.items ≡ parents_of lives.now) }
+{
+    let mut parents = Vec::new(alloc);
+    'lives: for life in lives {
+        if parents.push(life.parent).is_err() {
+            return Err(NoMemory);
+        }
+    }
+    Ok(parents)
+}
+
+impl Watch {
+    /// The watch of these groups before any side: no memory, no preference, no task. Takes all
+    /// memory that it will need.
+    ///
+    /// The groups are all that a trace ever makes, in the order of their slots.
+    pub fn make(alloc: Global, lives: &[GroupLife]) -> Result<Watch, NoMemory>
+        requires groups { AreGroups lives.now }
+        ensures first { IfOk result (λ watch. watch ≡ first_watch lives.now) }
+        ensures begins { IfOk result (Begins lives.now) }
+    {
+        Ok(Watch {
+            cells: vec![in alloc; Cell::zero(); lives.len()]?,
+            parents: parents_of(alloc, lives)?,
+            host: HostReading {
+                mem_total: 0,
+                swap_total: 0,
+                swap_free: 0,
+            },
+            taken: 0,
+        })
+    }
+
+    /// Takes the sides up to a moment (ns), those at the moment among them, that weren't taken yet.
+    /// The sides are all of a trace in their order, the same at each call. Takes no memory.
+    ///
+    /// It takes time for each of these sides, and for a task that came or left for each group on
+    /// its chain.
+    pub fn advance(&mut self, sides: &[Side], at: Ns)
+        requires small { AreSmall sides.now }
+        ensures advances { Advances self.old self.new sides.now at }
+    {
+        let taken = take_due(
+            &mut self.cells,
+            &self.parents,
+            &mut self.host,
+            sides,
+            self.taken,
+            at,
+        );
+        self.taken = taken;
+    }
+
+    /// The last sample of a group's memory, in bytes and pages. Zeros without one, and for a slot
+    /// beyond the last.
+    pub fn memory(&self, slot: Slot) -> GroupMemory
+        ensures memory { result ≡ (cell_at self.now slot.0).memory }
+        ensures small { IsSmallMemory result }
+    {
+        self.cell(slot).memory
+    }
+
+    /// A group's last preference: plain without one, and for a slot beyond the last.
+    pub fn preference(&self, slot: Slot) -> Preference
+        ensures { result ≡ (cell_at self.now slot.0).preference }
+    {
+        self.cell(slot).preference
+    }
+
+    /// Whether some live task is in a group or below it. None is for a slot beyond the last.
+    pub fn is_populated(&self, slot: Slot) -> bool
+        ensures { result ≡ has_tasks self.now slot.0 }
+    {
+        self.cell(slot).tasks > 0
+    }
+
+    /// The last sample of the host's memory, in bytes. Zeros without one.
+    pub fn host(&self) -> HostReading
+        ensures host { result ≡ self.now.host }
+        ensures small { IsHostReading result }
+    {
+        self.host
+    }
+
+    // What is kept of a group.
+    fn cell(&self, slot: Slot) -> Cell
+        ensures cell { result ≡ cell_at self.now slot.0 }
+        ensures small { IsSmallMemory result.memory }
+    {
+        match self.cells.get(slot.0 as usize) {
+            Some(cell) => *cell,
+            None => Cell::zero(),
+        }
+    }
+}

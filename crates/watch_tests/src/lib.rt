@@ -1,0 +1,5 @@
+//! Tests of what a watch tells.
+#![tactic(auto)]
+
+#[cfg(test)]
+mod watches;
