@@ -1,0 +1,4 @@
+mod Keeps
+mod Loaded
+mod NineWords
+mod Turns

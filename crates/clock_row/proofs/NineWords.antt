@@ -1,0 +1,113 @@
+-- The nine words of a slot in the words of all slots.
+use Rattle.std.proofs.Common.{◌≡◌, ℕ, add-one, ◌+◌, ◌-◌, ◌*◌, ◌<◌, ◌≤◌, ◌⊎◌, List, [], ◌∷◌, ◌++◌, get_or, get_or-set_same, set, length, take, drop, replicate, refl, sym, ap, ◌∙◌, inl, inr, ⊎_elim, arith, length-take, length-drop, length-set, length-append, bit_and, ◌%◌}
+use Rattle.std.proofs.lemmas.Nat.{and_mask}
+use lib.Seq.{set-get_or}
+use Rattle.std.proofs.lemmas.List.{drop-replicate, ext_get_or, get_or-drop, get_or-take, length-replicate, take-replicate}
+use Rattle.psi_laws.specs.Clock.{AreWordsOfClock, ClockView, IsWholeClock, words_of, zero_clock}
+use Rattle.psi_laws.specs.Plan.{IsClock, PlanView}
+use Rattle.psi_laws.proofs.MaskLaws.{masks_are_their_states}
+use Rattle.psi_laws.proofs.PlanClocks.{zero_is_clock}
+use Rattle.clock_row.specs.Words.{AreClock, AreClocks, ArePut, mask_at, words_at}
+
+-- ---- words at a place
+
+-- nine words that are the same place by place
+pub words_are : (n from : ℕ) (xs body : List ℕ) → length xs ≡ n → from + n ≤ length body → ((i : ℕ) → i < n → get_or xs i 0 ≡ get_or body (from + i) 0) → xs ≡ take n (drop from body)
+words_are n from xs body wide room each = let a = length-take n (drop from body) in let b = length-drop from body in
+    ext_get_or 0 xs (take n (drop from body)) (omega arith) (λ i l. each i (omega arith) ∙ sym (get_or-take n (drop from body) i 0 (omega arith) ∙ get_or-drop from body i 0))
+
+pub put_there : (n from : ℕ) (xs before after : List ℕ) → ArePut from n xs before after → length xs ≡ n → from + n ≤ length before → xs ≡ take n (drop from after)
+put_there n from xs before after p wide room = let same = p.wide in words_are n from xs after wide (omega arith) (λ i l. sym (p.inside i l))
+
+pub put_elsewhere : (n from a : ℕ) (xs before after : List ℕ) → ArePut from n xs before after → (a + n ≤ from) ⊎ (from + n ≤ a) → a + n ≤ length before → take n (drop a after) ≡ take n (drop a before)
+put_elsewhere n from a xs before after p apart room = let same = p.wide in let wide = length-take n (drop a before) in let wide' = length-drop a before in
+    sym (words_are n a (take n (drop a before)) after (omega arith) (omega arith)
+    (λ i l. get_or-take n (drop a before) i 0 l ∙ (get_or-drop a before i 0 ∙ sym (p.outside (a + i) (⊎_elim (λ (t : a + n ≤ from). inl (omega arith)) (λ (t : from + n ≤ a). inr (omega arith)) apart)))))
+
+-- ---- a clock's words
+
+-- the mask stands behind seven times
+mask_behind : (times : List ℕ) (mask start : ℕ) → length times ≡ 7 → get_or (times ++ mask ∷ start ∷ []) 7 0 ≡ mask
+mask_behind (a ∷ b ∷ c ∷ d ∷ e ∷ f ∷ g ∷ []) mask start seven = refl
+mask_behind [] mask start seven = absurd (omega (arith, seven))
+mask_behind (a ∷ []) mask start seven = absurd (omega (arith, seven))
+mask_behind (a ∷ b ∷ []) mask start seven = absurd (omega (arith, seven))
+mask_behind (a ∷ b ∷ c ∷ []) mask start seven = absurd (omega (arith, seven))
+mask_behind (a ∷ b ∷ c ∷ d ∷ []) mask start seven = absurd (omega (arith, seven))
+mask_behind (a ∷ b ∷ c ∷ d ∷ e ∷ []) mask start seven = absurd (omega (arith, seven))
+mask_behind (a ∷ b ∷ c ∷ d ∷ e ∷ f ∷ []) mask start seven = absurd (omega (arith, seven))
+mask_behind (a ∷ b ∷ c ∷ d ∷ e ∷ f ∷ g ∷ h ∷ more) mask start seven = absurd (omega (arith, seven))
+
+-- so it does in the words of a slot
+mask_in : (body : List ℕ) (slot : ℕ) → mask_at body slot ≡ get_or (words_at body slot) 7 0
+mask_in body slot = sym (get_or-drop (9 * slot) body 7 0) ∙ sym (get_or-take 9 (drop (9 * slot) body) 7 0 (omega arith))
+
+pub mask_is : (body : List ℕ) (slot : ℕ) (clock : ClockView) → words_at body slot ≡ words_of clock → IsWholeClock clock → mask_at body slot ≡ clock.mask
+mask_is body slot clock are whole = mask_in body slot ∙ (ap (λ (words : List ℕ). get_or words 7 0) are ∙ mask_behind clock.times clock.mask clock.start whole.times)
+
+-- the same words have the same mask
+pub masks_same : (one other : List ℕ) (slot : ℕ) → words_at one slot ≡ words_at other slot → mask_at one slot ≡ mask_at other slot
+masks_same one other slot same = mask_in one slot ∙ (ap (λ (words : List ℕ). get_or words 7 0) same ∙ sym (mask_in other slot))
+
+-- clocks that stand for a slot after the same changes have the same mask
+pub same_mask : (one other : ClockView) (plan : PlanView) (slot k : ℕ) → IsClock one plan slot k → IsClock other plan slot k → one.mask ≡ other.mask
+same_mask one other plan slot k a b = masks_are_their_states one.mask other.mask a.whole.mask b.whole.mask (λ state. a.mask state ∙ sym (b.mask state))
+
+-- words of a clock that stands for a slot are words of a clock
+pub clock_words : (plan : PlanView) (slot k : ℕ) (words : List ℕ) → AreClock plan slot k words → AreWordsOfClock words
+clock_words plan slot k words are = (are.0, are.1, are.2.whole)
+
+-- zeros are a clock before the first change
+pub zeros_are : (plan : PlanView) → AreClocks plan 0 (replicate (9 * length plan.parents) 0)
+zeros_are plan = record {
+  wide = length-replicate (9 * length plan.parents) 0;
+  each = λ slot below. let n = length plan.parents in
+      (zero_clock, ap (take 9) (drop-replicate (9 * slot) (9 * n) 0) ∙ take-replicate 9 (9 * n - 9 * slot) 0 (omega arith), zero_is_clock plan slot);
+}
+
+-- ---- any nine words with a small mask
+
+-- are words of a clock
+pub whole_words : (words : List ℕ) → length words ≡ 9 → get_or words 7 0 < 128 → AreWordsOfClock words
+whole_words (a ∷ b ∷ c ∷ d ∷ e ∷ f ∷ g ∷ mask ∷ start ∷ []) nine small = (record { times = a ∷ b ∷ c ∷ d ∷ e ∷ f ∷ g ∷ []; mask = mask; start = start }, refl, record { times = refl; mask = small })
+whole_words [] nine small = absurd (omega (arith, nine))
+whole_words (a ∷ []) nine small = absurd (omega (arith, nine))
+whole_words (a ∷ b ∷ []) nine small = absurd (omega (arith, nine))
+whole_words (a ∷ b ∷ c ∷ []) nine small = absurd (omega (arith, nine))
+whole_words (a ∷ b ∷ c ∷ d ∷ []) nine small = absurd (omega (arith, nine))
+whole_words (a ∷ b ∷ c ∷ d ∷ e ∷ []) nine small = absurd (omega (arith, nine))
+whole_words (a ∷ b ∷ c ∷ d ∷ e ∷ f ∷ []) nine small = absurd (omega (arith, nine))
+whole_words (a ∷ b ∷ c ∷ d ∷ e ∷ f ∷ g ∷ []) nine small = absurd (omega (arith, nine))
+whole_words (a ∷ b ∷ c ∷ d ∷ e ∷ f ∷ g ∷ h ∷ []) nine small = absurd (omega (arith, nine))
+whole_words (a ∷ b ∷ c ∷ d ∷ e ∷ f ∷ g ∷ h ∷ i ∷ j ∷ more) nine small = absurd (omega (arith, nine))
+
+-- the bits of a mask are all that a word has below 128
+small_bits : (n : ℕ) → bit_and n 127 ≡ n % 128
+small_bits n = and_mask n 7
+
+pub masked_whole : (words : List ℕ) → length words ≡ 9 → AreWordsOfClock (set words 7 (bit_and (get_or words 7 0) 127))
+masked_whole words nine = whole_words (set words 7 (bit_and (get_or words 7 0) 127)) (length-set words 7 (bit_and (get_or words 7 0) 127) ∙ nine)
+    (let here : get_or (set words 7 (bit_and (get_or words 7 0) 127)) 7 0 ≡ bit_and (get_or words 7 0) 127 = get_or-set_same words 7 (bit_and (get_or words 7 0) 127) 0 (omega (arith, nine)) in
+    let bits = small_bits (get_or words 7 0) in omega (arith, here, bits))
+
+-- those of a clock have no others
+pub masked_same : (words : List ℕ) → AreWordsOfClock words → set words 7 (bit_and (get_or words 7 0) 127) ≡ words
+masked_same words are =
+    let mask : get_or words 7 0 ≡ are.0.mask = ap (λ (ws : List ℕ). get_or ws 7 0) are.1 ∙ mask_behind are.0.times are.0.mask are.0.start are.2.times in
+    let small : get_or words 7 0 < 128 = omega (arith, mask, are.2.mask) in
+    let bits = small_bits (get_or words 7 0) in
+    let same : bit_and (get_or words 7 0) 127 ≡ get_or words 7 0 = omega (arith, bits, small) in
+    ap (set words 7) same ∙ set-get_or words 7 0
+
+pub nine_words : (words : List ℕ) → AreWordsOfClock words → length words ≡ 9
+nine_words words are = let behind = length-append are.0.times (are.0.mask ∷ are.0.start ∷ []) in ap length are.1 ∙ omega (arith, behind, are.2.times)
+
+pub nine_of : (clock : ClockView) → IsWholeClock clock → length (words_of clock) ≡ 9
+nine_of clock whole = nine_words (words_of clock) (clock, refl, whole)
+
+-- the words of a row at its start: the sequence number, and nine for each slot
+pub row_of_zeros : (slots n : ℕ) → slots ≡ n → ◌≡◌ {A = List ℕ} (0 ∷ replicate (9 * n) 0) (replicate (9 * slots + 1) 0)
+row_of_zeros slots n same = rw add-one (ap (λ (k : ℕ). 0 ∷ replicate (9 * k) 0) (sym same))
+
+pub row_long : (slots n : ℕ) (words : List ℕ) → slots ≡ n → words ≡ replicate (9 * slots + 1) 0 → length words ≡ 9 * n + 1
+row_long slots n words same are = ap length are ∙ (length-replicate (9 * slots + 1) 0 ∙ ap (λ (k : ℕ). 9 * k + 1) same)

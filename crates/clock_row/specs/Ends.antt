@@ -1,0 +1,62 @@
+-- What callers see of the two ends of a row, the writer and its readers.
+use Rattle.std.specs.Prelude.{◌≡◌, ◌⊎◌, ℕ, ◌+◌, ◌*◌, ◌%◌, ◌^◌, ◌<◌, List, [], ◌∷◌, ◌++◌, false, length, slice_index_or}
+use Rattle.atomic_table.specs.Seated.{TableId}
+use Rattle.psi_laws.specs.Clock.{ClockView, zero_clock}
+use Rattle.psi_laws.specs.Plan.{IsClock, IsPlan, PlanView}
+use Rattle.proc_plan.specs.Clocks.{OnPlan}
+use Rattle.clock_row.specs.Words.{AreClocks}
+use Rattle.clock_row.specs.Seats.{IsReader, IsWriter, RowSeat, reader_on, writer_on}
+use Rattle.clock_row.specs.declared.view.WriterView.{WriterView}
+use Rattle.clock_row.specs.declared.view.ReaderView.{ReaderView}
+use Rattle.clock_row.specs.declared.view.Attempt.TheVariants.{Closed}
+
+-- the writer of a row: which row it is, and what it knows of it
+pub record WriterEnd : Type 0 where
+  pub row : TableId
+  pub knows : WriterView
+
+-- a reader of a row: which row it is, and what it knows of it
+pub record ReaderEnd : Type 0 where
+  pub row : TableId
+  pub knows : ReaderView
+
+-- A writer between two calls: the row is as wide as its plan has slots, no change is open, the words of each slot are a clock,
+-- and clocks of its own have made the same changes of the same plan.
+pub record IsWriterEnd (row : TableId) (seat : RowSeat) (plan : PlanView) (clocks : OnPlan) : Type 0 where
+  pub on_row : seat.table_id ≡ row
+  pub wide : row.words ≡ 9 * length plan.parents + 1
+  pub fits : length plan.parents < 2 ^ 32
+  pub writer : IsWriter seat
+  pub still : (writer_on seat).changing ≡ false
+  pub whole : IsPlan plan
+  pub plan_is : (writer_on seat).plan ≡ plan
+  pub clocks_plan : clocks.plan ≡ plan
+  pub clocks_made : clocks.made ≡ (writer_on seat).count
+  pub words : AreClocks plan (writer_on seat).count (writer_on seat).body
+
+-- A reader between two calls: the row is as wide as its plan has slots, and no try is open.
+pub record IsReaderEnd (row : TableId) (seat : RowSeat) : Type 0 where
+  pub on_row : seat.table_id ≡ row
+  pub wide : row.words ≡ 9 * length (reader_on seat).plan.parents + 1
+  pub fits : length (reader_on seat).plan.parents < 2 ^ 32
+  pub reader : IsReader seat
+  pub closed : (reader_on seat).attempt ≡ Closed
+
+-- A try succeeded with so many changes: the number was loaded twice, both times as twice that, and so many were seen.
+abbrev pub sampled : ℕ → ReaderView → ReaderView
+sampled count reader = record reader { seen = count; loads = reader.loads + 2; got = reader.got ++ count ∷ []; first = 2 * count; second = 2 * count }
+
+-- A try met a change: the number was loaded so often, last as these two, and nothing more was seen.
+abbrev pub refused : ℕ → ℕ → ℕ → ReaderView → ReaderView
+refused loads first second reader = record reader { loads = reader.loads + loads; met = reader.met + 1; first = first; second = second }
+
+-- A try met a change by these two numbers: either one was loaded, which is odd, and stands for both, or two were loaded, the
+-- first even and the second greater.
+abbrev pub IsBusy : ℕ → ℕ → ReaderView → ReaderView → Type 0
+IsBusy first second before after =
+    ((first % 2 ≡ 1) × (second ≡ first) × (after ≡ refused 1 before.second first before))
+    ⊎ ((first % 2 ≡ 0) × (first < second) × (after ≡ refused 2 first second before))
+
+-- the clock of each slot, in the order of the slots, stands for it after the first k changes
+abbrev pub AllAreClocks : PlanView → ℕ → List ClockView → Type 0
+AllAreClocks plan k clocks = (slot : ℕ) → slot < length plan.parents → IsClock (slice_index_or clocks slot zero_clock) plan slot k

@@ -1,0 +1,100 @@
+//! One change of a row.
+ghost use Rattle.std.specs.Prelude.{◌≡◌, ◌+◌, ◌<◌, length, IfSome};
+ghost use Rattle.psi_laws.specs.Plan.{IsClock};
+ghost use Rattle.clock_row.specs.declared.view.View.TheVariants.{Writer};
+ghost use Rattle.clock_row.specs.Words.{AreClocks, StayByMask};
+ghost use Rattle.clock_row.specs.Ends.{IsWriterEnd};
+ghost use Rattle.clock_row.specs.Seats.{IsSameSeat, changed_to, writer_on};
+ghost use Rattle.clock_row.specs.Turning.{AreBelow, ChainIsDone, ChainsAreDone, HasTurned, IsDone, IsTurning};
+
+use crate::steps::{close_change, open_change, own_word};
+use crate::view::{Board, RowSeat};
+use crate::words::{MASK_WORD, WORDS, put_words};
+use cpu_clock::Clock;
+use proc_plan::{PlainClocks, Plan, ProcClocks};
+use psi_base::Slot;
+
+// Takes a slot through the change that is open, after which it has this clock. Where its mask stays there is nothing to do: the
+// words are a clock after the change too.
+fn turn_slot(board: &Board, seat: &mut RowSeat, slot: Slot, clock: &Clock)
+    requires turning { IsTurning board.now.shared.table_id seat.old }
+    requires slot { slot.0 < length (writer_on seat.old).plan.parents }
+    requires clock { IsClock clock.now (writer_on seat.old).plan slot.0 ((writer_on seat.old).count + 1) }
+    ensures turning { IsTurning board.now.shared.table_id seat.new }
+    ensures turned { HasTurned seat.old seat.new }
+    ensures done { IsDone seat.new slot.0 }
+{
+    let from = WORDS * slot.0 as usize;
+    if own_word(board, seat, from + MASK_WORD) != u64::from(clock.mask.bits()) {
+        put_words(board, seat, from, &clock.to_words());
+    }
+}
+
+// Takes the slots on a chain through the change that is open, which the clocks have made.
+fn turn_chain(
+    board: &Board,
+    seat: &mut RowSeat,
+    plan: &Plan,
+    clocks: &mut PlainClocks<'_>,
+    start: Option<Slot>,
+)
+    requires turning { IsTurning board.now.shared.table_id seat.old }
+    requires plan { plan.now ≡ (writer_on seat.old).plan }
+    requires clocks { clocks.old ≡ record { plan = (writer_on seat.old).plan; made = (writer_on seat.old).count + 1 } }
+    requires start { IfSome start (λ slot. slot.0 < length (writer_on seat.old).plan.parents) }
+    ensures turning { IsTurning board.now.shared.table_id seat.new }
+    ensures turned { HasTurned seat.old seat.new }
+    ensures done { ChainIsDone seat.new start }
+    ensures clocks { clocks.new ≡ clocks.old }
+{
+    let mut next = start;
+    'up: while let Some(slot) = next {
+        turn_slot(board, seat, slot, &clocks.own(slot));
+        next = plan.parent(slot);
+    }
+}
+
+// Takes the slots on these chains through the change that is open, which the clocks have made.
+fn turn_chains(
+    board: &Board,
+    seat: &mut RowSeat,
+    plan: &Plan,
+    clocks: &mut PlainClocks<'_>,
+    starts: [Option<Slot>; 4],
+)
+    requires turning { IsTurning board.now.shared.table_id seat.old }
+    requires plan { plan.now ≡ (writer_on seat.old).plan }
+    requires clocks { clocks.old ≡ record { plan = (writer_on seat.old).plan; made = (writer_on seat.old).count + 1 } }
+    requires starts { AreBelow (length plan.now.parents) starts }
+    ensures turning { IsTurning board.now.shared.table_id seat.new }
+    ensures turned { HasTurned seat.old seat.new }
+    ensures done { ChainsAreDone seat.new starts }
+    ensures clocks { clocks.new ≡ clocks.old }
+{
+    'chains: for start in starts {
+        turn_chain(board, seat, plan, clocks, start);
+    }
+}
+
+/// Makes the next change of the plan, in the clocks and in the row.
+pub(crate) fn make_change(
+    board: &Board,
+    seat: &mut RowSeat,
+    plan: &Plan,
+    clocks: &mut PlainClocks<'_>,
+)
+    requires writer { IsWriterEnd board.now.shared.table_id seat.old plan.now clocks.old }
+    requires next { clocks.old.made < length plan.now.changes }
+    ensures seat { IsSameSeat seat.old seat.new }
+    ensures view { seat.new.me.0 ≡ Writer (changed_to (writer_on seat.new).body (writer_on seat.old)) }
+    ensures words { AreClocks plan.now ((writer_on seat.old).count + 1) (writer_on seat.new).body }
+    ensures stay { StayByMask plan.now (writer_on seat.old).body (writer_on seat.new).body }
+    ensures clocks { clocks.new ≡ record { plan = plan.now; made = (writer_on seat.old).count + 1 } }
+{
+    let count = clocks.count();
+    let starts = plan.concerned(count + 1);
+    clocks.apply();
+    open_change(board, seat, count);
+    turn_chains(board, seat, plan, clocks, starts);
+    close_change(board, seat, count);
+}

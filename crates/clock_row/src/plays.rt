@@ -1,0 +1,82 @@
+//! What each kind of step on a row makes of a view, and what it tells.
+ghost use Rattle.clock_row.specs.Steps.{Begins, Closes, Ends, Loads, Opens, Owns, Puts, note_of, reader_of, with_note};
+ghost use Rattle.clock_row.specs.declared.view.View.TheVariants.{Spent};
+
+use crate::view::View;
+use atomic_table::{Join, Play, Split};
+
+/// The writer opens a change.
+pub(crate) struct Opening;
+
+impl Play<(), View> for Opening {
+    ghost then = { Opens };
+}
+
+/// The writer stores a word behind the number.
+pub(crate) struct Putting;
+
+impl Play<(), View> for Putting {
+    ghost then = { Puts };
+}
+
+/// The writer closes a change.
+pub(crate) struct Closing;
+
+impl Play<(), View> for Closing {
+    ghost then = { Closes };
+}
+
+/// The writer loads a word.
+pub(crate) struct Owning;
+
+impl Play<(), View> for Owning {
+    ghost then = { Owns };
+}
+
+/// A reader begins a try.
+pub(crate) struct Beginning;
+
+impl Play<(), View> for Beginning {
+    ghost then = { Begins };
+}
+
+/// A reader loads a word behind the number.
+pub(crate) struct Loading;
+
+impl Play<(), View> for Loading {
+    ghost then = { Loads };
+}
+
+/// A reader ends a try.
+pub(crate) struct Ending;
+
+impl Play<(), View> for Ending {
+    ghost then = { Ends };
+}
+
+/// The writer's seat gives a reader.
+pub(crate) struct NewReader;
+
+impl Split<View> for NewReader {
+    ghost left = { λ view. view };
+
+    ghost right = { reader_of };
+}
+
+/// A seat gives a note.
+pub(crate) struct NewNote;
+
+impl Split<View> for NewNote {
+    ghost left = { λ view. view };
+
+    ghost right = { note_of };
+}
+
+/// A seat takes a note.
+pub(crate) struct TakenNote;
+
+impl Join<View> for TakenNote {
+    ghost both = { with_note };
+
+    ghost spent = { Spent };
+}

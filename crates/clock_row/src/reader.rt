@@ -1,0 +1,121 @@
+//! A reader of a row.
+ghost use Rattle.std.specs.Prelude.{◌≡◌, ◌<◌, ◌≤◌, length, IfErr, IfOk};
+ghost use Rattle.std.specs.Arc.{arc_value};
+ghost use Rattle.psi_laws.specs.Plan.{IsClock};
+ghost use Rattle.clock_row.specs.Ends.{AllAreClocks, IsBusy, sampled};
+
+use crate::steps::{begin_try, end_try};
+use crate::view::{Board, RowSeat};
+use crate::words::{WORDS, load_clocks, load_words};
+use cpu_clock::Clock;
+use psi_base::Slot;
+use std::alloc::Global;
+use std::marker::Model;
+use std::sync::Arc;
+
+/// Takes the clocks out of a row while its writer may be at work, without a lock and without waiting. It may go to another
+/// thread. Contracts see which row it is, and what the reader knows of it.
+#[derive(Drop)]
+pub struct ClockReader {
+    pub(crate) board: Arc<Board, Global>,
+    pub(crate) seat: RowSeat,
+    pub(crate) seen: u64,
+}
+
+impl Model for ClockReader {
+    ghost use Rattle.std.specs.Prelude.{◌≡◌};
+    ghost use Rattle.std.specs.Arc.{arc_value};
+    ghost use Rattle.clock_row.specs.Ends.{IsReaderEnd, ReaderEnd};
+    ghost use Rattle.clock_row.specs.Seats.{reader_on};
+
+    ghost Value = { ReaderEnd };
+
+    ghost view = { λ r. record { row = r.seat.table_id; knows = reader_on r.seat } };
+
+    ghost invariant = { λ r. IsReaderEnd (arc_value r.board).shared.table_id r.seat × (r.seen ≡ (reader_on r.seat).seen) };
+}
+
+/// A clock out of a row.
+#[derive(Clone, Copy, Debug)]
+pub struct Sample {
+    /// After how many changes it is the clock of its slot.
+    pub count: u64,
+    pub clock: Clock,
+}
+
+/// A try met a change, by the sequence numbers that it loaded. The second is the first where only one was loaded.
+#[derive(Clone, Copy, Debug, PartialEq, Eq)]
+pub struct Busy {
+    pub first: u64,
+    pub second: u64,
+}
+
+impl ClockReader {
+    /// The greatest number of changes that it has seen in the row.
+    pub fn seen(&self) -> u64
+        ensures { result ≡ self.now.knows.seen }
+    {
+        self.seen
+    }
+
+    /// Tries to take the clock of a slot: it stands for the slot after so many changes as are answered with it, which aren't
+    /// fewer than the reader has seen. Busy where a change was open or came in between. Takes no memory.
+    pub fn try_sample(&mut self, slot: Slot) -> Result<Sample, Busy>
+        requires { slot.0 < length self.old.knows.plan.parents }
+        ensures row { self.new.row ≡ self.old.row }
+        ensures plan { self.new.knows.plan ≡ self.old.knows.plan }
+        ensures clock { IfOk result (λ sample. IsClock sample.clock self.old.knows.plan slot.0 sample.count) }
+        ensures later { IfOk result (λ sample. self.old.knows.seen ≤ sample.count) }
+        ensures sampled { IfOk result (λ sample. self.new.knows ≡ sampled sample.count self.old.knows) }
+        ensures busy { IfErr result (λ busy. IsBusy busy.first busy.second self.old.knows self.new.knows) }
+    {
+        let first = begin_try(&self.board, &mut self.seat);
+        if first % 2 != 0 {
+            return Err(Busy {
+                first,
+                second: first,
+            });
+        }
+        let words = load_words(&self.board, &mut self.seat, WORDS * slot.0 as usize, first);
+        let second = end_try(&self.board, &mut self.seat, first);
+        if second != first {
+            return Err(Busy { first, second });
+        }
+        self.seen = first / 2;
+        Ok(Sample {
+            count: self.seen,
+            clock: Clock::from_words(words),
+        })
+    }
+
+    /// Tries to take the clocks of all slots at one number of changes, which it answers. There must be a place for each slot;
+    /// where it answers Busy, there are some clocks in them. Takes no memory.
+    pub fn try_sample_all(&mut self, into: &mut [Clock]) -> Result<u64, Busy>
+        requires { length into.old ≡ length self.old.knows.plan.parents }
+        ensures row { self.new.row ≡ self.old.row }
+        ensures plan { self.new.knows.plan ≡ self.old.knows.plan }
+        ensures wide { length into.new ≡ length into.old }
+        ensures clocks { IfOk result (λ count. AllAreClocks self.old.knows.plan count into.new) }
+        ensures later { IfOk result (λ count. self.old.knows.seen ≤ count) }
+        ensures sampled { IfOk result (λ count. self.new.knows ≡ sampled count self.old.knows) }
+        ensures busy { IfErr result (λ busy. IsBusy busy.first busy.second self.old.knows self.new.knows) }
+    {
+        let begun = begin_try(&self.board, &mut self.seat);
+        if begun % 2 != 0 {
+            return Err(Busy {
+                first: begun,
+                second: begun,
+            });
+        }
+        load_clocks(&self.board, &mut self.seat, into, begun);
+        let ended = end_try(&self.board, &mut self.seat, begun);
+        if ended != begun {
+            return Err(Busy {
+                first: begun,
+                second: ended,
+            });
+        }
+        self.seen = begun / 2;
+        Ok(self.seen)
+    }
+}

@@ -1,0 +1,188 @@
+//! The steps on a row, one function for each.
+ghost use Rattle.std.specs.Prelude.{◌≡◌, ℕ, ◌+◌, ◌*◌, ◌/◌, ◌^◌, ◌<◌, ◌≤◌, true, false, [], slice_index};
+ghost use Rattle.clock_row.specs.declared.view.View.TheVariants.{Reader, Writer};
+ghost use Rattle.clock_row.specs.Words.{AreClocks, StoodTogether};
+ghost use Rattle.clock_row.specs.Row.{sequence};
+ghost use Rattle.clock_row.specs.Steps.{begun, closed, ended, loaded_at, new_reader, number_noted, opened, put_at, shown, told_of};
+ghost use Rattle.clock_row.specs.Seats.{IsNote, IsReader, IsSameSeat, IsTrying, IsWriter, loaded_in, reader_on, writer_on};
+
+use crate::plays::{
+    Beginning, Closing, Ending, Loading, NewNote, NewReader, Opening, Owning, Putting, TakenNote,
+};
+use crate::view::{Board, RowSeat};
+
+/// The writer opens the change after so many.
+pub(crate) fn open_change(board: &Board, seat: &mut RowSeat, count: u64)
+    requires board { seat.old.table_id ≡ board.now.shared.table_id }
+    requires words { 0 < board.now.shared.table_id.words }
+    requires writer { IsWriter seat.old }
+    requires count { (writer_on seat.old).count ≡ count }
+    requires few { count < 2 ^ 32 }
+    requires still { (writer_on seat.old).changing ≡ false }
+    ensures seat { IsSameSeat seat.old seat.new }
+    ensures view { seat.new.me.0 ≡ Writer (opened (writer_on seat.old)) }
+{
+    board.shared.store::<Opening>(seat, 0, 2 * count + 1);
+}
+
+/// The writer stores a word.
+pub(crate) fn put_word(board: &Board, seat: &mut RowSeat, place: usize, word: u64)
+    requires board { seat.old.table_id ≡ board.now.shared.table_id }
+    requires words { place + 1 < board.now.shared.table_id.words }
+    requires few { place < 2 ^ 62 }
+    requires writer { IsWriter seat.old }
+    requires changing { (writer_on seat.old).changing ≡ true }
+    ensures seat { IsSameSeat seat.old seat.new }
+    ensures view { seat.new.me.0 ≡ Writer (put_at place word (writer_on seat.old)) }
+{
+    board.shared.store::<Putting>(seat, place + 1, word);
+}
+
+/// The writer closes the change after so many.
+pub(crate) fn close_change(board: &Board, seat: &mut RowSeat, count: u64)
+    requires board { seat.old.table_id ≡ board.now.shared.table_id }
+    requires words { 0 < board.now.shared.table_id.words }
+    requires writer { IsWriter seat.old }
+    requires count { (writer_on seat.old).count ≡ count }
+    requires few { count < 2 ^ 32 }
+    requires changing { (writer_on seat.old).changing ≡ true }
+    requires clocks { AreClocks (writer_on seat.old).plan (count + 1) (writer_on seat.old).body }
+    ensures seat { IsSameSeat seat.old seat.new }
+    ensures view { seat.new.me.0 ≡ Writer (closed (writer_on seat.old)) }
+{
+    board.shared.store::<Closing>(seat, 0, 2 * count + 2);
+}
+
+/// The writer loads a word.
+pub(crate) fn own_word(board: &Board, seat: &mut RowSeat, place: usize) -> u64
+    requires board { seat.old.table_id ≡ board.now.shared.table_id }
+    requires words { place + 1 < board.now.shared.table_id.words }
+    requires few { place < 2 ^ 62 }
+    requires writer { IsWriter seat.old }
+    ensures seat { IsSameSeat seat.old seat.new }
+    ensures view { seat.new.me.0 ≡ seat.old.me.0 }
+    ensures word { result ≡ slice_index (writer_on seat.old).body place }
+{
+    board.shared.load::<Owning>(seat, place + 1)
+}
+
+/// The writer loads the number, which is at least twice that of which it was told.
+pub(crate) fn own_number(board: &Board, seat: &mut RowSeat)
+    requires board { seat.old.table_id ≡ board.now.shared.table_id }
+    requires words { 0 < board.now.shared.table_id.words }
+    requires writer { IsWriter seat.old }
+    ensures seat { IsSameSeat seat.old seat.new }
+    ensures view { seat.new.me.0 ≡ seat.old.me.0 }
+    ensures told { 2 * (writer_on seat.old).told ≤ sequence (writer_on seat.old) }
+{
+    board.shared.load::<Owning>(seat, 0);
+}
+
+/// A reader begins a try.
+pub(crate) fn begin_try(board: &Board, seat: &mut RowSeat) -> u64
+    requires board { seat.old.table_id ≡ board.now.shared.table_id }
+    requires words { 0 < board.now.shared.table_id.words }
+    requires reader { IsReader seat.old }
+    ensures seat { IsSameSeat seat.old seat.new }
+    ensures view { seat.new.me.0 ≡ Reader (begun result (reader_on seat.old)) }
+    ensures seen { 2 * (reader_on seat.old).seen ≤ result }
+{
+    board.shared.load::<Beginning>(seat, 0)
+}
+
+/// A reader loads a word in a try.
+pub(crate) fn load_word(board: &Board, seat: &mut RowSeat, place: usize) -> u64
+    requires board { seat.old.table_id ≡ board.now.shared.table_id }
+    requires words { place + 1 < board.now.shared.table_id.words }
+    requires few { place < 2 ^ 62 }
+    requires reader { IsReader seat.old }
+    ensures seat { IsSameSeat seat.old seat.new }
+    ensures view { seat.new.me.0 ≡ Reader (loaded_at place result (reader_on seat.old)) }
+{
+    board.shared.load::<Loading>(seat, place + 1)
+}
+
+/// A reader ends a try that began with this number.
+pub(crate) fn end_try(board: &Board, seat: &mut RowSeat, first: u64) -> u64
+    requires board { seat.old.table_id ≡ board.now.shared.table_id }
+    requires words { 0 < board.now.shared.table_id.words }
+    requires reader { IsReader seat.old }
+    requires trying { IsTrying first seat.old }
+    ensures seat { IsSameSeat seat.old seat.new }
+    ensures view { seat.new.me.0 ≡ Reader (ended first result (reader_on seat.old)) }
+    ensures later { first ≤ result }
+    ensures together { result ≡ first → StoodTogether (reader_on seat.old).plan (first / 2) (loaded_in (reader_on seat.old).attempt) }
+{
+    board.shared.load::<Ending>(seat, 0)
+}
+
+/// The seat of a new reader, which has seen the writer's count.
+pub(crate) fn split_reader(board: &Board, seat: &mut RowSeat) -> RowSeat
+    requires board { seat.old.table_id ≡ board.now.shared.table_id }
+    requires words { 0 < board.now.shared.table_id.words }
+    requires writer { IsWriter seat.old }
+    ensures seat { IsSameSeat seat.old seat.new }
+    ensures view { seat.new.me.0 ≡ seat.old.me.0 }
+    ensures row { result.table_id ≡ seat.old.table_id }
+    ensures reader { result.me.0 ≡ Reader (new_reader (writer_on seat.old).plan (writer_on seat.old).count) }
+{
+    board.shared.split_seat::<NewReader>(seat)
+}
+
+/// A note of the writer's count.
+pub(crate) fn note_count(board: &Board, seat: &mut RowSeat) -> RowSeat
+    requires board { seat.old.table_id ≡ board.now.shared.table_id }
+    requires words { 0 < board.now.shared.table_id.words }
+    requires writer { IsWriter seat.old }
+    ensures seat { IsSameSeat seat.old seat.new }
+    ensures view { seat.new.me.0 ≡ seat.old.me.0 }
+    ensures row { result.table_id ≡ seat.old.table_id }
+    ensures empty { result.me.1 ≡ [] }
+    ensures note { IsNote result }
+    ensures number { number_noted result.me.0 ≡ (writer_on seat.old).count }
+{
+    board.shared.split_seat::<NewNote>(seat)
+}
+
+/// A note of what a reader has seen.
+pub(crate) fn note_seen(board: &Board, seat: &mut RowSeat) -> RowSeat
+    requires board { seat.old.table_id ≡ board.now.shared.table_id }
+    requires words { 0 < board.now.shared.table_id.words }
+    requires reader { IsReader seat.old }
+    ensures seat { IsSameSeat seat.old seat.new }
+    ensures view { seat.new.me.0 ≡ seat.old.me.0 }
+    ensures row { result.table_id ≡ seat.old.table_id }
+    ensures empty { result.me.1 ≡ [] }
+    ensures note { IsNote result }
+    ensures number { number_noted result.me.0 ≡ (reader_on seat.old).seen }
+{
+    board.shared.split_seat::<NewNote>(seat)
+}
+
+/// A reader takes a note.
+pub(crate) fn show_note(board: &Board, seat: &mut RowSeat, note: RowSeat)
+    requires board { seat.old.table_id ≡ board.now.shared.table_id }
+    requires words { 0 < board.now.shared.table_id.words }
+    requires row { note.table_id ≡ board.now.shared.table_id }
+    requires empty { note.me.1 ≡ [] }
+    requires note { IsNote note }
+    requires reader { IsReader seat.old }
+    ensures seat { IsSameSeat seat.old seat.new }
+    ensures view { seat.new.me.0 ≡ Reader (shown (number_noted note.me.0) (reader_on seat.old)) }
+{
+    board.shared.join_seat::<TakenNote>(seat, note);
+}
+
+/// The writer takes a note.
+pub(crate) fn tell_note(board: &Board, seat: &mut RowSeat, note: RowSeat)
+    requires board { seat.old.table_id ≡ board.now.shared.table_id }
+    requires words { 0 < board.now.shared.table_id.words }
+    requires row { note.table_id ≡ board.now.shared.table_id }
+    requires empty { note.me.1 ≡ [] }
+    requires note { IsNote note }
+    requires writer { IsWriter seat.old }
+    ensures seat { IsSameSeat seat.old seat.new }
+    ensures view { seat.new.me.0 ≡ Writer (told_of (number_noted note.me.0) (writer_on seat.old)) }
+{
+    board.shared.join_seat::<TakenNote>(seat, note);
+}

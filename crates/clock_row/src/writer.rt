@@ -1,0 +1,157 @@
+//! The writer of a row.
+ghost use Rattle.std.specs.Prelude.{◌≡◌, ◌+◌, ◌*◌, ◌<◌, ◌≤◌, length, replicate, IfOk, Ok};
+ghost use Rattle.psi_laws.specs.Clock.{words_of};
+ghost use Rattle.psi_laws.specs.Plan.{IsClock, IsPlan};
+ghost use Rattle.clock_row.specs.Row.{writer_at_start};
+ghost use Rattle.clock_row.specs.Steps.{new_reader, shown, told_of};
+ghost use Rattle.clock_row.specs.Words.{AreClocks, StayByMask, words_at};
+
+use crate::change::make_change;
+use crate::reader::ClockReader;
+use crate::steps::{note_count, note_seen, own_number, show_note, split_reader, tell_note};
+use crate::view::{Board, RowSeat};
+use crate::words::{WORDS, own_words};
+use atomic_table::Table;
+use cpu_clock::Clock;
+use proc_plan::{PlainClocks, Plan, ProcClocks};
+use psi_base::{NoMemory, Slot};
+use std::alloc::Global;
+use std::marker::Model;
+use std::sync::Arc;
+
+/// The clocks of a processor in a row of shared words: one writer, and any number of readers that never write.
+pub struct Row;
+
+/// Makes the changes of a plan in a row, while readers take clocks out of it. Contracts see which row it is, and what the
+/// writer knows of it.
+///
+/// It counts tasks and turns clocks in [`PlainClocks`] of its own, and brings into the row what a change turned there.
+#[derive(Drop)]
+pub struct ClockWriter<'a> {
+    plan: &'a Plan,
+    clocks: PlainClocks<'a>,
+    board: Arc<Board, Global>,
+    seat: RowSeat,
+}
+
+impl<'a> Model for ClockWriter<'a> {
+    ghost use Rattle.std.specs.Arc.{arc_value};
+    ghost use Rattle.clock_row.specs.Ends.{IsWriterEnd, WriterEnd};
+    ghost use Rattle.clock_row.specs.Seats.{writer_on};
+
+    ghost Value = { WriterEnd };
+
+    ghost view = { λ w. record { row = w.seat.table_id; knows = writer_on w.seat } };
+
+    ghost invariant = { λ w. IsWriterEnd (arc_value w.board).shared.table_id w.seat w.plan.now w.clocks };
+}
+
+// A plan is whole, as it tells with its length.
+fn see_whole(plan: &Plan)
+    ensures { IsPlan plan.now }
+{
+    plan.len();
+}
+
+impl Row {
+    /// The row of a plan that knows the parents of so many slots, before the first change. The writer takes all memory that it
+    /// needs here; each reader takes some of its own.
+    pub fn make(alloc: Global, plan: &Plan, slots: u32) -> Result<ClockWriter<'_>, NoMemory>
+        requires { slots ≡ length plan.now.parents }
+        ensures { IfOk result (λ writer. writer.knows ≡ writer_at_start plan.now (replicate (9 * length plan.now.parents) 0)) }
+    {
+        see_whole(plan);
+        let words = vec![in alloc; 0; WORDS * slots as usize + 1]?;
+        let (table, seat) = Table::of_words(alloc, &words, plan)?;
+        Ok(ClockWriter {
+            plan,
+            clocks: PlainClocks::make(alloc, plan, slots)?,
+            board: Arc::new(alloc, table)?,
+            seat,
+        })
+    }
+}
+
+impl<'a> ProcClocks for ClockWriter<'a> {
+    ghost plan = { λ writer. writer.knows.plan };
+
+    ghost made = { λ writer. writer.knows.count };
+
+    fn count(&self) -> u64
+        ensures { result ≡ self.now.knows.count }
+    {
+        self.clocks.count()
+    }
+
+    /// Makes the next change of the plan: afterwards the words of each slot are a clock after it. A slot whose mask stays keeps
+    /// its nine words. Takes no memory, and waits for no reader.
+    fn apply(&mut self)
+        requires { self.old.knows.count < length self.old.knows.plan.changes }
+        ensures plan { self.new.knows.plan ≡ self.old.knows.plan }
+        ensures made { self.new.knows.count ≡ self.old.knows.count + 1 }
+        ensures row { self.new.row ≡ self.old.row }
+        ensures told { self.new.knows.told ≡ self.old.knows.told }
+        ensures words { AreClocks self.new.knows.plan self.new.knows.count self.new.knows.body }
+        ensures kept { StayByMask self.new.knows.plan self.old.knows.body self.new.knows.body }
+    {
+        make_change(&self.board, &mut self.seat, self.plan, &mut self.clocks);
+    }
+
+    /// The clock of a slot, out of its words in the row. Takes no memory.
+    fn own(&mut self, slot: Slot) -> Clock
+        requires { slot.0 < length self.old.knows.plan.parents }
+        ensures same { self.new ≡ self.old }
+        ensures clock { IsClock result self.old.knows.plan slot.0 self.old.knows.count }
+        ensures words { words_of result ≡ words_at self.old.knows.body slot.0 }
+    {
+        Clock::from_words(own_words(&self.board, &mut self.seat, WORDS * slot.0 as usize))
+    }
+}
+
+impl<'a> ClockWriter<'a> {
+    /// A reader of the row, which has seen the changes that were made.
+    pub fn reader(&mut self) -> Result<ClockReader, NoMemory>
+        ensures same { self.new ≡ self.old }
+        ensures row { IfOk result (λ reader. reader.row ≡ self.old.row) }
+        ensures seen { IfOk result (λ reader. reader.knows ≡ new_reader self.old.knows.plan self.old.knows.count) }
+    {
+        let board = Arc::try_clone(&self.board)?;
+        let seat = split_reader(&self.board, &mut self.seat);
+        Ok(ClockReader {
+            board,
+            seat,
+            seen: self.clocks.count(),
+        })
+    }
+
+    /// Tells a reader of the row how many changes were made: it has then seen at least so many, and no fewer than before. It
+    /// takes no memory, and always answers Ok.
+    pub fn meet(&mut self, reader: &mut ClockReader) -> Result<(), NoMemory>
+        requires { reader.old.row ≡ self.old.row }
+        ensures ok { result ≡ Ok tt }
+        ensures same { self.new ≡ self.old }
+        ensures row { reader.new.row ≡ reader.old.row }
+        ensures met { reader.new.knows ≡ shown self.old.knows.count reader.old.knows }
+    {
+        let note = note_count(&self.board, &mut self.seat);
+        show_note(&self.board, &mut reader.seat, note);
+        reader.seen = reader.seen.max(self.clocks.count());
+        Ok(())
+    }
+
+    /// Learns from a reader of the row what it has seen: that is at most the number of changes that were made. It takes no
+    /// memory, and always answers Ok.
+    pub fn settle(&mut self, reader: &mut ClockReader) -> Result<(), NoMemory>
+        requires { reader.old.row ≡ self.old.row }
+        ensures ok { result ≡ Ok tt }
+        ensures row { self.new.row ≡ self.old.row }
+        ensures told { self.new.knows ≡ told_of reader.old.knows.seen self.old.knows }
+        ensures same { reader.new ≡ reader.old }
+        ensures seen { reader.old.knows.seen ≤ self.old.knows.count }
+    {
+        let note = note_seen(&self.board, &mut reader.seat);
+        tell_note(&self.board, &mut self.seat, note);
+        own_number(&self.board, &mut self.seat);
+        Ok(())
+    }
+}

@@ -1,0 +1,91 @@
+//! What a row shows of a slot.
+
+ghost use Rattle.std.specs.Prelude.{◌≡◌, ◌≤◌, ◌<◌, length, IfOk};
+
+use clock_row::{ClockReader, ClockWriter, Row};
+use proc_plan::{Plan, ProcClocks};
+use psi_base::{NoMemory, Slot};
+use std::alloc::Global;
+
+/// What the two ends of a row have of a slot.
+#[derive(Clone, Copy, Debug, PartialEq, Eq)]
+pub struct Shown {
+    /// How many changes the writer made.
+    pub made: u64,
+    /// The words of its own clock.
+    pub own: [u64; 9],
+    /// How many changes the reader had seen before it tried to sample.
+    pub seen: u64,
+    /// What it sampled: after how many changes, and the words. None where it met a change.
+    pub sampled: Option<(u64, [u64; 9])>,
+    /// How many it has seen then.
+    pub seen_then: u64,
+}
+
+/// Makes changes until there are so many.
+fn make_changes(writer: &mut ClockWriter<'_>, changes: u64)
+    requires all { changes ≤ length writer.old.knows.plan.changes }
+    requires within { writer.old.knows.count ≤ changes }
+    ensures row { writer.new.row ≡ writer.old.row }
+    ensures plan { writer.new.knows.plan ≡ writer.old.knows.plan }
+{
+    'changes: while writer.count() < changes {
+        writer.apply();
+    }
+}
+
+/// A writer that made so many changes of a plan, and a reader from before them.
+pub fn writer_after<'a>(
+    alloc: Global,
+    plan: &'a Plan,
+    slots: u32,
+    changes: u64,
+) -> Result<(ClockWriter<'a>, ClockReader), NoMemory>
+    requires slots { slots ≡ length plan.now.parents }
+    requires changes { changes ≤ length plan.now.changes }
+    ensures row { IfOk result (λ ends. ends.1.row ≡ ends.0.row) }
+    ensures writer { IfOk result (λ ends. ends.0.knows.plan ≡ plan.now) }
+    ensures reader { IfOk result (λ ends. ends.1.knows.plan ≡ plan.now) }
+{
+    let mut writer = Row::make(alloc, plan, slots)?;
+    let reader = writer.reader()?;
+    make_changes(&mut writer, changes);
+    Ok((writer, reader))
+}
+
+/// What a reader samples of a slot.
+fn sample_of(reader: &mut ClockReader, slot: Slot) -> Option<(u64, [u64; 9])>
+    requires { slot.0 < length reader.old.knows.plan.parents }
+{
+    match reader.try_sample(slot) {
+        Ok(sample) => Some((sample.count, sample.clock.to_words())),
+        Err(_) => None,
+    }
+}
+
+/// What the two ends have of a slot.
+pub fn show(writer: &mut ClockWriter<'_>, reader: &mut ClockReader, slot: Slot) -> Shown
+    requires writer { slot.0 < length writer.old.knows.plan.parents }
+    requires reader { slot.0 < length reader.old.knows.plan.parents }
+    ensures { writer.new ≡ writer.old }
+{
+    let seen = reader.seen();
+    let sampled = sample_of(reader, slot);
+    Shown {
+        made: writer.count(),
+        own: writer.own(slot).to_words(),
+        seen,
+        sampled,
+        seen_then: reader.seen(),
+    }
+}
+
+/// What the writer has of a slot and a new reader, which it meets and settles with.
+pub fn show_late(writer: &mut ClockWriter<'_>, slot: Slot) -> Result<Shown, NoMemory>
+    requires { slot.0 < length writer.old.knows.plan.parents }
+{
+    let mut late = writer.reader()?;
+    writer.meet(&mut late)?;
+    writer.settle(&mut late)?;
+    Ok(show(writer, &mut late, slot))
+}

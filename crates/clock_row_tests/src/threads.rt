@@ -1,0 +1,107 @@
+//! A writer and a reader in two threads.
+
+ghost use Rattle.std.specs.Prelude.{◌≡◌, ◌≤◌, ◌<◌, length};
+
+use clock_row::{ClockReader, ClockWriter, Row, Sample};
+use proc_plan::{PlainClocks, Plan, ProcClocks};
+use psi_base::{NoMemory, Slot};
+use std::alloc::Global;
+use std::thread::{Threads, join, yield_now};
+
+/// After so many changes the writer lets another thread run, so that the two take turns on one processor too.
+const CHANGES_IN_A_TURN: u64 = 512;
+
+/// How often the reader tries, whatever the writer does meanwhile.
+const TRIES: u64 = 20_000_000;
+
+/// Makes the changes of a plan up to so many.
+fn written<'a>(mut writer: ClockWriter<'a>, changes: u64) -> ClockWriter<'a>
+    requires all { changes ≤ length writer.knows.plan.changes }
+    requires within { writer.knows.count ≤ changes }
+{
+    'changes: while writer.count() < changes {
+        writer.apply();
+        if writer.count() % CHANGES_IN_A_TURN == 0 {
+            yield_now();
+        }
+    }
+    writer
+}
+
+/// Keeps a sample, if its count isn't that of the last one, and there is memory.
+fn keep(samples: &mut Vec<Sample>, sample: Sample) {
+    if samples.last().is_none_or(|last| last.count != sample.count) {
+        let _ = samples.push(sample);
+    }
+}
+
+/// Samples a slot until the reader has seen so many changes, or tried often enough.
+fn sampled(alloc: Global, mut reader: ClockReader, slot: Slot, all: u64) -> Vec<Sample>
+    requires { slot.0 < length reader.knows.plan.parents }
+{
+    let mut samples = Vec::new(alloc);
+    'tries: for _ in 0..TRIES {
+        if reader.seen() >= all {
+            return samples;
+        }
+        if let Ok(sample) = reader.try_sample(slot) {
+            keep(&mut samples, sample);
+        }
+    }
+    samples
+}
+
+/// A writer makes so many changes of a plan in one thread, while a reader in another samples a slot. How many changes were
+/// made, and the samples.
+pub fn beside<R: Threads + Sync>(
+    rt: &R,
+    alloc: Global,
+    plan: &Plan,
+    slots: u32,
+    changes: u64,
+    slot: Slot,
+) -> Result<(u64, Vec<Sample>), NoMemory>
+    requires slots { slots ≡ length plan.now.parents }
+    requires changes { changes ≤ length plan.now.changes }
+    requires slot { slot.0 < slots }
+{
+    let mut writer = Row::make(alloc, plan, slots)?;
+    let reader = writer.reader()?;
+    let (writer, samples) = join(
+        rt,
+        || -> ClockWriter<'_>
+            requires all { changes ≤ length writer.knows.plan.changes }
+            requires within { writer.knows.count ≤ changes }
+        { written(writer, changes) },
+        || -> Vec<Sample>
+            requires { slot.0 < length reader.knows.plan.parents }
+        { sampled(alloc, reader, slot, changes) },
+    );
+    Ok((writer.count(), samples))
+}
+
+/// The counts of samples never fall, and each clock is that of plain clocks after as many changes.
+pub fn are_plain(
+    alloc: Global,
+    plan: &Plan,
+    slots: u32,
+    slot: Slot,
+    samples: &[Sample],
+) -> Result<bool, NoMemory>
+    requires slots { slots ≡ length plan.now.parents }
+    requires slot { slot.0 < slots }
+{
+    let mut clocks = PlainClocks::make(alloc, plan, slots)?;
+    'samples: for sample in samples {
+        if sample.count < clocks.count() || sample.count > plan.len() {
+            return Ok(false);
+        }
+        'changes: while clocks.count() < sample.count {
+            clocks.apply();
+        }
+        if clocks.own(slot).to_words() != sample.clock.to_words() {
+            return Ok(false);
+        }
+    }
+    Ok(true)
+}
