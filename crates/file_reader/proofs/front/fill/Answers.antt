@@ -1,0 +1,22 @@
+use Rattle.std.proofs.Common.{◌≡◌, arith, sym, subst, ◌∙◌}
+use Rattle.file_reader.proofs.Fronts.{front_grows, front_ends}
+use Rattle.file_reader.proofs.front.fill.Goals as goal
+
+pub returns-in-Ok-eq0-clause-front : goal.returns-in-Ok-eq0-clause-front
+returns-in-Ok-eq0-clause-front g c = λ whole tells.
+    let i = c.reads.invariant in
+    let reads = c.in-Ok-eq0.ensures.bytes whole (rw i.kept tells) in
+    c.in-Ok-eq0.ensures.front ∙ i.front whole tells ∙ front_ends whole _ c.read_behind.new.bytes c.reads.held c.in-Ok-eq0.field-0 reads (grind arith) (grind arith)
+
+pub reads-preserved : goal.reads-preserved
+reads-preserved g c =
+    let i = c.reads.invariant in
+    let cause = c.in-Ok.ensures.cause in record {
+      kept = c.in-Ok.ensures.kept ∙ i.kept;
+      size = c.in-Ok.ensures.size ∙ i.size;
+      inside = c.in-Ok.ensures.bound;
+      front = λ whole tells. front_grows whole _ c.reads.bytes c.read_behind.new.bytes c.reads.held c.in-Ok.count c.in-Ok.ensures.front (i.front whole tells) (c.in-Ok.ensures.bytes whole (rw i.kept tells));
+      faults = cause.faults_same (λ failed. cc failed) ∙ i.faults;
+      absent = cause.absent_same (λ missed. cc missed) ∙ i.absent;
+      missing = λ lacks. absurd (c.in-Ok.ensures.lacking (rw i.kept lacks));
+    }

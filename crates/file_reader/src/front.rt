@@ -1,0 +1,103 @@
+//! The front of a file, however the shelf's reads cut it.
+ghost use Rattle.std.specs.Prelude.{◌≡◌, ◌+◌, ◌<◌, ◌≤◌, ◌⊎◌, ℕ, List, length, drop, take, IfOk, IsErrOf, Some, None};
+ghost use Rattle.psi_base.specs.Outside.{Lacks, ReadsBytes, counts_of, told};
+ghost use Rattle.file_reader.specs.Front.{CausesFileFault, TellsNothing};
+
+use psi_base::{Shelf, ShelfFault};
+use std::alloc::{AllocError, Global};
+
+/// Why a file wasn't read.
+#[derive(Clone, Copy, Debug, PartialEq, Eq)]
+pub enum FileFault {
+    /// The shelf has no such name.
+    NoFile,
+    /// A read failed.
+    ReadFault,
+    /// There was no memory.
+    NoMemory,
+}
+
+impl From<AllocError> for FileFault {
+    ghost use Rattle.std.specs.Prelude.{◌≡◌};
+    ghost use Rattle.file_reader.specs.declared.front.FileFault.TheVariants as fault;
+
+    ghost from_gives = { λ _ e. e ≡ fault.NoMemory };
+
+    fn from(_: AllocError) -> Self {
+        FileFault::NoMemory
+    }
+}
+
+// Reads once, behind the bytes that are held. No byte is the end.
+fn read_behind<S: Shelf>(
+    shelf: &mut S,
+    name: &str,
+    bytes: &mut [u8],
+    held: usize,
+) -> Result<usize, FileFault>
+    requires { held < length bytes.old }
+    ensures kept { S.holds shelf.new ≡ S.holds shelf.old }
+    ensures size { length bytes.new ≡ length bytes.old }
+    ensures front { take held bytes.new ≡ take held bytes.old }
+    ensures bound { IfOk result (λ n. held + n ≤ length bytes.new) }
+    ensures bytes { (whole : List ℕ) → told (S.holds shelf.old) name.now ≡ Some whole
+        → IfOk result (λ n. ReadsBytes whole held n (drop held bytes.old) (drop held bytes.new)) }
+    ensures cause { CausesFileFault (counts_of (S.faults shelf.old) (S.absent shelf.old))
+        (counts_of (S.faults shelf.new) (S.absent shelf.new)) result }
+    ensures missed { IsErrOf result FileFault.NoFile → told (S.holds shelf.old) name.now ≡ None }
+    ensures lacking { Lacks (S.holds shelf.old) name.now → TellsNothing result }
+{
+    match shelf.read_at(name, held as u64, &mut bytes[held..]) {
+        Ok(count) => Ok(count),
+        Err(ShelfFault::NoFile) => Err(FileFault::NoFile),
+        Err(ShelfFault::Failed) => Err(FileFault::ReadFault),
+    }
+}
+
+// Reads from the start of a file on until the buffer is full or the file ends, and says how many bytes.
+fn fill<S: Shelf>(shelf: &mut S, name: &str, bytes: &mut [u8]) -> Result<usize, FileFault>
+    requires some { 0 < length bytes.old }
+    ensures kept { S.holds shelf.new ≡ S.holds shelf.old }
+    ensures size { length bytes.new ≡ length bytes.old }
+    ensures bound { IfOk result (λ n. n ≤ length bytes.new) }
+    ensures front { (whole : List ℕ) → told (S.holds shelf.old) name.now ≡ Some whole →
+        IfOk result (λ n. take n bytes.new ≡ take (length bytes.new) whole) }
+    ensures cause { CausesFileFault (counts_of (S.faults shelf.old) (S.absent shelf.old))
+        (counts_of (S.faults shelf.new) (S.absent shelf.new)) result }
+    ensures missed { IsErrOf result FileFault.NoFile → told (S.holds shelf.old) name.now ≡ None }
+    ensures lacking { Lacks (S.holds shelf.old) name.now → TellsNothing result }
+{
+    let mut held = 0;
+    'reads: while held < bytes.len() {
+        match read_behind(shelf, name, bytes, held) {
+            Ok(0) => return Ok(held),
+            Ok(count) => held += count,
+            Err(fault) => return Err(fault),
+        }
+    }
+    Ok(held)
+}
+
+/// The bytes of a name, or the first `most` of them where it has more. It takes the memory for `most` bytes before it
+/// reads, and reads no byte behind them. `NoFile` and `ReadFault` come from the shelf, which counts them.
+pub fn read_front<S: Shelf>(
+    alloc: Global,
+    shelf: &mut S,
+    name: &str,
+    most: usize,
+) -> Result<Vec<u8>, FileFault>
+    requires some { 0 < most }
+    ensures kept { S.holds shelf.new ≡ S.holds shelf.old }
+    ensures front { (whole : List ℕ) → told (S.holds shelf.old) name.now ≡ Some whole →
+        IfOk result (λ bytes. bytes.items ≡ take most whole) }
+    ensures short { IfOk result (λ bytes. length bytes.items ≤ most) }
+    ensures cause { CausesFileFault (counts_of (S.faults shelf.old) (S.absent shelf.old))
+        (counts_of (S.faults shelf.new) (S.absent shelf.new)) result }
+    ensures missed { IsErrOf result FileFault.NoFile → told (S.holds shelf.old) name.now ≡ None }
+    ensures lacking { Lacks (S.holds shelf.old) name.now → TellsNothing result }
+{
+    let mut bytes = vec![in alloc; 0; most]?;
+    let held = fill(shelf, name, &mut bytes)?;
+    bytes.truncate(held);
+    Ok(bytes)
+}
