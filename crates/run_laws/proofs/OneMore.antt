@@ -7,8 +7,8 @@ use Rattle.std.proofs.lemmas.List.{append-nil, map-append}
 use Rattle.std.proofs.lemmas.Grind.{flat_map-append}
 use Rattle.psi_base.specs.declared.event.Event.{Event}
 use Rattle.pressure_spec.specs.Ticks.{tick_of, ticks_of}
-use Rattle.run_spec.specs.Replay.{fired_in, tick_text}
-use Rattle.run_laws.specs.Ticking.{SignalsMore, TextMore, TicksMore}
+use Rattle.run_spec.specs.Replay.{fired_in, kills_in, tick_text}
+use Rattle.run_laws.specs.Ticking.{KillsMore, SignalsMore, TextMore, TicksMore}
 
 -- numbers in two parts
 pub range_parts : (a m k : ℕ) → range_with_len a (m + k) ≡ range_with_len a m ++ range_with_len (a + m) k
@@ -34,14 +34,20 @@ pub ticks_more : TicksMore
 unfolding ticks_of
 ticks_more cpus events length i = numbered_more (tick_of cpus events length) i
 
-pub signals_more : SignalsMore
-signals_more trace pace i =
-    let count : ℕ → ℕ = λ k. length (fired_in trace pace k) in
+-- a sum over numbers from 1 on, of which there is one more
+counted_more : (count : ℕ → ℕ) (i : ℕ) → sum_by count (range_with_len 1 (i + 1)) ≡ sum_by count (range_with_len 1 i) + count (i + 1)
+counted_more count i =
     let next : 1 + i ≡ i + 1 = omega arith in
     let alone : sum_by count ((i + 1) ∷ []) ≡ count (i + 1) = omega arith in
     let one : sum_by count ((1 + i) ∷ []) ≡ count (i + 1) = ap (λ k. sum_by count (k ∷ [])) next ∙ alone in
     let split = sum_by-append count (range_with_len 1 i) ((1 + i) ∷ []) in
     ap (sum_by count) (range_more 1 i) ∙ omega (arith, split, one)
+
+pub signals_more : SignalsMore
+signals_more trace pace i = counted_more (λ k. length (fired_in trace pace k)) i
+
+pub kills_more : KillsMore
+kills_more trace pace rules i = counted_more (λ k. length (kills_in trace pace rules k)) i
 
 pub text_more : TextMore
 text_more trace pace beside i =

@@ -5,7 +5,8 @@ use Rattle.psi_spec.specs.Refusal.{AreLegal}
 use Rattle.psi_spec.specs.Trace.{Trace, last_moment, longest_tick}
 use Rattle.psi_spec.specs.World.{Limits, after, first_world}
 use Rattle.pressure_spec.specs.Ticks.{IsNextTick, Tick, last_tick, no_tick, tick_moment, tick_of, ticks_of}
-use Rattle.run_spec.specs.Replay.{Beside, Pace, fired_in, signals_until, tick_text, ticks_text}
+use Rattle.run_spec.specs.Replay.{Beside, Pace, fired_in, kills_in, kills_until, signals_until, tick_text, ticks_text}
+use Rattle.ruleset_json.specs.declared.types.Rule.{Rule}
 
 -- before the first tick of events on so many processors
 abbrev pub before_ticks : ℕ → List Event → Tick
@@ -26,6 +27,11 @@ TicksMore = (cpus : ℕ) (events : List Event) (length i : ℕ) →
 abbrev pub SignalsMore : Type 0
 SignalsMore = (trace : Trace) (pace : Pace) (i : ℕ) →
     signals_until trace pace (i + 1) ≡ signals_until trace pace i + length (fired_in trace pace (i + 1))
+
+-- Its kills are counted with those before.
+abbrev pub KillsMore : Type 0
+KillsMore = (trace : Trace) (pace : Pace) (rules : List Rule) (i : ℕ) →
+    kills_until trace pace rules (i + 1) ≡ kills_until trace pace rules i + length (kills_in trace pace rules (i + 1))
 
 -- Its lines come behind those before.
 abbrev pub TextMore : Type 0

@@ -1,16 +1,17 @@
 //! Laws of what a replay prints. Each function has an empty body: its contract is the law.
 ghost use Rattle.run_laws.specs.Reports.{ReportsByOrder};
-ghost use Rattle.run_laws.specs.Ticking.{SignalsMore, TextMore, TicksFollow, TicksMore};
+ghost use Rattle.run_laws.specs.Ticking.{KillsMore, SignalsMore, TextMore, TicksFollow, TicksMore};
 
 /// The ticks of an accepted trace come one after another: no time falls, or grows by more than the time in between.
 pub fn law_next_tick()
     ensures { TicksFollow }
 {}
 
-/// One tick more: its table behind the others, its signals, its lines.
+/// One tick more: its table behind the others, its signals, its kills, its lines.
 pub fn law_one_tick_more()
     ensures ticks { TicksMore }
     ensures signals { SignalsMore }
+    ensures kills { KillsMore }
     ensures text { TextMore }
 {}
 

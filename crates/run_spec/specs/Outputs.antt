@@ -1,13 +1,14 @@
 -- Which files a command reads, how long its ticks are, and what it prints of an accepted trace.
 use Rattle.std.specs.Prelude.{◌≡◌, ℕ, ◌*◌, List, Option, None, Some}
 use Rattle.psi_spec.specs.Trace.{Trace}
+use Rattle.ruleset_json.specs.declared.types.Rule.{Rule}
 use Rattle.run_spec.specs.declared.command.Command.{Command}
 use Rattle.run_spec.specs.declared.command.Command.TheVariants.{Stall, Check, Replay, Gen, Stress}
 use Rattle.run_spec.specs.declared.command.Options.{Options}
 use Rattle.run_spec.specs.declared.status.Which.{Which}
 use Rattle.run_spec.specs.declared.status.Which.TheVariants.{RulesFile, TraceFile}
 use Rattle.run_spec.specs.Text.{check_text, stall_text}
-use Rattle.run_spec.specs.Replay.{Pace, nothing_beside, replay_text}
+use Rattle.run_spec.specs.Replay.{Pace, replay_text, with_rules}
 
 -- the name of the trace that a command reads, if it reads one
 abbrev pub trace_name : Command → Option (List ℕ)
@@ -43,12 +44,17 @@ tick_length _ = of_s 2
 
 -- how options have a trace replayed
 abbrev pub pace_of : Options → Pace
-pace_of options = record { length = of_ms options.tick_ms; report = of_s options.report_s }
+pace_of options = record {
+  length = of_ms options.tick_ms;
+  report = of_s options.report_s;
+  interval = of_s options.interval_s;
+}
 
--- A text is the whole output of a command for an accepted trace. Of commands that aren't built yet nothing is one.
-abbrev pub IsOutput : Command → Trace → List ℕ → Type 0
-IsOutput (Stall name) trace text = text ≡ stall_text trace
-IsOutput (Check name tick_ms) trace text = text ≡ check_text trace
-IsOutput (Replay name options) trace text = text ≡ replay_text trace (pace_of options) nothing_beside
-IsOutput (Gen shape) trace text = ⊥
-IsOutput (Stress shape workers) trace text = ⊥
+-- A text is the whole output of a command for an accepted trace and rulesets. Of commands that aren't built yet nothing is
+-- one.
+abbrev pub IsOutput : Command → Trace → List Rule → List ℕ → Type 0
+IsOutput (Stall name) trace rules text = text ≡ stall_text trace
+IsOutput (Check name tick_ms) trace rules text = text ≡ check_text trace
+IsOutput (Replay name options) trace rules text = text ≡ replay_text trace (pace_of options) (with_rules rules)
+IsOutput (Gen shape) trace rules text = ⊥
+IsOutput (Stress shape workers) trace rules text = ⊥

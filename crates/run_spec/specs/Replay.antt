@@ -1,4 +1,5 @@
--- What `replay` prints: at each tick the signals of triggers and, where it is due, the pressure files of all live groups.
+-- What `replay` prints: at each tick the signals of triggers, where an evaluation is due the kills of rules, and where a
+-- report is due the pressure files of all live groups.
 use Rattle.std.specs.Prelude.{ℕ, ◌-◌, List, [], ◌++◌, length, sum_by, ◌==◌, Option, None, Some, if◌then◌else◌, slice_get}
 use Rattle.std.specs.List.{flat_map, range_with_len}
 use Rattle.psi_base.specs.declared.event.Event.{Event}
@@ -10,25 +11,30 @@ use Rattle.psi_spec.specs.World.{after, up_to}
 use Rattle.psi_spec.specs.Groups.{live_groups, path_at}
 use Rattle.psi_spec.specs.Told.{triggers_of}
 use Rattle.psi_spec.specs.Trace.{Trace}
-use Rattle.pressure_spec.specs.Ticks.{is_report, tick_moment, tick_of, ticks_of, ticks_until}
+use Rattle.pressure_spec.specs.Ticks.{is_evaluation, is_report, tick_moment, tick_of, ticks_of, ticks_until}
 use Rattle.pressure_spec.specs.Samples.{fired_at, group_averages, totals_after}
-use Rattle.run_spec.specs.Lines.{end_line, event_line, report_text}
+use Rattle.ruleset_json.specs.declared.types.Rule.{Rule}
+use Rattle.kill_spec.specs.declared.kill.Kill.{Kill}
+use Rattle.kill_spec.specs.Kills as deciding
+use Rattle.kill_spec.specs.Evaluations.{reading_at, readings_until}
+use Rattle.run_spec.specs.Lines.{end_line, event_line, kill_line, report_text}
 use Rattle.run_spec.specs.Text.{end_of}
 
--- How a trace is replayed: the length of a tick (ns), and the period of reports (ns), 0 for none.
+-- How a trace is replayed: the length of a tick (ns), the period of reports (ns), 0 for none, and the interval of evaluations
+-- (ns).
 pub record Pace : Type 0 where
   pub length : ℕ
   pub report : ℕ
+  pub interval : ℕ
 
--- What live samples and rules put into the output beside: their lines at the tick with a number, and how many kills there are.
+-- What a replay has beside its trace: the lines of live samples at the tick with a number, and rulesets.
 pub record Beside : Type 0 where
   pub live : ℕ → List ℕ
-  pub kills : ℕ → List ℕ
-  pub killed : ℕ
+  pub rules : List Rule
 
--- neither live samples nor rules
-abbrev pub nothing_beside : Beside
-nothing_beside = record { live = λ _. []; kills = λ _. []; killed = 0 }
+-- rulesets, and no live samples
+abbrev pub with_rules : List Rule → Beside
+with_rules rules = record { live = λ _. []; rules = rules }
 
 -- how many ticks a trace has
 abbrev pub tick_count : Trace → Pace → ℕ
@@ -58,6 +64,25 @@ signal_lines at lives triggers numbers = flat_map (λ number. signal_line at liv
 abbrev pub signals_until : Trace → Pace → ℕ → ℕ
 signals_until trace pace count = sum_by (λ i. length (fired_in trace pace i)) (range_with_len 1 count)
 
+-- ---- kills
+
+-- the kills at a tick: those of the rulesets at an evaluation, after the readings of all evaluations before it
+abbrev pub kills_in : Trace → Pace → List Rule → ℕ → List Kill
+kills_in trace pace rules i =
+    if is_evaluation pace.interval pace.length i
+    then deciding.kills (lives_of trace) rules (reading_at trace.cpus trace.events pace.length i)
+    (readings_until trace.cpus trace.events pace.length pace.interval (i - 1))
+    else []
+
+-- the lines of kills
+abbrev pub kill_lines : List GroupLife → List Kill → List ℕ
+kill_lines lives kills =
+    flat_map (λ (kill : Kill). kill_line kill.at kill.rule kill.action (path_at lives kill.victim.0)) kills
+
+-- how many kills there are at the first so many ticks
+abbrev pub kills_until : Trace → Pace → List Rule → ℕ → ℕ
+kills_until trace pace rules count = sum_by (λ i. length (kills_in trace pace rules i)) (range_with_len 1 count)
+
 -- ---- reports
 
 -- the pressure files of a group at a moment (ns), by its totals (ns) and averages
@@ -86,7 +111,7 @@ unfoldable pub tick_text : Trace → Pace → Beside → ℕ → List ℕ
 tick_text trace pace beside i =
     beside.live i
     ++ signal_lines (tick_moment pace.length i) (lives_of trace) (triggers_of trace.events) (fired_in trace pace i)
-    ++ beside.kills i
+    ++ kill_lines (lives_of trace) (kills_in trace pace beside.rules i)
     ++ (if is_report pace.report pace.length (tick_count trace pace) i then reports trace pace i else [])
 
 -- the lines of the first so many ticks
@@ -96,7 +121,8 @@ ticks_text trace pace beside count = flat_map (tick_text trace pace beside) (ran
 -- the last line: the end moment (ns), and how many ticks, signals and kills there were
 abbrev pub last_line : Trace → Pace → Beside → List ℕ
 last_line trace pace beside =
-    end_line (end_of trace.events) (tick_count trace pace) (signals_until trace pace (tick_count trace pace)) beside.killed
+    end_line (end_of trace.events) (tick_count trace pace) (signals_until trace pace (tick_count trace pace))
+    (kills_until trace pace beside.rules (tick_count trace pace))
 
 -- the text of `replay`
 unfoldable pub replay_text : Trace → Pace → Beside → List ℕ

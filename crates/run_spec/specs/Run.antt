@@ -1,5 +1,5 @@
 -- What a run of a command promises: what each status says of the files and of the output, and which counts of failures rose.
-use Rattle.std.specs.Prelude.{◌≡◌, ℕ, List, Option, None, Some, Ok, Err, ⊤}
+use Rattle.std.specs.Prelude.{◌≡◌, ℕ, List, [], Option, None, Some, MatchOption, Ok, Err, ⊤}
 use Rattle.std.specs.Io.KnownBytes.{Appends, Keeps}
 use Rattle.psi_base.specs.Outside.{Files, told, Lacks, Rose, AppendsFront, ShelfCounts, counts_of}
 use Rattle.psi_spec.specs.Trace.{IsAccepted, IsCpuCount, Trace, limits_of, refused, trace_of}
@@ -7,7 +7,11 @@ use Rattle.run_spec.specs.declared.command.Command.{Command}
 use Rattle.run_spec.specs.declared.status.Status.{Status}
 use Rattle.run_spec.specs.declared.status.Status.TheVariants as status
 use Rattle.run_spec.specs.declared.status.Which.{Which}
-use Rattle.run_spec.specs.Outputs.{IsOutput, file_of, tick_length, trace_name}
+use Rattle.run_spec.specs.declared.status.Which.TheVariants.{RulesFile, TraceFile}
+use Rattle.ruleset_json.specs.declared.types.Rule.{Rule}
+use Rattle.ruleset_json.specs.RuleRanges.{FitsRules}
+use Rattle.ruleset_json.specs.Rules.{rules_of}
+use Rattle.run_spec.specs.Outputs.{IsOutput, file_of, rules_name, tick_length}
 
 -- ---- counts
 
@@ -37,45 +41,72 @@ pub record CountsTell (before now : RunCounts) (result : Status) : Type 0 where
 
 -- ---- files
 
--- the bytes of a command's trace are these, where it reads one and the shelf tells them
-abbrev pub IsTold : Command → Option Files → List ℕ → Type 0
-IsTold command files bytes = (name : List ℕ) × (trace_name command ≡ Some name) × (told files name ≡ Some bytes)
+-- the bytes of a command's file of this kind are these, where it reads one and the shelf tells them
+abbrev pub IsTold : Command → Which → Option Files → List ℕ → Type 0
+IsTold command which files bytes = (name : List ℕ) × (file_of command which ≡ Some name) × (told files name ≡ Some bytes)
 
 -- A command takes a trace: its events make up one, and it is that of the file's bytes, where these are told.
 pub record TakesTrace (command : Command) (files : Option Files) (trace : Trace) : Type 0 where
   pub version : trace.version ≡ 1
   pub cpus : IsCpuCount trace.cpus
   pub accepted : IsAccepted (limits_of (tick_length command) trace.cpus) trace.events
-  pub read : (bytes : List ℕ) → IsTold command files bytes → trace_of (tick_length command) bytes ≡ Ok trace
+  pub read : (bytes : List ℕ) → IsTold command TraceFile files bytes → trace_of (tick_length command) bytes ≡ Ok trace
+
+-- A command takes rulesets: each in its ranges, those of its rules file's bytes, where these are told, and none where it reads
+-- no rules file.
+pub record TakesRules (command : Command) (files : Option Files) (rules : List Rule) : Type 0 where
+  pub fit : FitsRules rules
+  pub none : rules_name command ≡ None → rules ≡ []
+  pub read : (bytes : List ℕ) → IsTold command RulesFile files bytes → rules_of bytes ≡ Ok (record { rules = rules })
+
+-- the rulesets of a command are told to be these: those of its rules file, or none where it reads no rules file
+abbrev pub RulesTold : Command → Option Files → List Rule → Type 0
+RulesTold command files rules = MatchOption (rules_name command) (rules ≡ [])
+    (λ name. (bytes : List ℕ) × (told files name ≡ Some bytes) × (rules_of bytes ≡ Ok (record { rules = rules })))
 
 -- ---- statuses
 
--- a command's whole output for an accepted trace has some property
+-- a command's whole output for an accepted trace and rulesets has some property
 abbrev pub HasOutput : Command → Option Files → (List ℕ → Type 0) → Type 0
-HasOutput command files IsSo = (trace : Trace) × TakesTrace command files trace × ((text : List ℕ) × IsOutput command trace text × IsSo text)
+HasOutput command files IsSo =
+    (trace : Trace) × (rules : List Rule) × TakesTrace command files trace × TakesRules command files rules
+    × ((text : List ℕ) × IsOutput command trace rules text × IsSo text)
+
+-- what comes before a command reads its file of this kind is in order: rules come before the trace
+abbrev pub IsPassed : Command → Option Files → Which → Type 0
+IsPassed command files RulesFile = ⊤
+IsPassed command files TraceFile = (rules : List Rule) × TakesRules command files rules
 
 -- What a status says of a command, whose files the shelf may tell, and of what the sink held before and holds now: the whole
--- output or a front of it, for an accepted trace; or the first refused line; or a name that isn't there. A status of another
--- kind left the sink as it was.
+-- output or a front of it, for an accepted trace and rulesets; the first fault of the rules file; behind the rules the first
+-- refused line of the trace; or a name that isn't there. Where it isn't Done or WriteFault, the sink is as it was.
 abbrev pub Ends : Command → Option Files → Option (List ℕ) → Option (List ℕ) → Status → Type 0
 Ends command files old new status.Done = HasOutput command files (λ text. Appends old new text)
 Ends command files old new status.WriteFault = HasOutput command files (λ text. AppendsFront old new text)
-Ends command files old new (status.Trace line why) = Keeps old new × ((bytes : List ℕ) → IsTold command files bytes → trace_of (tick_length command) bytes ≡ Err (refused line why))
-Ends command files old new (status.NoFile which) = Keeps old new × ((name : List ℕ) × (file_of command which ≡ Some name) × (told files name ≡ None))
+Ends command files old new (status.Rules fault) =
+    Keeps old new × ((name : List ℕ) × (rules_name command ≡ Some name)
+    × ((bytes : List ℕ) → told files name ≡ Some bytes → rules_of bytes ≡ Err fault))
+Ends command files old new (status.Trace line why) =
+    Keeps old new × IsPassed command files TraceFile
+    × ((bytes : List ℕ) → IsTold command TraceFile files bytes → trace_of (tick_length command) bytes ≡ Err (refused line why))
+Ends command files old new (status.NoFile which) =
+    Keeps old new × IsPassed command files which × ((name : List ℕ) × (file_of command which ≡ Some name) × (told files name ≡ None))
 Ends command files old new status.ReadFault = Keeps old new
 Ends command files old new status.NoMemory = Keeps old new
 Ends command files old new status.Usage = ⊥
 
--- the statuses that may come of a name that isn't held
-abbrev pub IsOfMissing : Status → Type 0
-IsOfMissing (status.NoFile which) = ⊤
-IsOfMissing status.ReadFault = ⊤
-IsOfMissing status.NoMemory = ⊤
-IsOfMissing _ = ⊥
+-- the statuses that may come of a file of this kind that isn't held: that it isn't, a failure, and of a trace also a fault
+-- of the rules, which come before it
+abbrev pub IsOfMissing : Which → Status → Type 0
+IsOfMissing which (status.NoFile other) = ⊤
+IsOfMissing which status.ReadFault = ⊤
+IsOfMissing which status.NoMemory = ⊤
+IsOfMissing TraceFile (status.Rules fault) = ⊤
+IsOfMissing _ _ = ⊥
 
--- A run of a command: what its status says, that a trace that isn't held has no other answer than that or a failure, and
--- the counts.
+-- A run of a command: what its status says, that a file that isn't held has no other answer than that or a failure, and the
+-- counts.
 pub record Runs (command : Command) (files : Option Files) (before now : RunCounts) (old new : Option (List ℕ)) (result : Status) : Type 0 where
   pub ends : Ends command files old new result
-  pub missing : (name : List ℕ) → trace_name command ≡ Some name → Lacks files name → IsOfMissing result
+  pub missing : (which : Which) (name : List ℕ) → file_of command which ≡ Some name → Lacks files name → IsOfMissing which result
   pub counts : CountsTell before now result

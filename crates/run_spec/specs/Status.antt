@@ -5,6 +5,7 @@ use Rattle.run_spec.specs.declared.command.Command.{Command}
 use Rattle.run_spec.specs.declared.status.Status.{Status}
 use Rattle.run_spec.specs.declared.status.Status.TheVariants as status
 use Rattle.run_spec.specs.declared.status.Which.{Which}
+use Rattle.ruleset_json.specs.FaultText.{fault_text}
 use Rattle.run_spec.specs.Outputs.{file_of}
 use Rattle.run_spec.specs.Text.{cause_text}
 
@@ -13,6 +14,7 @@ abbrev pub code_of : Status → ℕ
 code_of status.Done = 0
 code_of status.Usage = 1
 code_of (status.Trace line why) = 2
+code_of (status.Rules fault) = 3
 code_of (status.NoFile which) = 4
 code_of status.ReadFault = 5
 code_of status.WriteFault = 6
@@ -37,6 +39,7 @@ abbrev pub status_text : Option Command → Status → List ℕ
 status_text command status.Done = []
 status_text command status.Usage = codes "usage: psi_oomd stall or check or replay or gen or stress\n"
 status_text command (status.Trace line why) = refusal_text line why
+status_text command (status.Rules fault) = fault_text fault ++ codes "\n"
 status_text command (status.NoFile which) = codes "no file: " ++ (name_text command which ++ codes "\n")
 status_text command status.ReadFault = codes "read fault\n"
 status_text command status.WriteFault = codes "write fault\n"

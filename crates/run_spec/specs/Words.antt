@@ -277,7 +277,8 @@ forms = stall_form ∷ check_form ∷ replay_form ∷ gen_form ∷ stress_form �
 -- the words of commands and the names of options that are built today
 abbrev pub is_built : List ℕ → Bool
 is_built name = is_among name
-    (codes "stall" ∷ codes "check" ∷ codes "replay" ∷ codes "tick-ms" ∷ codes "report-s" ∷ [])
+    (codes "stall" ∷ codes "check" ∷ codes "replay" ∷ codes "tick-ms" ∷ codes "report-s"
+    ∷ codes "rules" ∷ codes "interval-s" ∷ [])
 
 -- a command with those of its options that are built
 abbrev pub with_built_options : Form → Form

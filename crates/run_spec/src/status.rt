@@ -3,6 +3,7 @@ ghost use Rattle.std.specs.Prelude.{◌≡◌};
 ghost use Rattle.run_spec.specs.Status.{code_of};
 
 use psi_base::Cause;
+use ruleset_json::RulesFault;
 
 /// Which file of a command a name stood for.
 #[derive(Clone, Copy, Debug, PartialEq, Eq)]
@@ -22,6 +23,8 @@ pub enum Status {
     Usage,
     /// The trace is refused at this line, counted from 1, for this cause.
     Trace { line: u32, cause: Cause },
+    /// The rules file is refused, for this fault at its place.
+    Rules { fault: RulesFault },
     /// There is no file of this name.
     NoFile { which: Which },
     /// A read failed.
@@ -41,6 +44,7 @@ impl Status {
             Status::Done => 0,
             Status::Usage => 1,
             Status::Trace { .. } => 2,
+            Status::Rules { .. } => 3,
             Status::NoFile { .. } => 4,
             Status::ReadFault => 5,
             Status::WriteFault => 6,

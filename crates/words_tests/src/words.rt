@@ -36,6 +36,11 @@ replay|X|--report-s=3600 => replay X none 2000 5 3600 64 none 1
 replay|--report-s|7|X|--tick-ms=9 => replay X none 9 5 7 64 none 1
 replay|--tick-ms|9|X|--report-s=7 => replay X none 9 5 7 64 none 1
 replay|--report-s=7|--tick-ms=9|X => replay X none 9 5 7 64 none 1
+replay|X|--rules|R => replay X R 2000 5 10 64 none 1
+replay|X|--rules=R => replay X R 2000 5 10 64 none 1
+replay|--rules=-x|X => replay X -x 2000 5 10 64 none 1
+replay|X|--interval-s|1 => replay X none 2000 1 10 64 none 1
+replay|--interval-s=3600|X => replay X none 2000 3600 10 64 none 1
 replay|--|- => replay - none 2000 5 10 64 none 1
 replay|été/1 => replay été/1 none 2000 5 10 64 none 1";
 
@@ -127,10 +132,16 @@ replay|X|--help
 replay|X|--version
 replay|X|-h
 replay|X|--rules|-
-replay|X|--rules=R
-replay|X|--rules|R
-replay|X|--interval-s=5
-replay|X|--interval-s|5
+replay|X|--rules=-
+replay|X|--rules=
+replay|X|--rules|
+replay|X|--rules
+replay|X|--rules|R|--rules|R
+replay|X|--interval-s=0
+replay|X|--interval-s|3601
+replay|X|--interval-s|05
+stall|X|--rules|R
+check|X|--interval-s|5
 replay|X|--workers=2
 replay|X|--workers|64
 replay|X|--live|a

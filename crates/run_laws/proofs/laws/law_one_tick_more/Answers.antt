@@ -1,4 +1,4 @@
-use Rattle.run_laws.proofs.OneMore.{signals_more, text_more, ticks_more}
+use Rattle.run_laws.proofs.OneMore.{kills_more, signals_more, text_more, ticks_more}
 use Rattle.run_laws.proofs.laws.law_one_tick_more.Goals as goal
 
 pub returns-clause-ticks : goal.returns-clause-ticks
@@ -9,3 +9,6 @@ returns-clause-signals c = signals_more
 
 pub returns-clause-text : goal.returns-clause-text
 returns-clause-text c = text_more
+
+pub returns-clause-kills : goal.returns-clause-kills
+returns-clause-kills c = kills_more
