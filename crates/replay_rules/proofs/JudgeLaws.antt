@@ -1,0 +1,239 @@
+-- A judge from tick to tick.
+use Rattle.std.proofs.Common.{◌≡◌, ℕ, suc, ◌+◌, ◌-◌, ◌*◌, ◌<◌, ◌≤◌, List, [], ◌∷◌, map}
+use Rattle.std.proofs.Common.{refl, sym, ap, subst, ◌∙◌, arith, Bool, true, false}
+use Rattle.std.specs.Prelude.{◌/◌, nat_lt, None, Some, if◌then◌else◌}
+use Rattle.std.proofs.Math.Nat.{le-div_iff_mul-le}
+use Rattle.psi_base.specs.declared.event.Slot.{Slot}
+use Rattle.psi_spec.specs.Trace.{Trace, limits_of}
+use Rattle.psi_spec.specs.World.{after}
+use Rattle.psi_laws.proofs.PlanStates.{legal_after}
+use Rattle.pressure_spec.specs.Ticks.{is_evaluation, tick_moment}
+use Rattle.ruleset_json.specs.declared.types.Rule.{Rule}
+use Rattle.kill_spec.specs.declared.kill.Kill.{Kill}
+use Rattle.kill_spec.specs.Readings.{Reading}
+use Rattle.kill_spec.specs.Evaluations.{evaluations, reading_at, readings_until}
+use Rattle.kill_spec.specs.Kills as deciding
+use Rattle.run_spec.specs.Replay.{Pace, kills_in, lives_of, tick_count}
+use Rattle.proc_plan.specs.Plans.{PlansView}
+use Rattle.tick_engine.specs.Engine.{EngineView}
+use Rattle.replay_rules.specs.Judged.{EvaluatorView, HasJudged, HasRead, HasReadAll, IsToEvaluate}
+use Rattle.replay_rules.specs.Judged.{IsToJudge, JudgeView, Rests, kills_of, readings_of, told_last}
+use Rattle.replay_rules.specs.Laws.{KillsAtReading, NoKillsBetween, NoneWithoutRules}
+use Rattle.replay_rules.specs.Laws.{OneReadingMore, ReadingsStay}
+
+-- ---- moments
+
+-- no tick of a planned trace is too late for 64 bits
+pub moment_fits : (judge : JudgeView) (plans : PlansView) (engine : EngineView)
+    (order : List Slot) (trace : Trace) (pace : Pace) (rules : List Rule) (i number : ℕ) →
+    IsToJudge judge plans engine order trace pace rules i → number ≡ i + 1 →
+    tick_moment judge.length number < 18446744073709551616
+moment_fits judge plans engine order trace pace rules i number is next =
+    let planned = is.planned in
+    let limits = limits_of pace.length trace.cpus in
+    let early = (legal_after limits trace.events planned.accepted.legal).early in
+    let within : number ≤ tick_count trace pace = omega (arith, is.left, next) in
+    let here : number * pace.length ≤ (after trace.events).last =
+    (le-div_iff_mul-le planned.some).0 within in
+    rw is.judged.length (omega (arith, here, early, planned.short))
+
+-- ---- readings
+
+-- the readings at some evaluations
+abbrev all_at : Trace → Pace → List ℕ → List Reading
+all_at trace pace numbers = map (reading_at trace.cpus trace.events pace.length) numbers
+
+-- the readings of one tick more, where it is known whether it is an evaluation
+one_more : (trace : Trace) (pace : Pace) (i : ℕ) (b : Bool) →
+    is_evaluation pace.interval pace.length (suc i) ≡ b →
+    readings_of trace pace (suc i)
+    ≡ all_at trace pace
+    (if b then suc i ∷ evaluations pace.interval pace.length i
+    else evaluations pace.interval pace.length i)
+unfolding readings_until
+one_more trace pace i b is =
+    ap (λ test. all_at trace pace (if test then suc i ∷ evaluations pace.interval pace.length i
+    else evaluations pace.interval pace.length i)) is
+
+counted : (i : ℕ) → i + 1 ≡ suc i
+counted i = omega arith
+
+pub readings_stay : ReadingsStay
+unfolding readings_until
+readings_stay trace pace i none =
+    subst (λ n. is_evaluation pace.interval pace.length n ≡ false →
+    readings_of trace pace n ≡ readings_of trace pace i)
+    (sym (counted i)) (one_more trace pace i false) none
+
+pub one_reading_more : OneReadingMore
+unfolding readings_until
+one_reading_more trace pace i due =
+    subst (λ n. is_evaluation pace.interval pace.length n ≡ true →
+    readings_of trace pace n
+    ≡ reading_at trace.cpus trace.events pace.length n ∷ readings_of trace pace i)
+    (sym (counted i)) (one_more trace pace i true) due
+
+-- ---- kills
+
+-- the kills at a tick, if it is an evaluation
+abbrev kills_where : Trace → Pace → List Rule → ℕ → Bool → List Kill
+kills_where trace pace rules i test =
+    if test
+    then deciding.kills (lives_of trace) rules
+    (reading_at trace.cpus trace.events pace.length i) (readings_of trace pace (i - 1))
+    else []
+
+pub no_kills_between : NoKillsBetween
+no_kills_between trace pace rules i none = ap (kills_where trace pace rules i) none
+
+none_either : (b : Bool) → ◌≡◌ {A = List Kill} (if b then [] else []) []
+none_either true = refl
+none_either false = refl
+
+pub none_without_rules : NoneWithoutRules
+unfolding deciding.kills
+none_without_rules trace pace i = none_either (is_evaluation pace.interval pace.length i)
+
+pub kills_at_reading : KillsAtReading
+kills_at_reading trace pace rules i due =
+    let this : Reading = reading_at trace.cpus trace.events pace.length (i + 1) in
+    let back : i + 1 - 1 ≡ i = omega arith in
+    ap (kills_where trace pace rules (i + 1)) due
+    ∙ ap (λ n. deciding.kills (lives_of trace) rules this (readings_of trace pace n)) back
+
+-- ---- one tick
+
+-- a judge knows which ticks are evaluations
+pub same_schedule : (judge : JudgeView) (trace : Trace) (pace : Pace) (rules : List Rule)
+    (i number : ℕ) → HasJudged judge trace pace rules i →
+    is_evaluation judge.interval judge.length number
+    ≡ is_evaluation pace.interval pace.length number
+same_schedule judge trace pace rules i number is =
+    ap (λ interval. is_evaluation interval judge.length number) is.interval
+    ∙ ap (λ length. is_evaluation pace.interval length number) is.length
+
+-- its evaluator can take the reading of the next tick
+pub to_evaluate : (judge : JudgeView) (evaluator : EvaluatorView) (plans : PlansView)
+    (engine : EngineView) (order : List Slot) (trace : Trace) (pace : Pace) (rules : List Rule)
+    (i number at : ℕ) →
+    IsToJudge judge plans engine order trace pace rules i → judge.evaluator ≡ Some evaluator →
+    number ≡ i + 1 → at ≡ tick_moment judge.length number →
+    IsToEvaluate evaluator plans engine order trace pace rules i at
+to_evaluate judge evaluator plans engine order trace pace rules i number at is kept next moment =
+    record {
+      planned = is.planned;
+      at_is = moment ∙ ap (λ length. tick_moment length number) is.judged.length
+          ∙ ap (tick_moment pace.length) next;
+      ticked = is.ticked;
+      by_path = is.by_path;
+      read = subst (λ e. HasReadAll e trace rules (readings_of trace pace i)) kept is.judged.read;
+    }
+
+-- one that keeps no evaluator tells none
+tells_none : (judge : JudgeView) → judge.evaluator ≡ None → kills_of judge ≡ []
+tells_none judge none =
+    ap (λ e. if judge.evaluated then told_last e else []) none ∙ none_either judge.evaluated
+
+-- and neither does one that evaluated no rules
+tells_no_old : (judge : JudgeView) → judge.evaluated ≡ false → kills_of judge ≡ []
+tells_no_old judge none = ap (λ b. if b then told_last judge.evaluator else []) none
+
+-- a judge that keeps no evaluator decides the same at all ticks: there are no rules
+pub judged_none : (judge : JudgeView) (trace : Trace) (pace : Pace) (rules : List Rule)
+    (i number : ℕ) → judge.evaluator ≡ None →
+    HasJudged judge trace pace rules i → HasJudged judge trace pace rules number
+judged_none judge trace pace rules i number none is =
+    let now = readings_of trace pace number in
+    let empty : rules ≡ [] =
+    subst (λ e. HasReadAll e trace rules (readings_of trace pace i)) none is.read in
+    let unkilled : kills_in trace pace rules number ≡ [] =
+    ap (λ r. kills_in trace pace r number) empty ∙ none_without_rules trace pace number in
+    record {
+      length = is.length;
+      interval = is.interval;
+      read = subst (λ e. HasReadAll e trace rules now) (sym none) empty;
+      kills = tells_none judge none ∙ sym unkilled;
+    }
+
+-- at a tick that is no evaluation a judge changes in nothing but that it tells no kills
+pub judged_same : (old new : JudgeView) (trace : Trace) (pace : Pace) (rules : List Rule)
+    (i number : ℕ) →
+    new.length ≡ old.length → new.interval ≡ old.interval → new.evaluator ≡ old.evaluator →
+    new.evaluated ≡ false → number ≡ i + 1 →
+    is_evaluation pace.interval pace.length number ≡ false →
+    HasJudged old trace pace rules i → HasJudged new trace pace rules number
+judged_same old new trace pace rules i number length interval kept evaluated next none is =
+    let here = subst (λ n. is_evaluation pace.interval pace.length n ≡ false) next none in
+    let readings : readings_of trace pace number ≡ readings_of trace pace i =
+    ap (readings_of trace pace) next ∙ readings_stay trace pace i here in
+    let now = readings_of trace pace number in
+    let same = subst (HasReadAll old.evaluator trace rules) (sym readings) is.read in
+    record {
+      length = length ∙ is.length;
+      interval = interval ∙ is.interval;
+      read = subst (λ e. HasReadAll e trace rules now) (sym kept) same;
+      kills = tells_no_old new evaluated ∙ sym (no_kills_between trace pace rules number none);
+    }
+
+-- at an evaluation its evaluator has one reading more, and tells the kills at it
+pub judged_next : (old new : JudgeView) (evaluator : EvaluatorView) (trace : Trace) (pace : Pace)
+    (rules : List Rule) (i number : ℕ) →
+    new.length ≡ old.length → new.interval ≡ old.interval → new.evaluator ≡ Some evaluator →
+    new.evaluated ≡ true → number ≡ i + 1 →
+    is_evaluation pace.interval pace.length number ≡ true →
+    HasRead evaluator trace rules
+    (reading_at trace.cpus trace.events pace.length (i + 1) ∷ readings_of trace pace i) →
+    HasJudged old trace pace rules i → HasJudged new trace pace rules number
+judged_next old new evaluator trace pace rules i number length interval kept on next due read is =
+    let here = subst (λ n. is_evaluation pace.interval pace.length n ≡ true) next due in
+    let this : Reading = reading_at trace.cpus trace.events pace.length (i + 1) in
+    let readings : readings_of trace pace number ≡ this ∷ readings_of trace pace i =
+    ap (readings_of trace pace) next ∙ one_reading_more trace pace i here in
+    let now = readings_of trace pace number in
+    let all : HasReadAll (Some evaluator) trace rules now =
+    subst (HasReadAll (Some evaluator) trace rules) (sym readings) read in
+    let told : kills_of new ≡ evaluator.killer.found =
+    ap (λ b. if b then told_last new.evaluator else []) on ∙ ap told_last kept in
+    let killed : kills_in trace pace rules number
+    ≡ deciding.kills (lives_of trace) rules this (readings_of trace pace i) =
+    ap (kills_in trace pace rules) next ∙ kills_at_reading trace pace rules i here in
+    record {
+      length = length ∙ is.length;
+      interval = interval ∙ is.interval;
+      read = subst (λ e. HasReadAll e trace rules now) (sym kept) all;
+      kills = told ∙ read.killer.found ∙ sym killed;
+    }
+
+-- ---- between evaluations
+
+-- a judge that keeps no evaluator rests at each tick
+pub rests_none : (judge : JudgeView) → judge.evaluator ≡ None → Rests judge judge
+rests_none judge none = record { evaluator = refl; kills = tells_none judge none }
+
+-- one that evaluated no rules rests
+pub rests : (old new : JudgeView) →
+    new.evaluator ≡ old.evaluator → new.evaluated ≡ false → Rests old new
+rests old new same none = record { evaluator = same; kills = tells_no_old new none }
+
+-- ---- before the first tick
+
+not_below_itself : (n : ℕ) → nat_lt n n ≡ false
+not_below_itself n = grind arith
+
+nothing_read : (trace : Trace) (pace : Pace) → readings_of trace pace 0 ≡ []
+unfolding readings_until
+nothing_read trace pace = refl
+
+-- a judge that is new has decided at no tick
+pub judged_first : (judge : JudgeView) (trace : Trace) (pace : Pace) (rules : List Rule) →
+    judge.length ≡ pace.length → judge.interval ≡ pace.interval → judge.evaluated ≡ false →
+    HasReadAll judge.evaluator trace rules [] → HasJudged judge trace pace rules 0
+judged_first judge trace pace rules length interval evaluated read =
+    let none : is_evaluation pace.interval pace.length 0 ≡ false =
+    not_below_itself (tick_moment pace.length 0 / pace.interval) in
+    record {
+      length = length;
+      interval = interval;
+      read = subst (HasReadAll judge.evaluator trace rules) (sym (nothing_read trace pace)) read;
+      kills = tells_no_old judge evaluated ∙ sym (no_kills_between trace pace rules 0 none);
+    }

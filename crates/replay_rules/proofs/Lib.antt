@@ -1,0 +1,4 @@
+pub mod SeenLaws
+pub mod ReadLaws
+pub mod JudgeLaws
+pub mod ReadingLaws

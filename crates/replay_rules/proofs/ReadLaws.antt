@@ -1,0 +1,243 @@
+-- One evaluation: what is read is the reading of the trace at its tick.
+use Rattle.std.proofs.Common.{◌≡◌, ℕ, zero, suc, ◌+◌, ◌<◌, List, [], ◌∷◌, length, map, refl, sym}
+use Rattle.std.proofs.Common.{ap, subst, ◌∙◌, arith, Bool, true, false}
+use Rattle.std.specs.Prelude.{All, Option, None, Some, if◌then◌else◌}
+use Rattle.std.specs.List.{range_with_len}
+use Rattle.std.proofs.lemmas.List.{get_or-map, length-map}
+use Rattle.std.proofs.lemmas.List.Elements.{All-filter}
+use Rattle.std.proofs.lemmas.List.FromFn.{get_or-range_with_len, length-range_with_len}
+use Rattle.std.proofs.lemmas.List.Sorted.{All-permutation}
+use Rattle.psi_base.specs.declared.event.Event.{Event}
+use Rattle.psi_base.specs.declared.event.Preference.{Preference}
+use Rattle.psi_base.specs.declared.event.Slot.{Slot}
+use Rattle.psi_spec.specs.declared.machine.GroupLife.{GroupLife}
+use Rattle.psi_spec.specs.Groups.{IsPathOrder, live_groups}
+use Rattle.psi_spec.specs.Trace.{Trace, limits_of}
+use Rattle.psi_spec.specs.World.{after, up_to}
+use Rattle.psi_laws.specs.Moments.{is_live_slot, with_path}
+use Rattle.psi_laws.proofs.MomentsOrder.{order_tells_live}
+use Rattle.pressure_spec.specs.Samples.{group_averages}
+use Rattle.pressure_spec.specs.Ticks.{is_evaluation, tick_moment, ticks_of}
+use Rattle.pressure_spec.proofs.SampleLaws.{group_averages_are}
+use Rattle.ruleset_json.specs.declared.types.Rule.{Rule}
+use Rattle.kill_spec.specs.declared.reading.GroupReading.{GroupReading}
+use Rattle.kill_spec.specs.Readings.{Reading}
+use Rattle.kill_spec.specs.Evaluations.{MemorySample, averages_at, evaluations, group_seen}
+use Rattle.kill_spec.specs.Evaluations.{memory_of, preference_of, reading_at, readings_until}
+use Rattle.run_spec.specs.Replay.{Pace, lives_of}
+use Rattle.proc_plan.specs.Plans.{PlansView}
+use Rattle.tick_engine.specs.Engine.{EngineView, averages_in}
+use Rattle.tick_engine.specs.declared.group.Group.{Group}
+use Rattle.detectors.specs.Views.{IsAfter, ReadingView, reading_of}
+use Rattle.detectors.specs.Stands.{last_of}
+use Rattle.kill_engine.specs.Killers.{Takes}
+use Rattle.side_watch.specs.Sides.{sample_of}
+use Rattle.side_watch.specs.Watch.{Advances, IsNotAfter, IsWatching, WatchView, cell_at, has_tasks}
+use Rattle.replay_rules.specs.Planned.{HasTicked, IsPlanned, numbers_of}
+use Rattle.replay_rules.specs.Seen.{HasRows, group_by, groups_by, live_slots, reading_by}
+use Rattle.replay_rules.specs.Judged.{EvaluatorView, HasRead, IsToEvaluate, readings_of}
+
+-- ---- slots of an order
+
+-- the first numbers are below how many they are
+range_below : (n : ℕ) → All (λ k. k < n) (range_with_len 0 n)
+range_below n = λ k d below.
+    let inside : k < n = omega (arith, below, length-range_with_len 0 n) in
+    omega (arith, inside, get_or-range_with_len 0 n k d inside)
+
+-- an order of all slots by path has no slots but those that there are
+pub order_below : (lives : List GroupLife) (order : List ℕ) → IsPathOrder lives order →
+    All (λ slot. slot < length lives) order
+order_below lives order is =
+    All-permutation (λ slot. slot < length lives) (range_with_len 0 (length lives)) order is.each
+    (range_below (length lives))
+
+slots_below : (n : ℕ) (slots : List Slot) → All (λ slot. slot < n) (numbers_of slots) →
+    All (λ (slot : Slot). slot.0 < n) slots
+slots_below n slots all = λ k d below.
+    let number : Slot → ℕ = λ (slot : Slot). slot.0 in
+    subst (λ s. s < n) (get_or-map number slots k d 0 below)
+    (all k 0 (omega (arith, below, length-map slots number)))
+
+-- so it is of slots
+pub order_made : (lives : List GroupLife) (slots : List Slot) →
+    IsPathOrder lives (numbers_of slots) →
+    All (λ (slot : Slot). slot.0 < length lives) slots
+order_made lives slots is =
+    slots_below (length lives) slots (order_below lives (numbers_of slots) is)
+
+-- ---- averages
+
+-- an engine tells the averages of each group after the ticks for which it stands
+averages_are : (engine : EngineView) (trace : Trace) (pace : Pace) (i slot : ℕ) →
+    HasTicked engine trace pace i → slot < length (lives_of trace) →
+    averages_in engine slot
+    ≡ group_averages trace.cpus (lives_of trace) (ticks_of trace.cpus trace.events pace.length i)
+    slot
+averages_are engine trace pace i slot ticked room =
+    ap (λ (g : Group). g.averages) (ticked.groups slot room)
+
+-- so there are those of each pressure quantity
+pub has_rows : (engine : EngineView) (trace : Trace) (pace : Pace) (i slot : ℕ) →
+    HasTicked engine trace pace i → slot < length engine.groups → HasRows engine slot
+has_rows engine trace pace i slot ticked room =
+    let ticks = ticks_of trace.cpus trace.events pace.length i in
+    let within : slot < length (lives_of trace) = omega (arith, room, ticked.slots) in
+    rw (averages_are engine trace pace i slot ticked within)
+    (group_averages_are trace.cpus (lives_of trace) ticks slot).rows
+
+-- ---- groups
+
+-- a group with these averages, sample of its memory, preference and mark of tasks
+abbrev group_with : ℕ → List (List ℕ) → MemorySample → Preference → Bool → GroupReading
+group_with slot averages memory preference populated = record {
+  slot = record { 0 = slot };
+  averages = averages;
+  current = memory.current;
+  swap = memory.swap;
+  scan = memory.scan;
+  preference = preference;
+  populated = populated;
+}
+
+-- the group in a slot as the trace tells of it at a tick
+abbrev group_told : Trace → Pace → ℕ → ℕ → GroupReading
+group_told trace pace i slot =
+    group_seen (up_to trace.events (tick_moment pace.length i))
+    (averages_at trace.cpus trace.events pace.length i slot) slot
+
+-- an engine and a watch that stand at a tick tell the same of it
+group_is : (engine : EngineView) (watch : WatchView) (trace : Trace) (pace : Pace) (i slot : ℕ) →
+    HasTicked engine trace pace i →
+    IsWatching trace.events (Some (tick_moment pace.length i)) watch →
+    slot < length (lives_of trace) → group_by engine watch slot ≡ group_told trace pace i slot
+group_is engine watch trace pace i slot ticked watching room =
+    let averages = ap (λ a. a.averages) (averages_are engine trace pace i slot ticked room) in
+    ap (λ a. group_with slot a (sample_of (cell_at watch slot).memory)
+    (cell_at watch slot).preference (has_tasks watch slot)) averages
+    ∙ ap (λ m. group_with slot (averages_at trace.cpus trace.events pace.length i slot) m
+    (cell_at watch slot).preference (has_tasks watch slot)) (watching.memory slot room)
+    ∙ ap (λ p. group_with slot (averages_at trace.cpus trace.events pace.length i slot)
+    (memory_of slot (up_to trace.events (tick_moment pace.length i))) p (has_tasks watch slot))
+    (watching.preference slot room)
+    ∙ ap (λ b. group_with slot (averages_at trace.cpus trace.events pace.length i slot)
+    (memory_of slot (up_to trace.events (tick_moment pace.length i)))
+    (preference_of slot (up_to trace.events (tick_moment pace.length i))) b)
+    (watching.populated slot room)
+
+-- of groups in slots that there are, both tell the same
+groups_are : (f g : ℕ → GroupReading) (n : ℕ) → ((slot : ℕ) → slot < n → f slot ≡ g slot) →
+    (lives : List GroupLife) (slots : List ℕ) → All (λ slot. slot < n) slots →
+    map f slots ≡ map (λ (group : List ℕ × ℕ). g group.1) (map (with_path lives) slots)
+groups_are f g n same lives [] below = refl
+groups_are f g n same lives (slot ∷ slots) below =
+    let first : slot < n = below 0 slot (omega arith) in
+    let rest = groups_are f g n same lives slots
+    (λ k d inside. below (suc k) d (omega (arith, inside))) in
+    ap (λ group. group ∷ map f slots) (same slot first) ∙ ap (λ groups. g slot ∷ groups) rest
+
+-- ---- the reading
+
+-- the reading of an order of all slots by path is that of the trace
+pub reading_is : (engine : EngineView) (watch : WatchView) (plans : PlansView) (order : List ℕ)
+    (trace : Trace) (pace : Pace) (i : ℕ) →
+    IsPlanned plans trace pace → HasTicked engine trace pace i →
+    IsWatching trace.events (Some (tick_moment pace.length i)) watch →
+    IsPathOrder (lives_of trace) order →
+    reading_by engine watch (lives_of trace) (tick_moment pace.length i) order
+    ≡ reading_at trace.cpus trace.events pace.length i
+unfolding reading_at
+reading_is engine watch plans order trace pace i planned ticked watching by_path =
+    let at : ℕ = tick_moment pace.length i in
+    let lives : List GroupLife = lives_of trace in
+    let limits = limits_of pace.length trace.cpus in
+    let below = All-filter (is_live_slot lives at) (λ slot. slot < length lives) order
+    (order_below lives order by_path) in
+    let told : List ℕ × ℕ → GroupReading =
+    λ (group : List ℕ × ℕ). group_told trace pace i group.1 in
+    let groups : groups_by engine watch lives at order
+    ≡ map told (live_groups (after (up_to trace.events at)).groups) =
+    groups_are (group_by engine watch) (group_told trace pace i) (length lives)
+    (λ slot room. group_is engine watch trace pace i slot ticked watching room) lives
+    (live_slots lives at order) below
+    ∙ ap (map told) (sym
+    (order_tells_live limits trace.events planned.accepted.legal order by_path at)) in
+    rw (groups, watching.host) refl
+
+-- ---- moments
+
+-- the last of the evaluations among the first ticks comes before each moment behind these
+pub last_before : (trace : Trace) (pace : Pace) (i at : ℕ) → tick_moment pace.length i < at →
+    IsAfter (last_of (readings_of trace pace i)) at
+unfolding readings_until reading_at
+last_before trace pace zero at late = tt
+last_before trace pace (suc i) at late =
+    let earlier : tick_moment pace.length i < at = omega (arith, late) in
+    let rest = last_before trace pace i at earlier in
+    elim (is_evaluation pace.interval pace.length (suc i)) as (λ b. IsAfter
+    (last_of (map (reading_at trace.cpus trace.events pace.length)
+    (if b then suc i ∷ evaluations pace.interval pace.length i else evaluations pace.interval
+    pace.length i))) at) [
+      | true ↦ late
+      | false ↦ rest
+    ]
+
+not_after : (last : Option ℕ) (at : ℕ) → IsAfter last at → IsNotAfter last at
+not_after None at is = tt
+not_after (Some before) at is = omega (arith, is)
+
+-- so a tick comes behind the evaluations among those before it
+pub behind : (plans : PlansView) (trace : Trace) (pace : Pace) (i : ℕ) →
+    IsPlanned plans trace pace →
+    IsAfter (last_of (readings_of trace pace i)) (tick_moment pace.length (i + 1))
+behind plans trace pace i planned =
+    last_before trace pace i (tick_moment pace.length (i + 1)) (omega (arith, planned.some))
+
+-- ---- one evaluation
+
+last_is : (cpus : ℕ) (events : List Event) (length i : ℕ) (past : List Reading) →
+    last_of (reading_at cpus events length i ∷ past) ≡ Some (tick_moment length i)
+unfolding reading_at
+last_is cpus events length i past = refl
+
+-- An evaluator that took the readings of the evaluations among the first ticks has taken one more,
+-- where its watch and its
+-- killer have, and its reading is what engine and watch tell.
+pub read_next : (old new : EvaluatorView) (plans : PlansView) (engine : EngineView)
+    (order : List Slot) (trace : Trace) (pace : Pace) (rules : List Rule) (i at : ℕ) →
+    IsToEvaluate old plans engine order trace pace rules i at →
+    Advances old.watch new.watch plans.sides at →
+    new.reading ≡ reading_of old.reading.lives
+    (reading_by engine new.watch old.reading.lives at (numbers_of order)) →
+    Takes old.killer new.reading new.killer →
+    HasRead new trace rules (reading_at trace.cpus trace.events pace.length (i + 1) ∷ readings_of
+    trace pace i)
+read_next old new plans engine order trace pace rules i at is advances filled takes =
+    let now : ℕ = tick_moment pace.length (i + 1) in
+    let past : List Reading = readings_of trace pace i in
+    let this : Reading = reading_at trace.cpus trace.events pace.length (i + 1) in
+    let legal = is.planned.accepted.legal in
+    let before = not_after (last_of past) now (behind plans trace pace i is.planned) in
+    let watching : IsWatching trace.events (Some now) new.watch =
+    subst (λ t. IsWatching trace.events (Some t) new.watch) is.at_is
+    (advances (limits_of pace.length trace.cpus) trace.events (last_of past) legal
+    is.planned.stand.sides (subst (IsNotAfter (last_of past)) (sym is.at_is) before)
+    is.read.watch) in
+    let by_path : IsPathOrder (lives_of trace) (numbers_of order) =
+    subst (λ lives. IsPathOrder lives (numbers_of order)) is.planned.stand.lives is.by_path in
+    let seen = reading_is engine new.watch plans (numbers_of order) trace pace (i + 1) is.planned
+    is.ticked watching by_path in
+    let reading : new.reading ≡ reading_of (lives_of trace) this =
+    filled ∙ ap (λ lives. reading_of lives
+    (reading_by engine new.watch lives at (numbers_of order))) is.read.lives
+    ∙ ap (λ t. reading_of (lives_of trace)
+    (reading_by engine new.watch (lives_of trace) t (numbers_of order))) is.at_is
+    ∙ ap (reading_of (lives_of trace)) seen in
+    let taken : Takes old.killer (reading_of (lives_of trace) this) new.killer =
+    subst (λ r. Takes old.killer r new.killer) reading takes in
+    record {
+      killer = taken rules past is.read.killer;
+      watch = subst (λ m. IsWatching trace.events m new.watch)
+          (sym (last_is trace.cpus trace.events pace.length (i + 1) past)) watching;
+      lives = ap (λ (r : ReadingView). r.lives) reading;
+    }

@@ -1,0 +1,127 @@
+-- A judge, and for how many ticks of a trace it has decided what rules kill.
+use Rattle.std.specs.Prelude.{◌≡◌, ℕ, ◌+◌, ◌<◌, List, [], Bool, if◌then◌else◌}
+use Rattle.std.specs.Prelude.{Option, None, Some}
+use Rattle.psi_base.specs.declared.event.Slot.{Slot}
+use Rattle.psi_spec.specs.Groups.{IsPathOrder}
+use Rattle.psi_spec.specs.Trace.{Trace}
+use Rattle.pressure_spec.specs.Ticks.{tick_moment}
+use Rattle.ruleset_json.specs.declared.types.Rule.{Rule}
+use Rattle.ruleset_json.specs.declared.types.Rules.{Rules}
+use Rattle.kill_spec.specs.declared.kill.Kill.{Kill}
+use Rattle.kill_spec.specs.Readings.{Reading}
+use Rattle.kill_spec.specs.Evaluations.{reading_at, readings_until}
+use Rattle.run_spec.specs.Replay.{Pace, kills_in, lives_of, tick_count}
+use Rattle.proc_plan.specs.Plans.{PlansView}
+use Rattle.tick_engine.specs.Engine.{EngineView}
+use Rattle.detectors.specs.Views.{ReadingView}
+use Rattle.detectors.specs.Stands.{last_of}
+use Rattle.kill_engine.specs.Killers.{KillerView, StandsFor}
+use Rattle.side_watch.specs.Watch.{IsWatching, WatchView}
+use Rattle.replay_rules.specs.Planned.{HasTicked, IsPlanned, numbers_of}
+
+-- ---- what a judge keeps
+
+-- An evaluator: the killer, the watch of what events tell beside pressure, and room for a reading.
+pub record EvaluatorView : Type 0 where
+  pub killer : KillerView
+  pub watch : WatchView
+  pub reading : ReadingView
+
+-- A judge: the length of a tick (ns), the interval of evaluations (ns), an evaluator where there
+-- are rules, and whether it evaluated them at the last tick.
+pub record JudgeView : Type 0 where
+  pub length : ℕ
+  pub interval : ℕ
+  pub evaluator : Option EvaluatorView
+  pub evaluated : Bool
+
+-- a judge with these parts
+abbrev pub judge_of : ℕ → ℕ → Option EvaluatorView → Bool → JudgeView
+judge_of length interval evaluator evaluated = record {
+  length = length;
+  interval = interval;
+  evaluator = evaluator;
+  evaluated = evaluated;
+}
+
+-- the kills that an evaluator told of last, if there is one
+abbrev pub told_last : Option EvaluatorView → List Kill
+told_last None = []
+told_last (Some evaluator) = evaluator.killer.found
+
+-- the kills of a judge at the last tick: none where it evaluated no rules then
+abbrev pub kills_of : JudgeView → List Kill
+kills_of judge = if judge.evaluated then told_last judge.evaluator else []
+
+-- the rulesets of a rules file, and none where there is no file
+abbrev pub rules_in : Option Rules → List Rule
+rules_in None = []
+rules_in (Some given) = given.rules
+
+-- ---- what it stands for
+
+-- the reading of a trace at the tick with a number
+abbrev pub read_at : Trace → Pace → ℕ → Reading
+read_at trace pace i = reading_at trace.cpus trace.events pace.length i
+
+-- the readings of a trace at the evaluations among its first so many ticks, the newest first
+abbrev pub readings_of : Trace → Pace → ℕ → List Reading
+readings_of trace pace i = readings_until trace.cpus trace.events pace.length pace.interval i
+
+-- An evaluator with rules has taken these readings of a trace, the newest first: its killer stands
+-- for them, and its watch tells what the events up to the moment of the newest tell.
+pub record HasRead (evaluator : EvaluatorView) (trace : Trace) (rules : List Rule)
+    (readings : List Reading) : Type 0 where
+  pub killer : StandsFor evaluator.killer (lives_of trace) rules readings
+  pub watch : IsWatching trace.events (last_of readings) evaluator.watch
+  pub lives : evaluator.reading.lives ≡ lives_of trace
+
+-- So it is of an evaluator that there may be: without one there are no rules.
+abbrev pub HasReadAll : Option EvaluatorView → Trace → List Rule → List Reading → Type 0
+HasReadAll None trace rules readings = rules ≡ []
+HasReadAll (Some evaluator) trace rules readings = HasRead evaluator trace rules readings
+
+-- A judge with rules has decided at the first so many ticks of a trace at a pace: it has the pace,
+-- has taken the readings of all evaluations among them, and tells the kills at the last of these
+-- ticks.
+pub record HasJudged (judge : JudgeView) (trace : Trace) (pace : Pace) (rules : List Rule) (i : ℕ)
+    : Type 0 where
+  pub length : judge.length ≡ pace.length
+  pub interval : judge.interval ≡ pace.interval
+  pub read : HasReadAll judge.evaluator trace rules (readings_of trace pace i)
+  pub kills : kills_of judge ≡ kills_in trace pace rules i
+
+-- At a tick that is no evaluation a judge keeps what it has, and there are no kills.
+pub record Rests (old new : JudgeView) : Type 0 where
+  pub evaluator : new.evaluator ≡ old.evaluator
+  pub kills : kills_of new ≡ []
+
+-- ---- one tick
+
+-- All is there to begin: plans of a trace, which is replayed at a pace with this length of a tick
+-- (ns) and this interval of evaluations (ns).
+pub record IsToBegin (plans : PlansView) (trace : Trace) (pace : Pace) (tick interval : ℕ)
+    : Type 0 where
+  pub planned : IsPlanned plans trace pace
+  pub tick_is : tick ≡ pace.length
+  pub interval_is : interval ≡ pace.interval
+
+-- All is there to evaluate at a moment (ns): that of the tick behind the first so many.
+pub record IsToEvaluate (evaluator : EvaluatorView) (plans : PlansView) (engine : EngineView)
+    (order : List Slot) (trace : Trace) (pace : Pace) (rules : List Rule) (i at : ℕ) : Type 0 where
+  pub planned : IsPlanned plans trace pace
+  pub at_is : at ≡ tick_moment pace.length (i + 1)
+  pub ticked : HasTicked engine trace pace (i + 1)
+  pub by_path : IsPathOrder plans.lives (numbers_of order)
+  pub read : HasRead evaluator trace rules (readings_of trace pace i)
+
+-- All is there to decide at the tick that comes behind the first so many: it is one of the trace,
+-- the engine has taken it, the order has all slots by path, and the judge has decided at those
+-- before it.
+pub record IsToJudge (judge : JudgeView) (plans : PlansView) (engine : EngineView)
+    (order : List Slot) (trace : Trace) (pace : Pace) (rules : List Rule) (i : ℕ) : Type 0 where
+  pub planned : IsPlanned plans trace pace
+  pub left : i < tick_count trace pace
+  pub ticked : HasTicked engine trace pace (i + 1)
+  pub by_path : IsPathOrder plans.lives (numbers_of order)
+  pub judged : HasJudged judge trace pace rules i

@@ -1,0 +1,4 @@
+pub mod Planned
+pub mod Seen
+pub mod Judged
+pub mod Laws

@@ -1,0 +1,73 @@
+//! One evaluation of rules.
+ghost use Rattle.std.specs.Prelude.{◌≡◌, ◌∷◌, ◌+◌, ◌<◌, [], ℕ, List, IfOk, length};
+ghost use Rattle.psi_spec.specs.Trace.{Trace};
+ghost use Rattle.pressure_spec.specs.Ticks.{tick_moment};
+ghost use Rattle.ruleset_json.specs.declared.types.Rule.{Rule};
+ghost use Rattle.run_spec.specs.Replay.{Pace};
+ghost use Rattle.replay_rules.specs.Planned.{IsPlanned};
+ghost use Rattle.replay_rules.specs.Judged.{HasRead, IsToEvaluate, read_at, readings_of};
+
+use crate::seen::fill_reading;
+use detectors::Reading;
+use kill_engine::Killer;
+use kill_spec::Kill;
+use proc_plan::Plans;
+use psi_base::{NoMemory, Ns, Slot};
+use ruleset_json::Rules;
+use side_watch::Watch;
+use std::alloc::Global;
+use std::marker::Model;
+use tick_engine::Engine;
+
+/// What is kept between evaluations.
+#[derive(Drop)]
+pub(crate) struct Evaluator {
+    killer: Killer,
+    watch: Watch,
+    /// Room for what is read.
+    reading: Reading,
+}
+
+impl Model for Evaluator {
+    ghost use Rattle.replay_rules.specs.Judged.{EvaluatorView};
+
+    ghost Value = { EvaluatorView };
+
+    ghost view = { λ e. record { killer = e.killer; watch = e.watch; reading = e.reading } };
+}
+
+impl Evaluator {
+    /// An evaluator of these rules before the first evaluation of the trace of plans. Takes all
+    /// memory that it will need.
+    pub(crate) fn make(alloc: Global, plans: &Plans, rules: Rules) -> Result<Evaluator, NoMemory>
+        ensures { IfOk result (λ evaluator. (trace : Trace) (pace : Pace) →
+            IsPlanned plans.now trace pace → HasRead evaluator trace rules.rules []) }
+    {
+        let lives = plans.lives();
+        Ok(Evaluator {
+            killer: Killer::make(alloc, rules, lives)?,
+            watch: Watch::make(alloc, lives)?,
+            reading: Reading::make(alloc, lives)?,
+        })
+    }
+
+    /// The evaluation at the moment (ns) of the tick that the engine took last. Takes no memory.
+    pub(crate) fn evaluate(&mut self, plans: &Plans, engine: &Engine, order: &[Slot], at: Ns)
+        requires { (trace : Trace) × (pace : Pace) × (rules : List Rule) × (i : ℕ) ×
+            IsToEvaluate self.old plans.now engine.now order.now trace pace rules i at }
+        ensures { (trace : Trace) (pace : Pace) (rules : List Rule) (i : ℕ) →
+            IsToEvaluate self.old plans.now engine.now order.now trace pace rules i at →
+            HasRead self.new trace rules (read_at trace pace (i + 1) ∷ readings_of trace pace i) }
+    {
+        self.watch.advance(plans.sides(), at);
+        fill_reading(&mut self.reading, engine, &self.watch, order, at);
+        self.killer.evaluate(&self.reading);
+    }
+
+    /// The kills at the last evaluation.
+    pub(crate) fn kills(&self) -> &[Kill]
+        ensures { result.now ≡ self.now.killer.found }
+    {
+        self.killer.kills()
+    }
+}

@@ -1,0 +1,17 @@
+//! What rules decide at the ticks of a replay.
+//!
+//! [`Judge`] has all that rules need between the ticks: what detectors and pauses remember, and
+//! what the trace tells of memory, preferences and tasks. At each evaluation it reads all live
+//! groups, and tells which of them are killed.
+#![tactic(auto)]
+
+mod evaluator;
+mod judge;
+mod laws;
+mod schedule;
+mod seen;
+
+pub use judge::Judge;
+pub use kill_spec::Kill;
+pub use laws::{law_evaluations, law_readings};
+pub use seen::is_live_at;

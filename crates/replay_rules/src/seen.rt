@@ -1,0 +1,89 @@
+//! What is read at an evaluation.
+ghost use Rattle.std.specs.Prelude.{◌≡◌, ◌<◌, ℕ, All, length};
+ghost use Rattle.pressure_spec.specs.Average.{IsRow};
+ghost use Rattle.psi_spec.specs.Groups.{is_live_at};
+ghost use Rattle.kill_spec.specs.Readings.{IsGroupReading};
+ghost use Rattle.tick_engine.specs.Engine.{averages_in};
+ghost use Rattle.replay_rules.specs.Planned.{numbers_of};
+ghost use Rattle.replay_rules.specs.Seen.{HasRows, LiveAscend, group_by, read_by};
+
+use detectors::Reading;
+use kill_spec::GroupReading;
+use psi_base::{Ns, Slot, State};
+use psi_spec::GroupLife;
+use side_watch::Watch;
+use tick_engine::Engine;
+
+/// Whether a group is live at a moment (ns): it was made by then, and hasn't gone by then.
+pub fn is_live_at(life: &GroupLife, at: Ns) -> bool
+    ensures { result ≡ is_live_at life.now at }
+{
+    let is_gone = match life.gone {
+        Some(gone) => gone <= at,
+        None => false,
+    };
+    life.made <= at && !is_gone
+}
+
+/// The averages of a group over 10, 60 and 300 seconds, of each state but nonidle, in the order of
+/// the states.
+fn averages_of(engine: &Engine, slot: Slot) -> [[u64; 3]; 6]
+    requires made { slot.0 < length engine.now.groups }
+    requires rows { HasRows engine.now slot.0 }
+    ensures averages { result ≡ (averages_in engine.now slot.0).averages }
+    ensures each { All IsRow result }
+{
+    let averages = engine.averages(slot);
+    [
+        averages.get(State::IoSome),
+        averages.get(State::IoFull),
+        averages.get(State::MemSome),
+        averages.get(State::MemFull),
+        averages.get(State::CpuSome),
+        averages.get(State::CpuFull),
+    ]
+}
+
+/// What is seen of a group: its averages after the tick, and the last of what the trace told of it.
+fn read_group(engine: &Engine, watch: &Watch, slot: Slot) -> GroupReading
+    requires made { slot.0 < length engine.now.groups }
+    requires rows { HasRows engine.now slot.0 }
+    ensures group { result ≡ group_by engine.now watch.now slot.0 }
+    ensures within { IsGroupReading (length engine.now.groups) result }
+{
+    let memory = watch.memory(slot);
+    GroupReading {
+        slot,
+        averages: averages_of(engine, slot),
+        current: memory.current,
+        swap: memory.swap,
+        scan: memory.scan,
+        preference: watch.preference(slot),
+        populated: watch.is_populated(slot),
+    }
+}
+
+/// Reads the groups that are live at a moment (ns), in this order of slots, which is that of their
+/// paths. Takes no memory.
+pub(crate) fn fill_reading(
+    reading: &mut Reading,
+    engine: &Engine,
+    watch: &Watch,
+    order: &[Slot],
+    at: Ns,
+)
+    requires made { All (λ (slot : Slot). slot.0 < length reading.old.lives) order.now }
+    requires kept { length engine.now.groups ≡ length reading.old.lives }
+    requires rows { (slot : ℕ) → slot < length engine.now.groups → HasRows engine.now slot }
+    requires ascend { LiveAscend reading.old.lives at (numbers_of order.now) }
+    ensures { reading.new ≡
+        read_by engine.now watch.now reading.old.lives at (numbers_of order.now) }
+{
+    reading.start(at, watch.host());
+    'slots: for slot in order {
+        if !is_live_at(&reading.lives()[slot.0 as usize], at) {
+            continue;
+        }
+        reading.push(read_group(engine, watch, *slot));
+    }
+}
