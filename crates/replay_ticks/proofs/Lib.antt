@@ -1,3 +1,4 @@
+pub mod KillLaws
 pub mod Pieces
 pub mod PutLaws
 pub mod ReportLaws

@@ -1,10 +1,10 @@
 -- Texts that are written in pieces.
 use Rattle.std.proofs.Common.{◌≡◌, ℕ, List, [], ◌++◌, ap}
-use Rattle.std.specs.Prelude.{Option}
+use Rattle.std.specs.Prelude.{Option, Result, Ok, Err}
 use Rattle.std.specs.Io.KnownBytes.{Appends}
 use Rattle.std.proofs.lemmas.List.{append-nil}
-use Rattle.psi_base.specs.Outside.{AppendsFront}
-use Rattle.psi_base.proofs.Grows.{Appends-none, AppendsFront-then}
+use Rattle.psi_base.specs.Outside.{AppendsFront, PutsAll}
+use Rattle.psi_base.proofs.Grows.{Appends-none, Appends-then, AppendsFront-then}
 
 -- a front of the first text is one of both
 pub front_of_both : (old new : Option (List ℕ)) (xs ys : List ℕ) → AppendsFront old new xs → AppendsFront old new (xs ++ ys)
@@ -15,3 +15,8 @@ pub front_then : (old mid new : Option (List ℕ)) (xs ys : List ℕ) → Append
 front_then old mid new xs ys first front =
     let all : xs ++ (ys ++ []) ≡ xs ++ ys = ap (λ zs. xs ++ zs) (append-nil ys) in
     rw (← all) (AppendsFront-then old mid new xs ys [] first front)
+
+-- what is put behind a text is put behind it in whole, or as a front of both
+pub puts_then : {T E : Type 0} → (old mid new : Option (List ℕ)) (result : Result T E) (xs ys : List ℕ) → Appends old mid xs → PutsAll mid new result ys → PutsAll old new result (xs ++ ys)
+puts_then old mid new (Ok value) xs ys first put = Appends-then old mid new xs ys first put
+puts_then old mid new (Err fault) xs ys first put = front_then old mid new xs ys first put

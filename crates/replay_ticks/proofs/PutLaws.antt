@@ -1,6 +1,6 @@
 -- The lines of a tick that was sampled.
-use Rattle.std.proofs.Common.{◌≡◌, ℕ, suc, ◌+◌, ◌-◌, ◌*◌, ◌≤◌, ◌<◌, List, [], ◌∷◌, ◌++◌, length, refl, sym, ap, subst, ◌∙◌, arith, Bool, true, false}
-use Rattle.std.specs.Prelude.{All, Option, if◌then◌else◌}
+use Rattle.std.proofs.Common.{◌≡◌, ℕ, suc, ◌+◌, ◌-◌, ◌*◌, ◌≤◌, ◌<◌, List, [], ◌∷◌, ◌++◌, length, refl, sym, ap, subst, ◌∙◌, append_assoc, arith, Bool, true, false}
+use Rattle.std.specs.Prelude.{All, Option, Result, if◌then◌else◌}
 use Rattle.std.specs.Io.KnownBytes.{Appends}
 use Rattle.std.specs.List.{flat_map, range_with_len}
 use Rattle.std.proofs.Math.Nat.{le-div_iff_mul-le}
@@ -8,8 +8,7 @@ use Rattle.std.proofs.lemmas.List.{append-nil, get_or-map, length-map}
 use Rattle.std.proofs.lemmas.List.Elements.{All-filter}
 use Rattle.std.proofs.lemmas.List.FromFn.{get_or-range_with_len, length-range_with_len}
 use Rattle.std.proofs.lemmas.List.Sorted.{All-permutation}
-use Rattle.psi_base.specs.Outside.{AppendsFront}
-use Rattle.psi_base.proofs.Grows.{Appends-then}
+use Rattle.psi_base.specs.Outside.{AppendsFront, PutsAll}
 use Rattle.psi_base.specs.declared.event.Slot.{Slot}
 use Rattle.psi_base.specs.declared.event.TriggerSpec.{TriggerSpec}
 use Rattle.psi_spec.specs.declared.machine.GroupLife.{GroupLife}
@@ -21,7 +20,9 @@ use Rattle.psi_laws.proofs.PlanStates.{legal_after}
 use Rattle.pressure_spec.specs.Average.{AverageState}
 use Rattle.pressure_spec.specs.Ticks.{Tick, is_report, tick_moment, tick_of, ticks_of}
 use Rattle.pressure_spec.specs.Samples.{fired_at, fires_by_number}
-use Rattle.run_spec.specs.Replay.{Pace, fired_in, lives_of, nothing_beside, reports, signal_lines, tick_count, tick_text}
+use Rattle.ruleset_json.specs.declared.types.Rule.{Rule}
+use Rattle.kill_spec.specs.declared.kill.Kill.{Kill}
+use Rattle.run_spec.specs.Replay.{Pace, fired_in, kill_lines, kills_in, lives_of, reports, signal_lines, tick_count, tick_text, with_rules}
 use Rattle.run_laws.specs.Reports.{averages_at, slot_report, slot_reports, totals_at}
 use Rattle.run_laws.proofs.OneMore.{ticks_more}
 use Rattle.run_laws.proofs.ByOrder.{reports_by_order}
@@ -29,8 +30,9 @@ use Rattle.proc_plan.specs.Plans.{PlansView}
 use Rattle.tick_engine.specs.Engine.{EngineView, averages_in, totals_in}
 use Rattle.tick_engine.specs.declared.group.Group.{Group}
 use Rattle.replay_ticks.specs.declared.pacing.Pacing.{Pacing}
-use Rattle.replay_ticks.specs.Replays.{HasTicked, IsPaced, IsPlanned, IsToPut, numbers_of}
-use Rattle.replay_ticks.proofs.Pieces.{front_of_both, front_then}
+use Rattle.replay_rules.specs.Planned.{HasTicked, IsPlanned, numbers_of}
+use Rattle.replay_ticks.specs.Replays.{IsPaced, IsToPut, due_text}
+use Rattle.replay_ticks.proofs.Pieces.{front_of_both, front_then, puts_then}
 use Rattle.replay_ticks.proofs.StartLaws.{latest_within, triggers_within}
 
 -- ---- moments
@@ -64,7 +66,7 @@ fired_below cpus lives triggers ticks tick =
     All-filter (fires_by_number cpus lives triggers ticks tick) (λ number. number < length triggers) (range_with_len 0 (length triggers)) (range_below (length triggers))
 
 -- an order of all slots by path has no slots but those that there are
-order_below : (lives : List GroupLife) (order : List ℕ) → IsPathOrder lives order → All (λ slot. slot < length lives) order
+pub order_below : (lives : List GroupLife) (order : List ℕ) → IsPathOrder lives order → All (λ slot. slot < length lives) order
 order_below lives order is = All-permutation (λ slot. slot < length lives) (range_with_len 0 (length lives)) order is.each (range_below (length lives))
 
 -- so it is of slots
@@ -137,15 +139,14 @@ reports_are plans engine order pacing trace pace number is =
 
 -- ---- the whole text
 
--- the reports of a tick, where they are due
-abbrev pub due_text : Trace → Pace → ℕ → List ℕ
-due_text trace pace number = if is_report pace.report pace.length (tick_count trace pace) number then reports trace pace number else []
+-- the kills of a tick as lines
+abbrev pub kills_text : Trace → Pace → List Rule → ℕ → List ℕ
+kills_text trace pace rules number = kill_lines (lives_of trace) (kills_in trace pace rules number)
 
-pub text_is : (trace : Trace) (pace : Pace) (number : ℕ) → tick_text trace pace nothing_beside number ≡ signals_text trace pace number ++ due_text trace pace number
+pub text_is : (trace : Trace) (pace : Pace) (rules : List Rule) (number : ℕ) →
+    tick_text trace pace (with_rules rules) number ≡ signals_text trace pace number ++ (kills_text trace pace rules number ++ due_text trace pace number)
 unfolding tick_text
-text_is trace pace number =
-    let signals = signals_text trace pace number in
-    ap (λ t. t ++ due_text trace pace number) (append-nil signals)
+text_is trace pace rules number = append_assoc (signals_text trace pace number) (kills_text trace pace rules number) (due_text trace pace number)
 
 due_true : (b : Bool) (text : List ℕ) → b ≡ true → (if b then text else []) ≡ text
 due_true b text is = rw is refl
@@ -156,17 +157,13 @@ due_false b text is = rw is refl
 paced_due : (pacing : Pacing) (trace : Trace) (pace : Pace) (number : ℕ) → IsPaced pacing trace pace → is_report pace.report pace.length (tick_count trace pace) number ≡ is_report pacing.report pacing.length pacing.last number
 paced_due pacing trace pace number paced = rw (paced.report, paced.length, paced.last) refl
 
--- the text of a tick with reports
-pub text_due : (pacing : Pacing) (trace : Trace) (pace : Pace) (number : ℕ) → IsPaced pacing trace pace → is_report pacing.report pacing.length pacing.last number ≡ true →
-    tick_text trace pace nothing_beside number ≡ signals_text trace pace number ++ reports trace pace number
-text_due pacing trace pace number paced due =
-    text_is trace pace number ∙ ap (λ t. signals_text trace pace number ++ t) (due_true _ (reports trace pace number) (paced_due pacing trace pace number paced ∙ due))
+-- the reports of a tick that is reported
+pub text_due : (pacing : Pacing) (trace : Trace) (pace : Pace) (number : ℕ) → IsPaced pacing trace pace → is_report pacing.report pacing.length pacing.last number ≡ true → due_text trace pace number ≡ reports trace pace number
+text_due pacing trace pace number paced due = due_true _ (reports trace pace number) (paced_due pacing trace pace number paced ∙ due)
 
--- the text of a tick without
-pub text_plain : (pacing : Pacing) (trace : Trace) (pace : Pace) (number : ℕ) → IsPaced pacing trace pace → is_report pacing.report pacing.length pacing.last number ≡ false →
-    tick_text trace pace nothing_beside number ≡ signals_text trace pace number
-text_plain pacing trace pace number paced due =
-    text_is trace pace number ∙ ap (λ t. signals_text trace pace number ++ t) (due_false _ (reports trace pace number) (paced_due pacing trace pace number paced ∙ due)) ∙ append-nil (signals_text trace pace number)
+-- those of another tick
+pub text_plain : (pacing : Pacing) (trace : Trace) (pace : Pace) (number : ℕ) → IsPaced pacing trace pace → is_report pacing.report pacing.length pacing.last number ≡ false → due_text trace pace number ≡ []
+text_plain pacing trace pace number paced due = due_false _ (reports trace pace number) (paced_due pacing trace pace number paced ∙ due)
 
 -- ---- what is put
 
@@ -186,32 +183,30 @@ pub reports_put : (plans : PlansView) (engine : EngineView) (order : List Slot) 
 reports_put plans engine order pacing trace pace number is at lives at_is lives_are =
     rw (at_is, lives_are) (reports_are plans engine order pacing trace pace number is)
 
+-- the lines of kills that were put are those of the tick
+pub kills_put : (plans : PlansView) (trace : Trace) (pace : Pace) (rules : List Rule) (number : ℕ) → IsPlanned plans trace pace → (lives : List GroupLife) (killed : List Kill) →
+    lives ≡ plans.lives → killed ≡ kills_in trace pace rules number → kill_lines lives killed ≡ kills_text trace pace rules number
+kills_put plans trace pace rules number planned lives killed lives_are are = rw (lives_are ∙ planned.stand.lives, are) refl
+
 -- a front of the signals is one of the tick's text
-pub signals_front : (old new : Option (List ℕ)) (trace : Trace) (pace : Pace) (number : ℕ) (signals : List ℕ) → signals ≡ signals_text trace pace number →
-    AppendsFront old new signals → AppendsFront old new (tick_text trace pace nothing_beside number)
-signals_front old new trace pace number signals same front =
-    subst (AppendsFront old new) (sym (text_is trace pace number))
-    (front_of_both old new (signals_text trace pace number) (due_text trace pace number) (subst (AppendsFront old new) same front))
+pub signals_front : (old new : Option (List ℕ)) (trace : Trace) (pace : Pace) (rules : List Rule) (number : ℕ) (signals : List ℕ) → signals ≡ signals_text trace pace number →
+    AppendsFront old new signals → AppendsFront old new (tick_text trace pace (with_rules rules) number)
+signals_front old new trace pace rules number signals same front =
+    subst (AppendsFront old new) (sym (text_is trace pace rules number))
+    (front_of_both old new (signals_text trace pace number) _ (subst (AppendsFront old new) same front))
 
--- the signals, and a front of the reports, are a front of the text of a tick with reports
-pub reports_front : (old mid new : Option (List ℕ)) (pacing : Pacing) (trace : Trace) (pace : Pace) (number : ℕ) (signals behind : List ℕ) → IsPaced pacing trace pace →
-    is_report pacing.report pacing.length pacing.last number ≡ true → signals ≡ signals_text trace pace number → behind ≡ reports trace pace number →
-    Appends old mid signals → AppendsFront mid new behind → AppendsFront old new (tick_text trace pace nothing_beside number)
-reports_front old mid new pacing trace pace number signals behind paced due same reported first front =
-    subst (AppendsFront old new) (sym (text_due pacing trace pace number paced due))
-    (front_then old mid new (signals_text trace pace number) (reports trace pace number) (subst (Appends old mid) same first) (subst (AppendsFront mid new) reported front))
+-- so are the signals, and a front of the kills
+pub kills_front : (old mid new : Option (List ℕ)) (trace : Trace) (pace : Pace) (rules : List Rule) (number : ℕ) (signals killed : List ℕ) → signals ≡ signals_text trace pace number → killed ≡ kills_text trace pace rules number →
+    Appends old mid signals → AppendsFront mid new killed → AppendsFront old new (tick_text trace pace (with_rules rules) number)
+kills_front old mid new trace pace rules number signals killed same also first front =
+    subst (AppendsFront old new) (sym (text_is trace pace rules number))
+    (front_then old mid new (signals_text trace pace number) _ (subst (Appends old mid) same first)
+    (front_of_both mid new (kills_text trace pace rules number) (due_text trace pace number) (subst (AppendsFront mid new) also front)))
 
--- the signals and the reports are all of it
-pub reports_all : (old mid new : Option (List ℕ)) (pacing : Pacing) (trace : Trace) (pace : Pace) (number : ℕ) (signals behind : List ℕ) → IsPaced pacing trace pace →
-    is_report pacing.report pacing.length pacing.last number ≡ true → signals ≡ signals_text trace pace number → behind ≡ reports trace pace number →
-    Appends old mid signals → Appends mid new behind → Appends old new (tick_text trace pace nothing_beside number)
-reports_all old mid new pacing trace pace number signals behind paced due same reported first second =
-    subst (Appends old new) (sym (text_due pacing trace pace number paced due))
-    (Appends-then old mid new (signals_text trace pace number) (reports trace pace number) (subst (Appends old mid) same first) (subst (Appends mid new) reported second))
-
--- the signals alone are all of a tick without reports
-pub signals_all : (old new : Option (List ℕ)) (pacing : Pacing) (trace : Trace) (pace : Pace) (number : ℕ) (signals : List ℕ) → IsPaced pacing trace pace →
-    is_report pacing.report pacing.length pacing.last number ≡ false → signals ≡ signals_text trace pace number →
-    Appends old new signals → Appends old new (tick_text trace pace nothing_beside number)
-signals_all old new pacing trace pace number signals paced due same first =
-    subst (Appends old new) (sym (text_plain pacing trace pace number paced due)) (subst (Appends old new) same first)
+-- the signals, the kills and the reports are all of it
+pub all_put : {T E : Type 0} (old mid next new : Option (List ℕ)) (trace : Trace) (pace : Pace) (rules : List Rule) (number : ℕ) (signals killed : List ℕ) (result : Result T E) → signals ≡ signals_text trace pace number →
+    killed ≡ kills_text trace pace rules number → Appends old mid signals → Appends mid next killed → PutsAll next new result (due_text trace pace number) → PutsAll old new result (tick_text trace pace (with_rules rules) number)
+all_put old mid next new trace pace rules number signals killed result same also first second third =
+    subst (PutsAll old new result) (sym (text_is trace pace rules number))
+    (puts_then old mid new result (signals_text trace pace number) _ (subst (Appends old mid) same first)
+    (puts_then mid next new result (kills_text trace pace rules number) (due_text trace pace number) (subst (Appends mid next) also second) third))

@@ -1,41 +1,26 @@
 -- The lines of signals and reports, one after another.
 use Rattle.std.proofs.Common.{◌≡◌, ◌<◌, ℕ, ◌+◌, List, [], ◌∷◌, ◌++◌, length, take, drop, get_or, sym, ap, ◌∙◌}
-use Rattle.std.specs.Prelude.{Option, Result, Ok, Err, slice_get}
+use Rattle.std.specs.Prelude.{slice_get}
 use Rattle.std.specs.List.{flat_map}
-use Rattle.std.specs.Io.KnownBytes.{Appends}
 use Rattle.std.proofs.lemmas.List.{append-nil, get_or-map, take_more}
 use Rattle.std.proofs.lemmas.Grind.{flat_map-append}
 use Rattle.std.proofs.lemmas.List.Concat.{flat_map-cons}
 use Rattle.std.proofs.lemmas.List.Folds.{flat_map-map}
 use Rattle.std.proofs.lemmas.Option.{slice_get-get_or}
-use Rattle.psi_base.specs.Outside.{AppendsFront, PutsAll}
-use Rattle.psi_base.proofs.Grows.{Appends-none, Appends-then, AppendsFront-then, flat_map-at}
+use Rattle.psi_base.proofs.Grows.{flat_map-at}
 use Rattle.psi_base.specs.declared.event.Res.{Res}
 use Rattle.psi_base.specs.declared.event.Res.TheVariants.{Io, Memory, Cpu as CpuRes}
 use Rattle.psi_base.specs.declared.event.Slot.{Slot}
 use Rattle.psi_base.specs.declared.event.TriggerSpec.{TriggerSpec}
 use Rattle.psi_spec.specs.declared.machine.GroupLife.{GroupLife}
 use Rattle.psi_spec.specs.Fields.{resources}
-use Rattle.run_spec.specs.Lines.{event_line}
+use Rattle.psi_spec.specs.Groups.{path_at}
+use Rattle.kill_spec.specs.declared.kill.Kill.{Kill}
+use Rattle.run_spec.specs.Lines.{event_line, kill_line}
 use Rattle.run_spec.specs.Replay.{signal_line}
-use Rattle.replay_ticks.specs.Replays.{numbers_of}
+use Rattle.replay_rules.specs.Planned.{numbers_of}
 
--- ---- one text after another
-
--- a front of the first text is one of both
-pub front_of_both : (old new : Option (List ℕ)) (xs ys : List ℕ) → AppendsFront old new xs → AppendsFront old new (xs ++ ys)
-front_of_both old new xs ys front = AppendsFront-then old old new [] xs ys (Appends-none old) front
-
--- the first text, and then a front of the second, are a front of both
-pub front_then : (old mid new : Option (List ℕ)) (xs ys : List ℕ) → Appends old mid xs → AppendsFront mid new ys → AppendsFront old new (xs ++ ys)
-front_then old mid new xs ys first front =
-    let all : xs ++ (ys ++ []) ≡ xs ++ ys = ap (λ zs. xs ++ zs) (append-nil ys) in
-    rw (← all) (AppendsFront-then old mid new xs ys [] first front)
-
--- what is put behind a text is put behind it in whole, or as a front of both
-pub puts_then : {T E : Type 0} → (old mid new : Option (List ℕ)) (result : Result T E) (xs ys : List ℕ) → Appends old mid xs → PutsAll mid new result ys → PutsAll old new result (xs ++ ys)
-puts_then old mid new (Ok value) xs ys first put = Appends-then old mid new xs ys first put
-puts_then old mid new (Err fault) xs ys first put = front_then old mid new xs ys first put
+-- ---- one piece after another
 
 -- the pieces before one, and that piece
 pub taken_more : {X : Type 0} → (f : X → List ℕ) (xs : List X) (i : ℕ) (d : X) → i < length xs → flat_map f (take (i + 1) xs) ≡ flat_map f (take i xs) ++ f (get_or xs i d)
@@ -62,6 +47,11 @@ pub signal_is : (at : ℕ) (lives : List GroupLife) (triggers : List TriggerSpec
     → signal_line at lives number (slice_get triggers number) ≡ event_line at number (get_or lives (get_or triggers number d).slot.0 e).path (get_or triggers number d)
 signal_is at lives triggers number d e inside room =
     ap (signal_line at lives number) (slice_get-get_or triggers number d inside) ∙ ap (λ path. event_line at number path (get_or triggers number d)) (get_or-map (λ (l : GroupLife). l.path) lives (get_or triggers number d).slot.0 e [] room)
+
+-- the line of a kill
+pub kill_is : (lives : List GroupLife) (kill : Kill) (e : GroupLife) → kill.victim.0 < length lives
+    → kill_line kill.at kill.rule kill.action (path_at lives kill.victim.0) ≡ kill_line kill.at kill.rule kill.action (get_or lives kill.victim.0 e).path
+kill_is lives kill e room = ap (kill_line kill.at kill.rule kill.action) (get_or-map (λ (l : GroupLife). l.path) lives kill.victim.0 e [] room)
 
 -- ---- reports
 

@@ -18,7 +18,11 @@ use Rattle.aggregate.specs.Table.{new_table}
 use Rattle.aggregate.proofs.TableLaws.{keeps_sizes}
 use Rattle.tick_engine.specs.Engine.{EngineView, IsLifeWithin, StandsFor}
 use Rattle.replay_workers.specs.Crew.{AreOnPlans, clocks_at}
-use Rattle.replay_ticks.specs.Replays.{HasTicked, IsPaced, IsPlanned, IsReplay, ReplayView, numbers_of}
+use Rattle.ruleset_json.specs.declared.types.Rule.{Rule}
+use Rattle.ruleset_json.specs.RuleRanges.{FitsRules}
+use Rattle.replay_rules.specs.Planned.{HasTicked, IsPlanned, numbers_of}
+use Rattle.replay_rules.specs.Judged.{HasJudged}
+use Rattle.replay_ticks.specs.Replays.{IsPaced, IsReplay, ReplayView}
 
 -- ---- lives and triggers
 
@@ -80,13 +84,13 @@ engine_new plans engine trace pace planned stands =
     no_ticks engine trace pace (subst (λ triggers. StandsFor engine trace.cpus (lives_of trace) triggers []) planned.stand.triggers lives)
 
 -- what was made of plans is a replay of their trace before its first tick
-pub replay_new : (replay : ReplayView) (trace : Trace) (pace : Pace) → IsPlanned replay.plans trace pace →
+pub replay_new : (replay : ReplayView) (trace : Trace) (pace : Pace) (rules : List Rule) → IsPlanned replay.plans trace pace →
     replay.crew.plans ≡ replay.plans → AreOnPlans replay.crew.plans replay.crew.clocks →
     ((cpu : ℕ) → cpu < length replay.crew.plans.plans → (clocks_at replay.crew.clocks cpu).made ≡ 0) →
     replay.rows ≡ new_table (length replay.plans.plans) (length replay.plans.lives) →
     StandsFor replay.engine (length replay.plans.plans) replay.plans.lives replay.plans.triggers [] →
-    IsPathOrder replay.plans.lives (numbers_of replay.order) → IsPaced replay.pacing trace pace → replay.made ≡ 0 → replay.signals ≡ 0 → IsReplay replay trace pace 0
-replay_new replay trace pace planned same on fresh rows stands order paced made signals =
+    IsPathOrder replay.plans.lives (numbers_of replay.order) → IsPaced replay.pacing trace pace → HasJudged replay.judge trace pace rules 0 → FitsRules rules → replay.made ≡ 0 → replay.signals ≡ 0 → replay.kills ≡ 0 → IsReplay replay trace pace rules 0
+replay_new replay trace pace rules planned same on fresh rows stands order paced judged fits made signals kills =
     let here = subst (λ plans. AreOnPlans plans replay.crew.clocks) same on in
     record {
       planned = planned;
@@ -100,6 +104,9 @@ replay_new replay trace pace planned same on fresh rows stands order paced made 
       };
       sizes = rw rows (keeps_sizes.new (length replay.plans.plans) (length replay.plans.lives));
       engine = engine_new replay.plans replay.engine trace pace planned stands;
+      judge = judged;
+      fit = fits;
       order = order;
       signals = signals;
+      kills = kills;
     }

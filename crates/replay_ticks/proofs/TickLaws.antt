@@ -13,9 +13,9 @@ use Rattle.psi_laws.proofs.PlanStates.{legal_after}
 use Rattle.psi_laws.proofs.MomentsTriggers.{triggers_are_within}
 use Rattle.pressure_spec.specs.Samples.{fired_at, fires_by_number}
 use Rattle.pressure_spec.specs.Ticks.{IsNextTick, table_until, tick_moment, tick_of, ticks_of}
-use Rattle.run_spec.specs.Replay.{Pace, fired_in, lives_of, nothing_beside, signals_until, tick_count, tick_text}
+use Rattle.run_spec.specs.Replay.{Pace, fired_in, kills_in, lives_of, signals_until, tick_count, tick_text, with_rules}
 use Rattle.run_spec.specs.Text.{end_of}
-use Rattle.run_laws.proofs.OneMore.{signals_more, ticks_more}
+use Rattle.run_laws.proofs.OneMore.{kills_more, signals_more, ticks_more}
 use Rattle.run_laws.proofs.Following.{ticks_follow}
 use Rattle.proc_plan.specs.Plans.{PlansView, plan_at}
 use Rattle.aggregate.specs.Table.{HasSizes}
@@ -28,7 +28,11 @@ use Rattle.psi_base.specs.Outside.{AppendsFront}
 use Rattle.psi_base.specs.declared.event.Slot.{Slot}
 use Rattle.psi_spec.specs.Groups.{IsPathOrder}
 use Rattle.replay_ticks.specs.declared.replay.TickFault.{TickFault}
-use Rattle.replay_ticks.specs.Replays.{HasPlaces, HasTicked, IsPlanned, IsReplay, IsSampled, IsToPut, IsToSample, ReplayView, TickGives, numbers_of}
+use Rattle.ruleset_json.specs.declared.types.Rule.{Rule}
+use Rattle.kill_spec.specs.declared.kill.Kill.{Kill}
+use Rattle.replay_rules.specs.Planned.{HasTicked, IsPlanned, numbers_of}
+use Rattle.replay_rules.specs.Judged.{HasJudged, IsToJudge, JudgeView, kills_of}
+use Rattle.replay_ticks.specs.Replays.{HasPlaces, IsReplay, IsSampled, IsToPut, IsToSample, ReplayView, TickGives}
 
 -- ---- moments
 
@@ -179,13 +183,23 @@ signals_fit plans engine trace pace i signals planned left stands so_far =
 -- ---- the whole replay
 
 -- a replay whose next tick was sampled
-abbrev pub ticked_replay : ReplayView → CrewView → List (List (List ℕ)) → EngineView → ReplayView
-ticked_replay old crew rows engine =
-    record { plans = old.plans; crew = crew; rows = rows; engine = engine; order = old.order; pacing = old.pacing; made = old.made + 1; signals = old.signals + length engine.fired }
+abbrev pub ticked_replay : ReplayView → CrewView → List (List (List ℕ)) → EngineView → JudgeView → ReplayView
+ticked_replay old crew rows engine judge = record {
+  plans = old.plans;
+  crew = crew;
+  rows = rows;
+  engine = engine;
+  judge = judge;
+  order = old.order;
+  pacing = old.pacing;
+  made = old.made + 1;
+  signals = old.signals + length engine.fired;
+  kills = old.kills + length (kills_of judge);
+}
 
 -- where not all ticks were made, one is left
-pub one_left : (replay : ReplayView) (trace : Trace) (pace : Pace) (i : ℕ) → IsReplay replay trace pace i → (replay.made ≡ replay.pacing.last → ⊥) → i < tick_count trace pace
-one_left replay trace pace i is open_ =
+pub one_left : (replay : ReplayView) (trace : Trace) (pace : Pace) (rules : List Rule) (i : ℕ) → IsReplay replay trace pace rules i → (replay.made ≡ replay.pacing.last → ⊥) → i < tick_count trace pace
+one_left replay trace pace rules i is open_ =
     let made = is.made in
     let within = is.within in
     let last = is.paced.last in
@@ -193,31 +207,31 @@ one_left replay trace pace i is open_ =
     grind (arith, within, other)
 
 -- its moment
-pub moment_is : (replay : ReplayView) (trace : Trace) (pace : Pace) (i : ℕ) → IsReplay replay trace pace i → tick_moment replay.pacing.length (replay.made + 1) ≡ tick_moment pace.length (i + 1)
-moment_is replay trace pace i is =
+pub moment_is : (replay : ReplayView) (trace : Trace) (pace : Pace) (rules : List Rule) (i : ℕ) → IsReplay replay trace pace rules i → tick_moment replay.pacing.length (replay.made + 1) ≡ tick_moment pace.length (i + 1)
+moment_is replay trace pace rules i is =
     ap (λ length. tick_moment length (replay.made + 1)) is.paced.length ∙ ap (λ n. tick_moment pace.length (n + 1)) is.made
 
 -- it fits
-pub moment_fits : (replay : ReplayView) (trace : Trace) (pace : Pace) (i : ℕ) → IsReplay replay trace pace i → (replay.made ≡ replay.pacing.last → ⊥) → tick_moment replay.pacing.length (replay.made + 1) < 2 ^ 64
-moment_fits replay trace pace i is open_ =
-    let left = one_left replay trace pace i is open_ in
+pub moment_fits : (replay : ReplayView) (trace : Trace) (pace : Pace) (rules : List Rule) (i : ℕ) → IsReplay replay trace pace rules i → (replay.made ≡ replay.pacing.last → ⊥) → tick_moment replay.pacing.length (replay.made + 1) < 2 ^ 64
+moment_fits replay trace pace rules i is open_ =
+    let left = one_left replay trace pace rules i is open_ in
     let early = moment_early replay.plans trace pace (i + 1) is.planned (omega (arith, left)) in
-    let same = moment_is replay trace pace i is in
+    let same = moment_is replay trace pace rules i is in
     omega (arith, early, same)
 
-planned_by_crew : (replay : ReplayView) (trace : Trace) (pace : Pace) (i : ℕ) → IsReplay replay trace pace i → IsPlanned replay.crew.plans trace pace
-planned_by_crew replay trace pace i is = subst (λ plans. IsPlanned plans trace pace) (sym is.crew) is.planned
+planned_by_crew : (replay : ReplayView) (trace : Trace) (pace : Pace) (rules : List Rule) (i : ℕ) → IsReplay replay trace pace rules i → IsPlanned replay.crew.plans trace pace
+planned_by_crew replay trace pace rules i is = subst (λ plans. IsPlanned plans trace pace) (sym is.crew) is.planned
 
 -- all is there to sample it
-pub to_sample : (replay : ReplayView) (trace : Trace) (pace : Pace) (i at : ℕ) → IsReplay replay trace pace i → (replay.made ≡ replay.pacing.last → ⊥) → at ≡ tick_moment replay.pacing.length (replay.made + 1)
+pub to_sample : (replay : ReplayView) (trace : Trace) (pace : Pace) (rules : List Rule) (i at : ℕ) → IsReplay replay trace pace rules i → (replay.made ≡ replay.pacing.last → ⊥) → at ≡ tick_moment replay.pacing.length (replay.made + 1)
     → IsToSample replay.crew replay.rows replay.engine trace pace i at
-to_sample replay trace pace i at is open_ moment =
-    let here : at ≡ tick_moment pace.length (i + 1) = moment ∙ moment_is replay trace pace i is in
+to_sample replay trace pace rules i at is open_ moment =
+    let here : at ≡ tick_moment pace.length (i + 1) = moment ∙ moment_is replay trace pace rules i is in
     let apart : tick_moment pace.length (i + 1) ≡ tick_moment pace.length i + pace.length = grind arith in
     let behind = behind_later replay.plans replay.crew.clocks (tick_moment pace.length i) at (omega (arith, here, apart)) is.behind in
     record {
-      planned = planned_by_crew replay trace pace i is;
-      left = one_left replay trace pace i is open_;
+      planned = planned_by_crew replay trace pace rules i is;
+      left = one_left replay trace pace rules i is open_;
       at_is = here;
       behind = subst (λ plans. AreBehind plans replay.crew.clocks at) (sym is.crew) behind;
       sizes = subst (λ plans. HasPlaces plans replay.rows) (sym is.crew) is.sizes;
@@ -225,10 +239,10 @@ to_sample replay trace pace i at is open_ moment =
     }
 
 -- all is there to write its lines
-pub to_put : (replay : ReplayView) (crew : CrewView) (rows : List (List (List ℕ))) (engine : EngineView) (order : List Slot) (trace : Trace) (pace : Pace) (i at : ℕ) → IsReplay replay trace pace i → (replay.made ≡ replay.pacing.last → ⊥)
+pub to_put : (replay : ReplayView) (crew : CrewView) (rows : List (List (List ℕ))) (engine : EngineView) (order : List Slot) (trace : Trace) (pace : Pace) (rules : List Rule) (i at : ℕ) → IsReplay replay trace pace rules i → (replay.made ≡ replay.pacing.last → ⊥)
     → order ≡ replay.order → IsSampled replay.crew.plans crew rows engine trace pace (i + 1) at → IsToPut replay.plans engine order replay.pacing trace pace (replay.made + 1)
-to_put replay crew rows engine order trace pace i at is open_ ordered sampled =
-    let left = one_left replay trace pace i is open_ in
+to_put replay crew rows engine order trace pace rules i at is open_ ordered sampled =
+    let left = one_left replay trace pace rules i is open_ in
     let made = is.made in
     record {
       planned = is.planned;
@@ -240,18 +254,36 @@ to_put replay crew rows engine order trace pace i at is open_ ordered sampled =
     }
 
 -- its signals can be counted
-pub count_fits : (replay : ReplayView) (crew : CrewView) (rows : List (List (List ℕ))) (engine : EngineView) (trace : Trace) (pace : Pace) (i at : ℕ) → IsReplay replay trace pace i → (replay.made ≡ replay.pacing.last → ⊥)
+pub count_fits : (replay : ReplayView) (crew : CrewView) (rows : List (List (List ℕ))) (engine : EngineView) (trace : Trace) (pace : Pace) (rules : List Rule) (i at : ℕ) → IsReplay replay trace pace rules i → (replay.made ≡ replay.pacing.last → ⊥)
     → IsSampled replay.crew.plans crew rows engine trace pace (i + 1) at → replay.signals + length engine.fired < 2 ^ 64
-count_fits replay crew rows engine trace pace i at is open_ sampled =
-    signals_fit replay.plans engine trace pace i replay.signals is.planned (one_left replay trace pace i is open_) sampled.ticked is.signals
+count_fits replay crew rows engine trace pace rules i at is open_ sampled =
+    signals_fit replay.plans engine trace pace i replay.signals is.planned (one_left replay trace pace rules i is open_) sampled.ticked is.signals
+
+-- all is there to decide by rules
+pub to_judge : (replay : ReplayView) (crew : CrewView) (rows : List (List (List ℕ))) (engine : EngineView) (order : List Slot) (trace : Trace) (pace : Pace) (rules : List Rule) (i at : ℕ) → IsReplay replay trace pace rules i → (replay.made ≡ replay.pacing.last → ⊥)
+    → order ≡ replay.order → IsSampled replay.crew.plans crew rows engine trace pace (i + 1) at → IsToJudge replay.judge replay.plans engine order trace pace rules i
+to_judge replay crew rows engine order trace pace rules i at is open_ ordered sampled = record {
+  planned = is.planned;
+  left = one_left replay trace pace rules i is open_;
+  ticked = sampled.ticked;
+  by_path = subst (λ slots. IsPathOrder replay.plans.lives (numbers_of slots)) (sym ordered) is.order;
+  judged = is.judge;
+}
+
+-- a judge tells the kills of the tick
+pub kills_are : (judge : JudgeView) (trace : Trace) (pace : Pace) (rules : List Rule) (number : ℕ) (found : List Kill) → HasJudged judge trace pace rules number → found ≡ kills_of judge → found ≡ kills_in trace pace rules number
+kills_are judge trace pace rules number found judged same = same ∙ judged.kills
 
 -- one tick more was made
-pub is_ticked : (replay : ReplayView) (crew : CrewView) (rows : List (List (List ℕ))) (engine : EngineView) (trace : Trace) (pace : Pace) (i at : ℕ) → IsReplay replay trace pace i → (replay.made ≡ replay.pacing.last → ⊥)
-    → at ≡ tick_moment replay.pacing.length (replay.made + 1) → IsSampled replay.crew.plans crew rows engine trace pace (i + 1) at → IsReplay (ticked_replay replay crew rows engine) trace pace (i + 1)
-is_ticked replay crew rows engine trace pace i at is open_ moment sampled =
-    let left = one_left replay trace pace i is open_ in
-    let here : at ≡ tick_moment pace.length (i + 1) = moment ∙ moment_is replay trace pace i is in
+pub is_ticked : (replay : ReplayView) (crew : CrewView) (rows : List (List (List ℕ))) (engine : EngineView) (judge : JudgeView) (trace : Trace) (pace : Pace) (rules : List Rule) (i at : ℕ) → IsReplay replay trace pace rules i
+    → (replay.made ≡ replay.pacing.last → ⊥) → at ≡ tick_moment replay.pacing.length (replay.made + 1) → IsSampled replay.crew.plans crew rows engine trace pace (i + 1) at
+    → HasJudged judge trace pace rules (i + 1) → IsReplay (ticked_replay replay crew rows engine judge) trace pace rules (i + 1)
+is_ticked replay crew rows engine judge trace pace rules i at is open_ moment sampled judged =
+    let left = one_left replay trace pace rules i is open_ in
+    let here : at ≡ tick_moment pace.length (i + 1) = moment ∙ moment_is replay trace pace rules i is in
     let behind = at_is_behind replay.crew.plans crew.clocks at sampled.there in
+    let more = kills_more trace pace rules i in
+    let found = ap length judged.kills in
     record {
       planned = is.planned;
       paced = is.paced;
@@ -261,16 +293,19 @@ is_ticked replay crew rows engine trace pace i at is open_ moment sampled =
       behind = subst (λ plans. AreBehind plans crew.clocks (tick_moment pace.length (i + 1))) is.crew (subst (AreBehind replay.crew.plans crew.clocks) here behind);
       sizes = subst (λ plans. HasPlaces plans rows) is.crew sampled.sizes;
       engine = sampled.ticked;
+      judge = judged;
+      fit = is.fit;
       order = is.order;
       signals = signals_are engine trace pace i replay.signals sampled.ticked is.signals;
+      kills = omega (arith, more, found, is.kills);
     }
 
 -- the lines of the next tick are those of the tick with the number to which the count went
-pub text_is : (replay : ReplayView) (trace : Trace) (pace : Pace) (i : ℕ) → IsReplay replay trace pace i → tick_text trace pace nothing_beside (replay.made + 1) ≡ tick_text trace pace nothing_beside (i + 1)
-text_is replay trace pace i is = ap (λ n. tick_text trace pace nothing_beside (n + 1)) is.made
+pub text_is : (replay : ReplayView) (trace : Trace) (pace : Pace) (rules : List Rule) (i : ℕ) → IsReplay replay trace pace rules i → tick_text trace pace (with_rules rules) (replay.made + 1) ≡ tick_text trace pace (with_rules rules) (i + 1)
+text_is replay trace pace rules i is = ap (λ n. tick_text trace pace (with_rules rules) (n + 1)) is.made
 
 -- the next tick gives a front of its lines, where it fails
-pub gives_front : (trace : Trace) (pace : Pace) (i : ℕ) (new : ReplayView) (had has : Option (List ℕ)) (result : Result Bool TickFault) → IsErr result → i < tick_count trace pace
-    → AppendsFront had has (tick_text trace pace nothing_beside (i + 1)) → TickGives trace pace i new had has result
-gives_front trace pace i new had has (Ok x) failed left front = absurd (let no : ⊥ = cc in no)
-gives_front trace pace i new had has (Err fault) failed left front = (left, front)
+pub gives_front : (trace : Trace) (pace : Pace) (rules : List Rule) (i : ℕ) (new : ReplayView) (had has : Option (List ℕ)) (result : Result Bool TickFault) → IsErr result → i < tick_count trace pace
+    → AppendsFront had has (tick_text trace pace (with_rules rules) (i + 1)) → TickGives trace pace rules i new had has result
+gives_front trace pace rules i new had has (Ok x) failed left front = absurd (let no : ⊥ = cc in no)
+gives_front trace pace rules i new had has (Err fault) failed left front = (left, front)

@@ -1,54 +1,42 @@
 -- A trace of which some ticks were made.
-use Rattle.std.specs.Prelude.{◌≡◌, ℕ, ◌+◌, ◌<◌, ◌≤◌, List, length, map, Bool, true, false, Option, Result, Ok, Err}
+use Rattle.std.specs.Prelude.{◌≡◌, ℕ, ◌+◌, ◌<◌, ◌≤◌, List, [], length, Bool, true, false, if◌then◌else◌, Option, Result, Ok, Err}
 use Rattle.std.specs.Io.KnownBytes.{Appends, Keeps}
 use Rattle.psi_base.specs.Outside.{AppendsFront}
 use Rattle.psi_base.specs.declared.event.Slot.{Slot}
 use Rattle.psi_spec.specs.Groups.{IsPathOrder}
-use Rattle.psi_spec.specs.Told.{triggers_of}
-use Rattle.psi_spec.specs.Trace.{IsAccepted, IsCpuCount, Trace, limits_of, longest_tick}
-use Rattle.pressure_spec.specs.Ticks.{tick_moment, ticks_of}
-use Rattle.run_spec.specs.Replay.{Pace, lives_of, nothing_beside, signals_until, tick_count, tick_text}
-use Rattle.proc_plan.specs.Plans.{PlansView, StandFor}
+use Rattle.psi_spec.specs.Trace.{Trace}
+use Rattle.pressure_spec.specs.Ticks.{is_report, tick_moment}
+use Rattle.run_spec.specs.Replay.{Pace, kills_until, reports, signals_until, tick_count, tick_text, with_rules}
+use Rattle.ruleset_json.specs.declared.types.Rule.{Rule}
+use Rattle.ruleset_json.specs.RuleRanges.{FitsRules}
+use Rattle.replay_rules.specs.Planned.{HasTicked, IsPlanned, numbers_of}
+use Rattle.replay_rules.specs.Judged.{HasJudged, JudgeView}
+use Rattle.proc_plan.specs.Plans.{PlansView}
 use Rattle.aggregate.specs.Table.{HasSizes}
-use Rattle.tick_engine.specs.Engine.{EngineView, StandsFor}
+use Rattle.tick_engine.specs.Engine.{EngineView}
 use Rattle.replay_workers.specs.Crew.{AreAt, AreBehind, CrewView}
 use Rattle.replay_ticks.specs.declared.pacing.Pacing.{Pacing}
 use Rattle.replay_ticks.specs.declared.replay.TickFault.{TickFault}
 
--- A replay: the plans of its trace, the clocks of all processors, the table of the last tick, the engine, all slots by path,
--- how it is paced, how many ticks were made, and how many signals there were.
+-- A replay: the plans of its trace, the clocks of all processors, the table of the last tick, the engine, what decides by
+-- rules, all slots by path, how it is paced, how many ticks were made, and how many signals and kills there were.
 pub record ReplayView : Type 0 where
   pub plans : PlansView
   pub crew : CrewView
   pub rows : List (List (List ℕ))
   pub engine : EngineView
+  pub judge : JudgeView
   pub order : List Slot
   pub pacing : Pacing
   pub made : ℕ
   pub signals : ℕ
-
--- the numbers of slots
-abbrev pub numbers_of : List Slot → List ℕ
-numbers_of slots = map (λ (slot : Slot). slot.0) slots
-
--- plans stand for an accepted trace, which may be replayed at a pace
-pub record IsPlanned (plans : PlansView) (trace : Trace) (pace : Pace) : Type 0 where
-  pub version : trace.version ≡ 1
-  pub counted : IsCpuCount trace.cpus
-  pub stand : StandFor plans trace.cpus trace.events
-  pub accepted : IsAccepted (limits_of pace.length trace.cpus) trace.events
-  pub some : 0 < pace.length
-  pub short : pace.length ≤ longest_tick
+  pub kills : ℕ
 
 -- a replay is paced so
 pub record IsPaced (pacing : Pacing) (trace : Trace) (pace : Pace) : Type 0 where
   pub length : pacing.length ≡ pace.length
   pub report : pacing.report ≡ pace.report
   pub last : pacing.last ≡ tick_count trace pace
-
--- the engine stands for the first so many ticks of a trace
-abbrev pub HasTicked : EngineView → Trace → Pace → ℕ → Type 0
-HasTicked engine trace pace i = StandsFor engine trace.cpus (lives_of trace) (triggers_of trace.events) (ticks_of trace.cpus trace.events pace.length i)
 
 -- a table has a place for each processor and group
 abbrev pub HasPlaces : PlansView → List (List (List ℕ)) → Type 0
@@ -81,10 +69,15 @@ pub record IsToPut (plans : PlansView) (engine : EngineView) (order : List Slot)
   pub ticked : HasTicked engine trace pace number
   pub by_path : IsPathOrder plans.lives (numbers_of order)
 
+-- the lines of the reports of a tick, where they are due
+abbrev pub due_text : Trace → Pace → ℕ → List ℕ
+due_text trace pace number =
+    if is_report pace.report pace.length (tick_count trace pace) number then reports trace pace number else []
+
 -- ---- the whole replay
 
--- A replay has made the first so many ticks of a trace at a pace.
-pub record IsReplay (replay : ReplayView) (trace : Trace) (pace : Pace) (i : ℕ) : Type 0 where
+-- A replay with rulesets has made the first so many ticks of a trace at a pace.
+pub record IsReplay (replay : ReplayView) (trace : Trace) (pace : Pace) (rules : List Rule) (i : ℕ) : Type 0 where
   pub planned : IsPlanned replay.plans trace pace
   pub paced : IsPaced replay.pacing trace pace
   pub made : replay.made ≡ i
@@ -93,15 +86,20 @@ pub record IsReplay (replay : ReplayView) (trace : Trace) (pace : Pace) (i : ℕ
   pub behind : AreBehind replay.plans replay.crew.clocks (tick_moment pace.length i)
   pub sizes : HasPlaces replay.plans replay.rows
   pub engine : HasTicked replay.engine trace pace i
+  pub judge : HasJudged replay.judge trace pace rules i
+  pub fit : FitsRules rules
   pub order : IsPathOrder replay.plans.lives (numbers_of replay.order)
   pub signals : replay.signals ≡ signals_until trace pace i
+  pub kills : replay.kills ≡ kills_until trace pace rules i
 
 -- a replay is one of some trace
 abbrev pub IsSomeReplay : ReplayView → Type 0
-IsSomeReplay replay = (trace : Trace) × (pace : Pace) × (i : ℕ) × IsReplay replay trace pace i
+IsSomeReplay replay = (trace : Trace) × (pace : Pace) × (rules : List Rule) × (i : ℕ) × IsReplay replay trace pace rules i
 
 -- what the next tick gives: its lines, or a front of them, where one is left
-abbrev pub TickGives : Trace → Pace → ℕ → ReplayView → Option (List ℕ) → Option (List ℕ) → Result Bool TickFault → Type 0
-TickGives trace pace i new had has (Ok true) = (i < tick_count trace pace) × Appends had has (tick_text trace pace nothing_beside (i + 1)) × IsReplay new trace pace (i + 1)
-TickGives trace pace i new had has (Ok false) = (i ≡ tick_count trace pace) × Keeps had has × IsReplay new trace pace i
-TickGives trace pace i new had has (Err fault) = (i < tick_count trace pace) × AppendsFront had has (tick_text trace pace nothing_beside (i + 1))
+abbrev pub TickGives : Trace → Pace → List Rule → ℕ → ReplayView → Option (List ℕ) → Option (List ℕ) → Result Bool TickFault → Type 0
+TickGives trace pace rules i new had has (Ok true) =
+    (i < tick_count trace pace) × Appends had has (tick_text trace pace (with_rules rules) (i + 1)) × IsReplay new trace pace rules (i + 1)
+TickGives trace pace rules i new had has (Ok false) = (i ≡ tick_count trace pace) × Keeps had has × IsReplay new trace pace rules i
+TickGives trace pace rules i new had has (Err fault) =
+    (i < tick_count trace pace) × AppendsFront had has (tick_text trace pace (with_rules rules) (i + 1))

@@ -7,12 +7,15 @@ ghost use Rattle.psi_spec.specs.Groups.{is_live_at};
 ghost use Rattle.run_spec.specs.Replay.{files_text, signal_lines};
 ghost use Rattle.run_laws.specs.Reports.{slot_report, slot_reports};
 ghost use Rattle.tick_engine.specs.Engine.{averages_in, totals_in};
-ghost use Rattle.replay_ticks.specs.Replays.{numbers_of};
+ghost use Rattle.kill_spec.specs.declared.kill.Kill.{Kill};
+ghost use Rattle.run_spec.specs.Replay.{kill_lines};
+ghost use Rattle.replay_rules.specs.Planned.{numbers_of};
 
 use fixed_average::Averages;
-use pressure_text::{write_fired, write_report};
+use pressure_text::{write_fired, write_kill, write_report};
 use psi_base::{Ns, Path, Res, Sink, Slot, TriggerSpec, WriteFailed};
 use psi_spec::GroupLife;
+use replay_rules::Kill;
 use tick_engine::Engine;
 
 /// Whether a group is live at a moment (ns): it was made by then, and hasn't gone by then.
@@ -45,6 +48,25 @@ pub(crate) fn put_signals<K: Sink>(
         let trigger = &triggers[*number as usize];
         let path = &lives[trigger.slot.0 as usize].path;
         write_fired(out, at, *number, path, trigger)?;
+    }
+    Ok(())
+}
+
+/// Writes the lines of kills.
+#[tactic(auto, using(psi_base::proofs::Grows::growth))]
+pub(crate) fn put_kills<K: Sink>(
+    out: &mut K,
+    lives: &[GroupLife],
+    kills: &[Kill],
+) -> Result<(), WriteFailed>
+    requires slots { All (λ (kill : Kill). kill.victim.0 < length lives.now) kills.now }
+    ensures bytes { PutsAll (K.has out.old) (K.has out.new) result (kill_lines lives.now kills.now) }
+    ensures cause { HasCause (K.faults out.old) (K.faults out.new) result }
+    ensures below { StaysOver (K.below out.old) (K.below out.new) }
+{
+    'kills: for kill in kills {
+        let path = &lives[kill.victim.0 as usize].path;
+        write_kill(out, kill.at, kill.rule, kill.action, path)?;
     }
     Ok(())
 }

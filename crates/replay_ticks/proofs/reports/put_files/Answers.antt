@@ -5,7 +5,8 @@ use Rattle.psi_base.specs.declared.event.Res.{Res}
 use Rattle.psi_base.specs.declared.event.Res.TheVariants.{Io, Memory, Cpu}
 use Rattle.run_spec.specs.Lines.{report_text}
 use Rattle.run_spec.specs.Replay.{files_text}
-use Rattle.replay_ticks.proofs.ReportLaws.{by_resource, front_of_both, front_then, puts_then}
+use Rattle.replay_ticks.proofs.Pieces.{front_of_both, front_then, puts_then}
+use Rattle.replay_ticks.proofs.ReportLaws.{by_resource}
 use Rattle.replay_ticks.proofs.reports.put_files.Goals as goal
 
 pub returns-in_err-write_report-clause-bytes : goal.returns-in_err-write_report-clause-bytes

@@ -1,0 +1,13 @@
+use Rattle.std.proofs.Common.{take}
+use Rattle.std.specs.Prelude.{Ok}
+use Rattle.std.specs.Io.KnownBytes.{Appends}
+use Rattle.psi_base.specs.Outside.{HasCause, StaysOver}
+use Rattle.run_spec.specs.Replay.{kill_lines}
+use Rattle.replay_ticks.proofs.reports.put_kills.Given as goal
+
+abbrev pub invariant-kills : goal.invariant-kills
+invariant-kills g l = record {
+  sent : Appends (g.K.Sink.has l.fn.out) (g.K.Sink.has l.out) (kill_lines l.lives (take l.kill-index l.kills));
+  cause : HasCause {T = Unit {0}} {E = Unit {0}} (g.K.Sink.faults l.fn.out) (g.K.Sink.faults l.out) (Ok tt);
+  below : StaysOver (g.K.Sink.below l.fn.out) (g.K.Sink.below l.out);
+}
