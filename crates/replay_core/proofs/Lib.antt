@@ -4,5 +4,6 @@ pub mod NameLaws
 pub mod Pieces
 pub mod PlayLaws
 pub mod ReplayLaws
+pub mod RulesLaws
 pub mod RunEnds
 pub mod RunLaws

@@ -4,27 +4,10 @@ use Rattle.std.specs.Prelude.{codes, decimal, Option, None, Some, Result, Ok, Er
 use Rattle.std.specs.Io.KnownBytes.{Appends}
 use Rattle.std.proofs.lemmas.List.{append-nil}
 use Rattle.psi_base.specs.Outside.{AppendsFront, PutsAll}
-use Rattle.psi_base.proofs.Grows.{Appends-none, Appends-then, AppendsFront-of, AppendsFront-then}
+use Rattle.psi_base.proofs.Grows.{AppendsFront-of}
 use Rattle.psi_base.specs.declared.event.Cause.{Cause}
 use Rattle.run_spec.specs.Text.{cause_name, field_number, field_text}
 use Rattle.run_spec.specs.Status.{refusal_text}
-
--- ---- one text after another
-
--- a front of the first text is one of both
-pub front_of_both : (old new : Option (List ℕ)) (xs ys : List ℕ) → AppendsFront old new xs → AppendsFront old new (xs ++ ys)
-front_of_both old new xs ys front = AppendsFront-then old old new [] xs ys (Appends-none old) front
-
--- the first text, and then a front of the second, are a front of both
-pub front_then : (old mid new : Option (List ℕ)) (xs ys : List ℕ) → Appends old mid xs → AppendsFront mid new ys → AppendsFront old new (xs ++ ys)
-front_then old mid new xs ys first front =
-    let all : xs ++ (ys ++ []) ≡ xs ++ ys = ap (λ zs. xs ++ zs) (append-nil ys) in
-    rw (← all) (AppendsFront-then old mid new xs ys [] first front)
-
--- what is put behind a text is put behind it in whole, or as a front of both
-pub puts_then : {T E : Type 0} → (old mid new : Option (List ℕ)) (result : Result T E) (xs ys : List ℕ) → Appends old mid xs → PutsAll mid new result ys → PutsAll old new result (xs ++ ys)
-puts_then old mid new (Ok value) xs ys first put = Appends-then old mid new xs ys first put
-puts_then old mid new (Err fault) xs ys first put = front_then old mid new xs ys first put
 
 -- what was put, in whole or in part, is a front of it
 pub front_of_puts : {T E : Type 0} → (old new : Option (List ℕ)) (result : Result T E) (bytes : List ℕ) → PutsAll old new result bytes → AppendsFront old new bytes

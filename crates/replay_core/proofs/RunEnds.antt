@@ -1,9 +1,9 @@
--- What a run over a buffered sink comes to, and what its status tells of a trace.
+-- What a run over a buffered sink comes to, and what its status tells of its files.
 use Rattle.std.proofs.Common.{◌≡◌, ◌≢◌, ◌⊎◌, inl, inr, ℕ, ◌+◌, ◌≤◌, List, [], ◌++◌, length, refl, sym, ap, ◌∙◌, subst, arith, Option, None, Some}
-use Rattle.std.specs.Prelude.{Ok, Err}
+use Rattle.std.specs.Prelude.{MatchOption, Result, Ok, Err}
 use Rattle.std.specs.Io.KnownBytes.{Appends, Keeps, append_known}
 use Rattle.std.proofs.lemmas.List.{append-nil, length-append, nil_from_length}
-use Rattle.psi_base.specs.Outside.{AppendsFront, Files, Rose, known_count}
+use Rattle.psi_base.specs.Outside.{AppendsFront, Files, Rose, known_count, told}
 use Rattle.psi_base.specs.declared.event.Cause.{Cause}
 use Rattle.psi_base.specs.declared.event.Refusal.{Refusal}
 use Rattle.psi_base.proofs.Buffered.{flush_failed, flushed, put_failed}
@@ -11,10 +11,17 @@ use Rattle.psi_spec.specs.Trace.{Trace, refused, trace_of}
 use Rattle.run_spec.specs.declared.command.Command.{Command}
 use Rattle.run_spec.specs.declared.status.Status.{Status}
 use Rattle.run_spec.specs.declared.status.Status.TheVariants as status
+use Rattle.run_spec.specs.declared.command.Command.TheVariants.{Replay}
+use Rattle.run_spec.specs.declared.command.Options.{Options}
+use Rattle.run_spec.specs.declared.status.Which.{Which}
 use Rattle.run_spec.specs.declared.status.Which.TheVariants.{RulesFile, TraceFile}
-use Rattle.run_spec.specs.Outputs.{tick_length, trace_name}
-use Rattle.run_spec.specs.Run.{CountsTell, Ends, IsTold, RisesWhere, RunCounts, Runs}
-use Rattle.replay_core.specs.Writes.{IsOfTrace, WritesText}
+use Rattle.run_spec.specs.Outputs.{pace_of, rules_name, tick_length, trace_name}
+use Rattle.run_spec.specs.Replay.{replay_text, with_rules}
+use Rattle.run_spec.specs.Run.{CountsTell, Ends, IsOfMissing, IsTold, RisesWhere, RulesTold, RunCounts, Runs, TakesRules}
+use Rattle.ruleset_json.specs.Rules.{rules_of}
+use Rattle.ruleset_json.specs.declared.fault.RulesFault.{RulesFault}
+use Rattle.ruleset_json.specs.declared.types.Rule.{Rule}
+use Rattle.ruleset_json.specs.declared.types.Rules.{Rules}
 use Rattle.replay_core.proofs.RunLaws.{stays}
 
 -- ---- over a buffered sink
@@ -29,9 +36,10 @@ kept_below (Some had) (Some below) pending kept more =
 
 ends_below : (command : Command) (files : Option Files) (had below : Option (List ℕ)) (pending : List ℕ) (result : Status) → result ≢ status.Done → Ends command files (append_known had []) (append_known below pending) result → known_count had ≤ known_count below → Ends command files had below result
 ends_below command files had below pending status.Done not ends more = absurd (not refl)
-ends_below command files had below pending status.WriteFault not ends more = (ends.0, ends.1, (ends.2.0, ends.2.1, put_failed had below pending ends.2.0 ends.2.2 more))
-ends_below command files had below pending (status.Trace line why) not ends more = (kept_below had below pending ends.0 more, ends.1)
-ends_below command files had below pending (status.NoFile which) not ends more = (kept_below had below pending ends.0 more, ends.1)
+ends_below command files had below pending status.WriteFault not ends more = (ends.0, ends.1, ends.2, ends.3, (ends.4.0, ends.4.1, put_failed had below pending ends.4.0 ends.4.2 more))
+ends_below command files had below pending (status.Rules fault) not ends more = (kept_below had below pending ends.0 more, ends.1)
+ends_below command files had below pending (status.Trace line why) not ends more = (kept_below had below pending ends.0 more, ends.1, ends.2)
+ends_below command files had below pending (status.NoFile which) not ends more = (kept_below had below pending ends.0 more, ends.1, ends.2)
 ends_below command files had below pending status.ReadFault not ends more = kept_below had below pending ends more
 ends_below command files had below pending status.NoMemory not ends more = kept_below had below pending ends more
 ends_below command files had below pending status.Usage not ends more = ends
@@ -49,18 +57,23 @@ runs_below command files before now had below pending result not runs more = rec
 pub runs_sent : (command : Command) (files : Option Files) (before mid now : RunCounts) (had sent below : Option (List ℕ)) (pending left : List ℕ)
     → Runs command files before mid (append_known had []) (append_known sent pending) status.Done → Keeps (append_known sent pending) (append_known below left) → left ≡ [] → now ≡ mid → Runs command files before now had below status.Done
 runs_sent command files before mid now had sent below pending left runs kept none same = record {
-  ends = (runs.ends.0, runs.ends.1, (runs.ends.2.0, runs.ends.2.1, flushed had sent below pending left runs.ends.2.0 runs.ends.2.2 kept none));
+  ends = (runs.ends.0, runs.ends.1, runs.ends.2, runs.ends.3, (runs.ends.4.0, runs.ends.4.1, flushed had sent below pending left runs.ends.4.0 runs.ends.4.2 kept none));
   missing = runs.missing;
   counts = subst (λ n. CountsTell before n status.Done) (sym same) runs.counts;
 }
+
+-- a run isn't done where a file isn't held
+none_done : (which : Which) → IsOfMissing which status.Done → ⊥
+none_done RulesFile is = is
+none_done TraceFile is = is
 
 -- a run whose output wasn't sent on in whole ends in a write fault
 pub runs_unsent : (command : Command) (files : Option Files) (before mid now : RunCounts) (had sent below : Option (List ℕ)) (pending left : List ℕ)
     → Runs command files before mid (append_known had []) (append_known sent pending) status.Done → Keeps (append_known sent pending) (append_known below left) → known_count had ≤ known_count below
     → now.shelf ≡ mid.shelf → Rose mid.writes now.writes → Runs command files before now had below status.WriteFault
 runs_unsent command files before mid now had sent below pending left runs kept more same rose = record {
-  ends = (runs.ends.0, runs.ends.1, (runs.ends.2.0, runs.ends.2.1, flush_failed had sent below pending left runs.ends.2.0 runs.ends.2.2 kept more));
-  missing = λ name is lacks. absurd (runs.missing name is lacks);
+  ends = (runs.ends.0, runs.ends.1, runs.ends.2, runs.ends.3, (runs.ends.4.0, runs.ends.4.1, flush_failed had sent below pending left runs.ends.4.0 runs.ends.4.2 kept more));
+  missing = λ which name is lacks. absurd (none_done which (runs.missing which name is lacks));
   counts = record {
     faults = stays _ before.shelf.faults now.shelf.faults (λ is. cc is) (ap (λ s. s.faults) same ∙ runs.counts.faults.same (λ is. cc is));
     absent = stays _ before.shelf.absent now.shelf.absent (λ is. cc is.1) (ap (λ s. s.absent) same ∙ runs.counts.absent.same (λ is. cc is.1));
@@ -68,47 +81,116 @@ runs_unsent command files before mid now had sent below pending left runs kept m
   };
 }
 
--- ---- what a status tells of a trace
+-- ---- what a status tells of files
 
-one_told : (bytes : Option (List ℕ)) (some : List ℕ) → bytes ≡ None → bytes ≡ Some some → ⊥
-one_told bytes some none is = cc (none, is)
+-- the bytes of a file are told of one name alone
+one_told : (files : Option Files) (name other bytes : List ℕ) (found : Option (List ℕ)) → found ≡ Some name → found ≡ Some other → told files name ≡ Some bytes → told files other ≡ None → ⊥
+one_told files name other bytes found is also tells none = cc (is, also, tells, none)
 
-none_told : (command : Command) (files : Option Files) (bytes : List ℕ) → IsTold command files bytes → Ends command files None None (status.NoFile TraceFile) → ⊥
-none_told command files bytes told ends = cc (told.1, told.2, ends.1.1, ends.1.2)
+-- rulesets that are told are those of the rules file's bytes, where one is named
+told_bytes : (command : Command) (files : Option Files) (rules : List Rule) (name : List ℕ) → rules_name command ≡ Some name → RulesTold command files rules
+    → (bytes : List ℕ) × (told files name ≡ Some bytes) × (rules_of bytes ≡ Ok (record { rules = rules }))
+told_bytes command files rules name named tells =
+    subst (λ n. MatchOption n (rules ≡ []) (λ name. (bytes : List ℕ) × (told files name ≡ Some bytes) × (rules_of bytes ≡ Ok (record { rules = rules })))) named tells
 
--- an accepted trace is done, where nothing failed and memory was there
-pub completes : (command : Command) (files : Option Files) (before now : RunCounts) (had has : Option (List ℕ)) (result : Status) → Runs command files before now had has result → IsOfTrace result
-    → (bytes : List ℕ) (trace : Trace) → IsTold command files bytes → trace_of (tick_length command) bytes ≡ Ok trace → (Rose before.shelf.faults now.shelf.faults → ⊥) → (Rose before.writes now.writes → ⊥)
-    → (result ≡ status.Done) ⊎ (result ≡ status.NoMemory)
-completes command files before now had has status.Done runs file bytes trace told is reads writes = inl refl
-completes command files before now had has status.NoMemory runs file bytes trace told is reads writes = inr refl
-completes command files before now had has status.WriteFault runs file bytes trace told is reads writes = absurd (writes (runs.counts.writes.rose refl))
-completes command files before now had has status.ReadFault runs file bytes trace told is reads writes = absurd (reads (runs.counts.faults.rose refl))
-completes command files before now had has status.Usage runs file bytes trace told is reads writes = absurd runs.ends
-completes command files before now had has (status.Trace line why) runs file bytes trace told is reads writes = let other = runs.ends.1 bytes told in absurd (cc (is, other))
-completes command files before now had has (status.NoFile RulesFile) runs file bytes trace told is reads writes = absurd file
-completes command files before now had has (status.NoFile TraceFile) runs file bytes trace told is reads writes = absurd (none_told command files bytes told (tt, runs.ends.1))
+-- rulesets that are told are none, where no rules file is named
+told_none : (command : Command) (files : Option Files) (rules : List Rule) → rules_name command ≡ None → RulesTold command files rules → rules ≡ []
+told_none command files rules named tells =
+    subst (λ n. MatchOption n (rules ≡ []) (λ name. (bytes : List ℕ) × (told files name ≡ Some bytes) × (rules_of bytes ≡ Ok (record { rules = rules })))) named tells
 
--- a refused trace tells of its refusal, where no read failed and memory was there
-pub refuses : (command : Command) (files : Option Files) (before now : RunCounts) (had has : Option (List ℕ)) (result : Status) → Runs command files before now had has result → IsOfTrace result
-    → (bytes : List ℕ) (line : ℕ) (why : Cause) → IsTold command files bytes → trace_of (tick_length command) bytes ≡ Err (refused line why) → (Rose before.shelf.faults now.shelf.faults → ⊥)
-    → (result ≡ status.Trace line why) ⊎ (result ≡ status.NoMemory)
-refuses command files before now had has status.Done runs file bytes line why told is reads = let other = runs.ends.1.read bytes told in absurd (cc (is, other))
-refuses command files before now had has status.NoMemory runs file bytes line why told is reads = inr refl
-refuses command files before now had has status.WriteFault runs file bytes line why told is reads = let other = runs.ends.1.read bytes told in absurd (cc (is, other))
-refuses command files before now had has status.ReadFault runs file bytes line why told is reads = absurd (reads (runs.counts.faults.rose refl))
-refuses command files before now had has status.Usage runs file bytes line why told is reads = absurd runs.ends
-refuses command files before now had has (status.Trace at cause) runs file bytes line why told is reads =
-    let other = runs.ends.1 bytes told in
+of_rules : (one other : List Rule) (read : Result Rules RulesFault) → read ≡ Ok (record { rules = one }) → read ≡ Ok (record { rules = other }) → one ≡ other
+of_rules one other read is also = let same : record { rules = one } ≡ record { rules = other } = cc (is, also) in ap (λ (r : Rules). r.rules) same
+
+-- a command takes the rulesets that are told
+by_name : (command : Command) (files : Option Files) (taken rules : List Rule) (named : Option (List ℕ)) → rules_name command ≡ named → TakesRules command files taken → RulesTold command files rules → taken ≡ rules
+by_name command files taken rules None is takes tells = takes.none is ∙ sym (told_none command files rules is tells)
+by_name command files taken rules (Some name) is takes tells =
+    let found = told_bytes command files rules name is tells in
+    of_rules taken rules (rules_of found.0) (takes.read found.0 (name, is, found.1)) found.2
+
+pub same_rules : (command : Command) (files : Option Files) (taken rules : List Rule) → TakesRules command files taken → RulesTold command files rules → taken ≡ rules
+same_rules command files taken rules takes tells = by_name command files taken rules (rules_name command) refl takes tells
+
+-- a run never finds a fault in rules that are told
+no_fault : (command : Command) (files : Option Files) (rules : List Rule) (fault : RulesFault) (had has : Option (List ℕ)) → RulesTold command files rules → Ends command files had has (status.Rules fault) → ⊥
+no_fault command files rules fault had has tells ends =
+    let found = told_bytes command files rules ends.1.0 ends.1.1 tells in
+    let other = ends.1.2 found.0 found.1 in
+    cc (found.2, other)
+
+-- nor misses their file
+no_missed : (command : Command) (files : Option Files) (rules : List Rule) (had has : Option (List ℕ)) → RulesTold command files rules → Ends command files had has (status.NoFile RulesFile) → ⊥
+no_missed command files rules had has tells ends =
+    let found = told_bytes command files rules ends.2.0 ends.2.1 tells in
+    let none = ends.2.2 in
+    cc (found.1, none)
+
+-- nor a trace that is told
+none_told : (command : Command) (files : Option Files) (bytes : List ℕ) (had has : Option (List ℕ)) → IsTold command TraceFile files bytes → Ends command files had has (status.NoFile TraceFile) → ⊥
+none_told command files bytes had has tells ends = one_told files tells.0 ends.2.0 bytes (trace_name command) tells.1 ends.2.1 tells.2 ends.2.2
+
+-- where a replay is done, its output is that of its trace and its rules
+pub headlined : (name : List ℕ) (options : Options) (files : Option Files) (before now : RunCounts) (had has : Option (List ℕ)) → Runs (Replay name options) files before now had has status.Done
+    → (bytes : List ℕ) (rules : List Rule) → IsTold (Replay name options) TraceFile files bytes → RulesTold (Replay name options) files rules
+    → (trace : Trace) × (trace_of (tick_length (Replay name options)) bytes ≡ Ok trace) × Appends had has (replay_text trace (pace_of options) (with_rules rules))
+headlined name options files before now had has runs bytes rules tells rules_told =
+    let ends = runs.ends in
+    let same = same_rules (Replay name options) files ends.1 rules ends.3 rules_told in
+    let text : ends.4.0 ≡ replay_text ends.0 (pace_of options) (with_rules rules) = ends.4.1 ∙ ap (λ r. replay_text ends.0 (pace_of options) (with_rules r)) same in
+    (ends.0, ends.2.read bytes tells, subst (Appends had has) text ends.4.2)
+
+-- an accepted trace is done, where its rules are accepted, nothing failed and memory was there
+pub completes : (command : Command) (files : Option Files) (before now : RunCounts) (had has : Option (List ℕ)) (result : Status) → Runs command files before now had has result
+    → (rules : List Rule) (bytes : List ℕ) (trace : Trace) → RulesTold command files rules → IsTold command TraceFile files bytes → trace_of (tick_length command) bytes ≡ Ok trace
+    → (Rose before.shelf.faults now.shelf.faults → ⊥) → (Rose before.writes now.writes → ⊥) → (result ≡ status.Done) ⊎ (result ≡ status.NoMemory)
+completes command files before now had has status.Done runs rules bytes trace given tells is reads writes = inl refl
+completes command files before now had has status.NoMemory runs rules bytes trace given tells is reads writes = inr refl
+completes command files before now had has status.WriteFault runs rules bytes trace given tells is reads writes = absurd (writes (runs.counts.writes.rose refl))
+completes command files before now had has status.ReadFault runs rules bytes trace given tells is reads writes = absurd (reads (runs.counts.faults.rose refl))
+completes command files before now had has status.Usage runs rules bytes trace given tells is reads writes = absurd runs.ends
+completes command files before now had has (status.Rules fault) runs rules bytes trace given tells is reads writes = absurd (no_fault command files rules fault had has given runs.ends)
+completes command files before now had has (status.Trace line why) runs rules bytes trace given tells is reads writes = let other = runs.ends.2 bytes tells in absurd (let no : ⊥ = cc (is, other) in no)
+completes command files before now had has (status.NoFile RulesFile) runs rules bytes trace given tells is reads writes = absurd (no_missed command files rules had has given runs.ends)
+completes command files before now had has (status.NoFile TraceFile) runs rules bytes trace given tells is reads writes = absurd (none_told command files bytes had has tells runs.ends)
+
+-- a refused trace tells of its refusal, where its rules are accepted, no read failed and memory was there
+pub refuses : (command : Command) (files : Option Files) (before now : RunCounts) (had has : Option (List ℕ)) (result : Status) → Runs command files before now had has result
+    → (rules : List Rule) (bytes : List ℕ) (line : ℕ) (why : Cause) → RulesTold command files rules → IsTold command TraceFile files bytes → trace_of (tick_length command) bytes ≡ Err (refused line why)
+    → (Rose before.shelf.faults now.shelf.faults → ⊥) → (result ≡ status.Trace line why) ⊎ (result ≡ status.NoMemory)
+refuses command files before now had has status.Done runs rules bytes line why given tells is reads = let other = runs.ends.2.read bytes tells in absurd (let no : ⊥ = cc (is, other) in no)
+refuses command files before now had has status.NoMemory runs rules bytes line why given tells is reads = inr refl
+refuses command files before now had has status.WriteFault runs rules bytes line why given tells is reads = let other = runs.ends.2.read bytes tells in absurd (let no : ⊥ = cc (is, other) in no)
+refuses command files before now had has status.ReadFault runs rules bytes line why given tells is reads = absurd (reads (runs.counts.faults.rose refl))
+refuses command files before now had has status.Usage runs rules bytes line why given tells is reads = absurd runs.ends
+refuses command files before now had has (status.Rules fault) runs rules bytes line why given tells is reads = absurd (no_fault command files rules fault had has given runs.ends)
+refuses command files before now had has (status.Trace at cause) runs rules bytes line why given tells is reads =
+    let other = runs.ends.2 bytes tells in
     let same : refused at cause ≡ refused line why = cc (is, other) in
     inl (ap (λ (r : Refusal). status.Trace r.line r.cause) same)
-refuses command files before now had has (status.NoFile RulesFile) runs file bytes line why told is reads = absurd file
-refuses command files before now had has (status.NoFile TraceFile) runs file bytes line why told is reads = absurd (none_told command files bytes told (tt, runs.ends.1))
+refuses command files before now had has (status.NoFile RulesFile) runs rules bytes line why given tells is reads = absurd (no_missed command files rules had has given runs.ends)
+refuses command files before now had has (status.NoFile TraceFile) runs rules bytes line why given tells is reads = absurd (none_told command files bytes had has tells runs.ends)
 
--- ---- statuses that tell of no rules file
+-- a command never takes rulesets from bytes that have a fault
+none_taken : (command : Command) (files : Option Files) (taken : List Rule) (name bytes : List ℕ) (fault : RulesFault) → TakesRules command files taken → rules_name command ≡ Some name → told files name ≡ Some bytes → rules_of bytes ≡ Err fault → ⊥
+none_taken command files taken name bytes fault takes named tells is = let other = takes.read bytes (name, named, tells) in cc (is, other)
 
-pub written_of_trace : (text : List ℕ) (before now : ℕ) (had has : Option (List ℕ)) (result : Status) → WritesText text before now had has result → IsOfTrace result
-written_of_trace text before now had has status.Done wrote = tt
-written_of_trace text before now had has status.WriteFault wrote = tt
-written_of_trace text before now had has status.NoMemory wrote = tt
-written_of_trace text before now had has _ wrote = absurd wrote
+found_fault : (command : Command) (files : Option Files) (had has : Option (List ℕ)) (name bytes : List ℕ) (found fault : RulesFault) → Ends command files had has (status.Rules found) → rules_name command ≡ Some name → told files name ≡ Some bytes
+    → rules_of bytes ≡ Err fault → found ≡ fault
+found_fault command files had has name bytes found fault ends named tells is =
+    let same : ends.1.0 ≡ name = let other = ends.1.1 in cc (named, other) in
+    let other = ends.1.2 bytes (subst (λ n. told files n ≡ Some bytes) (sym same) tells) in
+    cc (is, other)
+
+-- refused rules tell of their first fault, where no read failed and memory was there
+pub faults : (command : Command) (files : Option Files) (before now : RunCounts) (had has : Option (List ℕ)) (result : Status) → Runs command files before now had has result
+    → (name bytes : List ℕ) (fault : RulesFault) → rules_name command ≡ Some name → told files name ≡ Some bytes → rules_of bytes ≡ Err fault
+    → (Rose before.shelf.faults now.shelf.faults → ⊥) → (result ≡ status.Rules fault) ⊎ (result ≡ status.NoMemory)
+faults command files before now had has status.Done runs name bytes fault named tells is reads = absurd (none_taken command files runs.ends.1 name bytes fault runs.ends.3 named tells is)
+faults command files before now had has status.NoMemory runs name bytes fault named tells is reads = inr refl
+faults command files before now had has status.WriteFault runs name bytes fault named tells is reads = absurd (none_taken command files runs.ends.1 name bytes fault runs.ends.3 named tells is)
+faults command files before now had has status.ReadFault runs name bytes fault named tells is reads = absurd (reads (runs.counts.faults.rose refl))
+faults command files before now had has status.Usage runs name bytes fault named tells is reads = absurd runs.ends
+faults command files before now had has (status.Rules found) runs name bytes fault named tells is reads = inl (ap status.Rules (found_fault command files had has name bytes found fault runs.ends named tells is))
+faults command files before now had has (status.Trace line why) runs name bytes fault named tells is reads = absurd (none_taken command files runs.ends.1.0 name bytes fault runs.ends.1.1 named tells is)
+faults command files before now had has (status.NoFile RulesFile) runs name bytes fault named tells is reads = absurd (one_told files name runs.ends.2.0 bytes (rules_name command) named runs.ends.2.1 tells runs.ends.2.2)
+faults command files before now had has (status.NoFile TraceFile) runs name bytes fault named tells is reads = absurd (none_taken command files runs.ends.1.0 name bytes fault runs.ends.1.1 named tells is)

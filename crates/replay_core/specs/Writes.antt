@@ -1,5 +1,5 @@
 -- What reading and writing come to as the status of a run.
-use Rattle.std.specs.Prelude.{◌≡◌, ◌≤◌, ℕ, List, Option, ⊤}
+use Rattle.std.specs.Prelude.{◌≡◌, ◌≤◌, ℕ, List, Option}
 use Rattle.std.specs.Io.KnownBytes.{Appends, Keeps}
 use Rattle.psi_base.specs.Outside.{AppendsFront, Rose}
 use Rattle.psi_base.specs.declared.event.Event.{Event}
@@ -10,7 +10,7 @@ use Rattle.run_spec.specs.Outputs.{of_ms}
 use Rattle.run_spec.specs.declared.command.Options.{Options}
 use Rattle.run_spec.specs.declared.status.Status.{Status}
 use Rattle.run_spec.specs.declared.status.Status.TheVariants as status
-use Rattle.run_spec.specs.declared.status.Which.TheVariants.{RulesFile, TraceFile}
+use Rattle.run_spec.specs.declared.status.Which.TheVariants.{TraceFile}
 use Rattle.replay_core.specs.declared.trace.TraceFault.{TraceFault}
 use Rattle.replay_core.specs.declared.trace.TraceFault.TheVariants as fault
 
@@ -36,8 +36,5 @@ pub record IsToReplay (planner : PlannerView) (options : Options) (limits : Limi
   pub latest : limits ≡ limits_of (of_ms options.tick_ms) limits.cpus
   pub some : 1 ≤ options.tick_ms
   pub short : options.tick_ms ≤ 60000
-
--- a status doesn't tell of a rules file
-abbrev pub IsOfTrace : Status → Type 0
-IsOfTrace (status.NoFile RulesFile) = ⊥
-IsOfTrace _ = ⊤
+  pub interval : 1 ≤ options.interval_s
+  pub often : options.interval_s ≤ 3600

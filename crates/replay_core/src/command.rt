@@ -1,5 +1,5 @@
 //! The commands, each over its trace.
-ghost use Rattle.std.specs.Prelude.{◌≡◌, ◌≤◌, ℕ, List, IsSome, IsUtf8};
+ghost use Rattle.std.specs.Prelude.{◌≡◌, ◌≤◌, ℕ, List, IfSome, IsSome, IsUtf8};
 ghost use Rattle.psi_base.specs.Outside.{StaysOver};
 ghost use Rattle.psi_base.specs.declared.event.Event.{Event};
 ghost use Rattle.psi_spec.specs.World.{Limits};
@@ -9,10 +9,12 @@ ghost use Rattle.run_spec.specs.Run.{Runs, run_counts};
 ghost use Rattle.run_spec.specs.Words.{IsCommand};
 ghost use Rattle.psi_words.specs.Reads.{HasTextNames};
 ghost use Rattle.replay_core.specs.Reads.{IsPlayed, plain_trace};
-ghost use Rattle.replay_core.specs.Writes.{IsOfTrace, IsStatusOf, WritesText};
+ghost use Rattle.replay_core.specs.Rules.{IsStatusOfRules};
+ghost use Rattle.replay_core.specs.Writes.{IsStatusOf, WritesText};
 
 use crate::lines::put_check;
 use crate::replay::write_replay;
+use crate::rules::{RulesError, read_rules};
 use crate::stalls::write_stalls;
 use crate::trace::{TraceFault, play_trace};
 use proc_plan::Planner;
@@ -31,7 +33,6 @@ const TICK: Ns = 2000 * MILLISECOND;
 // The status of a trace that can't be read.
 fn fault_status(fault: TraceFault) -> Status
     ensures status { IsStatusOf fault result }
-    ensures file { IsOfTrace result }
 {
     match fault {
         TraceFault::Refused(refusal) => Status::Trace {
@@ -43,6 +44,20 @@ fn fault_status(fault: TraceFault) -> Status
         },
         TraceFault::ReadFault => Status::ReadFault,
         TraceFault::NoMemory => Status::NoMemory,
+    }
+}
+
+// The status of rules that can't be read.
+fn rules_status(error: RulesError) -> Status
+    ensures { IsStatusOfRules error result }
+{
+    match error {
+        RulesError::Refused(fault) => Status::Rules { fault },
+        RulesError::NoFile => Status::NoFile {
+            which: Which::RulesFile,
+        },
+        RulesError::ReadFault => Status::ReadFault,
+        RulesError::NoMemory => Status::NoMemory,
     }
 }
 
@@ -59,7 +74,6 @@ fn run_stall<R: Threads + Sync, S: Shelf, K: Sink>(
         (run_counts (S.faults shelf.old) (S.absent shelf.old) (K.faults out.old))
         (run_counts (S.faults shelf.new) (S.absent shelf.new) (K.faults out.new)) (K.has out.old) (K.has out.new) result }
     ensures below { StaysOver (K.below out.old) (K.below out.new) }
-    ensures file { IsOfTrace result }
 {
     match play_trace::<S, Planner>(alloc, name, shelf, TICK) {
         Ok(planner) => write_stalls(rt, alloc, planner, out),
@@ -93,7 +107,6 @@ fn run_check<S: Shelf, K: Sink>(
         (run_counts (S.faults shelf.old) (S.absent shelf.old) (K.faults out.old))
         (run_counts (S.faults shelf.new) (S.absent shelf.new) (K.faults out.new)) (K.has out.old) (K.has out.new) result }
     ensures below { StaysOver (K.below out.old) (K.below out.new) }
-    ensures file { IsOfTrace result }
 {
     match play_trace::<S, Table>(alloc, name, shelf, Ns::from(tick_ms) * MILLISECOND) {
         Ok(table) => write_line(&table, out),
@@ -101,7 +114,7 @@ fn run_check<S: Shelf, K: Sink>(
     }
 }
 
-// Runs `replay` over a trace.
+// Runs `replay` over a trace, with the rules of its rules file if it names one.
 fn run_replay<S: Shelf, K: Sink>(
     alloc: Global,
     name: &str,
@@ -111,22 +124,28 @@ fn run_replay<S: Shelf, K: Sink>(
 ) -> Status
     requires some { 1 ≤ options.now.tick_ms }
     requires short { options.now.tick_ms ≤ 60000 }
+    requires interval { 1 ≤ options.now.interval_s }
+    requires often { options.now.interval_s ≤ 3600 }
+    requires text { IfSome options.now.rules IsUtf8 }
     ensures kept { S.holds shelf.new ≡ S.holds shelf.old }
     ensures runs { Runs (Command.Replay name.now options.now) (S.holds shelf.old)
         (run_counts (S.faults shelf.old) (S.absent shelf.old) (K.faults out.old))
         (run_counts (S.faults shelf.new) (S.absent shelf.new) (K.faults out.new)) (K.has out.old) (K.has out.new) result }
     ensures below { StaysOver (K.below out.old) (K.below out.new) }
-    ensures file { IsOfTrace result }
 {
+    let rules = match read_rules(alloc, options.rules.as_ref(), shelf) {
+        Ok(rules) => rules,
+        Err(error) => return rules_status(error),
+    };
     let tick = Ns::from(options.tick_ms) * MILLISECOND;
     match play_trace::<S, Planner>(alloc, name, shelf, tick) {
-        Ok(planner) => write_replay(alloc, planner, options, out),
+        Ok(planner) => write_replay(alloc, planner, rules, options, out),
         Err(fault) => fault_status(fault),
     }
 }
 
-// A name as the system takes it.
-fn name_of(text: &Text) -> &str
+/// A name as the system takes it.
+pub(crate) fn name_of(text: &Text) -> &str
     requires { IsUtf8 text.now }
     ensures { result.now ≡ text.now }
 {
@@ -152,7 +171,6 @@ pub(crate) fn run_command<R: Threads + Sync, S: Shelf, K: Sink>(
         (run_counts (S.faults shelf.old) (S.absent shelf.old) (K.faults out.old))
         (run_counts (S.faults shelf.new) (S.absent shelf.new) (K.faults out.new)) (K.has out.old) (K.has out.new) result }
     ensures below { StaysOver (K.below out.old) (K.below out.new) }
-    ensures file { IsOfTrace result }
 {
     match command {
         Command::Stall { trace } => run_stall(rt, alloc, name_of(trace), shelf, out),

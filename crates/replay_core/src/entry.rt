@@ -1,18 +1,21 @@
 //! The top call.
 ghost use Rattle.std.specs.Prelude.{◌≡◌, ◌⊎◌, ◌≢◌, ℕ, List, Some, None, Ok, Err, IsSome, map, string_bytes};
 ghost use Rattle.std.specs.Io.KnownBytes.{Appends, Keeps};
-ghost use Rattle.psi_base.specs.Outside.{AppendsFront, Lacks, Rose};
+ghost use Rattle.psi_base.specs.Outside.{AppendsFront, Rose, told};
 ghost use Rattle.psi_base.specs.declared.event.Cause.{Cause};
 ghost use Rattle.psi_spec.specs.Trace.{Trace, refused, trace_of};
 ghost use Rattle.psi_words.specs.Reads.{HasTextNames};
 ghost use Rattle.run_spec.specs.declared.command.Command.{Command};
 ghost use Rattle.run_spec.specs.declared.command.Options.{Options};
-ghost use Rattle.run_spec.specs.Outputs.{pace_of, tick_length, trace_name};
-ghost use Rattle.run_spec.specs.Replay.{nothing_beside, replay_text};
-ghost use Rattle.run_spec.specs.Run.{CountsTell, IsOfMissing, IsTold, Runs, run_counts};
+ghost use Rattle.run_spec.specs.Outputs.{pace_of, rules_name, tick_length, trace_name};
+ghost use Rattle.run_spec.specs.Replay.{replay_text, with_rules};
+ghost use Rattle.run_spec.specs.Run.{CountsTell, IsTold, RulesTold, Runs, run_counts};
+ghost use Rattle.run_spec.specs.declared.status.Which.TheVariants.{TraceFile};
+ghost use Rattle.ruleset_json.specs.Rules.{rules_of};
+ghost use Rattle.ruleset_json.specs.declared.fault.RulesFault.{RulesFault};
+ghost use Rattle.ruleset_json.specs.declared.types.Rule.{Rule};
 ghost use Rattle.run_spec.specs.Status.{status_text};
 ghost use Rattle.run_spec.specs.Words.{IsCommand, command_of};
-ghost use Rattle.replay_core.specs.Writes.{IsOfTrace};
 
 use crate::command::run_command;
 use crate::note::put_status;
@@ -37,7 +40,6 @@ fn run_buffered<R: Threads + Sync, S: Shelf, K: Sink>(
     ensures runs { Runs command.now (S.holds shelf.old)
         (run_counts (S.faults shelf.old) (S.absent shelf.old) (K.faults out.old))
         (run_counts (S.faults shelf.new) (S.absent shelf.new) (K.faults out.new)) (K.has out.old) (K.has out.new) result }
-    ensures file { IsOfTrace result }
 {
     let Ok(mut pending) = Pending::new(alloc) else {
         return Status::NoMemory;
@@ -77,20 +79,32 @@ pub fn run<R: Threads + Sync, S: Shelf, K: Sink, N: Sink, G: Gate>(
         (run_counts (S.faults shelf.old) (S.absent shelf.old) (K.faults out.old))
         (run_counts (S.faults shelf.new) (S.absent shelf.new) (K.faults out.new)) (K.has out.old) (K.has out.new) result }
 
-    // The headline: where a replay is done, the output grew by exactly the text that the definitions give for its trace.
-    ensures headline { (name : List ℕ) (options : Options) (bytes : List ℕ) →
-        command_of (map string_bytes words.now) ≡ Some (Command.Replay name options) → IsTold (Command.Replay name options) (S.holds shelf.old) bytes →
+    // The headline: where a replay is done, the output grew by exactly the text that the definitions give for its trace and
+    // its rules.
+    ensures headline { (name bytes : List ℕ) (options : Options) (rules : List Rule) →
+        command_of (map string_bytes words.now) ≡ Some (Command.Replay name options) →
+        IsTold (Command.Replay name options) TraceFile (S.holds shelf.old) bytes →
+        RulesTold (Command.Replay name options) (S.holds shelf.old) rules →
         result ≡ Status.Done → (trace : Trace) × (trace_of (tick_length (Command.Replay name options)) bytes ≡ Ok trace)
-        × Appends (K.has out.old) (K.has out.new) (replay_text trace (pace_of options) nothing_beside) }
+        × Appends (K.has out.old) (K.has out.new) (replay_text trace (pace_of options) (with_rules rules)) }
 
-    // An accepted trace gives its whole output, unless a count of faults rose or memory was wanting.
-    ensures complete { (command : Command) (bytes : List ℕ) (trace : Trace) → command_of (map string_bytes words.now) ≡ Some command →
-        IsTold command (S.holds shelf.old) bytes → trace_of (tick_length command) bytes ≡ Ok trace →
+    // An accepted trace and accepted rules give the whole output, unless a count of faults rose or memory was wanting.
+    ensures complete { (command : Command) (rules : List Rule) (bytes : List ℕ) (trace : Trace) →
+        command_of (map string_bytes words.now) ≡ Some command → RulesTold command (S.holds shelf.old) rules →
+        IsTold command TraceFile (S.holds shelf.old) bytes → trace_of (tick_length command) bytes ≡ Ok trace →
         (Rose (S.faults shelf.old) (S.faults shelf.new) → ⊥) → (Rose (K.faults out.old) (K.faults out.new) → ⊥) → (result ≡ Status.Done) ⊎ (result ≡ Status.NoMemory) }
 
-    // A refused trace gives its first refused line with its cause, unless a fault of reading rose or memory was wanting.
-    ensures refuses { (command : Command) (bytes : List ℕ) (line : ℕ) (why : Cause) → command_of (map string_bytes words.now) ≡ Some command →
-        IsTold command (S.holds shelf.old) bytes → trace_of (tick_length command) bytes ≡ Err (refused line why) →
+    // A refused rules file gives its first fault with its place, unless a fault of reading rose or memory was wanting.
+    ensures faulty { (command : Command) (name bytes : List ℕ) (fault : RulesFault) →
+        command_of (map string_bytes words.now) ≡ Some command → rules_name command ≡ Some name →
+        told (S.holds shelf.old) name ≡ Some bytes → rules_of bytes ≡ Err fault →
+        (Rose (S.faults shelf.old) (S.faults shelf.new) → ⊥) → (result ≡ Status.Rules fault) ⊎ (result ≡ Status.NoMemory) }
+
+    // Behind accepted rules a refused trace gives its first refused line with its cause, unless a fault of reading rose or
+    // memory was wanting.
+    ensures refuses { (command : Command) (rules : List Rule) (bytes : List ℕ) (line : ℕ) (why : Cause) →
+        command_of (map string_bytes words.now) ≡ Some command → RulesTold command (S.holds shelf.old) rules →
+        IsTold command TraceFile (S.holds shelf.old) bytes → trace_of (tick_length command) bytes ≡ Err (refused line why) →
         (Rose (S.faults shelf.old) (S.faults shelf.new) → ⊥) → (result ≡ Status.Trace line why) ⊎ (result ≡ Status.NoMemory) }
 
     // Each count of failures rose exactly where the status tells of its failure.

@@ -7,6 +7,7 @@ mod lines;
 mod note;
 mod player;
 mod replay;
+mod rules;
 mod stalls;
 mod trace;
 

@@ -1,11 +1,13 @@
 //! What tells of a status.
-ghost use Rattle.std.specs.Prelude.{◌≡◌, codes, option_map};
+ghost use Rattle.std.specs.Prelude.{◌≡◌, ◌++◌, codes, option_map};
+ghost use Rattle.ruleset_json.specs.FaultText.{fault_text};
 ghost use Rattle.psi_base.specs.Outside.{PutsAll, HasCause};
 ghost use Rattle.run_spec.specs.Text.{cause_name, cause_text, field_number};
 ghost use Rattle.run_spec.specs.Status.{status_text, name_text, refusal_text};
 
 use itoa::Buffer;
 use psi_base::{Cause, Sink, WriteFailed, put_all, put_each};
+use ruleset_json::{RulesFault, put_fault};
 use run_spec::{Command, Status, Which};
 
 // The name of a cause.
@@ -91,6 +93,15 @@ fn put_refusal<N: Sink>(note: &mut N, line: u32, cause: Cause) -> Result<(), Wri
     }
 }
 
+// Tells of a fault of a rules file.
+fn put_rules_fault<N: Sink>(note: &mut N, fault: RulesFault) -> Result<(), WriteFailed>
+    ensures bytes { PutsAll (N.has note.old) (N.has note.new) result (fault_text fault ++ codes "\n") }
+    ensures cause { HasCause (N.faults note.old) (N.faults note.new) result }
+{
+    put_fault(note, fault)?;
+    put_all(note, b"\n")
+}
+
 // The name of the rules file or of the trace of a command.
 fn file_name(command: Option<&Command>, which: Which) -> &[u8]
     ensures { result.now ≡ name_text (option_map (λ command. command.now) command.entry) which }
@@ -124,6 +135,7 @@ pub(crate) fn put_status<N: Sink>(
             b"usage: psi_oomd stall or check or replay or gen or stress\n",
         ),
         Status::Trace { line, cause } => put_refusal(note, line, cause),
+        Status::Rules { fault } => put_rules_fault(note, fault),
         Status::NoFile { which } => put_each(
             note,
             &[

@@ -5,22 +5,26 @@ ghost use Rattle.psi_base.specs.declared.event.Event.{Event};
 ghost use Rattle.psi_spec.specs.Trace.{Trace};
 ghost use Rattle.psi_spec.specs.World.{Limits};
 ghost use Rattle.run_spec.specs.Outputs.{pace_of};
-ghost use Rattle.run_spec.specs.Replay.{Pace, nothing_beside, replay_text};
+ghost use Rattle.ruleset_json.specs.declared.types.Rule.{Rule};
+ghost use Rattle.ruleset_json.specs.RuleRanges.{FitsRules};
+ghost use Rattle.run_spec.specs.Replay.{Pace, replay_text, with_rules};
 ghost use Rattle.replay_ticks.specs.Replays.{IsReplay};
 ghost use Rattle.replay_core.specs.Reads.{plain_trace};
+ghost use Rattle.replay_rules.specs.Judged.{rules_in};
 ghost use Rattle.replay_core.specs.Writes.{IsToReplay, WritesText};
 
 use proc_plan::Planner;
 use psi_base::{Sink, WriteFailed};
 use replay_ticks::{Replay, TickFault, prepare};
+use ruleset_json::Rules;
 use run_spec::{Options, Status};
 use std::alloc::Global;
 
 // Makes all ticks that are left, and writes their lines and the last line.
 fn put_replay<K: Sink>(replay: &mut Replay<'_>, out: &mut K) -> Result<(), WriteFailed>
-    requires { (trace : Trace) × (pace : Pace) × IsReplay replay.old trace pace 0 }
-    ensures bytes { (trace : Trace) (pace : Pace) → IsReplay replay.old trace pace 0 →
-        PutsAll (K.has out.old) (K.has out.new) result (replay_text trace pace nothing_beside) }
+    requires { (trace : Trace) × (pace : Pace) × (rules : List Rule) × IsReplay replay.old trace pace rules 0 }
+    ensures bytes { (trace : Trace) (pace : Pace) (rules : List Rule) → IsReplay replay.old trace pace rules 0 →
+        PutsAll (K.has out.old) (K.has out.new) result (replay_text trace pace (with_rules rules)) }
     ensures cause { HasCause (K.faults out.old) (K.faults out.new) result }
     ensures below { StaysOver (K.below out.old) (K.below out.new) }
 {
@@ -33,22 +37,24 @@ fn put_replay<K: Sink>(replay: &mut Replay<'_>, out: &mut K) -> Result<(), Write
     }
 }
 
-/// Writes the output of `replay` for a trace that was taken apart. Where memory is wanting, nothing is written.
+/// Writes the output of `replay` for a trace that was taken apart, with rules if there are some. Where memory is wanting, nothing is written.
 pub(crate) fn write_replay<K: Sink>(
     alloc: Global,
     planner: Planner,
+    rules: Option<Rules>,
     options: &Options,
     out: &mut K,
 ) -> Status
-    requires { (limits : Limits) × (events : List Event) × IsToReplay planner options.now limits events }
+    requires taken { (limits : Limits) × (events : List Event) × IsToReplay planner options.now limits events }
+    requires fit { FitsRules (rules_in rules) }
     ensures writes { (limits : Limits) (events : List Event) → IsToReplay planner options.now limits events →
-        WritesText (replay_text (plain_trace limits.cpus events) (pace_of options.now) nothing_beside) (K.faults out.old) (K.faults out.new) (K.has out.old) (K.has out.new) result }
+        WritesText (replay_text (plain_trace limits.cpus events) (pace_of options.now) (with_rules (rules_in rules))) (K.faults out.old) (K.faults out.new) (K.has out.old) (K.has out.new) result }
     ensures below { StaysOver (K.below out.old) (K.below out.new) }
 {
     let Ok(plans) = planner.finish(alloc) else {
         return Status::NoMemory;
     };
-    let Ok(mut replay) = prepare(alloc, &plans, options) else {
+    let Ok(mut replay) = prepare(alloc, &plans, rules, options) else {
         return Status::NoMemory;
     };
     match put_replay(&mut replay, out) {

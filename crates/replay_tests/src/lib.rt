@@ -1,12 +1,12 @@
-//! Tests of the top call: worked traces, refusals, words and faults, each at its exact text.
+//! Tests of the top call over shelves and sinks in memory: traces and outputs in pieces, words, and faults at each call.
 #![tactic(auto)]
 
 #[cfg(test)]
-mod ends;
-#[cfg(test)]
 mod faults;
 #[cfg(test)]
-mod groups;
+mod pieces;
+#[cfg(test)]
+mod replays;
 #[cfg(test)]
 mod runs;
 #[cfg(test)]

@@ -34,18 +34,37 @@ pub struct Failing {
 /// A call that isn't made.
 pub const NONE: u64 = 1_000_000;
 
+/// No call fails.
+const NO_FAULT: Failing = Failing {
+    read: NONE,
+    write: NONE,
+    note: NONE,
+};
+
+/// A trace of one task that waits for IO to the end.
+pub const ONE_WAIT: &str = "psitrace 1 cpus=1\n\
+    0 fork 1 / 0\n\
+    0 switch 0 1 idle\n\
+    0 switch 0 0 iowait\n\
+    2000000000 end\n";
+
 /// Runs a command line over a shelf with the one file `t`, where some calls fail. The shelf and both sinks move at most
 /// so many bytes a call.
 pub fn run_failing<R: Threads + AllocGlobal + Sync>(
     rt: &R,
     line: &str,
-    trace: &[u8],
+    trace: &str,
     most: usize,
     failing: Failing,
 ) -> Result<Ran, Fail> {
     let alloc = rt.alloc();
     let words = words_of(rt, line)?;
-    let files = vec![in alloc; (Text::make(alloc, b"t")?, Text::make(alloc, trace)?)]?;
+    let files = vec![in alloc;
+        (
+            Text::make(alloc, b"t")?,
+            Text::make(alloc, trace.as_bytes())?
+        ),
+    ]?;
     let most = most.max(1);
     let mut shelf = MemShelf::new(files, most, vec![in alloc; failing.read]?);
     let mut out = MemSink::new(alloc, 4096, most, vec![in alloc; failing.write]?)?;
@@ -60,17 +79,60 @@ pub fn run_failing<R: Threads + AllocGlobal + Sync>(
     })
 }
 
-/// The same where no call fails.
-pub fn run_on<R: Threads + AllocGlobal + Sync>(
+/// Whether a run ended with this status, output and note.
+pub fn is_run(ran: &Ran, status: Status, output: &str, note: &str) -> bool {
+    ran.status == status
+        && ran.output.as_slice() == output.as_bytes()
+        && ran.note.as_slice() == note.as_bytes()
+}
+
+/// A command line over this trace prints this output, where no call fails.
+pub fn prints_by<R: Threads + AllocGlobal + Sync>(
     rt: &R,
     line: &str,
-    trace: &[u8],
+    trace: &str,
     most: usize,
-) -> Result<Ran, Fail> {
+    output: &str,
+) -> Result<bool, Fail> {
+    let ran = run_failing(rt, line, trace, most, NO_FAULT)?;
+    Ok(is_run(&ran, Status::Done, output, ""))
+}
+
+/// A command line over this trace ends with this status and note, and prints nothing, where this call of the shelf fails.
+pub fn prints_nothing<R: Threads + AllocGlobal + Sync>(
+    rt: &R,
+    line: &str,
+    trace: &str,
+    most: usize,
+    read: u64,
+    status: Status,
+    note: &str,
+) -> Result<bool, Fail> {
     let failing = Failing {
-        read: NONE,
+        read,
         write: NONE,
         note: NONE,
     };
-    run_failing(rt, line, trace, most, failing)
+    let ran = run_failing(rt, line, trace, most, failing)?;
+    Ok(is_run(&ran, status, "", note))
+}
+
+/// A command line over this trace prints a front of this output, where this call of the sink fails.
+pub fn prints_front<R: Threads + AllocGlobal + Sync>(
+    rt: &R,
+    line: &str,
+    trace: &str,
+    most: usize,
+    write: u64,
+    output: &str,
+) -> Result<bool, Fail> {
+    let failing = Failing {
+        read: NONE,
+        write,
+        note: NONE,
+    };
+    let ran = run_failing(rt, line, trace, most, failing)?;
+    let is_front = ran.output.len() < output.len() && output.as_bytes().starts_with(&ran.output);
+    let is_told = ran.note.as_slice() == b"write fault\n".as_slice();
+    Ok(ran.status == Status::WriteFault && is_front && is_told)
 }

@@ -1,9 +1,8 @@
-use Rattle.std.proofs.Common.{refl}
+use Rattle.std.proofs.Common.{refl, []}
 use Rattle.run_spec.specs.Text.{check_text}
 use Rattle.run_spec.specs.declared.command.Command.TheVariants.{Check}
 use Rattle.replay_core.specs.Reads.{plain_trace}
-use Rattle.replay_core.proofs.RunEnds.{written_of_trace}
-use Rattle.replay_core.proofs.RunLaws.{runs_written, takes_trace}
+use Rattle.replay_core.proofs.RunLaws.{none_given, runs_written, takes_trace}
 use Rattle.replay_core.proofs.command.run_check.Goals as goal
 
 pub returns-in-Ok-clause-runs : goal.returns-in-Ok-clause-runs
@@ -11,11 +10,6 @@ returns-in-Ok-clause-runs g c =
     let command = Check c.args.name.now c.args.tick_ms in
     let read = rw c.from.ensures at c.in-Ok.ensures.content in
     let causes = c.in-Ok.ensures.cause in
-    runs_written command c.args.name.now (g.S.Shelf.holds c.args.shelf.now) _ _ _ _ (plain_trace read.cpus read.events) (check_text (plain_trace read.cpus read.events)) c.write_line.result refl
+    runs_written command c.args.name.now (g.S.Shelf.holds c.args.shelf.now) _ _ _ _ (plain_trace read.cpus read.events) [] (check_text (plain_trace read.cpus read.events)) c.write_line.result refl
     (takes_trace command c.args.name.now (g.S.Shelf.holds c.args.shelf.now) read.cpus read.events refl read.counted read.accepted read.read)
-    c.in-Ok.ensures.missing refl (causes.faults_same (λ is. cc is)) (causes.absent_same (λ is. cc is)) (c.write_line.ensures.writes _ read.events read.played)
-
-pub returns-in-Ok-clause-file : goal.returns-in-Ok-clause-file
-returns-in-Ok-clause-file g c =
-    let read = c.in-Ok.ensures.content in
-    written_of_trace (check_text (plain_trace read.cpus read.events)) _ _ _ _ c.write_line.result (c.write_line.ensures.writes _ read.events read.played)
+    (none_given (g.S.Shelf.holds c.args.shelf.now)) c.in-Ok.ensures.missing refl (causes.faults_same (λ is. cc is)) (causes.absent_same (λ is. cc is)) (c.write_line.ensures.writes _ read.events read.played)

@@ -1,21 +1,33 @@
 use Rattle.std.proofs.Common.{◌≡◌}
+use Rattle.run_spec.specs.declared.command.Command.TheVariants.{Replay}
 use Rattle.replay_core.proofs.NameLaws.{trace_named}
 use Rattle.replay_core.proofs.Pieces.{front_of_puts}
-use Rattle.replay_core.proofs.RunEnds.{completes, refuses}
+use Rattle.replay_core.proofs.RunEnds.{completes, faults, headlined, refuses}
 use Rattle.replay_core.proofs.entry.run.Goals as goal
 
 pub run_buffered-status-requires-clause-over : goal.run_buffered-status-requires-clause-over
 run_buffered-status-requires-clause-over g c κs within = trace_named _ c.in-Ok.command c.in-Ok.ensures.exact
 
+pub returns-in-Ok-clause-headline : goal.returns-in-Ok-clause-headline
+returns-in-Ok-clause-headline g c = λ name bytes options rules is tells given done.
+    let same : c.in-Ok.command ≡ Replay name options = cc (c.in-Ok.ensures.exact, is) in
+    let runs = rw (same, done) at c.run_buffered-status.ensures.runs in
+    headlined name options (g.S.Shelf.holds c.args.shelf.now) _ _ _ _ runs bytes rules tells given
+
 pub returns-in-Ok-clause-complete : goal.returns-in-Ok-clause-complete
-returns-in-Ok-clause-complete g c = λ command bytes trace is.
+returns-in-Ok-clause-complete g c = λ command rules bytes trace is.
     let same : c.in-Ok.command ≡ command = cc (c.in-Ok.ensures.exact, is) in
-    rw (← same) (completes c.in-Ok.command (g.S.Shelf.holds c.args.shelf.now) _ _ _ _ c.run_buffered-status.result c.run_buffered-status.ensures.runs c.run_buffered-status.ensures.file bytes trace)
+    rw (← same) (completes c.in-Ok.command (g.S.Shelf.holds c.args.shelf.now) _ _ _ _ c.run_buffered-status.result c.run_buffered-status.ensures.runs rules bytes trace)
+
+pub returns-in-Ok-clause-faulty : goal.returns-in-Ok-clause-faulty
+returns-in-Ok-clause-faulty g c = λ command name bytes fault is.
+    let same : c.in-Ok.command ≡ command = cc (c.in-Ok.ensures.exact, is) in
+    rw (← same) (faults c.in-Ok.command (g.S.Shelf.holds c.args.shelf.now) _ _ _ _ c.run_buffered-status.result c.run_buffered-status.ensures.runs name bytes fault)
 
 pub returns-in-Ok-clause-refuses : goal.returns-in-Ok-clause-refuses
-returns-in-Ok-clause-refuses g c = λ command bytes line why is.
+returns-in-Ok-clause-refuses g c = λ command rules bytes line why is.
     let same : c.in-Ok.command ≡ command = cc (c.in-Ok.ensures.exact, is) in
-    rw (← same) (refuses c.in-Ok.command (g.S.Shelf.holds c.args.shelf.now) _ _ _ _ c.run_buffered-status.result c.run_buffered-status.ensures.runs c.run_buffered-status.ensures.file bytes line why)
+    rw (← same) (refuses c.in-Ok.command (g.S.Shelf.holds c.args.shelf.now) _ _ _ _ c.run_buffered-status.result c.run_buffered-status.ensures.runs rules bytes line why)
 
 pub returns-in-Ok-clause-note_front : goal.returns-in-Ok-clause-note_front
 returns-in-Ok-clause-note_front g c = rw c.in-Ok.ensures.exact (front_of_puts _ _ _ _ c.put_status.ensures.bytes)

@@ -1,7 +1,8 @@
-use Rattle.std.proofs.Common.{◌≡◌, ℕ, ◌-◌}
+use Rattle.std.proofs.Common.{◌≡◌, ℕ, List, ◌-◌}
 use Rattle.std.specs.Prelude.{Ok}
 use Rattle.psi_base.specs.Outside.{HasCause, StaysOver}
 use Rattle.psi_spec.specs.Trace.{Trace}
+use Rattle.ruleset_json.specs.declared.types.Rule.{Rule}
 use Rattle.run_spec.specs.Replay.{Pace}
 use Rattle.replay_ticks.specs.Replays.{IsReplay}
 use Rattle.replay_core.proofs.ReplayLaws.{TickedTo}
@@ -9,7 +10,7 @@ use Rattle.replay_core.proofs.replay.put_replay.Given as goal
 
 abbrev pub invariant-ticks : goal.invariant-ticks
 invariant-ticks g l = record {
-  so_far : (trace : Trace) (pace : Pace) → IsReplay l.fn.replay trace pace 0 → TickedTo l.replay trace pace (g.K.Sink.has l.fn.out) (g.K.Sink.has l.out);
+  so_far : (trace : Trace) (pace : Pace) (rules : List Rule) → IsReplay l.fn.replay trace pace rules 0 → TickedTo l.replay trace pace rules (g.K.Sink.has l.fn.out) (g.K.Sink.has l.out);
   cause : HasCause {T = Unit {0}} {E = Unit {0}} (g.K.Sink.faults l.fn.out) (g.K.Sink.faults l.out) (Ok tt);
   below : StaysOver (g.K.Sink.below l.fn.out) (g.K.Sink.below l.out);
 }

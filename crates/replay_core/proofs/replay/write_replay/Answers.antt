@@ -1,29 +1,33 @@
 use Rattle.run_spec.specs.Outputs.{pace_of}
+use Rattle.replay_rules.specs.Judged.{rules_in}
 use Rattle.replay_core.specs.Reads.{plain_trace}
 use Rattle.replay_core.proofs.ReplayLaws.{planned}
 use Rattle.replay_core.proofs.replay.write_replay.Goals as goal
 
-pub prepare-requires : goal.prepare-requires
-prepare-requires g c =
-    let limits = c.requires.0 in
-    let events = c.requires.1 in
-    (plain_trace limits.cpus events, planned c.args.planner c.in-Ok.plans c.args.options.now limits events c.requires.2 c.in-Ok.ensures)
+pub prepare-requires-clause-planned : goal.prepare-requires-clause-planned
+prepare-requires-clause-planned g c =
+    let limits = c.requires.taken.0 in
+    let events = c.requires.taken.1 in
+    (plain_trace limits.cpus events, planned c.args.planner c.in-Ok.plans c.args.options.now limits events c.requires.taken.2 c.in-Ok.ensures)
 
 pub put_replay-requires : goal.put_replay-requires
 put_replay-requires g c =
-    let limits = c.requires.0 in
-    let events = c.requires.1 in
+    let limits = c.requires.taken.0 in
+    let events = c.requires.taken.1 in
     let trace = plain_trace limits.cpus events in
-    (trace, pace_of c.args.options.now, c.in-Ok-prepare.ensures trace (planned c.args.planner c.in-Ok.plans c.args.options.now limits events c.requires.2 c.in-Ok.ensures))
+    (trace, pace_of c.args.options.now, rules_in c.args.rules, c.in-Ok-prepare.ensures trace (planned c.args.planner c.in-Ok.plans c.args.options.now limits events c.requires.taken.2 c.in-Ok.ensures))
 
 pub returns-in-Ok-put_replay-clause-writes : goal.returns-in-Ok-put_replay-clause-writes
 returns-in-Ok-put_replay-clause-writes g c = λ limits events to_replay.
     let trace = plain_trace limits.cpus events in
     let fresh = c.in-Ok-prepare.ensures trace (planned c.args.planner c.in-Ok.plans c.args.options.now limits events to_replay c.in-Ok.ensures) in
-    (c.in-Ok-put_replay.ensures.bytes trace (pace_of c.args.options.now) fresh, c.in-Ok-put_replay.ensures.cause.same)
+    (c.in-Ok-put_replay.ensures.bytes trace (pace_of c.args.options.now) (rules_in c.args.rules) fresh, c.in-Ok-put_replay.ensures.cause.same)
 
 pub returns-clause-writes : goal.returns-clause-writes
 returns-clause-writes g c = λ limits events to_replay.
     let trace = plain_trace limits.cpus events in
     let fresh = c.in-Ok-prepare.ensures trace (planned c.args.planner c.in-Ok.plans c.args.options.now limits events to_replay c.in-Ok.ensures) in
-    (c.in-Err.ensures.bytes trace (pace_of c.args.options.now) fresh, c.in-Err.ensures.cause.failed)
+    (c.in-Err.ensures.bytes trace (pace_of c.args.options.now) (rules_in c.args.rules) fresh, c.in-Err.ensures.cause.failed)
+
+pub prepare-requires-clause-often : goal.prepare-requires-clause-often
+prepare-requires-clause-often g c = c.requires.taken.2.often

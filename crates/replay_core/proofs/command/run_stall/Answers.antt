@@ -1,0 +1,23 @@
+use Rattle.std.proofs.Common.{refl, []}
+use Rattle.run_spec.specs.Text.{stall_text}
+use Rattle.run_spec.specs.declared.command.Command.TheVariants.{Stall}
+use Rattle.replay_core.specs.Reads.{plain_trace}
+use Rattle.replay_core.proofs.RunLaws.{none_given, runs_refused, runs_written, takes_trace}
+use Rattle.replay_core.proofs.command.run_stall.Goals as goal
+
+pub returns-in-Ok-clause-runs : goal.returns-in-Ok-clause-runs
+returns-in-Ok-clause-runs g c =
+    let command = Stall c.args.name.now in
+    let files = g.S.Shelf.holds c.args.shelf.now in
+    let read = c.in-Ok.ensures.content in
+    let causes = c.in-Ok.ensures.cause in
+    let trace = plain_trace read.cpus read.events in
+    runs_written command c.args.name.now files _ _ _ _ trace [] (stall_text trace) c.write_stalls.result refl
+    (takes_trace command c.args.name.now files read.cpus read.events refl read.counted read.accepted read.read)
+    (none_given files) c.in-Ok.ensures.missing refl (causes.faults_same (λ is. cc is)) (causes.absent_same (λ is. cc is)) (c.write_stalls.ensures.writes _ read.events read.played)
+
+pub returns-in-Err-clause-runs : goal.returns-in-Err-clause-runs
+returns-in-Err-clause-runs g c =
+    let files = g.S.Shelf.holds c.args.shelf.now in
+    runs_refused (Stall c.args.name.now) c.args.name.now files _ _ _ [] c.in-Err.fault c.fault_status.result refl (none_given files)
+    c.in-Err.ensures.content c.in-Err.ensures.missing c.in-Err.ensures.missed c.in-Err.ensures.cause refl c.fault_status.ensures.status

@@ -1,0 +1,141 @@
+//! Accepted traces, which come and whose output goes in pieces.
+
+use crate::runs::prints_by;
+use std::test::Fail;
+use std::thread::Threads;
+
+/// Traces, and behind each what `stall` and `check` print of it. No task; a wait for IO without end; one that ends
+/// early; two tasks, of which one waits. Then:
+///
+/// - one of two running tasks is in a stall, and it is the one that runs: memory is full by it alone;
+/// - a task waits on one processor and wakes on another;
+/// - the running one of two tasks moves up to the root, and the ready one migrates to another processor;
+/// - a group is removed and made again, and a waiting task moves into the new one;
+/// - two tasks of two groups on one processor: the one that is ready sees the processor taken, its group doesn't run, and
+///   the root's one running task keeps the root's processor from being full;
+/// - groups are printed in the byte order of their paths, and removed ones aren't.
+const TRACES: &str = "psitrace 1 cpus=1\n\
+    5 end\n|\
+    stall cpu=0 / 0 0 0 0 0 0 0\n|\
+    ok lines=2 events=1 end=5\n~\
+    psitrace 1 cpus=1\n\
+    0 fork 1 / 0\n\
+    0 switch 0 1 idle\n\
+    0 switch 0 0 iowait\n\
+    2000000000 end\n|\
+    stall cpu=0 / 2000000000 2000000000 0 0 0 0 2000000000\n|\
+    ok lines=5 events=4 end=2000000000\n~\
+    psitrace 1 cpus=1\n\
+    0 fork 1 / 0\n\
+    0 switch 0 1 idle\n\
+    0 switch 0 0 iowait\n\
+    900000 wake 1 0\n\
+    900000 switch 0 1 idle\n\
+    900000 switch 0 0 sleep\n\
+    2000000000 end\n|\
+    stall cpu=0 / 900000 900000 0 0 0 0 900000\n|\
+    ok lines=8 events=7 end=2000000000\n~\
+    psitrace 1 cpus=1\n\
+    0 fork 1 / 0\n\
+    0 fork 2 / 0\n\
+    0 switch 0 1 idle\n\
+    1000000000 switch 0 2 iowait\n\
+    1500000000 switch 0 0 sleep\n\
+    2000000000 wake 1 0\n\
+    3000000000 end\n|\
+    stall cpu=0 / 1000000000 500000000 0 0 2000000000 1000000000 3000000000\n|\
+    ok lines=8 events=7 end=3000000000\n~\
+    psitrace 1 cpus=1\n\
+    0 fork 1 / 0\n\
+    0 fork 2 / 0\n\
+    0 switch 0 1 idle\n\
+    0 stall 1\n\
+    1000000000 unstall 1\n\
+    1000000000 end\n|\
+    stall cpu=0 / 0 0 1000000000 1000000000 1000000000 0 1000000000\n|\
+    ok lines=7 events=6 end=1000000000\n~\
+    psitrace 1 cpus=2\n\
+    0 fork 1 / 0\n\
+    0 switch 0 1 idle\n\
+    0 switch 0 0 iowait\n\
+    2000000000 wake 1 1\n\
+    4000000000 end\n|\
+    stall cpu=0 / 2000000000 2000000000 0 0 0 0 2000000000\n\
+    stall cpu=1 / 0 0 0 0 2000000000 2000000000 2000000000\n|\
+    ok lines=6 events=5 end=4000000000\n~\
+    psitrace 1 cpus=2\n\
+    0 group /a\n\
+    0 fork 1 /a 0\n\
+    0 fork 2 / 0\n\
+    0 switch 0 1 idle\n\
+    1000000000 move 1 /\n\
+    2000000000 migrate 2 1\n\
+    3000000000 end\n|\
+    stall cpu=0 / 0 0 0 0 2000000000 0 3000000000\n\
+    stall cpu=0 /a 0 0 0 0 0 0 1000000000\n\
+    stall cpu=1 / 0 0 0 0 1000000000 1000000000 1000000000\n\
+    stall cpu=1 /a 0 0 0 0 0 0 0\n|\
+    ok lines=8 events=7 end=3000000000\n~\
+    psitrace 1 cpus=1\n\
+    0 fork 1 / 0\n\
+    0 switch 0 1 idle\n\
+    0 switch 0 0 iowait\n\
+    1500000000 group /a\n\
+    2500000000 rmgroup /a\n\
+    3100000000 group /a\n\
+    3100000000 move 1 /a\n\
+    6000000000 end\n|\
+    stall cpu=0 / 6000000000 6000000000 0 0 0 0 6000000000\n\
+    stall cpu=0 /a 2900000000 2900000000 0 0 0 0 2900000000\n|\
+    ok lines=9 events=8 end=6000000000\n~\
+    psitrace 1 cpus=1\n\
+    0 group /a\n\
+    0 group /b\n\
+    0 fork 1 /a 0\n\
+    0 fork 2 /b 0\n\
+    0 switch 0 1 idle\n\
+    1000 switch 0 2 preempt\n\
+    3000 end\n|\
+    stall cpu=0 / 0 0 0 0 3000 0 3000\n\
+    stall cpu=0 /a 0 0 0 0 2000 2000 3000\n\
+    stall cpu=0 /b 0 0 0 0 1000 1000 3000\n|\
+    ok lines=8 events=7 end=3000\n~\
+    psitrace 1 cpus=1\n\
+    0 group /b\n\
+    0 group /a\n\
+    0 group /c\n\
+    0 group /a/b\n\
+    0 group /a-b\n\
+    0 rmgroup /c\n\
+    0 mem /a 1 2 3\n\
+    0 host 1 2 3\n\
+    0 prefer /a avoid\n\
+    0 trigger /a io some 1 500000\n\
+    7 end\n|\
+    stall cpu=0 / 0 0 0 0 0 0 0\n\
+    stall cpu=0 /a 0 0 0 0 0 0 0\n\
+    stall cpu=0 /a-b 0 0 0 0 0 0 0\n\
+    stall cpu=0 /a/b 0 0 0 0 0 0 0\n\
+    stall cpu=0 /b 0 0 0 0 0 0 0\n|\
+    ok lines=12 events=11 end=7\n";
+
+/// Both commands print what stands behind the trace, where the shelf and the sinks move so many bytes a call.
+fn prints<R: Threads + AllocGlobal + Sync>(rt: &R, row: &str, most: usize) -> Result<bool, Fail> {
+    let Some((trace, outputs)) = row.split_once('|') else {
+        return Ok(false);
+    };
+    let Some((sums, line)) = outputs.split_once('|') else {
+        return Ok(false);
+    };
+    Ok(prints_by(rt, "stall t", trace, most, sums)? && prints_by(rt, "check t", trace, most, line)?)
+}
+
+#[test]
+fn traces_in_pieces(rt: HostRuntime) -> Result<(), Fail> {
+    for row in TRACES.split('~') {
+        for most in [1, 7, 65536] {
+            assert!(rt; prints(&rt, row, most)?, "{most} bytes a call: {row}");
+        }
+    }
+    Ok(())
+}

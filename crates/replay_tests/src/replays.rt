@@ -1,0 +1,44 @@
+//! A replay whose trace comes, and whose output goes, byte by byte, and each of whose calls fails in turn.
+
+use crate::runs::{ONE_WAIT, prints_by, prints_front, prints_nothing};
+use replay_core::Status;
+use std::test::Fail;
+
+/// The one tick of the trace, which ends with it.
+const REPLAYED: &str = "report 2000000000 / io\n\
+    some avg10=18.11 avg60=3.27 avg300=0.68 total=2000000\n\
+    full avg10=18.11 avg60=3.27 avg300=0.68 total=2000000\n\
+    report 2000000000 / memory\n\
+    some avg10=0.00 avg60=0.00 avg300=0.00 total=0\n\
+    full avg10=0.00 avg60=0.00 avg300=0.00 total=0\n\
+    report 2000000000 / cpu\n\
+    some avg10=0.00 avg60=0.00 avg300=0.00 total=0\n\
+    full avg10=0.00 avg60=0.00 avg300=0.00 total=0\n\
+    end 2000000000 ticks=1 events=0 kills=0\n";
+
+/// How many calls of the shelf there are: one for each byte of the trace, and the look behind it.
+const READS: u64 = 85;
+
+/// How many calls of the sink there are: one for each byte of the output.
+const WRITES: u64 = 410;
+
+#[test]
+fn replays_byte_by_byte(rt: HostRuntime) -> Result<(), Fail> {
+    let line = "replay t";
+    for most in [1, 7, 65536] {
+        assert!(rt;
+            prints_by(&rt, line, ONE_WAIT, most, REPLAYED)?,
+            "{most} bytes a call"
+        );
+    }
+    let fault = Status::ReadFault;
+    for read in 0..READS {
+        let is_told = prints_nothing(&rt, line, ONE_WAIT, 1, read, fault, "read fault\n")?;
+        assert!(rt; is_told, "at read {read}");
+    }
+    for write in 0..WRITES {
+        let is_told = prints_front(&rt, line, ONE_WAIT, 1, write, REPLAYED)?;
+        assert!(rt; is_told, "at write {write}");
+    }
+    Ok(())
+}
