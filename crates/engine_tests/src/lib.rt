@@ -1,9 +1,9 @@
 //! Tests of the engine of ticks.
 #![tactic(auto)]
 
+#[cfg(test)]
 mod checks;
+#[cfg(test)]
 mod machine;
 #[cfg(test)]
 mod ticks;
-
-pub use machine::{Failed, Machine};

@@ -73,46 +73,10 @@ fn triggers() -> [TriggerSpec; 6] {
     ]
 }
 
-/// Lets the times of four groups on three processors grow over an interval (ns), and makes the tick at its end.
-fn play(
-    machine: &mut Machine,
-    times: &mut [[u64; 7]; 12],
-    tick: u64,
-    interval: Ns,
-    now: Ns,
-) -> Result<(), Failed> {
-    for place in 0..12u32 {
-        let slot = place / 3;
-        let cpu = place % 3;
-        let row = &mut times[place as usize];
-        for state in 0..7u32 {
-            let grown = growth(
-                tick,
-                u64::from(slot),
-                u64::from(cpu),
-                u64::from(state),
-                interval,
-            );
-            row[state as usize] = row[state as usize].wrapping_add(grown);
-        }
-        machine.set(cpu, slot, *row)?;
-    }
-    machine.tick(now)
-}
-
-/// The totals of the four groups.
-fn totals_of(machine: &Machine) -> Result<[[u64; 6]; 4], Failed> {
-    Ok([
-        machine.totals(0)?,
-        machine.totals(1)?,
-        machine.totals(2)?,
-        machine.totals(3)?,
-    ])
-}
-
-/// The moment of a tick (ns).
+/// The moment of a tick (ns), and of the start.
 fn moment(tick: u64) -> Ns {
     match tick {
+        0 => 0,
         1 => 1_000_000_000,
         2 => 2_000_000_000,
         3 => 4_000_000_000,
@@ -123,272 +87,158 @@ fn moment(tick: u64) -> Ns {
     }
 }
 
-/// The totals of each group after a tick.
-fn totals_at(tick: u64) -> [[u64; 6]; 4] {
-    match tick {
-        1 => [
-            [
-                611_764_705,
-                811_764_705,
-                429_411_764,
-                241_176_470,
-                441_176_470,
-                511_764_705,
-            ],
-            [
-                613_333_333,
-                813_333_333,
-                353_333_333,
-                553_333_333,
-                386_666_666,
-                586_666_666,
-            ],
-            [0, 0, 0, 0, 0, 0],
-            [0, 0, 0, 0, 0, 0],
-        ],
-        2 => [
-            [
-                1_091_764_705,
-                1_491_764_705,
-                1_309_411_764,
-                551_176_470,
-                951_176_470,
-                891_764_705,
-            ],
-            [
-                1_276_491_227,
-                1_097_543_859,
-                837_543_859,
-                890_175_438,
-                923_508_771,
-                1_149_824_560,
-            ],
-            [0, 0, 0, 0, 0, 0],
-            [0, 0, 0, 0, 0, 0],
-        ],
-        3 => [
-            [
-                2_177_478_990,
-                2_977_478_990,
-                1_937_983_192,
-                1_579_747_898,
-                1_594_033_612,
-                1_934_621_847,
-            ],
-            [
-                2_409_824_560,
-                2_630_877_192,
-                1_304_210_525,
-                1_756_842_104,
-                1_456_842_104,
-                2_083_157_893,
-            ],
-            [
-                960_000_000,
-                1_360_000_000,
-                1_760_000_000,
-                620_000_000,
-                1_020_000_000,
-                760_000_000,
-            ],
-            [
-                1_326_315_789,
-                568_421_052,
-                968_421_052,
-                673_684_210,
-                1_073_684_210,
-                1_126_315_789,
-            ],
-        ],
-        4 => [
-            [
-                2_855_256_767,
-                3_244_145_656,
-                2_404_649_858,
-                1_879_747_898,
-                2_094_033_612,
-                2_512_399_624,
-            ],
-            [
-                2_409_824_560,
-                2_630_877_192,
-                1_304_210_525,
-                1_756_842_104,
-                1_456_842_104,
-                2_083_157_893,
-            ],
-            [
-                1_502_857_142,
-                2_102_857_142,
-                2_074_285_714,
-                1_134_285_714,
-                1_341_428_571,
-                1_281_428_571,
-            ],
-            [
-                1_892_982_455,
-                1_335_087_718,
-                1_201_754_385,
-                1_107_017_543,
-                1_340_350_876,
-                1_592_982_455,
-            ],
-        ],
-        5 => [
-            [
-                5_800_711_312,
-                7_389_600_201,
-                7_750_104_403,
-                4_225_202_443,
-                3_239_488_157,
-                4_857_854_169,
-            ],
-            [
-                2_409_824_560,
-                2_630_877_192,
-                1_304_210_525,
-                1_756_842_104,
-                1_456_842_104,
-                2_083_157_893,
-            ],
-            [
-                5_569_523_808,
-                3_702_857_142,
-                4_874_285_714,
-                2_934_285_714,
-                4_341_428_571,
-                4_748_095_237,
-            ],
-            [
-                5_417_982_455,
-                6_060_087_718,
-                3_414_254_385,
-                4_519_517_543,
-                3_890_350_876,
-                4_517_982_455,
-            ],
-        ],
-        6 => [
-            [
-                6_720_711_312,
-                8_609_600_201,
-                8_280_104_403,
-                5_055_202_443,
-                3_819_488_157,
-                5_737_854_169,
-            ],
-            [
-                2_409_824_560,
-                2_630_877_192,
-                1_304_210_525,
-                1_756_842_104,
-                1_456_842_104,
-                2_083_157_893,
-            ],
-            [
-                6_305_887_444,
-                4_739_220_778,
-                6_210_649_350,
-                3_520_649_350,
-                4_627_792_207,
-                5_334_458_873,
-            ],
-            [
-                6_452_982_455,
-                6_570_087_718,
-                4_224_254_385,
-                5_052_017_543,
-                4_722_850_876,
-                5_402_982_455,
-            ],
-        ],
-        _ => [
-            [
-                7_715_448_154,
-                9_035_915_990,
-                9_006_420_192,
-                5_560_465_600,
-                4_624_751_314,
-                6_582_591_011,
-            ],
-            [
-                2_409_824_560,
-                2_630_877_192,
-                1_304_210_525,
-                1_756_842_104,
-                1_456_842_104,
-                2_083_157_893,
-            ],
-            [
-                7_225_887_444,
-                5_959_220_778,
-                6_740_649_350,
-                4_350_649_350,
-                5_207_792_207,
-                6_214_458_873,
-            ],
-            [
-                7_237_597_839,
-                7_654_703_102,
-                4_593_485_154,
-                5_721_248_312,
-                5_184_389_337,
-                6_164_520_916,
-            ],
-        ],
+/// How long a state of a group on a processor lasted up to a tick (ns).
+fn time(tick: u64, slot: u32, cpu: u32, state: u64) -> Ns {
+    let mut time = 0u64;
+    for past in 1..=tick {
+        let interval = moment(past).wrapping_sub(moment(past.wrapping_sub(1)));
+        let grown = growth(past, u64::from(slot), u64::from(cpu), state, interval);
+        time = time.wrapping_add(grown);
     }
+    time
 }
 
-/// The triggers that signal at a tick.
-fn fired_at(tick: u64) -> &'static [u32] {
-    match tick {
-        1 => &[0, 4],
-        2 => &[0, 4],
-        3 => &[0, 1, 2, 4, 5],
-        4 => &[0, 5],
-        5 => &[0, 1, 3, 5],
-        6 => &[0, 5],
-        _ => &[0, 1, 2, 3, 5],
-    }
-}
-
-/// The averages of each group after the last tick of the first test.
-fn averages() -> [[[u64; 3]; 6]; 4] {
+/// How long each did.
+fn times(tick: u64, slot: u32, cpu: u32) -> [u64; 7] {
     [
-        [
-            [94_268, 23_401, 5_194],
-            [110_736, 27_710, 6_168],
-            [103_858, 24_776, 5_465],
-            [60_827, 15_667, 3_497],
-            [54_267, 13_794, 3_081],
-            [74_548, 18_957, 4_225],
-        ],
-        [
-            [39_915, 7_835, 1_660],
-            [44_601, 8_592, 1_815],
-            [20_989, 4_199, 893],
-            [29_320, 5_733, 1_214],
-            [23_621, 4_724, 1_004],
-            [34_383, 6_777, 1_437],
-        ],
-        [
-            [77_486, 16_699, 3_608],
-            [63_912, 14_735, 3_223],
-            [81_155, 17_990, 3_908],
-            [49_316, 11_085, 2_411],
-            [70_754, 15_285, 3_303],
-            [75_985, 16_172, 3_486],
-        ],
-        [
-            [92_356, 19_450, 4_172],
-            [92_356, 19_450, 4_172],
-            [58_387, 13_127, 2_844],
-            [85_307, 18_177, 3_906],
-            [71_951, 15_765, 3_402],
-            [92_356, 19_450, 4_172],
-        ],
+        time(tick, slot, cpu, 0),
+        time(tick, slot, cpu, 1),
+        time(tick, slot, cpu, 2),
+        time(tick, slot, cpu, 3),
+        time(tick, slot, cpu, 4),
+        time(tick, slot, cpu, 5),
+        time(tick, slot, cpu, 6),
     ]
 }
+
+/// Lets the times of four groups on three processors grow, and makes the tick.
+fn play(machine: &mut Machine, tick: u64) -> Result<(), Failed> {
+    for place in 0..12u32 {
+        let slot = place / 3;
+        let cpu = place % 3;
+        machine.set(cpu, slot, times(tick, slot, cpu))?;
+    }
+    machine.tick(moment(tick))
+}
+
+/// The numbers are those of the text.
+fn are(numbers: &[u64], text: &str) -> bool {
+    let mut words = text.split(' ');
+    for number in numbers {
+        let Some(word) = words.next() else {
+            return false;
+        };
+        if word.parse::<u64>().ok() != Some(*number) {
+            return false;
+        }
+    }
+    words.next().is_none()
+}
+
+/// The group has these totals.
+fn has_totals(machine: &Machine, slot: u32, text: &str) -> bool {
+    match machine.totals(slot) {
+        Ok(totals) => are(&totals, text),
+        Err(_) => false,
+    }
+}
+
+/// The four groups have these.
+fn have_totals(machine: &Machine, text: &str) -> bool {
+    let mut slot = 0u32;
+    for totals in text.split('|') {
+        if !has_totals(machine, slot, totals) {
+            return false;
+        }
+        slot = slot.wrapping_add(1);
+    }
+    slot == 4
+}
+
+/// The numbers of six states are those of the text.
+fn are_averages(averages: &[[u64; 3]; 6], text: &str) -> bool {
+    let mut parts = text.split(", ");
+    for numbers in averages {
+        let Some(part) = parts.next() else {
+            return false;
+        };
+        if !are(numbers, part) {
+            return false;
+        }
+    }
+    parts.next().is_none()
+}
+
+/// The group has these averages.
+fn has_averages(machine: &Machine, slot: u32, text: &str) -> bool {
+    match machine.averages(slot) {
+        Ok(averages) => are_averages(&averages, text),
+        Err(_) => false,
+    }
+}
+
+/// The triggers that signalled are those whose digits stand here.
+fn have_signalled(machine: &Machine, digits: &str) -> bool {
+    let fired = machine.fired();
+    for (number, digit) in fired.iter().zip(digits.bytes()) {
+        if *number != u32::from(digit.wrapping_sub(b'0')) {
+            return false;
+        }
+    }
+    fired.len() == digits.len()
+}
+
+/// After the tick the triggers and totals are those of the row.
+fn is_tick(machine: &mut Machine, tick: u64, row: &str) -> bool {
+    let Some((digits, totals)) = row.split_once('|') else {
+        return false;
+    };
+    play(machine, tick).is_ok() && have_signalled(machine, digits) && have_totals(machine, totals)
+}
+
+/// Each tick: the triggers that signal, and behind them the totals of each group.
+const TICKS: &str = "04|\
+    611764705 811764705 429411764 241176470 441176470 511764705|\
+    613333333 813333333 353333333 553333333 386666666 586666666|\
+    0 0 0 0 0 0|\
+    0 0 0 0 0 0;\
+    04|\
+    1091764705 1491764705 1309411764 551176470 951176470 891764705|\
+    1276491227 1097543859 837543859 890175438 923508771 1149824560|\
+    0 0 0 0 0 0|\
+    0 0 0 0 0 0;\
+    01245|\
+    2177478990 2977478990 1937983192 1579747898 1594033612 1934621847|\
+    2409824560 2630877192 1304210525 1756842104 1456842104 2083157893|\
+    960000000 1360000000 1760000000 620000000 1020000000 760000000|\
+    1326315789 568421052 968421052 673684210 1073684210 1126315789;\
+    05|\
+    2855256767 3244145656 2404649858 1879747898 2094033612 2512399624|\
+    2409824560 2630877192 1304210525 1756842104 1456842104 2083157893|\
+    1502857142 2102857142 2074285714 1134285714 1341428571 1281428571|\
+    1892982455 1335087718 1201754385 1107017543 1340350876 1592982455;\
+    0135|\
+    5800711312 7389600201 7750104403 4225202443 3239488157 4857854169|\
+    2409824560 2630877192 1304210525 1756842104 1456842104 2083157893|\
+    5569523808 3702857142 4874285714 2934285714 4341428571 4748095237|\
+    5417982455 6060087718 3414254385 4519517543 3890350876 4517982455;\
+    05|\
+    6720711312 8609600201 8280104403 5055202443 3819488157 5737854169|\
+    2409824560 2630877192 1304210525 1756842104 1456842104 2083157893|\
+    6305887444 4739220778 6210649350 3520649350 4627792207 5334458873|\
+    6452982455 6570087718 4224254385 5052017543 4722850876 5402982455;\
+    01235|\
+    7715448154 9035915990 9006420192 5560465600 4624751314 6582591011|\
+    2409824560 2630877192 1304210525 1756842104 1456842104 2083157893|\
+    7225887444 5959220778 6740649350 4350649350 5207792207 6214458873|\
+    7237597839 7654703102 4593485154 5721248312 5184389337 6164520916";
+
+/// The averages of each group after the last tick.
+const AVERAGES: &str =
+    "94268 23401 5194, 110736 27710 6168, 103858 24776 5465, 60827 15667 3497, 54267 13794 3081, 74548 18957 4225;\
+    39915 7835 1660, 44601 8592 1815, 20989 4199 893, 29320 5733 1214, 23621 4724 1004, 34383 6777 1437;\
+    77486 16699 3608, 63912 14735 3223, 81155 17990 3908, 49316 11085 2411, 70754 15285 3303, 75985 16172 3486;\
+    92356 19450 4172, 92356 19450 4172, 58387 13127 2844, 85307 18177 3906, 71951 15765 3402, 92356 19450 4172";
 
 // The machine has three processors and four groups. The second group goes at the fourth tick, the third is made between
 // the second tick and the third, and the last at the third. Times grow also where a group isn't live, and no total sees
@@ -397,23 +247,34 @@ fn averages() -> [[[u64; 3]; 6]; 4] {
 #[test]
 fn groups_that_come_and_go(rt: HostRuntime) -> Result<(), Fail> {
     let alloc = rt.alloc();
-    let lives = groups(alloc)?;
-    let mut machine = Machine::make(alloc, 3, &lives, &triggers())?;
-    let mut times = [[0u64; 7]; 12];
-    let mut last = 0u64;
-    for tick in 1..8u64 {
-        let now = moment(tick);
-        play(&mut machine, &mut times, tick, now.wrapping_sub(last), now)?;
-        last = now;
-        assert_eq!(rt; totals_of(&machine)?, totals_at(tick), "at {now}");
-        assert_eq!(rt; machine.fired(), fired_at(tick), "at {now}");
+    let mut machine = Machine::make(alloc, 3, &groups(alloc)?, &triggers())?;
+    let mut tick = 0u64;
+    for row in TICKS.split(';') {
+        tick = tick.wrapping_add(1);
+        assert!(rt; is_tick(&mut machine, tick, row), "at tick {tick}");
     }
-    let [first, second, third, fourth] = averages();
-    assert_eq!(rt; machine.averages(0)?, first);
-    assert_eq!(rt; machine.averages(1)?, second);
-    assert_eq!(rt; machine.averages(2)?, third);
-    assert_eq!(rt; machine.averages(3)?, fourth);
+    assert_eq!(rt; tick, 7);
+    let mut slot = 0u32;
+    for row in AVERAGES.split(';') {
+        assert!(rt; has_averages(&machine, slot, row), "of group {slot}");
+        slot = slot.wrapping_add(1);
+    }
+    assert_eq!(rt; slot, 4);
     Ok(())
+}
+
+/// All states have lasted the whole time for IO, and none for memory and processors.
+fn waits(machine: &mut Machine, now: Ns) -> Result<(), Failed> {
+    machine.set(0, 0, [now, now, 0, 0, 0, 0, now])?;
+    machine.tick(now)
+}
+
+/// After so many seconds more, the group has these totals and averages, and nothing signalled.
+fn is_wait(machine: &mut Machine, now: Ns, totals: &str, averages: &str) -> bool {
+    waits(machine, now).is_ok()
+        && has_totals(machine, 0, totals)
+        && has_averages(machine, 0, averages)
+        && machine.fired().is_empty()
 }
 
 // One processor, where some and all tasks wait for IO all the time, and ticks of two seconds.
@@ -422,49 +283,59 @@ fn waits_without_end(rt: HostRuntime) -> Result<(), Fail> {
     let alloc = rt.alloc();
     let lives = vec![in alloc; group(alloc, 0, None)?]?;
     let mut machine = Machine::make(alloc, 1, &lives, &[])?;
-    let rows = [
-        (2 * SECOND, [37_100u64, 6_700, 1_400]),
-        (4 * SECOND, [67_480, 13_181, 2_791]),
-    ];
-    for (now, want) in rows {
-        machine.set(0, 0, [now, now, 0, 0, 0, 0, now])?;
-        machine.tick(now)?;
-        assert_eq!(rt; machine.totals(0)?, [now, now, 0, 0, 0, 0]);
-        let averages = machine.averages(0)?;
-        assert_eq!(rt; averages[0], want, "at {now}");
-        assert_eq!(rt; averages[1], want, "at {now}");
-        assert_eq!(rt; averages[2], [0, 0, 0], "at {now}");
-        assert!(rt; machine.fired().is_empty());
-    }
+    let totals = "2000000000 2000000000 0 0 0 0";
+    let averages = "37100 6700 1400, 37100 6700 1400, 0 0 0, 0 0 0, 0 0 0, 0 0 0";
+    assert!(rt; is_wait(&mut machine, 2 * SECOND, totals, averages));
+    let totals = "4000000000 4000000000 0 0 0 0";
+    let averages = "67480 13181 2791, 67480 13181 2791, 0 0 0, 0 0 0, 0 0 0, 0 0 0";
+    assert!(rt; is_wait(&mut machine, 4 * SECOND, totals, averages));
     Ok(())
 }
 
-// Thresholds of 10 ms, 20 ms and so on to 2560 ms in windows of ten seconds, where the total grows by a second a second.
-#[test]
-fn many_triggers_on_one_group(rt: HostRuntime) -> Result<(), Fail> {
-    let alloc = rt.alloc();
-    let lives = vec![in alloc; group(alloc, 0, None)?]?;
+/// Thresholds of 10 ms, 20 ms and so on to 2560 ms, in windows of ten seconds.
+fn many_triggers(alloc: Global) -> Result<Vec<TriggerSpec>, Fail> {
     let mut triggers = Vec::new(alloc);
     for i in 0..256u64 {
         let threshold_us = (i + 1) * 10_000;
         triggers.push(trigger(0, 0, Res::Io, Level::SomeStalled, threshold_us, 10_000_000))?;
     }
-    let mut machine = Machine::make(alloc, 1, &lives, &triggers)?;
-    for second in 1..13u64 {
-        let now = second * SECOND;
-        machine.set(0, 0, [now, 0, 0, 0, 0, 0, now])?;
-        machine.tick(now)?;
-        let (from, to) = match second {
-            1 | 11 => (0, 100),
-            2 | 12 => (100, 200),
-            3 => (200, 256),
-            _ => (0, 0),
-        };
-        let mut want = Vec::new(alloc);
-        for number in from..to {
-            want.push(number)?;
+    Ok(triggers)
+}
+
+/// The numbers are those from the first up to the one before the last.
+fn is_range(numbers: &[u32], from: u32, to: u32) -> bool {
+    let mut next = from;
+    for number in numbers {
+        if *number != next {
+            return false;
         }
-        assert_eq!(rt; machine.fired(), &want[..], "at {second} s");
+        next = next.wrapping_add(1);
+    }
+    next == to
+}
+
+/// A second more is all stalled, and the triggers that signal after it are those that are owed.
+fn is_second(machine: &mut Machine, second: u64) -> bool {
+    let now = second.wrapping_mul(SECOND);
+    let (from, to) = match second {
+        1 | 11 => (0, 100),
+        2 | 12 => (100, 200),
+        3 => (200, 256),
+        _ => (0, 0),
+    };
+    machine.set(0, 0, [now, 0, 0, 0, 0, 0, now]).is_ok()
+        && machine.tick(now).is_ok()
+        && is_range(machine.fired(), from, to)
+}
+
+// The total grows by a second a second.
+#[test]
+fn many_triggers_on_one_group(rt: HostRuntime) -> Result<(), Fail> {
+    let alloc = rt.alloc();
+    let lives = vec![in alloc; group(alloc, 0, None)?]?;
+    let mut machine = Machine::make(alloc, 1, &lives, &many_triggers(alloc)?)?;
+    for second in 1..13u64 {
+        assert!(rt; is_second(&mut machine, second), "at {second} s");
     }
     Ok(())
 }

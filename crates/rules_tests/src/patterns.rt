@@ -1,108 +1,99 @@
 //! Patterns of paths: which match what, and which texts have none.
 use path_match::{PatternFault, Patterns};
-use psi_base::{Fault, Path};
+use psi_base::{Fault, NoMemory, Path};
 use std::alloc::{AllocError, Global};
 use std::process::Abort;
 use std::test::Fail;
 
+// Whether the patterns match the path, where those of a copy answer the same.
+fn answer(alloc: Global, patterns: &Patterns, path: &Path) -> Result<Option<bool>, NoMemory> {
+    let is_match = patterns.matches(path);
+    let is_same = patterns.copy(alloc)?.matches(path) == is_match;
+    Ok(is_same.then_some(is_match))
+}
+
 // The patterns of a text match a path or don't, and so do those of a copy.
-fn matches(
-    rt: &impl Abort,
-    alloc: Global,
-    text: &str,
-    path: &str,
-    wanted: bool,
-) -> Result<(), Fail> {
-    let patterns = match Patterns::read(alloc, text) {
-        Ok(patterns) => patterns,
-        Err(fault) => {
-            assert_eq!(rt; Some(fault), None, "at {text}");
-            return Ok(());
-        }
+fn is_so(alloc: Global, text: &str, path: &str, wanted: bool) -> Result<bool, Fail> {
+    let Ok(patterns) = Patterns::read(alloc, text) else {
+        return Ok(false);
     };
     let Some(path) = Path::read(alloc, path.as_bytes())? else {
-        assert!(rt; false, "no path: {path}");
-        return Ok(());
+        return Ok(false);
     };
-    assert_eq!(rt; patterns.matches(&path), wanted, "at {text}");
-    assert_eq!(rt;
-        patterns.copy(alloc)?.matches(&path),
-        wanted,
-        "at a copy of {text}"
-    );
+    Ok(answer(alloc, &patterns, &path)? == Some(wanted))
+}
+
+// Each row is a text of patterns, a space, and a path.
+fn are_so(rt: &impl Abort, alloc: Global, rows: &str, wanted: bool) -> Result<(), Fail> {
+    for row in rows.split('\n') {
+        let (text, path) = row.split_once(' ').unwrap_or((row, ""));
+        assert!(rt; is_so(alloc, text, path, wanted)?, "at {row}");
+    }
     Ok(())
 }
+
+// Patterns with a path that they match.
+const MATCHING: &str = "system.slice/*,web /system.slice/a.service\n\
+    system.slice/*,web /web\n\
+    / /\n\
+    a,/ /\n\
+    /web /web\n\
+    web /web\n\
+    * /web\n\
+    /* /a.b.c\n\
+    a* /a\n\
+    *a /a\n\
+    a*b /ab\n\
+    a*b /a.service.b\n\
+    a**b /ab\n\
+    a**b /axyb\n\
+    ** /a\n\
+    */b /a/b\n\
+    */* /a/b\n\
+    a*/*c /ab/bc\n\
+    .* /.a\n\
+    .* /...\n\
+    *..* /a..b\n\
+    *ab /aab\n\
+    *ab /abab\n\
+    *a*b* /xaxxbx\n\
+    a*a /aa\n\
+    *aba* /ababa\n\
+    *abc /ababc\n\
+    *a*abc /abacabc\n\
+    Az09_.@:-\\ /Az09_.@:-\\\n\
+    x,y,*.scope /b.scope\n\
+    5 /5";
+
+// Patterns with a path that they don't match.
+const OTHERS: &str = "system.slice/*,web /system.slice\n\
+    system.slice/*,web /system.slice/a/b\n\
+    system.slice/*,web /\n\
+    / /a\n\
+    * /\n\
+    ** /\n\
+    * /a/b\n\
+    a*b /a/b\n\
+    */* /a\n\
+    */* /a/b/c\n\
+    *b /a/b\n\
+    a* /a/b\n\
+    a /b\n\
+    a /ab\n\
+    ab /a\n\
+    a /A\n\
+    a*b /ba\n\
+    a*b /abc\n\
+    *ab /aba\n\
+    a*a /a\n\
+    *abc* /ababab\n\
+    *a*abc /abc\n\
+    a.b /axb";
 
 #[test]
 fn patterns_match(rt: HostRuntime) -> Result<(), Fail> {
-    for (text, path) in [
-        ("system.slice/*,web", "/system.slice/a.service"),
-        ("system.slice/*,web", "/web"),
-        ("/", "/"),
-        ("a,/", "/"),
-        ("/web", "/web"),
-        ("web", "/web"),
-        ("*", "/web"),
-        ("/*", "/a.b.c"),
-        ("a*", "/a"),
-        ("*a", "/a"),
-        ("a*b", "/ab"),
-        ("a*b", "/a.service.b"),
-        ("a**b", "/ab"),
-        ("a**b", "/axyb"),
-        ("**", "/a"),
-        ("*/b", "/a/b"),
-        ("*/*", "/a/b"),
-        ("a*/*c", "/ab/bc"),
-        (".*", "/.a"),
-        (".*", "/..."),
-        ("*..*", "/a..b"),
-        ("*ab", "/aab"),
-        ("*ab", "/abab"),
-        ("*a*b*", "/xaxxbx"),
-        ("a*a", "/aa"),
-        ("*aba*", "/ababa"),
-        ("*abc", "/ababc"),
-        ("*a*abc", "/abacabc"),
-        ("Az09_.@:-\\", "/Az09_.@:-\\"),
-        ("x,y,*.scope", "/b.scope"),
-        ("5", "/5"),
-    ] {
-        matches(&rt, rt.alloc(), text, path, true)?;
-    }
-    Ok(())
-}
-
-#[test]
-fn patterns_dont_match(rt: HostRuntime) -> Result<(), Fail> {
-    for (text, path) in [
-        ("system.slice/*,web", "/system.slice"),
-        ("system.slice/*,web", "/system.slice/a/b"),
-        ("system.slice/*,web", "/"),
-        ("/", "/a"),
-        ("*", "/"),
-        ("**", "/"),
-        ("*", "/a/b"),
-        ("a*b", "/a/b"),
-        ("*/*", "/a"),
-        ("*/*", "/a/b/c"),
-        ("*b", "/a/b"),
-        ("a*", "/a/b"),
-        ("a", "/b"),
-        ("a", "/ab"),
-        ("ab", "/a"),
-        ("a", "/A"),
-        ("a*b", "/ba"),
-        ("a*b", "/abc"),
-        ("*ab", "/aba"),
-        ("a*a", "/a"),
-        ("*abc*", "/ababab"),
-        ("*a*abc", "/abc"),
-        ("a.b", "/axb"),
-    ] {
-        matches(&rt, rt.alloc(), text, path, false)?;
-    }
-    Ok(())
+    are_so(&rt, rt.alloc(), MATCHING, true)?;
+    are_so(&rt, rt.alloc(), OTHERS, false)
 }
 
 // The piece as many times.
@@ -115,90 +106,118 @@ fn repeated(alloc: Global, piece: &str, times: usize) -> Result<String, AllocErr
 }
 
 // The text is refused for this fault, or has patterns where there is none.
-fn reads(rt: &impl Abort, alloc: Global, text: &str, fault: Option<PatternFault>) {
-    let found = match Patterns::read(alloc, text) {
-        Ok(_) => None,
-        Err(fault) => Some(fault),
-    };
-    assert_eq!(rt; found, fault.map(Fault::Refused), "at {text}");
+fn is_read(alloc: Global, text: &str, fault: Option<PatternFault>) -> bool {
+    match Patterns::read(alloc, text) {
+        Ok(_) => fault == None,
+        Err(Fault::Refused(found)) => fault == Some(found),
+        Err(Fault::NoMemory) => false,
+    }
 }
 
-#[test]
-fn bad_patterns(rt: HostRuntime) -> Result<(), Fail> {
-    let alloc = rt.alloc();
-    let bad = Some(PatternFault::BadPattern);
-    for text in [
-        "", ",", "a,", ",a", "a,,b", ".", "..", "/.", "/..", "a/.", "a/../b", "//", "//a", "a/",
-        "/a/", "a//b", "a b", " a", "a?", "a\n", "a\0", "é", "a/é", "[a]", "a, b", "a;b",
-    ] {
-        reads(&rt, alloc, text, bad);
-    }
-    for text in [
-        "/", "a", "/a", "*", "**", ".*", "*.", "*..", "...", "a/.b/..c",
-    ] {
-        reads(&rt, alloc, text, None);
+// So is each of these behind the front.
+fn are_read(
+    rt: &impl Abort,
+    alloc: Global,
+    front: &str,
+    ends: &str,
+    fault: Option<PatternFault>,
+) -> Result<(), Fail> {
+    for end in ends.split('|') {
+        let mut text = String::from_str(alloc, front)?;
+        text.push_str(end)?;
+        assert!(rt; is_read(alloc, &text, fault), "at {text}");
     }
     Ok(())
 }
+
+const BAD: &str =
+    "|,|a,|,a|a,,b|.|..|/.|/..|a/.|a/../b|//|//a|a/|/a/|a//b|a b| a|a?|a\n|a\0|é|a/é|[a]|a, b|a;b";
+
+const GOOD: &str = "/|a|/a|*|**|.*|*.|*..|...|a/.b/..c";
+
+#[test]
+fn bad_patterns(rt: HostRuntime) -> Result<(), Fail> {
+    are_read(&rt, rt.alloc(), "", BAD, Some(PatternFault::BadPattern))?;
+    are_read(&rt, rt.alloc(), "", GOOD, None)
+}
+
+const FIFTEEN: &str = "a,a,a,a,a,a,a,a,a,a,a,a,a,a,a,";
 
 #[test]
 fn limits(rt: HostRuntime) -> Result<(), Fail> {
     let alloc = rt.alloc();
     let bad = Some(PatternFault::BadPattern);
-    let many = Some(PatternFault::TooMany);
-    let fifteen = repeated(alloc, "a,", 15)?;
-    for (end, fault) in [
-        ("a", None),
-        ("a,a", many),
-        ("a,a,/", many),
-        ("..", bad),
-        ("a,..", bad),
-        ("a,", bad),
-        ("a,a,a,a b", bad),
-    ] {
-        let text = format!(in alloc; "{fifteen}{end}")?;
-        reads(&rt, alloc, text.as_str(), fault);
-    }
-    reads(&rt, alloc, repeated(alloc, ",", 99)?.as_str(), bad);
-    reads(&rt, alloc, repeated(alloc, "a", 300)?.as_str(), None);
-    reads(&rt, alloc, repeated(alloc, "/a", 33)?.as_str(), None);
-    let last = format!(in alloc; "{fifteen}*/b")?;
-    matches(&rt, alloc, last.as_str(), "/a/b", true)?;
-    matches(&rt, alloc, last.as_str(), "/a/b/c", false)
+    are_read(&rt, alloc, FIFTEEN, "a", None)?;
+    are_read(
+        &rt,
+        alloc,
+        FIFTEEN,
+        "a,a|a,a,/",
+        Some(PatternFault::TooMany),
+    )?;
+    are_read(&rt, alloc, FIFTEEN, "..|a,..|a,|a,a,a,a b", bad)?;
+    let last = "a,a,a,a,a,a,a,a,a,a,a,a,a,a,a,*/b";
+    assert!(rt; is_so(alloc, last, "/a/b", true)?);
+    assert!(rt; is_so(alloc, last, "/a/b/c", false)?);
+    Ok(())
+}
+
+// The piece as many times is refused for this fault, or has patterns where there is none.
+fn is_read_repeated(
+    alloc: Global,
+    piece: &str,
+    times: usize,
+    fault: Option<PatternFault>,
+) -> Result<bool, Fail> {
+    Ok(is_read(alloc, &repeated(alloc, piece, times)?, fault))
+}
+
+#[test]
+fn long_texts(rt: HostRuntime) -> Result<(), Fail> {
+    let alloc = rt.alloc();
+    assert!(rt; is_read_repeated(alloc, ",", 99, Some(PatternFault::BadPattern))?);
+    assert!(rt; is_read_repeated(alloc, "a", 300, None)?);
+    assert!(rt; is_read_repeated(alloc, "/a", 33, None)?);
+    Ok(())
+}
+
+// The piece as many times, with this end, matches the path of the root's child of 254 letters `a`, or doesn't.
+fn is_so_of_long(
+    alloc: Global,
+    piece: &str,
+    times: usize,
+    end: &str,
+    wanted: bool,
+) -> Result<bool, Fail> {
+    let mut text = repeated(alloc, piece, times)?;
+    text.push_str(end)?;
+    let mut path = String::from_str(alloc, "/")?;
+    path.push_str(&repeated(alloc, "a", 254)?)?;
+    is_so(alloc, &text, &path, wanted)
 }
 
 #[test]
 fn long_patterns(rt: HostRuntime) -> Result<(), Fail> {
     let alloc = rt.alloc();
-    let path = format!(in alloc; "/{}", repeated(alloc, "a", 254)?)?;
-    let path = path.as_str();
-    let stars = repeated(alloc, "*a", 16)?;
-    matches(&rt, alloc, stars.as_str(), path, true)?;
-    let other = format!(in alloc; "{stars}*b")?;
-    matches(&rt, alloc, other.as_str(), path, false)?;
-    matches(&rt, alloc, repeated(alloc, "*", 300)?.as_str(), path, true)?;
-    matches(&rt, alloc, repeated(alloc, "*a", 254)?.as_str(), path, true)?;
-    matches(
-        &rt,
-        alloc,
-        repeated(alloc, "*a", 255)?.as_str(),
-        path,
-        false,
-    )?;
-    matches(&rt, alloc, repeated(alloc, "a", 300)?.as_str(), path, false)?;
-    let deep = repeated(alloc, "/a", 32)?;
-    matches(
-        &rt,
-        alloc,
-        repeated(alloc, "/*", 32)?.as_str(),
-        deep.as_str(),
-        true,
-    )?;
-    matches(
-        &rt,
-        alloc,
-        repeated(alloc, "/*", 33)?.as_str(),
-        deep.as_str(),
-        false,
-    )
+    assert!(rt; is_so_of_long(alloc, "*a", 16, "", true)?);
+    assert!(rt; is_so_of_long(alloc, "*a", 16, "*b", false)?);
+    assert!(rt; is_so_of_long(alloc, "*", 300, "", true)?);
+    assert!(rt; is_so_of_long(alloc, "*a", 254, "", true)?);
+    assert!(rt; is_so_of_long(alloc, "*a", 255, "", false)?);
+    assert!(rt; is_so_of_long(alloc, "a", 300, "", false)?);
+    Ok(())
+}
+
+// The text of as many levels matches the path of 32, or doesn't.
+fn is_so_of_deep(alloc: Global, levels: usize, wanted: bool) -> Result<bool, Fail> {
+    let text = repeated(alloc, "/*", levels)?;
+    let path = repeated(alloc, "/a", 32)?;
+    is_so(alloc, &text, &path, wanted)
+}
+
+#[test]
+fn deep_patterns(rt: HostRuntime) -> Result<(), Fail> {
+    assert!(rt; is_so_of_deep(rt.alloc(), 32, true)?);
+    assert!(rt; is_so_of_deep(rt.alloc(), 33, false)?);
+    Ok(())
 }

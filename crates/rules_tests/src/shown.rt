@@ -30,93 +30,100 @@ fn after(alloc: Global, after: &After) -> Result<String, AllocError> {
     )
 }
 
-fn detector(alloc: Global, spec: &DetectorSpec) -> Result<String, Fail> {
-    Ok(match spec {
+// The patterns of a detector, if it has any.
+fn watched(spec: &DetectorSpec) -> Option<&Patterns> {
+    match spec {
+        DetectorSpec::PressureAbove { cgroup, .. } => Some(cgroup),
+        DetectorSpec::PressureRisingBeyond { cgroup, .. } => Some(cgroup),
+        DetectorSpec::MemoryAbove { cgroup, .. } => Some(cgroup),
+        DetectorSpec::MemoryReclaim { cgroup, .. } => Some(cgroup),
+        DetectorSpec::SwapFree { .. } => None,
+        DetectorSpec::Exists { cgroup, .. } => Some(cgroup),
+    }
+}
+
+// A detector, of whose patterns these paths are shown.
+fn detector_with(alloc: Global, spec: &DetectorSpec, cgroup: &str) -> Result<String, AllocError> {
+    match spec {
         DetectorSpec::PressureAbove {
-            cgroup,
             resource,
             threshold,
             duration_s,
-        } => {
-            let cgroup = matching(alloc, cgroup)?;
-            format!(in alloc; "pressure_above {cgroup}{resource:?} {threshold} {duration_s}")?
-        }
+            ..
+        } => format!(in alloc; "pressure_above {cgroup}{resource:?} {threshold} {duration_s}"),
         DetectorSpec::PressureRisingBeyond {
-            cgroup,
             resource,
             threshold,
             duration_s,
             ratio,
-        } => {
-            let cgroup = matching(alloc, cgroup)?;
-            format!(in alloc;
-                "pressure_rising_beyond {cgroup}{resource:?} {threshold} {duration_s} {ratio}"
-            )?
-        }
+            ..
+        } => format!(in alloc;
+            "pressure_rising_beyond {cgroup}{resource:?} {threshold} {duration_s} {ratio}"
+        ),
         DetectorSpec::MemoryAbove {
-            cgroup,
             threshold,
             duration_s,
-        } => {
-            let cgroup = matching(alloc, cgroup)?;
-            format!(in alloc; "memory_above {cgroup}{threshold:?} {duration_s}")?
-        }
-        DetectorSpec::MemoryReclaim { cgroup, duration_s } => {
-            let cgroup = matching(alloc, cgroup)?;
-            format!(in alloc; "memory_reclaim {cgroup}{duration_s}")?
+            ..
+        } => format!(in alloc; "memory_above {cgroup}{threshold:?} {duration_s}"),
+        DetectorSpec::MemoryReclaim { duration_s, .. } => {
+            format!(in alloc; "memory_reclaim {cgroup}{duration_s}")
         }
         DetectorSpec::SwapFree { threshold_pct } => {
-            format!(in alloc; "swap_free {threshold_pct}")?
+            format!(in alloc; "swap_free {cgroup}{threshold_pct}")
         }
-        DetectorSpec::Exists { cgroup, negate } => {
-            let cgroup = matching(alloc, cgroup)?;
-            format!(in alloc; "exists {cgroup}{negate}")?
-        }
-    })
+        DetectorSpec::Exists { negate, .. } => format!(in alloc; "exists {cgroup}{negate}"),
+    }
 }
 
-fn action(alloc: Global, action: &Action) -> Result<String, Fail> {
-    Ok(match action {
+fn detector(alloc: Global, spec: &DetectorSpec) -> Result<String, Fail> {
+    let cgroup = match watched(spec) {
+        Some(patterns) => matching(alloc, patterns)?,
+        None => String::new(alloc),
+    };
+    Ok(detector_with(alloc, spec, &cgroup)?)
+}
+
+// The patterns of an action, and what comes behind it.
+fn aimed(action: &Action) -> (&Patterns, &After) {
+    match action {
+        Action::SizeOrGrowth { cgroup, after, .. } => (cgroup, after),
+        Action::SwapUsage { cgroup, after, .. } => (cgroup, after),
+        Action::Pressure { cgroup, after, .. } => (cgroup, after),
+        Action::PgScan { cgroup, after } => (cgroup, after),
+    }
+}
+
+// An action, of whose patterns these paths are shown, and this behind.
+fn action_with(
+    alloc: Global,
+    action: &Action,
+    cgroup: &str,
+    rest: &str,
+) -> Result<String, AllocError> {
+    match action {
         Action::SizeOrGrowth {
-            cgroup,
             size_threshold,
             percentile,
             ratio,
-            after: rest,
-        } => {
-            let cgroup = matching(alloc, cgroup)?;
-            let rest = after(alloc, rest)?;
-            format!(in alloc;
-                "size_or_growth {cgroup}{size_threshold} {percentile} {ratio} {rest}"
-            )?
+            ..
+        } => format!(in alloc;
+            "size_or_growth {cgroup}{size_threshold} {percentile} {ratio} {rest}"
+        ),
+        Action::SwapUsage { threshold, .. } => {
+            format!(in alloc; "swap_usage {cgroup}{threshold:?} {rest}")
         }
-        Action::SwapUsage {
-            cgroup,
-            threshold,
-            after: rest,
-        } => {
-            let cgroup = matching(alloc, cgroup)?;
-            let rest = after(alloc, rest)?;
-            format!(in alloc; "swap_usage {cgroup}{threshold:?} {rest}")?
+        Action::Pressure { resource, .. } => {
+            format!(in alloc; "pressure {cgroup}{resource:?} {rest}")
         }
-        Action::Pressure {
-            cgroup,
-            resource,
-            after: rest,
-        } => {
-            let cgroup = matching(alloc, cgroup)?;
-            let rest = after(alloc, rest)?;
-            format!(in alloc; "pressure {cgroup}{resource:?} {rest}")?
-        }
-        Action::PgScan {
-            cgroup,
-            after: rest,
-        } => {
-            let cgroup = matching(alloc, cgroup)?;
-            let rest = after(alloc, rest)?;
-            format!(in alloc; "pg_scan {cgroup}{rest}")?
-        }
-    })
+        Action::PgScan { .. } => format!(in alloc; "pg_scan {cgroup}{rest}"),
+    }
+}
+
+fn action(alloc: Global, action: &Action) -> Result<String, Fail> {
+    let (patterns, rest) = aimed(action);
+    let cgroup = matching(alloc, patterns)?;
+    let rest = after(alloc, rest)?;
+    Ok(action_with(alloc, action, &cgroup, &rest)?)
 }
 
 fn push_text(to: &mut String, text: &Text) -> Result<(), AllocError> {
@@ -189,11 +196,32 @@ pub fn reads(rt: &impl Abort, alloc: Global, file: &str, text: &str) -> Result<(
 }
 
 // The text with this in place of its first `@`, if it has one.
-fn with(alloc: Global, text: &str, value: &str) -> Result<String, AllocError> {
+pub fn with(alloc: Global, text: &str, value: &str) -> Result<String, AllocError> {
     match text.split_once('@') {
         Some((front, behind)) => format!(in alloc; "{front}{value}{behind}"),
         None => String::from_str(alloc, text),
     }
+}
+
+// The file and the text of a row: behind a `~` the rules, and behind a `!` the fault.
+fn parted<'a>(row: &'a str, rules: &'a str, fault: &'a str) -> Option<(&'a str, &'a str, &'a str)> {
+    if let Some((value, shown)) = row.split_once('~') {
+        return Some((value, rules, shown));
+    }
+    let (value, cause) = row.split_once('!')?;
+    Some((value, fault, cause))
+}
+
+// The file with the one value is read as the text with the other.
+fn reads_with(
+    rt: &impl Abort,
+    alloc: Global,
+    (file, value): (&str, &str),
+    (text, shown): (&str, &str),
+) -> Result<(), Fail> {
+    let file = with(alloc, file, value)?;
+    let text = with(alloc, text, shown)?;
+    reads(rt, alloc, &file, &text)
 }
 
 /// Files and what they are read as, a row each. A row is what stands for the `@` of the file, and behind a `~` what
@@ -207,22 +235,10 @@ pub fn reads_rows(
     rows: &str,
 ) -> Result<(), Fail> {
     for row in rows.split('\n') {
-        if let Some((value, shown)) = row.split_once('~') {
-            reads(
-                rt,
-                alloc,
-                &with(alloc, file, value)?,
-                &with(alloc, rules, shown)?,
-            )?;
-        } else if let Some((value, cause)) = row.split_once('!') {
-            reads(
-                rt,
-                alloc,
-                &with(alloc, file, value)?,
-                &with(alloc, fault, cause)?,
-            )?;
-        } else {
-            assert!(rt; false, "no row: {row}");
+        let found = parted(row, rules, fault);
+        assert!(rt; found.is_some(), "no row: {row}");
+        if let Some((value, text, shown)) = found {
+            reads_with(rt, alloc, (file, value), (text, shown))?;
         }
     }
     Ok(())

@@ -1,7 +1,8 @@
 //! Whole rules files: the usual one, field by field, and lists at their limits.
-use crate::shown::{reads, reads_rows};
+use crate::shown::{reads, reads_rows, with};
 use ruleset_json::{ActionList, GroupList, Rule, RuleList, Rules, read};
 use std::alloc::{AllocError, Global};
+use std::process::Abort;
 use std::test::Fail;
 
 const USUAL: &str = "{'rulesets':[
@@ -52,118 +53,127 @@ fn listed(alloc: Global, piece: &str, times: usize, between: &str) -> Result<Str
     Ok(text)
 }
 
-// A file of as many rulesets.
-fn rulesets(alloc: Global, times: usize) -> Result<String, AllocError> {
-    let rules = listed(
-        alloc,
-        "{'name':'r','detectors':[],'actions':[]}",
-        times,
-        ",",
-    )?;
-    format!(in alloc; "{{'rulesets':[{rules}]}}")
+// A file of as many pieces is read as this text.
+fn reads_listed(
+    rt: &impl Abort,
+    file: &str,
+    piece: &str,
+    between: &str,
+    times: usize,
+    text: &str,
+    alloc: Global,
+) -> Result<(), Fail> {
+    let pieces = listed(alloc, piece, times, between)?;
+    let file = with(alloc, file, &pieces)?;
+    reads(rt, alloc, &file, text)
 }
 
-// A file of one ruleset with as many groups.
-fn groups(alloc: Global, times: usize) -> Result<String, AllocError> {
-    let groups = listed(alloc, "['g']", times, ",")?;
-    format!(in alloc; "{{'rulesets':[{{'name':'r','detectors':[{groups}],'actions':[]}}]}}")
+// Pieces in a file, and what is shown of them.
+struct Lists {
+    file: &'static str,
+    piece: &'static str,
+    between: &'static str,
+    most: usize,
+    rules: &'static str,
+    shown: &'static str,
+    fault: &'static str,
 }
 
-// A file of one ruleset with as many detectors in one group.
-fn detectors(alloc: Global, times: usize) -> Result<String, AllocError> {
-    let detectors = listed(
-        alloc,
-        ",{'name':'swap_free','args':{'threshold_pct':1}}",
-        times,
-        "",
-    )?;
-    format!(in alloc; "{{'rulesets':[{{'name':'r','detectors':[['g'{detectors}]],'actions':[]}}]}}")
+// A file of as many pieces as there may be is shown, and one of one more has the fault.
+fn are_limited(rt: &impl Abort, alloc: Global, lists: &Lists) -> Result<(), Fail> {
+    let shown = listed(alloc, lists.shown, lists.most, "")?;
+    let rules = with(alloc, lists.rules, &shown)?;
+    let Lists {
+        file,
+        piece,
+        between,
+        most,
+        fault,
+        ..
+    } = *lists;
+    reads_listed(rt, file, piece, between, most, &rules, alloc)?;
+    reads_listed(rt, file, piece, between, most.wrapping_add(1), fault, alloc)
 }
 
-// A file of one ruleset with as many actions.
-fn actions(alloc: Global, times: usize) -> Result<String, AllocError> {
-    let actions = listed(
-        alloc,
-        "{'name':'kill_by_pg_scan','args':{'cgroup':'g0'}}",
-        times,
-        ",",
-    )?;
-    format!(in alloc; "{{'rulesets':[{{'name':'r','detectors':[],'actions':[{actions}]}}]}}")
-}
+const RULESETS: Lists = Lists {
+    file: "{'rulesets':[@]}",
+    piece: "{'name':'r','detectors':[],'actions':[]}",
+    between: ",",
+    most: 64,
+    rules: "@",
+    shown: "r:\n",
+    fault: "rules: TooMany",
+};
+
+const GROUPS: Lists = Lists {
+    file: "{'rulesets':[{'name':'r','detectors':[@],'actions':[]}]}",
+    piece: "['g']",
+    between: ",",
+    most: 16,
+    rules: "r:@\n",
+    shown: " [g]",
+    fault: "rules ruleset 0: TooMany",
+};
+
+const DETECTORS: Lists = Lists {
+    file: "{'rulesets':[{'name':'r','detectors':[['g'@]],'actions':[]}]}",
+    piece: ",{'name':'swap_free','args':{'threshold_pct':1}}",
+    between: "",
+    most: 16,
+    rules: "r: [g@]\n",
+    shown: "; swap_free 1",
+    fault: "rules ruleset 0 group 0: TooMany",
+};
+
+const ACTIONS: Lists = Lists {
+    file: "{'rulesets':[{'name':'r','detectors':[],'actions':[@]}]}",
+    piece: "{'name':'kill_by_pg_scan','args':{'cgroup':'g0'}}",
+    between: ",",
+    most: 16,
+    rules: "r:@\n",
+    shown: " pg_scan /g0 false false 15;",
+    fault: "rules ruleset 0: TooMany",
+};
 
 #[test]
 fn lists_at_their_limits(rt: HostRuntime) -> Result<(), Fail> {
     let alloc = rt.alloc();
-    reads(&rt, alloc, &rulesets(alloc, 0)?, "")?;
-    reads(
-        &rt,
-        alloc,
-        &rulesets(alloc, 64)?,
-        &listed(alloc, "r:\n", 64, "")?,
-    )?;
-    reads(&rt, alloc, &rulesets(alloc, 65)?, "rules: TooMany")?;
-
-    let text = listed(alloc, " [g]", 16, "")?;
-    reads(
-        &rt,
-        alloc,
-        &groups(alloc, 16)?,
-        &format!(in alloc; "r:{text}\n")?,
-    )?;
-    reads(&rt, alloc, &groups(alloc, 17)?, "rules ruleset 0: TooMany")?;
-
-    let text = listed(alloc, "; swap_free 1", 16, "")?;
-    reads(
-        &rt,
-        alloc,
-        &detectors(alloc, 16)?,
-        &format!(in alloc; "r: [g{text}]\n")?,
-    )?;
-    reads(
-        &rt,
-        alloc,
-        &detectors(alloc, 17)?,
-        "rules ruleset 0 group 0: TooMany",
-    )?;
-
-    let text = listed(alloc, " pg_scan /g0 false false 15;", 16, "")?;
-    reads(
-        &rt,
-        alloc,
-        &actions(alloc, 16)?,
-        &format!(in alloc; "r:{text}\n")?,
-    )?;
-    reads(&rt, alloc, &actions(alloc, 17)?, "rules ruleset 0: TooMany")
+    reads(&rt, alloc, "{'rulesets':[]}", "")?;
+    are_limited(&rt, alloc, &RULESETS)?;
+    are_limited(&rt, alloc, &GROUPS)?;
+    are_limited(&rt, alloc, &DETECTORS)?;
+    are_limited(&rt, alloc, &ACTIONS)
 }
 
 const ALL: &[u8] =
     b"{\"rulesets\":[{\"name\":\"r\",\"detectors\":[[\"g\"],[\"h\"]],\"actions\":[{\"name\":\"kill_by_pg_scan\",\"args\":{\"cgroup\":\"g0\"}}]}]}";
 
+// The rule has the name `r`, two groups of which one is left where one is taken away, and one action.
+fn is_the_rule(rule: Rule) -> bool {
+    let Rule {
+        name,
+        groups,
+        actions,
+    } = rule;
+    let mut groups = groups.into_items();
+    let had = groups.len();
+    let is_taken = groups.pop().is_some();
+    let groups = GroupList::new(groups);
+    let actions = ActionList::new(actions.into_items());
+    let lengths = (had, groups.items().len(), actions.items().len());
+    is_taken && lengths == (2, 1, 1) && name.bytes() == b"r".as_slice()
+}
+
 // Lists give their members, and are made of them again.
 #[test]
 fn lists_again(rt: HostRuntime) -> Result<(), Fail> {
-    let alloc = rt.alloc();
-    let Ok(Rules { rules }) = read(alloc, ALL) else {
+    let Ok(Rules { rules }) = read(rt.alloc(), ALL) else {
         assert!(rt; false, "no rules");
         return Ok(());
     };
     assert_eq!(rt; rules.items().len(), 1);
     let mut rules = rules.into_items();
-    if let Some(
-        Rule {
-            name,
-            groups,
-            actions,
-        },
-    ) = rules.pop()
-    {
-        let mut groups = groups.into_items();
-        assert_eq!(rt; (groups.len(), groups.pop().is_some()), (2, true));
-        assert_eq!(rt; GroupList::new(groups).items().len(), 1);
-        assert_eq!(rt; name.bytes(), b"r".as_slice());
-        let actions = actions.into_items();
-        assert_eq!(rt; ActionList::new(actions).items().len(), 1);
-    }
+    assert!(rt; rules.pop().is_some_and(is_the_rule));
     assert_eq!(rt; RuleList::new(rules).items().len(), 0);
     Ok(())
 }

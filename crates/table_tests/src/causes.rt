@@ -1,7 +1,8 @@
 //! Which lines are refused, and why.
 
-use psi_base::{Cause, Fault, NoMemory, Path, Slot};
+use psi_base::{Act, Cause, Cpu, Event, Fault, NoMemory, Path, Pid, Slot};
 use psi_trace::read_event;
+use std::alloc::Global;
 use std::test::Fail;
 use task_table::Table;
 
@@ -80,29 +81,41 @@ const LINES: &str = "5 fork 1 / 0 | ok;\
     1000 end | AfterEnd;\
     4 fork 1 / 2 | AfterEnd";
 
+/// The cause has this name, and there is none where it is `ok`.
+fn is_named(alloc: Global, cause: Option<Cause>, name: &str) -> Result<bool, Fail> {
+    Ok(match cause {
+        Some(cause) => format!(in alloc; "{cause:?}")?.as_str() == name,
+        None => name == "ok",
+    })
+}
+
+/// The first cause against the event, when it is played.
+fn played(table: &mut Table, event: &Event) -> Result<Option<Cause>, NoMemory> {
+    match table.step(event) {
+        Ok(_) => Ok(None),
+        Err(Fault::Refused(cause)) => Ok(Some(cause)),
+        Err(Fault::NoMemory) => Err(NoMemory),
+    }
+}
+
+/// The table checks and plays the line of the row as it tells.
+fn is_so(alloc: Global, table: &mut Table, row: &str) -> Result<bool, Fail> {
+    let Some((line, want)) = row.split_once(" | ") else {
+        return Ok(false);
+    };
+    let Ok(event) = read_event(alloc, line.as_bytes()) else {
+        return Ok(false);
+    };
+    let checked = table.check(&event);
+    let played = played(table, &event)?;
+    Ok(played == checked && is_named(alloc, played, want)?)
+}
+
 #[test]
 fn causes_in_their_order(rt: HostRuntime) -> Result<(), Fail> {
     let mut table = Table::new(rt.alloc(), 2, 1000)?;
     for row in LINES.split(';') {
-        let Some((line, want)) = row.split_once(" | ") else {
-            assert!(rt; false, "{row}");
-            continue;
-        };
-        let Ok(event) = read_event(rt.alloc(), line.as_bytes()) else {
-            assert!(rt; false, "{row}");
-            continue;
-        };
-        let checked = match table.check(&event) {
-            Some(cause) => format!(in rt.alloc(); "{cause:?}")?,
-            None => format!(in rt.alloc(); "ok")?,
-        };
-        assert_eq!(rt; checked.as_str(), want, "{row}");
-        let refused = match table.step(&event) {
-            Ok(_) => format!(in rt.alloc(); "ok")?,
-            Err(Fault::Refused(cause)) => format!(in rt.alloc(); "{cause:?}")?,
-            Err(Fault::NoMemory) => return Err(NoMemory.into()),
-        };
-        assert_eq!(rt; refused.as_str(), want, "{row}");
+        assert!(rt; is_so(rt.alloc(), &mut table, row)?, "{row}");
     }
     assert!(rt; table.is_ended());
     assert_eq!(rt; table.last(), 1000);
@@ -128,21 +141,24 @@ fn triggers_up_to_the_limit(rt: HostRuntime) -> Result<(), Fail> {
     Ok(())
 }
 
+/// Makes the task with this number, in the root and on the first processor.
+fn fork(alloc: Global, table: &mut Table, pid: u32) -> Result<(), Fault<Cause>> {
+    let act = Act::Fork {
+        pid: Pid(pid),
+        path: Path::root(alloc)?,
+        cpu: Cpu(0),
+    };
+    table.play(&Event { at: 1, act })
+}
+
 // So is the 65,537th task.
 #[test]
 fn tasks_up_to_the_limit(rt: HostRuntime) -> Result<(), Fail> {
     let mut table = Table::new(rt.alloc(), 1, 1000)?;
-    for pid in 1..=65_537u32 {
-        let line = format!(in rt.alloc(); "1 fork {pid} / 0")?;
-        let Ok(event) = read_event(rt.alloc(), line.as_bytes()) else {
-            return Err(NoMemory.into());
-        };
-        let want = if pid <= 65_536 {
-            Ok(())
-        } else {
-            Err(Fault::Refused(Cause::TooManyTasks))
-        };
-        assert!(rt; table.play(&event) == want, "task {pid}");
+    for pid in 1..=65_536u32 {
+        assert!(rt; fork(rt.alloc(), &mut table, pid).is_ok(), "task {pid}");
     }
+    let last = fork(rt.alloc(), &mut table, 65_537);
+    assert!(rt; last == Err(Fault::Refused(Cause::TooManyTasks)));
     Ok(())
 }

@@ -1,175 +1,99 @@
 //! What lines change on processors.
 
-use psi_base::{Cpu, NoMemory, Ns, Slot};
+use psi_base::{Cpu, Ns, Slot};
 use psi_laws::{Change, Counts, Touch};
 use psi_trace::read_event;
+use std::alloc::Global;
 use std::test::Fail;
 use task_table::Table;
 
-/// What one task counts as.
-#[derive(Clone, Copy)]
-enum Kind {
-    /// Asleep, and in no stall.
-    Asleep,
-    /// Waiting for IO.
-    Waits,
-    /// Ready or running.
-    Up,
-    /// Asleep in a stall.
-    StuckAsleep,
-    /// Ready or running in a stall.
-    StuckUp,
+/// A task of one group is in a stall, sleeps, wakes elsewhere, migrates, moves and exits. A wake or a migration from one
+/// processor to another changes both, and one that stays, or a move that stays, is a change too.
+///
+/// Behind a line stands each processor that it changes: its number, the task that is taken from the chain of a slot
+/// there, the task that is added to one, and afterwards the slot of the running task. A task is `A` asleep, `W` waiting
+/// for IO, `U` ready or running, and in a stall `a` or `u`. A running task is `!` in a stall, and else `=`.
+const LINES: &str = "1 group /a;\
+    1 fork 1 /a 0 | 0 .. U1 ..;\
+    2 switch 0 1 idle | 0 .. .. =1;\
+    3 stall 1 | 0 U1 u1 !1;\
+    4 switch 0 0 sleep | 0 u1 a1 ..;\
+    5 wake 1 1 | 1 .. u1 .. | 0 a1 .. ..;\
+    6 migrate 1 1 | 1 u1 u1 ..;\
+    7 migrate 1 0 | 0 .. u1 .. | 1 u1 .. ..;\
+    8 move 1 / | 0 u1 u0 ..;\
+    9 move 1 / | 0 u0 u0 ..;\
+    10 switch 0 1 idle | 0 .. .. !0;\
+    11 unstall 1 | 0 u0 U0 =0;\
+    12 switch 0 0 iowait | 0 U0 W0 ..;\
+    13 wake 1 0 | 0 W0 U0 ..;\
+    14 switch 0 1 idle | 0 .. .. =0;\
+    15 switch 0 0 sleep | 0 U0 A0 ..;\
+    16 mem / 1 1 1;\
+    17 rmgroup /a;\
+    18 end";
+
+/// The number of a digit.
+fn number(digit: u8) -> u32 {
+    u32::from(digit.wrapping_sub(b'0'))
 }
 
-/// The counts of one task in a group.
-fn part(slot: u32, kind: Kind) -> Option<(Slot, Counts)> {
+/// The counts of one task in a group, if there is one.
+fn part(kind: u8, slot: u8) -> Option<(Slot, Counts)> {
     let (io, stalled, running, stalled_running) = match kind {
-        Kind::Asleep => (0, 0, 0, 0),
-        Kind::Waits => (1, 0, 0, 0),
-        Kind::Up => (0, 0, 1, 0),
-        Kind::StuckAsleep => (0, 1, 0, 0),
-        Kind::StuckUp => (0, 1, 1, 1),
+        b'A' => (0, 0, 0, 0),
+        b'W' => (1, 0, 0, 0),
+        b'U' => (0, 0, 1, 0),
+        b'a' => (0, 1, 0, 0),
+        b'u' => (0, 1, 1, 1),
+        _ => return None,
     };
-    Some((
-        Slot(slot),
-        Counts {
-            io,
-            stalled,
-            running,
-            stalled_running,
-        },
-    ))
+    let counts = Counts {
+        io,
+        stalled,
+        running,
+        stalled_running,
+    };
+    Some((Slot(number(slot)), counts))
 }
 
-/// A processor with its change.
-fn change(
-    at: Ns,
-    cpu: u32,
-    minus: Option<(Slot, Counts)>,
-    plus: Option<(Slot, Counts)>,
-    current: Option<(Slot, bool)>,
-) -> Option<(Cpu, Change)> {
-    Some((
-        Cpu(cpu),
-        Change {
-            at,
-            minus,
-            plus,
-            current,
-        },
-    ))
+/// The processor with its change at this moment, if there is one.
+fn change(at: Ns, told: &str) -> Option<(Cpu, Change)> {
+    let [cpu, _, minus, from, _, plus, to, _, current, slot] = told.as_bytes() else {
+        return None;
+    };
+    let is_running = *current != b'.';
+    let change = Change {
+        at,
+        minus: part(*minus, *from),
+        plus: part(*plus, *to),
+        current: is_running.then_some((Slot(number(*slot)), *current == b'!')),
+    };
+    Some((Cpu(number(*cpu)), change))
 }
 
-// A task of one group is in a stall, sleeps, wakes elsewhere, migrates, moves and exits. A wake or a migration from one
-// processor to another changes both, and one that stays, or a move that stays, is a change too.
+/// The line of the row changes what stands behind it.
+fn is_so(alloc: Global, table: &mut Table, row: &str) -> bool {
+    let (line, told) = row.split_once(" | ").unwrap_or((row, ""));
+    let (first, second) = told.split_once(" | ").unwrap_or((told, ""));
+    let Ok(event) = read_event(alloc, line.as_bytes()) else {
+        return false;
+    };
+    let want = Touch {
+        first: change(event.at, first),
+        second: change(event.at, second),
+    };
+    match table.step(&event) {
+        Ok(touch) => touch == want,
+        Err(_) => false,
+    }
+}
+
 #[test]
 fn touches_of_each_line(rt: HostRuntime) -> Result<(), Fail> {
     let mut table = Table::new(rt.alloc(), 2, 1000)?;
-    let calm = Some((Slot(1), false));
-    let stuck = Some((Slot(1), true));
-    let rows = [
-        (b"1 group /a".as_slice(), None, None),
-        (
-            b"1 fork 1 /a 0".as_slice(),
-            change(1, 0, None, part(1, Kind::Up), None),
-            None,
-        ),
-        (
-            b"2 switch 0 1 idle".as_slice(),
-            change(2, 0, None, None, calm),
-            None,
-        ),
-        (
-            b"3 stall 1".as_slice(),
-            change(3, 0, part(1, Kind::Up), part(1, Kind::StuckUp), stuck),
-            None,
-        ),
-        (
-            b"4 switch 0 0 sleep".as_slice(),
-            change(
-                4,
-                0,
-                part(1, Kind::StuckUp),
-                part(1, Kind::StuckAsleep),
-                None,
-            ),
-            None,
-        ),
-        (
-            b"5 wake 1 1".as_slice(),
-            change(5, 1, None, part(1, Kind::StuckUp), None),
-            change(5, 0, part(1, Kind::StuckAsleep), None, None),
-        ),
-        (
-            b"6 migrate 1 1".as_slice(),
-            change(6, 1, part(1, Kind::StuckUp), part(1, Kind::StuckUp), None),
-            None,
-        ),
-        (
-            b"7 migrate 1 0".as_slice(),
-            change(7, 0, None, part(1, Kind::StuckUp), None),
-            change(7, 1, part(1, Kind::StuckUp), None, None),
-        ),
-        (
-            b"8 move 1 /".as_slice(),
-            change(8, 0, part(1, Kind::StuckUp), part(0, Kind::StuckUp), None),
-            None,
-        ),
-        (
-            b"9 move 1 /".as_slice(),
-            change(9, 0, part(0, Kind::StuckUp), part(0, Kind::StuckUp), None),
-            None,
-        ),
-        (
-            b"10 switch 0 1 idle".as_slice(),
-            change(10, 0, None, None, Some((Slot(0), true))),
-            None,
-        ),
-        (
-            b"11 unstall 1".as_slice(),
-            change(
-                11,
-                0,
-                part(0, Kind::StuckUp),
-                part(0, Kind::Up),
-                Some((Slot(0), false)),
-            ),
-            None,
-        ),
-        (
-            b"12 switch 0 0 iowait".as_slice(),
-            change(12, 0, part(0, Kind::Up), part(0, Kind::Waits), None),
-            None,
-        ),
-        (
-            b"13 wake 1 0".as_slice(),
-            change(13, 0, part(0, Kind::Waits), part(0, Kind::Up), None),
-            None,
-        ),
-        (
-            b"14 switch 0 1 idle".as_slice(),
-            change(14, 0, None, None, Some((Slot(0), false))),
-            None,
-        ),
-        (
-            b"15 switch 0 0 sleep".as_slice(),
-            change(15, 0, part(0, Kind::Up), part(0, Kind::Asleep), None),
-            None,
-        ),
-        (b"16 mem / 1 1 1".as_slice(), None, None),
-        (b"17 rmgroup /a".as_slice(), None, None),
-        (b"18 end".as_slice(), None, None),
-    ];
-    for (line, first, second) in rows {
-        let Ok(event) = read_event(rt.alloc(), line) else {
-            return Err(NoMemory.into());
-        };
-        assert_eq!(rt;
-            table.step(&event),
-            Ok(Touch { first, second }),
-            "at {}",
-            event.at
-        );
+    for row in LINES.split(';') {
+        assert!(rt; is_so(rt.alloc(), &mut table, row), "{row}");
     }
     Ok(())
 }
