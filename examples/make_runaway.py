@@ -1,0 +1,150 @@
+#!/usr/bin/env python3
+"""Prints examples/runaway.trace: five minutes of a machine with two processors, on which an import of data outgrows the memory.
+
+A web server answers on processor 0. On processor 1 an index is kept, and from 60 s on an import runs that needs ever more
+memory: more and more of its time goes into getting pages back, and the index loses its own pages and waits for the disk. At
+220 s somebody ends the import by hand, and the pressure falls.
+"""
+import heapq
+import itertools
+import random
+
+MS = 10**6
+SECOND = 1000 * MS
+GROUPS = ("/web", "/batch", "/batch/import", "/batch/index")
+BEGIN, MOST, STOP, END = (second * SECOND for second in (60, 150, 220, 300))
+
+draw = random.Random(5)
+
+
+def about(ms):
+    """A time near so many ms."""
+    return max(1, round(ms * (0.7 + 0.6 * draw.random()))) * MS
+
+
+def need(now):
+    """How far the import has outgrown the memory, from 0 to 1."""
+    return min(1, max(0, (now - BEGIN) / (MOST - BEGIN))) if now < STOP else 0
+
+
+# What a task does: steps of a kind and a length. The length of `stall` and `unstall` is nothing.
+
+
+def web():
+    while True:
+        now = yield "sleep", about(1500)
+        now = yield "run", about(250)
+        now = yield "iowait", about(60 + 500 * need(now))
+        yield "run", about(250)
+
+
+def index():
+    while True:
+        now = yield "sleep", about(1200)
+        yield "run", about(300)
+        now = yield "iowait", about(150 + 900 * need(now))
+        if need(now) > 0.3:
+            yield "stall", 0
+            now = yield "iowait", about(900 * need(now))
+            yield "unstall", 0
+        yield "run", about(200)
+
+
+def loader():
+    now = yield "sleep", BEGIN
+    while now < STOP:
+        now = yield "run", about(500 - 250 * need(now))
+        if need(now) > 0.05:
+            yield "stall", 0
+            now = yield "run", about(500 * need(now))
+            now = yield "iowait", about(1100 * need(now))
+            yield "unstall", 0
+        now = yield "sleep", about(900 - 800 * need(now))
+    yield "exit", 0
+
+
+class Machine:
+    """Two processors, on which a task runs until it waits, sleeps or exits."""
+
+    def __init__(self):
+        self.running = [None, None]
+        self.ready = [[], []]
+        self.due = []
+        self.order = itertools.count()
+        self.plans, self.first = {}, {}
+
+    def at(self, moment, call, *given):
+        heapq.heappush(self.due, (moment, next(self.order), call, given))
+
+    def fork(self, pid, group, cpu, plan):
+        print(f"0 fork {pid} {group} {cpu}")
+        self.plans[pid] = cpu, plan
+        self.first[pid] = next(plan)
+        self.ready[cpu].append(pid)
+        if not self.running[cpu]:
+            self.switch(0, cpu, "idle")
+
+    def switch(self, now, cpu, how):
+        pid = self.running[cpu] = self.ready[cpu].pop(0) if self.ready[cpu] else None
+        print(f"{now} switch {cpu} {pid or 0} {how}")
+        if pid:
+            self.go_on(now, pid, self.first.pop(pid, None))
+
+    def go_on(self, now, pid, first=None):
+        """Takes the steps of the running task up to one that takes time: from this one on, or from its plan's next."""
+        cpu, plan = self.plans[pid]
+        kind, length = first or plan.send(now)
+        while kind in ("stall", "unstall"):
+            print(f"{now} {kind} {pid}")
+            kind, length = plan.send(now)
+        if kind == "run":
+            self.at(now + length, self.go_on, pid)
+            return
+        self.switch(now, cpu, kind)
+        if kind != "exit":
+            self.at(now + length, self.wake, pid)
+
+    def wake(self, now, pid):
+        cpu, _ = self.plans[pid]
+        print(f"{now} wake {pid} {cpu}")
+        self.ready[cpu].append(pid)
+        if not self.running[cpu]:
+            self.switch(now, cpu, "idle")
+
+    def sample(self, now):
+        """Memory in bytes, and pages scanned: the import's grow, and the others give way."""
+        grown = need(now)
+        scanned = round(max(0, min(now, STOP) - BEGIN) / SECOND) * 4000
+        sizes = (
+            ("/web", 300 - 60 * grown, scanned // 8),
+            ("/batch/import", (80 + 1100 * grown) if BEGIN <= now < STOP else 0, scanned),
+            ("/batch/index", 400 - 150 * grown, scanned // 2),
+        )
+        for group, size, pages in sizes:
+            print(f"{now} mem {group} {round(size) << 20} 0 {pages}")
+        self.at(now + 10 * SECOND, self.sample)
+
+    def run(self):
+        self.at(0, self.sample)
+        while self.due[0][0] < END:
+            now, _, call, given = heapq.heappop(self.due)
+            call(now, *given)
+
+
+def main():
+    print("psitrace 1 cpus=2")
+    print(f"0 host {2 << 30} 0 0")
+    for group in GROUPS:
+        print(f"0 group {group}")
+    print("0 trigger /batch memory some 1500000 2000000")
+    print("0 trigger /batch memory full 6000000 10000000")
+    print("0 trigger /batch io full 4000000 10000000")
+    machine = Machine()
+    machine.fork(1, "/web", 0, web())
+    machine.fork(2, "/batch/index", 1, index())
+    machine.fork(3, "/batch/import", 1, loader())
+    machine.run()
+    print(f"{END} end")
+
+
+main()
