@@ -11,24 +11,25 @@ use task_table::Table;
 /// processor to another changes both, and one that stays, or a move that stays, is a change too.
 ///
 /// Behind a line stands each processor that it changes: its number, the task that is taken from the chain of a slot
-/// there, the task that is added to one, and afterwards the slot of the running task. A task is `A` asleep, `W` waiting
-/// for IO, `U` ready or running, and in a stall `a` or `u`. A running task is `!` in a stall, and else `=`.
+/// there, the task that is added to one, and afterwards the slot of the running task. Before each task stands the slot of
+/// its group. A task is `a` asleep, `w` waiting for IO, `r` ready or running, and in a stall `A` or `R`. A running task
+/// is `!` in a stall, and else `=`.
 const LINES: &str = "1 group /a;\
-    1 fork 1 /a 0 | 0 .. U1 ..;\
-    2 switch 0 1 idle | 0 .. .. =1;\
-    3 stall 1 | 0 U1 u1 !1;\
-    4 switch 0 0 sleep | 0 u1 a1 ..;\
-    5 wake 1 1 | 1 .. u1 .. | 0 a1 .. ..;\
-    6 migrate 1 1 | 1 u1 u1 ..;\
-    7 migrate 1 0 | 0 .. u1 .. | 1 u1 .. ..;\
-    8 move 1 / | 0 u1 u0 ..;\
-    9 move 1 / | 0 u0 u0 ..;\
-    10 switch 0 1 idle | 0 .. .. !0;\
-    11 unstall 1 | 0 u0 U0 =0;\
-    12 switch 0 0 iowait | 0 U0 W0 ..;\
-    13 wake 1 0 | 0 W0 U0 ..;\
-    14 switch 0 1 idle | 0 .. .. =0;\
-    15 switch 0 0 sleep | 0 U0 A0 ..;\
+    1 fork 1 /a 0 | 0 .. 1r ..;\
+    2 switch 0 1 idle | 0 .. .. 1=;\
+    3 stall 1 | 0 1r 1R 1!;\
+    4 switch 0 0 sleep | 0 1R 1A ..;\
+    5 wake 1 1 | 1 .. 1R .. | 0 1A .. ..;\
+    6 migrate 1 1 | 1 1R 1R ..;\
+    7 migrate 1 0 | 0 .. 1R .. | 1 1R .. ..;\
+    8 move 1 / | 0 1R 0R ..;\
+    9 move 1 / | 0 0R 0R ..;\
+    10 switch 0 1 idle | 0 .. .. 0!;\
+    11 unstall 1 | 0 0R 0r 0=;\
+    12 switch 0 0 iowait | 0 0r 0w ..;\
+    13 wake 1 0 | 0 0w 0r ..;\
+    14 switch 0 1 idle | 0 .. .. 0=;\
+    15 switch 0 0 sleep | 0 0r 0a ..;\
     16 mem / 1 1 1;\
     17 rmgroup /a;\
     18 end";
@@ -41,11 +42,11 @@ fn number(digit: u8) -> u32 {
 /// The counts of one task in a group, if there is one.
 fn part(kind: u8, slot: u8) -> Option<(Slot, Counts)> {
     let (io, stalled, running, stalled_running) = match kind {
-        b'A' => (0, 0, 0, 0),
-        b'W' => (1, 0, 0, 0),
-        b'U' => (0, 0, 1, 0),
-        b'a' => (0, 1, 0, 0),
-        b'u' => (0, 1, 1, 1),
+        b'a' => (0, 0, 0, 0),
+        b'w' => (1, 0, 0, 0),
+        b'r' => (0, 0, 1, 0),
+        b'A' => (0, 1, 0, 0),
+        b'R' => (0, 1, 1, 1),
         _ => return None,
     };
     let counts = Counts {
@@ -59,7 +60,7 @@ fn part(kind: u8, slot: u8) -> Option<(Slot, Counts)> {
 
 /// The processor with its change at this moment, if there is one.
 fn change(at: Ns, told: &str) -> Option<(Cpu, Change)> {
-    let [cpu, _, minus, from, _, plus, to, _, current, slot] = told.as_bytes() else {
+    let [cpu, _, from, minus, _, to, plus, _, slot, current] = told.as_bytes() else {
         return None;
     };
     let is_running = *current != b'.';
