@@ -31,7 +31,8 @@ fn add_weighted(sums: &mut [u64; 6], times: &[u64; 7], weight: u64)
     requires weight { weight ≤ 60000 }
     requires times { All (λ time. time ≤ longest_tick) times.now }
     requires sums { All (λ sum. sum ≤ 63 * longest_tick * 60000) sums.old }
-    ensures { (k : ℕ) → k < 6 → slice_index sums.new k ≡ slice_index sums.old k + slice_index times.now k * weight }
+    ensures { (k : ℕ) → k < 6 →
+        slice_index sums.new k ≡ slice_index sums.old k + slice_index times.now k * weight }
 {
     'each: for i in 0..6 {
         sums[i] += times[i] * weight;

@@ -19,7 +19,8 @@ use psi_base::Slot;
 fn turn_slot(board: &Board, seat: &mut RowSeat, slot: Slot, clock: &Clock)
     requires turning { IsTurning board.now.shared.table_id seat.old }
     requires slot { slot.0 < length (writer_on seat.old).plan.parents }
-    requires clock { IsClock clock.now (writer_on seat.old).plan slot.0 ((writer_on seat.old).count + 1) }
+    requires clock { IsClock clock.now (writer_on seat.old).plan slot.0
+        ((writer_on seat.old).count + 1) }
     ensures turning { IsTurning board.now.shared.table_id seat.new }
     ensures turned { HasTurned seat.old seat.new }
     ensures done { IsDone seat.new slot.0 }
@@ -40,7 +41,8 @@ fn turn_chain(
 )
     requires turning { IsTurning board.now.shared.table_id seat.old }
     requires plan { plan.now ≡ (writer_on seat.old).plan }
-    requires clocks { clocks.old ≡ record { plan = (writer_on seat.old).plan; made = (writer_on seat.old).count + 1 } }
+    requires clocks { clocks.old
+        ≡ record { plan = (writer_on seat.old).plan; made = (writer_on seat.old).count + 1 } }
     requires start { IfSome start (λ slot. slot.0 < length (writer_on seat.old).plan.parents) }
     ensures turning { IsTurning board.now.shared.table_id seat.new }
     ensures turned { HasTurned seat.old seat.new }
@@ -64,7 +66,8 @@ fn turn_chains(
 )
     requires turning { IsTurning board.now.shared.table_id seat.old }
     requires plan { plan.now ≡ (writer_on seat.old).plan }
-    requires clocks { clocks.old ≡ record { plan = (writer_on seat.old).plan; made = (writer_on seat.old).count + 1 } }
+    requires clocks { clocks.old
+        ≡ record { plan = (writer_on seat.old).plan; made = (writer_on seat.old).count + 1 } }
     requires starts { AreBelow (length plan.now.parents) starts }
     ensures turning { IsTurning board.now.shared.table_id seat.new }
     ensures turned { HasTurned seat.old seat.new }
@@ -86,10 +89,12 @@ pub(crate) fn make_change(
     requires writer { IsWriterEnd board.now.shared.table_id seat.old plan.now clocks.old }
     requires next { clocks.old.made < length plan.now.changes }
     ensures seat { IsSameSeat seat.old seat.new }
-    ensures view { seat.new.me.0 ≡ Writer (changed_to (writer_on seat.new).body (writer_on seat.old)) }
+    ensures view { seat.new.me.0
+        ≡ Writer (changed_to (writer_on seat.new).body (writer_on seat.old)) }
     ensures words { AreClocks plan.now ((writer_on seat.old).count + 1) (writer_on seat.new).body }
     ensures stay { StayByMask plan.now (writer_on seat.old).body (writer_on seat.new).body }
-    ensures clocks { clocks.new ≡ record { plan = plan.now; made = (writer_on seat.old).count + 1 } }
+    ensures clocks { clocks.new
+        ≡ record { plan = plan.now; made = (writer_on seat.old).count + 1 } }
 {
     let count = clocks.count();
     let starts = plan.concerned(count + 1);

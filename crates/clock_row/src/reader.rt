@@ -32,7 +32,8 @@ impl Model for ClockReader {
 
     ghost view = { λ r. record { row = r.seat.table_id; knows = reader_on r.seat } };
 
-    ghost invariant = { λ r. IsReaderEnd (arc_value r.board).shared.table_id r.seat × (r.seen ≡ (reader_on r.seat).seen) };
+    ghost invariant = { λ r. IsReaderEnd (arc_value r.board).shared.table_id r.seat
+        × (r.seen ≡ (reader_on r.seat).seen) };
 }
 
 /// A clock out of a row.
@@ -64,10 +65,13 @@ impl ClockReader {
         requires { slot.0 < length self.old.knows.plan.parents }
         ensures row { self.new.row ≡ self.old.row }
         ensures plan { self.new.knows.plan ≡ self.old.knows.plan }
-        ensures clock { IfOk result (λ sample. IsClock sample.clock self.old.knows.plan slot.0 sample.count) }
+        ensures clock { IfOk result (λ sample.
+            IsClock sample.clock self.old.knows.plan slot.0 sample.count) }
         ensures later { IfOk result (λ sample. self.old.knows.seen ≤ sample.count) }
-        ensures sampled { IfOk result (λ sample. self.new.knows ≡ sampled sample.count self.old.knows) }
-        ensures busy { IfErr result (λ busy. IsBusy busy.first busy.second self.old.knows self.new.knows) }
+        ensures sampled { IfOk result (λ sample.
+            self.new.knows ≡ sampled sample.count self.old.knows) }
+        ensures busy { IfErr result (λ busy.
+            IsBusy busy.first busy.second self.old.knows self.new.knows) }
     {
         let first = begin_try(&self.board, &mut self.seat);
         if first % 2 != 0 {
@@ -98,7 +102,8 @@ impl ClockReader {
         ensures clocks { IfOk result (λ count. AllAreClocks self.old.knows.plan count into.new) }
         ensures later { IfOk result (λ count. self.old.knows.seen ≤ count) }
         ensures sampled { IfOk result (λ count. self.new.knows ≡ sampled count self.old.knows) }
-        ensures busy { IfErr result (λ busy. IsBusy busy.first busy.second self.old.knows self.new.knows) }
+        ensures busy { IfErr result (λ busy.
+            IsBusy busy.first busy.second self.old.knows self.new.knows) }
     {
         let begun = begin_try(&self.board, &mut self.seat);
         if begun % 2 != 0 {

@@ -111,7 +111,9 @@ pub(crate) fn end_try(board: &Board, seat: &mut RowSeat, first: u64) -> u64
     ensures seat { IsSameSeat seat.old seat.new }
     ensures view { seat.new.me.0 ≡ Reader (ended first result (reader_on seat.old)) }
     ensures later { first ≤ result }
-    ensures together { result ≡ first → StoodTogether (reader_on seat.old).plan (first / 2) (loaded_in (reader_on seat.old).attempt) }
+    ensures together { result ≡ first →
+        StoodTogether (reader_on seat.old).plan (first / 2)
+        (loaded_in (reader_on seat.old).attempt) }
 {
     board.shared.load::<Ending>(seat, 0)
 }
@@ -124,7 +126,8 @@ pub(crate) fn split_reader(board: &Board, seat: &mut RowSeat) -> RowSeat
     ensures seat { IsSameSeat seat.old seat.new }
     ensures view { seat.new.me.0 ≡ seat.old.me.0 }
     ensures row { result.table_id ≡ seat.old.table_id }
-    ensures reader { result.me.0 ≡ Reader (new_reader (writer_on seat.old).plan (writer_on seat.old).count) }
+    ensures reader { result.me.0
+        ≡ Reader (new_reader (writer_on seat.old).plan (writer_on seat.old).count) }
 {
     board.shared.split_seat::<NewReader>(seat)
 }

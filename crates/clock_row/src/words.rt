@@ -65,7 +65,8 @@ pub(crate) fn load_words(board: &Board, seat: &mut RowSeat, from: usize, first: 
     ensures view { HasLoaded seat.old seat.new }
     ensures trying { IsTrying first seat.new }
     ensures words { WereLoaded (loaded_in (reader_on seat.new).attempt) from 9 result }
-    ensures kept { StaysLoaded (loaded_in (reader_on seat.old).attempt) (loaded_in (reader_on seat.new).attempt) }
+    ensures kept { StaysLoaded (loaded_in (reader_on seat.old).attempt)
+        (loaded_in (reader_on seat.new).attempt) }
 {
     let mut words = [0; WORDS];
     'words: for i in 0..WORDS {
@@ -93,7 +94,8 @@ pub(crate) fn load_clocks(board: &Board, seat: &mut RowSeat, into: &mut [Clock],
     ensures view { HasLoaded seat.old seat.new }
     ensures trying { IsTrying first seat.new }
     ensures wide { length into.new ≡ length into.old }
-    ensures clocks { ClocksWereLoaded (loaded_in (reader_on seat.new).attempt) (length into.new) into.new }
+    ensures clocks { ClocksWereLoaded (loaded_in (reader_on seat.new).attempt)
+        (length into.new) into.new }
 {
     'slots: for slot in 0..into.len() {
         into[slot] = clock_like(load_words(board, seat, WORDS * slot, first));

@@ -43,7 +43,8 @@ impl<'a> Model for ClockWriter<'a> {
 
     ghost view = { λ w. record { row = w.seat.table_id; knows = writer_on w.seat } };
 
-    ghost invariant = { λ w. IsWriterEnd (arc_value w.board).shared.table_id w.seat w.plan.now w.clocks };
+    ghost invariant = { λ w.
+        IsWriterEnd (arc_value w.board).shared.table_id w.seat w.plan.now w.clocks };
 }
 
 // A plan is whole, as it tells with its length.
@@ -58,7 +59,8 @@ impl Row {
     /// needs here; each reader takes some of its own.
     pub fn make(alloc: Global, plan: &Plan, slots: u32) -> Result<ClockWriter<'_>, NoMemory>
         requires { slots ≡ length plan.now.parents }
-        ensures { IfOk result (λ writer. writer.knows ≡ writer_at_start plan.now (replicate (9 * length plan.now.parents) 0)) }
+        ensures { IfOk result (λ writer.
+            writer.knows ≡ writer_at_start plan.now (replicate (9 * length plan.now.parents) 0)) }
     {
         see_whole(plan);
         let words = vec![in alloc; 0; WORDS * slots as usize + 1]?;
@@ -113,7 +115,8 @@ impl<'a> ClockWriter<'a> {
     pub fn reader(&mut self) -> Result<ClockReader, NoMemory>
         ensures same { self.new ≡ self.old }
         ensures row { IfOk result (λ reader. reader.row ≡ self.old.row) }
-        ensures seen { IfOk result (λ reader. reader.knows ≡ new_reader self.old.knows.plan self.old.knows.count) }
+        ensures seen { IfOk result (λ reader.
+            reader.knows ≡ new_reader self.old.knows.plan self.old.knows.count) }
     {
         let board = Arc::try_clone(&self.board)?;
         let seat = split_reader(&self.board, &mut self.seat);

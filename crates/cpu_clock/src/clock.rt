@@ -26,11 +26,13 @@ impl Model for Clock {
 
     ghost Value = { ClockView };
 
-    ghost view = { λ clock. record { times = clock.times; mask = clock.mask; start = clock.start } };
+    ghost view = { λ clock.
+        record { times = clock.times; mask = clock.mask; start = clock.start } };
 
     ghost invariant = { λ clock. length clock.times ≡ 7 };
 
-    ghost inverse = { λ clock. record { times = clock.times; mask = clock.mask; start = clock.start } };
+    ghost inverse = { λ clock.
+        record { times = clock.times; mask = clock.mask; start = clock.start } };
 }
 
 /// Where the mask stands among a clock's words, behind the times.

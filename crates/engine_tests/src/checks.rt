@@ -48,7 +48,8 @@ fn is_trigger(trigger: &TriggerSpec, slots: usize) -> bool
 
 /// All triggers are.
 pub(crate) fn are_triggers(triggers: &[TriggerSpec], slots: usize) -> bool
-    ensures { result ≡ true → All (λ trigger. IsTriggerWithin last_moment slots trigger) triggers.now }
+    ensures { result ≡ true →
+        All (λ trigger. IsTriggerWithin last_moment slots trigger) triggers.now }
 {
     'triggers: for trigger in triggers {
         if !is_trigger(trigger, slots) {
@@ -87,7 +88,8 @@ fn row_grew_within(most: Ns, before: &[[u64; 7]], now: &[[u64; 7]]) -> bool
 pub(crate) fn table_grew_within(most: Ns, slots: u32, before: &Rows, now: &Rows) -> bool
     requires slots { length before.now ≡ slots }
     requires slots_now { length now.now ≡ slots }
-    requires cpus { (slot : ℕ) → length (slice_index_or before.now slot []) ≡ length (slice_index_or now.now slot []) }
+    requires cpus { (slot : ℕ) →
+        length (slice_index_or before.now slot []) ≡ length (slice_index_or now.now slot []) }
     ensures { result ≡ true → TableGrewWithin most before.now now.now }
 {
     'slots: for slot in 0..slots {

@@ -39,9 +39,11 @@ impl Model for Averages {
 
     ghost Value = { AverageState };
 
-    ghost view = { λ a. record { last = a.last; next = a.next; sampled = a.sampled; averages = a.averages } };
+    ghost view = { λ a.
+        record { last = a.last; next = a.next; sampled = a.sampled; averages = a.averages } };
 
-    ghost invariant = { λ a. IsAverageState (record { last = a.last; next = a.next; sampled = a.sampled; averages = a.averages }) };
+    ghost invariant = { λ a. IsAverageState
+        (record { last = a.last; next = a.next; sampled = a.sampled; averages = a.averages }) };
 }
 
 /// What is sampled of each total in this time (ns): what wasn't yet, and at most the time.

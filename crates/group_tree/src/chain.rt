@@ -38,7 +38,8 @@ impl<'a> Model for Chain<'a> {
 
     ghost view = { λ c. chain_from c.lives.now c.next };
 
-    ghost invariant = { λ c. AreOlder (parents_of c.lives.now) × IfSome c.next (λ slot. slot.0 < length c.lives.now) };
+    ghost invariant = { λ c.
+        AreOlder (parents_of c.lives.now) × IfSome c.next (λ slot. slot.0 < length c.lives.now) };
 }
 
 impl<'a> Chain<'a> {

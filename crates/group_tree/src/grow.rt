@@ -15,7 +15,9 @@ fn count_child(children: &mut [u32], parent: Option<Slot>)
     requires made { IfSome parent (λ slot. slot.0 < length children.old) }
     requires few { IfSome parent (λ slot. slice_index_or children.old slot.0 0 ≤ 1024) }
     ensures len { length children.new ≡ length children.old }
-    ensures each { (slot : ℕ) → slice_index_or children.new slot 0 ≡ slice_index_or children.old slot 0 + (if is_slot (Some slot) parent then 1 else 0) }
+    ensures each { (slot : ℕ) →
+        slice_index_or children.new slot 0
+        ≡ slice_index_or children.old slot 0 + (if is_slot (Some slot) parent then 1 else 0) }
 {
     if let Some(slot) = parent {
         children[slot.0 as usize] += 1;
@@ -27,7 +29,9 @@ fn uncount_child(children: &mut [u32], parent: Option<Slot>)
     requires made { IfSome parent (λ slot. slot.0 < length children.old) }
     requires some { IfSome parent (λ slot. 0 < slice_index_or children.old slot.0 0) }
     ensures len { length children.new ≡ length children.old }
-    ensures each { (slot : ℕ) → slice_index_or children.new slot 0 + (if is_slot (Some slot) parent then 1 else 0) ≡ slice_index_or children.old slot 0 }
+    ensures each { (slot : ℕ) →
+        slice_index_or children.new slot 0 + (if is_slot (Some slot) parent then 1 else 0)
+        ≡ slice_index_or children.old slot 0 }
 {
     if let Some(slot) = parent {
         children[slot.0 as usize] -= 1;

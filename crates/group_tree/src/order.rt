@@ -60,7 +60,8 @@ fn first_slots(alloc: Global, count: u32) -> Result<Vec<Slot>, NoMemory>
 /// The same slots in the byte order of their paths.
 fn sorted_by_path(mut slots: Vec<Slot>, lives: &[GroupLife]) -> Vec<Slot>
     ensures same { IsPermutation slots.items result.items }
-    ensures sorted { IsSortedByKey (λ slot. path_at lives.now slot.0) (slice_cmp nat_cmp) result.items }
+    ensures sorted { IsSortedByKey (λ slot. path_at lives.now slot.0)
+        (slice_cmp nat_cmp) result.items }
 {
     slots.sort_unstable_by(|one, other| path_of(lives, *one).cmp(path_of(lives, *other)));
     slots

@@ -19,7 +19,8 @@ impl Model for Changes {
 
     ghost Value = { ChangesView };
 
-    ghost view = { λ c. record { list = c.list.items; room = vec_capacity c.list - vec_len c.list } };
+    ghost view = { λ c.
+        record { list = c.list.items; room = vec_capacity c.list - vec_len c.list } };
 }
 
 impl Changes {

@@ -56,7 +56,8 @@ impl<'a> Model for PlainClocks<'a> {
 
     ghost view = { λ c. record { plan = c.plan.now; made = c.count } };
 
-    ghost invariant = { λ c. AreClocks c.plan.now c.clocks c.count × (numbers_of c.parents.now ≡ c.plan.now.parents) };
+    ghost invariant = { λ c.
+        AreClocks c.plan.now c.clocks c.count × (numbers_of c.parents.now ≡ c.plan.now.parents) };
 }
 
 impl<'a> PlainClocks<'a> {

@@ -40,9 +40,11 @@ impl Model for Planner {
 
     ghost coded = { planner_code };
 
-    ghost view = { λ p. planner_view p.table (lists_of p.changes.items) p.triggers.items p.sides.items };
+    ghost view = { λ p.
+        planner_view p.table (lists_of p.changes.items) p.triggers.items p.sides.items };
 
-    ghost invariant = { λ p. IsPlanner (planner_view p.table (lists_of p.changes.items) p.triggers.items p.sides.items) };
+    ghost invariant = { λ p. IsPlanner
+        (planner_view p.table (lists_of p.changes.items) p.triggers.items p.sides.items) };
 }
 
 // No change, for each of so many processors.

@@ -35,7 +35,8 @@ impl Model for Plans {
 
     ghost view = { λ p. plans_view p.plans.items p.groups p.triggers.items p.sides.items p.finish };
 
-    ghost invariant = { λ p. ArePlans (plans_view p.plans.items p.groups p.triggers.items p.sides.items p.finish) };
+    ghost invariant = { λ p.
+        ArePlans (plans_view p.plans.items p.groups p.triggers.items p.sides.items p.finish) };
 }
 
 // A fault of the event in this line.

@@ -75,7 +75,8 @@ pub(crate) fn make_room(
     ensures for_trigger { OnOk result
         (vec_len triggers.new + length (listed told.now.trigger) ≤ vec_capacity triggers.new) }
     ensures for_sides { OnOk result
-        (vec_len sides.new + length (listed told.now.first ++ listed told.now.second) ≤ vec_capacity sides.new) }
+        (vec_len sides.new + length (listed told.now.first ++ listed told.now.second)
+        ≤ vec_capacity sides.new) }
 {
     reserve_changes(changes, act, task)?;
     triggers.reserve(usize::from(told.trigger.is_some()))?;
@@ -98,7 +99,8 @@ fn add_change(changes: &mut [Changes], touched: Option<(Cpu, Change)>)
     requires { IfSome touched (λ touched. HasRoom changes.old touched.0.0) }
     ensures each { length changes.new ≡ length changes.old }
     ensures added { AddsTold changes.old changes.new (λ cpu. told_first cpu touched None) }
-    ensures others { (cpu : ℕ) → told_first cpu touched None ≡ None → HasRoom changes.old cpu → HasRoom changes.new cpu }
+    ensures others { (cpu : ℕ) → told_first cpu touched None ≡ None → HasRoom changes.old cpu →
+        HasRoom changes.new cpu }
 {
     let Some((cpu, change)) = touched else {
         return;

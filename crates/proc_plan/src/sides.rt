@@ -140,8 +140,10 @@ fn sides_by(table: &Table, event: &Event, task: Option<Task>) -> (Option<Side>, 
 pub(crate) fn told_by(table: &Table, event: &Event, task: Option<Task>) -> Told
     requires fits { ActFits event.now.act }
     requires task { task ≡ before table.now.world.tasks event.now.act }
-    ensures trigger { listed result.trigger ≡ trigger_by event.now.at table.now.world.groups event.now.act }
-    ensures sides { listed result.first ++ listed result.second ≡ sides_by table.now.world event.now }
+    ensures trigger { listed result.trigger
+        ≡ trigger_by event.now.at table.now.world.groups event.now.act }
+    ensures sides { listed result.first ++ listed result.second
+        ≡ sides_by table.now.world event.now }
     ensures first { IfSome result.first (λ side. IsSmall side.what) }
     ensures second { IfSome result.second (λ side. IsSmall side.what) }
 {

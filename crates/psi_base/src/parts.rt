@@ -7,7 +7,8 @@ use std::marker::Model;
 // The part before the first such byte, and what stands behind that byte.
 #[tactic(auto, using(crate::proofs::PartLaws::parts))]
 fn cut(bytes: &[u8], at: u8) -> (&[u8], Option<&[u8]>)
-    ensures { MatchOption result.1 (parts_at at bytes.now ≡ result.0.now ∷ []) (λ rest. parts_at at bytes.now ≡ result.0.now ∷ parts_at at rest.now) }
+    ensures { MatchOption result.1 (parts_at at bytes.now ≡ result.0.now ∷ [])
+        (λ rest. parts_at at bytes.now ≡ result.0.now ∷ parts_at at rest.now) }
 {
     for (i, byte) in bytes.iter().enumerate() {
         if *byte == at {
@@ -47,7 +48,8 @@ impl<'a, const AT: u8> Parts<'a, AT> {
 
     /// Takes the first part that is left. None where none is.
     pub fn next_part(&mut self) -> Option<&'a [u8]>
-        ensures { MatchOption result ((self.old ≡ []) × (self.new ≡ [])) (λ part. self.old ≡ part.now ∷ self.new) }
+        ensures { MatchOption result ((self.old ≡ []) × (self.new ≡ []))
+            (λ part. self.old ≡ part.now ∷ self.new) }
     {
         if !self.more {
             return None;

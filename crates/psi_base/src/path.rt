@@ -42,7 +42,8 @@ fn is_component(part: &[u8]) -> bool
 
 // At most 32 components between slashes.
 fn are_components(text: &[u8]) -> bool
-    ensures { result ≡ (nat_le (length (parts_at 47 text.now)) 32 && list_all is_component (parts_at 47 text.now)) }
+    ensures { result ≡ (nat_le (length (parts_at 47 text.now)) 32
+        && list_all is_component (parts_at 47 text.now)) }
 {
     let mut parts: Parts<'_, b'/'> = Parts::new(text);
     for _ in 0..32u8 {
@@ -174,7 +175,8 @@ impl Ord for Path {
 impl PartialOrd for Path {
     ghost partial_cmp = { as_partial_cmp (slice_cmp nat_cmp) };
 
-    ghost laws = { partial_order_from_own_ties (Prim.search (comparing, rules)) (Prim.search (comparing, rules)) };
+    ghost laws = { partial_order_from_own_ties (Prim.search (comparing, rules))
+        (Prim.search (comparing, rules)) };
 
     fn partial_cmp(&self, other: &Path) -> Option<Ordering> {
         Some(self.cmp(other))

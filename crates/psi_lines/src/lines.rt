@@ -75,7 +75,8 @@ impl Model for Lines {
 
     ghost Value = { Reader };
 
-    ghost view = { λ l. record { name = string_bytes l.name; number = l.number; held = l.held; at = l.at } };
+    ghost view = { λ l.
+        record { name = string_bytes l.name; number = l.number; held = l.held; at = l.at } };
 
     ghost invariant = { λ l. (l.number ≤ 2 ^ 32) × (l.at ≤ 513 * l.number + length l.held)
         × (length l.held ≤ 66048) };

@@ -79,7 +79,8 @@ impl<F: Read + Seek> Opened<F> {
     // Reads from a place on. It is sought only where the last read ended elsewhere.
     fn read_at(&mut self, at: u64, into: &mut [u8]) -> Result<usize, ShelfFault>
         ensures bound { IfOk result (λ n. n ≤ length into.new) }
-        ensures bytes { (bytes : List ℕ) → LeavesFromPlace F.remaining F.stream_position F.stream_bytes
+        ensures bytes { (bytes : List ℕ)
+            → LeavesFromPlace F.remaining F.stream_position F.stream_bytes
             → StandsAt F.stream_position F.stream_bytes self.old.file self.old.place bytes
             → IfOk result (λ n. ReadsFront bytes at n into.new) }
         ensures place { OnOk result (GoesOn at self.new.place result) }

@@ -45,7 +45,8 @@ fn end_of<R: Threads + Sync, S: Shelf, K: Sink, N: Sink>(
     out: &mut K,
     note: &mut N,
 ) -> ExitCode
-    ensures words { IfOk words (λ given. Ends (command_of (map string_bytes given.items)) (exit_status result)
+    ensures words { IfOk words (λ given.
+        Ends (command_of (map string_bytes given.items)) (exit_status result)
         (N.faults note.old) (N.faults note.new) (N.has note.old) (N.has note.new)) }
     ensures none { OnErr words (EndsAs None Status.NoMemory (exit_status result)
         (N.faults note.old) (N.faults note.new) (N.has note.old) (N.has note.new)) }

@@ -19,9 +19,11 @@ fn behind_the_name(alloc: Global, words: Args) -> Result<Vec<String>, AllocError
 /// The words of a command line, of which the first is the program's name. Where one isn't UTF-8 there are none: that is
 /// no command either.
 pub fn words_of(alloc: Global, given: io::Result<Args>) -> Result<Vec<String>, NoMemory>
-    ensures words { IfOk given (λ args. IfOk result (λ words. words.items ≡ drop 1 (into_iter_items args))) }
+    ensures words { IfOk given
+        (λ args. IfOk result (λ words. words.items ≡ drop 1 (into_iter_items args))) }
     ensures none { IfErr given (λ error. IfOk result (λ words. words.items ≡ [])) }
-    ensures memory { IfErr given (λ error. error_kind error ≡ ErrorKind.OutOfMemory → IsErr result) }
+    ensures memory { IfErr given (λ error.
+        error_kind error ≡ ErrorKind.OutOfMemory → IsErr result) }
     ensures other { IfErr given (λ error. error_kind error ≢ ErrorKind.OutOfMemory → IsOk result) }
 {
     match given {

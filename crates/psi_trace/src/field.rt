@@ -18,7 +18,8 @@ const LARGEST_AMOUNT: u64 = 1 << 60;
 
 // The next part, which is due as the field with this number.
 fn next_word<'a>(words: &mut Words<'a>, index: u8) -> Result<&'a [u8], Cause>
-    ensures { MatchResult result (λ text. words.old ≡ text.now ∷ words.new) (λ e. (e ≡ cause.BadField index) × (words.old ≡ [])) }
+    ensures { MatchResult result (λ text. words.old ≡ text.now ∷ words.new)
+        (λ e. (e ≡ cause.BadField index) × (words.old ≡ [])) }
 {
     words.next_part().ok_or(Cause::BadField(index))
 }
@@ -214,7 +215,8 @@ pub fn path_field(alloc: Global, words: &mut Words, index: u8) -> Result<Path, F
 
 /// Nothing is left, where a further part would be the field with this number.
 pub fn end_of(words: &mut Words, index: u8) -> Result<(), Cause>
-    ensures { MatchResult result (λ _. words.old ≡ []) (λ e. (e ≡ cause.BadField index) × (words.old ≢ [])) }
+    ensures { MatchResult result (λ _. words.old ≡ [])
+        (λ e. (e ≡ cause.BadField index) × (words.old ≢ [])) }
 {
     match words.next_part() {
         Some(_) => Err(Cause::BadField(index)),

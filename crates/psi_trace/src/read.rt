@@ -258,7 +258,8 @@ fn event_at(alloc: Global, at: Ns, mut words: Words) -> Result<Event, Fault<Caus
 #[tactic(auto, unfolding(psi_spec::specs::Grammar::event_of, psi_spec::specs::Grammar::event_at))]
 fn event_in(alloc: Global, line: &[u8]) -> Result<Event, Fault<Cause>>
     ensures exact { Gives result (event_of line.now) }
-    ensures memory { result ≡ Err fault.NoMemory → names_path (drop 1 (parts_at 32 line.now)) ≡ true }
+    ensures memory { result ≡ Err fault.NoMemory →
+        names_path (drop 1 (parts_at 32 line.now)) ≡ true }
 {
     let mut words: Words = Parts::new(line);
     let Some(time) = words.next_part() else {
@@ -276,9 +277,12 @@ fn event_in(alloc: Global, line: &[u8]) -> Result<Event, Fault<Cause>>
 pub fn read_event(alloc: Global, line: &[u8]) -> Result<Event, Fault<Cause>>
     ensures exact { Gives result (event_of line.now) }
     ensures found { IfOk result (λ event. Fits event × (line.now ≡ spelling event)) }
-    ensures none { (why : Cause) → result ≡ Err (fault.Refused why) → (event : Event) → Fits event → line.now ≢ spelling event }
-    ensures memory { result ≡ Err fault.NoMemory → names_path (drop 1 (parts_at 32 line.now)) ≡ true }
-    ensures cause { (why : Cause) → result ≡ Err (fault.Refused why) → IsCause (parts_at 32 line.now) why }
+    ensures none { (why : Cause) → result ≡ Err (fault.Refused why) → (event : Event) → Fits event →
+        line.now ≢ spelling event }
+    ensures memory { result ≡ Err fault.NoMemory →
+        names_path (drop 1 (parts_at 32 line.now)) ≡ true }
+    ensures cause { (why : Cause) → result ≡ Err (fault.Refused why) →
+        IsCause (parts_at 32 line.now) why }
 {
     event_in(alloc, line)
 }

@@ -225,7 +225,8 @@ fn put_act(act: &Act, to: &mut Vec<u8>) -> Result<(), NoMemory>
 }
 
 fn put_event(event: &Event, to: &mut Vec<u8>) -> Result<(), NoMemory>
-    ensures { Grows to.old.items to.new.items result (decimal event.now.at ++ spaced (act_words event.now.act)) }
+    ensures { Grows to.old.items to.new.items result
+        (decimal event.now.at ++ spaced (act_words event.now.act)) }
 {
     put_number(event.at, to)?;
     put_act(&event.act, to)

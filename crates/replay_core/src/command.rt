@@ -83,7 +83,8 @@ fn run_stall<R: Threads + Sync, S: Shelf, K: Sink>(
 
 // Writes the line of an accepted trace.
 fn write_line<K: Sink>(table: &Table, out: &mut K) -> Status
-    ensures writes { (limits : Limits) (events : List Event) → IsPlayed table.now.limits table.now.world limits events →
+    ensures writes { (limits : Limits) (events : List Event) →
+        IsPlayed table.now.limits table.now.world limits events →
         WritesText (check_text (plain_trace limits.cpus events)) (K.faults out.old) (K.faults out.new) (K.has out.old) (K.has out.new) result }
     ensures below { StaysOver (K.below out.old) (K.below out.new) }
 {

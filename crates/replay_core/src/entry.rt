@@ -71,7 +71,8 @@ pub fn run<R: Threads + Sync, S: Shelf, K: Sink, N: Sink, G: Gate>(
 
     // Usage comes exactly where the words aren't those of a command.
     ensures usage { result ≡ Status.Usage → command_of (map string_bytes words.now) ≡ None }
-    ensures unknown { command_of (map string_bytes words.now) ≡ None → (result ≡ Status.Usage) ⊎ (result ≡ Status.NoMemory) }
+    ensures unknown { command_of (map string_bytes words.now) ≡ None →
+        (result ≡ Status.Usage) ⊎ (result ≡ Status.NoMemory) }
 
     // What each status says of the command's files and of the output, and which counts of failures rose.
     ensures runs { (command : Command) → command_of (map string_bytes words.now) ≡ Some command →
@@ -85,38 +86,54 @@ pub fn run<R: Threads + Sync, S: Shelf, K: Sink, N: Sink, G: Gate>(
         command_of (map string_bytes words.now) ≡ Some (Command.Replay name options) →
         IsTold (Command.Replay name options) TraceFile (S.holds shelf.old) bytes →
         RulesTold (Command.Replay name options) (S.holds shelf.old) rules →
-        result ≡ Status.Done → (trace : Trace) × (trace_of (tick_length (Command.Replay name options)) bytes ≡ Ok trace)
-        × Appends (K.has out.old) (K.has out.new) (replay_text trace (pace_of options) (with_rules rules)) }
+        result ≡ Status.Done →
+        (trace : Trace) × (trace_of (tick_length (Command.Replay name options)) bytes ≡ Ok trace)
+        × Appends (K.has out.old) (K.has out.new)
+        (replay_text trace (pace_of options) (with_rules rules)) }
 
     // An accepted trace and accepted rules give the whole output, unless a count of faults rose or memory was wanting.
     ensures complete { (command : Command) (rules : List Rule) (bytes : List ℕ) (trace : Trace) →
-        command_of (map string_bytes words.now) ≡ Some command → RulesTold command (S.holds shelf.old) rules →
-        IsTold command TraceFile (S.holds shelf.old) bytes → trace_of (tick_length command) bytes ≡ Ok trace →
-        (Rose (S.faults shelf.old) (S.faults shelf.new) → ⊥) → (Rose (K.faults out.old) (K.faults out.new) → ⊥) → (result ≡ Status.Done) ⊎ (result ≡ Status.NoMemory) }
+        command_of (map string_bytes words.now) ≡ Some command →
+        RulesTold command (S.holds shelf.old) rules →
+        IsTold command TraceFile (S.holds shelf.old) bytes →
+        trace_of (tick_length command) bytes ≡ Ok trace →
+        (Rose (S.faults shelf.old) (S.faults shelf.new) → ⊥) →
+        (Rose (K.faults out.old) (K.faults out.new) → ⊥) →
+        (result ≡ Status.Done) ⊎ (result ≡ Status.NoMemory) }
 
     // A refused rules file gives its first fault with its place, unless a fault of reading rose or memory was wanting.
     ensures faulty { (command : Command) (name bytes : List ℕ) (fault : RulesFault) →
         command_of (map string_bytes words.now) ≡ Some command → rules_name command ≡ Some name →
         told (S.holds shelf.old) name ≡ Some bytes → rules_of bytes ≡ Err fault →
-        (Rose (S.faults shelf.old) (S.faults shelf.new) → ⊥) → (result ≡ Status.Rules fault) ⊎ (result ≡ Status.NoMemory) }
+        (Rose (S.faults shelf.old) (S.faults shelf.new) → ⊥) →
+        (result ≡ Status.Rules fault) ⊎ (result ≡ Status.NoMemory) }
 
     // Behind accepted rules a refused trace gives its first refused line with its cause, unless a fault of reading rose or
     // memory was wanting.
-    ensures refuses { (command : Command) (rules : List Rule) (bytes : List ℕ) (line : ℕ) (why : Cause) →
-        command_of (map string_bytes words.now) ≡ Some command → RulesTold command (S.holds shelf.old) rules →
-        IsTold command TraceFile (S.holds shelf.old) bytes → trace_of (tick_length command) bytes ≡ Err (refused line why) →
-        (Rose (S.faults shelf.old) (S.faults shelf.new) → ⊥) → (result ≡ Status.Trace line why) ⊎ (result ≡ Status.NoMemory) }
+    ensures refuses { (command : Command) (rules : List Rule) (bytes : List ℕ)
+        (line : ℕ) (why : Cause) →
+        command_of (map string_bytes words.now) ≡ Some command →
+        RulesTold command (S.holds shelf.old) rules →
+        IsTold command TraceFile (S.holds shelf.old) bytes →
+        trace_of (tick_length command) bytes ≡ Err (refused line why) →
+        (Rose (S.faults shelf.old) (S.faults shelf.new) → ⊥) →
+        (result ≡ Status.Trace line why) ⊎ (result ≡ Status.NoMemory) }
 
     // Each count of failures rose exactly where the status tells of its failure.
-    ensures counts { CountsTell (run_counts (S.faults shelf.old) (S.absent shelf.old) (K.faults out.old))
+    ensures counts { CountsTell
+        (run_counts (S.faults shelf.old) (S.absent shelf.old) (K.faults out.old))
         (run_counts (S.faults shelf.new) (S.absent shelf.new) (K.faults out.new)) result }
 
     // Nothing is written but by Done and WriteFault.
-    ensures quiet { result ≢ Status.Done → result ≢ Status.WriteFault → Keeps (K.has out.old) (K.has out.new) }
+    ensures quiet { result ≢ Status.Done → result ≢ Status.WriteFault →
+        Keeps (K.has out.old) (K.has out.new) }
 
     // The note tells of the status, in whole where its count didn't rise.
-    ensures note { (Rose (N.faults note.old) (N.faults note.new) → ⊥) → Appends (N.has note.old) (N.has note.new) (status_text (command_of (map string_bytes words.now)) result) }
-    ensures note_front { AppendsFront (N.has note.old) (N.has note.new) (status_text (command_of (map string_bytes words.now)) result) }
+    ensures note { (Rose (N.faults note.old) (N.faults note.new) → ⊥) →
+        Appends (N.has note.old) (N.has note.new)
+        (status_text (command_of (map string_bytes words.now)) result) }
+    ensures note_front { AppendsFront (N.has note.old) (N.has note.new)
+        (status_text (command_of (map string_bytes words.now)) result) }
 {
     match read_words(alloc, words) {
         Ok(command) => {

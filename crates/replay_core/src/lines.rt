@@ -36,7 +36,8 @@ fn put_group<K: Sink, C: ProcClocks>(
     requires early { last ≤ last_moment }
     ensures plan { C.plan clocks.new ≡ C.plan clocks.old }
     ensures made { C.made clocks.new ≡ C.made clocks.old }
-    ensures bytes { PutsAll (K.has out.old) (K.has out.new) result (plan_line cpu.0 groups.now (C.plan clocks.old) last slot) }
+    ensures bytes { PutsAll (K.has out.old) (K.has out.new) result
+        (plan_line cpu.0 groups.now (C.plan clocks.old) last slot) }
     ensures cause { HasCause (K.faults out.old) (K.faults out.new) result }
     ensures below { StaysOver (K.below out.old) (K.below out.new) }
 {
@@ -60,7 +61,8 @@ fn put_processor<K: Sink, C: ProcClocks>(
     requires all { C.made clocks.old ≡ length (C.plan clocks.old).changes }
     requires later { last_change (C.plan clocks.old) (length (C.plan clocks.old).changes) ≤ last }
     requires early { last ≤ last_moment }
-    ensures bytes { PutsAll (K.has out.old) (K.has out.new) result (plan_lines groups.now order.now last (C.plan clocks.old) cpu.0) }
+    ensures bytes { PutsAll (K.has out.old) (K.has out.new) result
+        (plan_lines groups.now order.now last (C.plan clocks.old) cpu.0) }
     ensures cause { HasCause (K.faults out.old) (K.faults out.new) result }
     ensures below { StaysOver (K.below out.old) (K.below out.new) }
 {
@@ -81,12 +83,16 @@ pub(crate) fn put_lines<K: Sink>(
 ) -> Result<(), WriteFailed>
     requires each { length clocks.old ≡ length plans.now.plans }
     requires few { length clocks.old ≤ 64 }
-    requires all { (cpu : ℕ) → cpu < length clocks.old → HasMadeAll (plan_at plans.now cpu) (clocks_at clocks.old cpu) }
-    requires known { (cpu : ℕ) → cpu < length clocks.old → length (plan_at plans.now cpu).parents ≡ length plans.now.lives }
+    requires all { (cpu : ℕ) → cpu < length clocks.old →
+        HasMadeAll (plan_at plans.now cpu) (clocks_at clocks.old cpu) }
+    requires known { (cpu : ℕ) → cpu < length clocks.old →
+        length (plan_at plans.now cpu).parents ≡ length plans.now.lives }
     requires made { All (λ (slot : Slot). slot.0 < length plans.now.lives) order.now }
-    requires later { (cpu : ℕ) → cpu < length clocks.old → last_change (plan_at plans.now cpu) (length (plan_at plans.now cpu).changes) ≤ last }
+    requires later { (cpu : ℕ) → cpu < length clocks.old →
+        last_change (plan_at plans.now cpu) (length (plan_at plans.now cpu).changes) ≤ last }
     requires early { last ≤ last_moment }
-    ensures bytes { PutsAll (K.has out.old) (K.has out.new) result (all_lines plans.now.lives order.now last plans.now.plans) }
+    ensures bytes { PutsAll (K.has out.old) (K.has out.new) result
+        (all_lines plans.now.lives order.now last plans.now.plans) }
     ensures cause { HasCause (K.faults out.old) (K.faults out.new) result }
     ensures below { StaysOver (K.below out.old) (K.below out.new) }
 {
@@ -100,7 +106,10 @@ pub(crate) fn put_lines<K: Sink>(
 
 /// Writes the line of an accepted trace.
 pub(crate) fn put_check<K: Sink>(table: &Table, out: &mut K) -> Result<(), WriteFailed>
-    ensures bytes { (limits : Limits) (events : List Event) → IsPlayed table.now.limits table.now.world limits events → PutsAll (K.has out.old) (K.has out.new) result (check_text (plain_trace limits.cpus events)) }
+    ensures bytes { (limits : Limits) (events : List Event) →
+        IsPlayed table.now.limits table.now.world limits events →
+        PutsAll (K.has out.old) (K.has out.new) result
+        (check_text (plain_trace limits.cpus events)) }
     ensures cause { HasCause (K.faults out.old) (K.faults out.new) result }
     ensures below { StaysOver (K.below out.old) (K.below out.new) }
 {

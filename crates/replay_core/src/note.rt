@@ -95,7 +95,8 @@ fn put_refusal<N: Sink>(note: &mut N, line: u32, cause: Cause) -> Result<(), Wri
 
 // Tells of a fault of a rules file.
 fn put_rules_fault<N: Sink>(note: &mut N, fault: RulesFault) -> Result<(), WriteFailed>
-    ensures bytes { PutsAll (N.has note.old) (N.has note.new) result (fault_text fault ++ codes "\n") }
+    ensures bytes { PutsAll (N.has note.old) (N.has note.new) result
+        (fault_text fault ++ codes "\n") }
     ensures cause { HasCause (N.faults note.old) (N.faults note.new) result }
 {
     put_fault(note, fault)?;
@@ -125,7 +126,8 @@ pub(crate) fn put_status<N: Sink>(
     command: Option<&Command>,
     status: Status,
 ) -> Result<(), WriteFailed>
-    ensures bytes { PutsAll (N.has note.old) (N.has note.new) result (status_text (option_map (λ command. command.now) command.entry) status) }
+    ensures bytes { PutsAll (N.has note.old) (N.has note.new) result
+        (status_text (option_map (λ command. command.now) command.entry) status) }
     ensures cause { HasCause (N.faults note.old) (N.faults note.new) result }
 {
     match status {

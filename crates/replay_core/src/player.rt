@@ -21,7 +21,8 @@ pub(crate) trait Player: Sized {
     fn start(alloc: Global, cpus: u32, latest: Ns) -> Result<Self, NoMemory>
         requires counted { IsCpuCount cpus }
         requires short { latest ≤ last_moment }
-        ensures { IfOk result (λ player. Self.Played player (record { cpus = cpus; latest = latest }) []) };
+        ensures { IfOk result (λ player.
+            Self.Played player (record { cpus = cpus; latest = latest }) []) };
 
     /// Plays one event more, whose numbers are in the ranges of the grammar: `Refused` with the first cause against it, where it isn't legal.
     fn take(&mut self, event: &Event) -> Result<(), Fault<Cause>>
@@ -30,7 +31,8 @@ pub(crate) trait Player: Sized {
 
     /// The trace has ended.
     fn is_ended(&self) -> bool
-        ensures { (limits : Limits) (events : List Event) → Self.Played self.now limits events → result ≡ (after events).ended };
+        ensures { (limits : Limits) (events : List Event) → Self.Played self.now limits events →
+            result ≡ (after events).ended };
 }
 
 /// To check a trace it is enough to play it on the table of tasks.

@@ -22,8 +22,10 @@ use std::alloc::Global;
 
 // Makes all ticks that are left, and writes their lines and the last line.
 fn put_replay<K: Sink>(replay: &mut Replay<'_>, out: &mut K) -> Result<(), WriteFailed>
-    requires { (trace : Trace) × (pace : Pace) × (rules : List Rule) × IsReplay replay.old trace pace rules 0 }
-    ensures bytes { (trace : Trace) (pace : Pace) (rules : List Rule) → IsReplay replay.old trace pace rules 0 →
+    requires { (trace : Trace) × (pace : Pace) × (rules : List Rule)
+        × IsReplay replay.old trace pace rules 0 }
+    ensures bytes { (trace : Trace) (pace : Pace) (rules : List Rule) →
+        IsReplay replay.old trace pace rules 0 →
         PutsAll (K.has out.old) (K.has out.new) result (replay_text trace pace (with_rules rules)) }
     ensures cause { HasCause (K.faults out.old) (K.faults out.new) result }
     ensures below { StaysOver (K.below out.old) (K.below out.new) }
@@ -45,9 +47,11 @@ pub(crate) fn write_replay<K: Sink>(
     options: &Options,
     out: &mut K,
 ) -> Status
-    requires taken { (limits : Limits) × (events : List Event) × IsToReplay planner options.now limits events }
+    requires taken { (limits : Limits) × (events : List Event)
+        × IsToReplay planner options.now limits events }
     requires fit { FitsRules (rules_in rules) }
-    ensures writes { (limits : Limits) (events : List Event) → IsToReplay planner options.now limits events →
+    ensures writes { (limits : Limits) (events : List Event) →
+        IsToReplay planner options.now limits events →
         WritesText (replay_text (plain_trace limits.cpus events) (pace_of options.now) (with_rules (rules_in rules))) (K.faults out.old) (K.faults out.new) (K.has out.old) (K.has out.new) result }
     ensures below { StaysOver (K.below out.old) (K.below out.new) }
 {

@@ -64,8 +64,10 @@ pub(crate) fn read_rules<S: Shelf>(
     requires text { IfSome named (λ name. IsUtf8 name.now) }
     ensures kept { S.holds shelf.new ≡ S.holds shelf.old }
     ensures content { MatchResult result
-        (λ rules. RulesGiven (option_map (λ name. name.now) named.entry) (S.holds shelf.old) (rules_in rules))
-        (λ found. (name : List ℕ) × (option_map (λ name. name.now) named.entry ≡ Some name) × RulesFailed found (S.holds shelf.old) name) }
+        (λ rules. RulesGiven (option_map (λ name. name.now) named.entry) (S.holds shelf.old)
+        (rules_in rules))
+        (λ found. (name : List ℕ) × (option_map (λ name. name.now) named.entry ≡ Some name)
+        × RulesFailed found (S.holds shelf.old) name) }
     ensures cause { CausesRulesError (counts_of (S.faults shelf.old) (S.absent shelf.old))
         (counts_of (S.faults shelf.new) (S.absent shelf.new)) result }
 {

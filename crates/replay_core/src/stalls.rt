@@ -24,9 +24,11 @@ use std::thread::Threads;
 fn make_each<R: Threads + Sync>(rt: &R, plans: &Plans, clocks: &mut [PlainClocks<'_>])
     requires each { length clocks.old ≡ length plans.now.plans }
     requires few { length clocks.old ≤ 64 }
-    requires fresh { (cpu : ℕ) → cpu < length clocks.old → clocks_at clocks.old cpu ≡ record { plan = plan_at plans.now cpu; made = 0 } }
+    requires fresh { (cpu : ℕ) → cpu < length clocks.old →
+        clocks_at clocks.old cpu ≡ record { plan = plan_at plans.now cpu; made = 0 } }
     ensures each { length clocks.new ≡ length clocks.old }
-    ensures all { (cpu : ℕ) → cpu < length clocks.old → HasMadeAll (plan_at plans.now cpu) (clocks_at clocks.new cpu) }
+    ensures all { (cpu : ℕ) → cpu < length clocks.old →
+        HasMadeAll (plan_at plans.now cpu) (clocks_at clocks.new cpu) }
 {
     let workers = clocks.len();
     if workers == 0 {
@@ -37,7 +39,8 @@ fn make_each<R: Threads + Sync>(rt: &R, plans: &Plans, clocks: &mut [PlainClocks
         clocks,
         workers,
         &|place: usize, clocks: &mut PlainClocks<'_>|
-            requires { (place < 64) × (place < length plans.now.plans) × (clocks.now ≡ record { plan = plan_at plans.now place; made = 0 }) }
+            requires { (place < 64) × (place < length plans.now.plans)
+                × (clocks.now ≡ record { plan = plan_at plans.now place; made = 0 }) }
             ensures { HasMadeAll (plan_at plans.entry.now place) clocks.new }
         { make_until(clocks, plans.plan(Cpu(place as u32)).len()) },
     );

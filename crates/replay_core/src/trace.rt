@@ -79,7 +79,8 @@ fn take_read<P: Player>(
 // a third of the time of reading it.
 fn take_line<P: Player>(alloc: Global, player: &mut P, line: &[u8]) -> Result<(), Fault<Cause>>
     requires short { length line.now ≤ 512 }
-    ensures { TakesLine (Legally (P.Played player.old)) (Legally (P.Played player.new)) line.now result }
+    ensures { TakesLine (Legally (P.Played player.old))
+        (Legally (P.Played player.new)) line.now result }
 {
     take_read(player, &read_event(alloc, line))
 }
@@ -96,8 +97,10 @@ fn next_event<S: Shelf, P: Player>(
     ensures kept { S.holds shelf.new ≡ S.holds shelf.old }
     ensures name { lines.new.name ≡ lines.old.name }
     ensures number { OnOk result (lines.new.number ≡ line + 1) }
-    ensures content { NextGives (Legally (P.Played player.old)) (Legally (P.Played player.new)) line (left lines.old) (left lines.new) (told (S.holds shelf.old) lines.old.name) result }
-    ensures missed { IsErrOf result TraceFault.NoFile → told (S.holds shelf.old) lines.old.name ≡ None }
+    ensures content { NextGives (Legally (P.Played player.old)) (Legally (P.Played player.new)) line
+        (left lines.old) (left lines.new) (told (S.holds shelf.old) lines.old.name) result }
+    ensures missed { IsErrOf result TraceFault.NoFile →
+        told (S.holds shelf.old) lines.old.name ≡ None }
     ensures cause { CausesTraceFault (counts_of (S.faults shelf.old) (S.absent shelf.old))
         (counts_of (S.faults shelf.new) (S.absent shelf.new)) result }
 {
@@ -118,8 +121,10 @@ fn next_event<S: Shelf, P: Player>(
 // Looks behind the end, where nothing may stand, with at most one read.
 fn close<S: Shelf>(lines: &mut Lines, shelf: &mut S, line: u32) -> Result<(), TraceFault>
     ensures kept { S.holds shelf.new ≡ S.holds shelf.old }
-    ensures content { (bytes : List ℕ) → told (S.holds shelf.old) lines.old.name ≡ Some bytes → TailGives line (left lines.old bytes) result }
-    ensures missed { IsErrOf result TraceFault.NoFile → told (S.holds shelf.old) lines.old.name ≡ None }
+    ensures content { (bytes : List ℕ) → told (S.holds shelf.old) lines.old.name ≡ Some bytes →
+        TailGives line (left lines.old bytes) result }
+    ensures missed { IsErrOf result TraceFault.NoFile →
+        told (S.holds shelf.old) lines.old.name ≡ None }
     ensures cause { CausesTraceFault (counts_of (S.faults shelf.old) (S.absent shelf.old))
         (counts_of (S.faults shelf.new) (S.absent shelf.new)) result }
 {
@@ -145,8 +150,10 @@ fn play_events<S: Shelf, P: Player>(
     requires number { lines.old.number ≡ 2 }
     requires fresh { P.Played player.old (limits_of tick cpus) [] }
     ensures kept { S.holds shelf.new ≡ S.holds shelf.old }
-    ensures content { RestGives (Legally (P.Played player.new)) (limits_of tick cpus) (left lines.old) (told (S.holds shelf.old) lines.old.name) result }
-    ensures missed { IsErrOf result TraceFault.NoFile → told (S.holds shelf.old) lines.old.name ≡ None }
+    ensures content { RestGives (Legally (P.Played player.new)) (limits_of tick cpus)
+        (left lines.old) (told (S.holds shelf.old) lines.old.name) result }
+    ensures missed { IsErrOf result TraceFault.NoFile →
+        told (S.holds shelf.old) lines.old.name ≡ None }
     ensures cause { CausesTraceFault (counts_of (S.faults shelf.old) (S.absent shelf.old))
         (counts_of (S.faults shelf.new) (S.absent shelf.new)) result }
 {
@@ -169,9 +176,12 @@ fn read_cpus<S: Shelf>(lines: &mut Lines, shelf: &mut S, tick: Ns) -> Result<u32
     ensures name { lines.new.name ≡ lines.old.name }
     ensures number { OnOk result (lines.new.number ≡ 2) }
     ensures counted { IfOk result IsCpuCount }
-    ensures content { (bytes : List ℕ) → told (S.holds shelf.old) lines.old.name ≡ Some bytes → HeadGives tick (left lines.old bytes) (left lines.new bytes) result }
-    ensures missing { lines.old.held ≡ [] → Lacks (S.holds shelf.old) lines.old.name → TellsNothing result }
-    ensures missed { IsErrOf result TraceFault.NoFile → told (S.holds shelf.old) lines.old.name ≡ None }
+    ensures content { (bytes : List ℕ) → told (S.holds shelf.old) lines.old.name ≡ Some bytes →
+        HeadGives tick (left lines.old bytes) (left lines.new bytes) result }
+    ensures missing { lines.old.held ≡ [] → Lacks (S.holds shelf.old) lines.old.name →
+        TellsNothing result }
+    ensures missed { IsErrOf result TraceFault.NoFile →
+        told (S.holds shelf.old) lines.old.name ≡ None }
     ensures cause { CausesTraceFault (counts_of (S.faults shelf.old) (S.absent shelf.old))
         (counts_of (S.faults shelf.new) (S.absent shelf.new)) result }
 {
@@ -198,7 +208,9 @@ pub(crate) fn play_trace<S: Shelf, P: Player + Drop>(
 ) -> Result<P, TraceFault>
     requires { tick ≤ 60000000000 }
     ensures kept { S.holds shelf.new ≡ S.holds shelf.old }
-    ensures content { MatchResult result (λ player. TracePlayed (P.Played player) tick (told (S.holds shelf.old) name.now)) (λ fault. TraceRefused fault tick (told (S.holds shelf.old) name.now)) }
+    ensures content { MatchResult result
+        (λ player. TracePlayed (P.Played player) tick (told (S.holds shelf.old) name.now))
+        (λ fault. TraceRefused fault tick (told (S.holds shelf.old) name.now)) }
     ensures missing { Lacks (S.holds shelf.old) name.now → TellsNothing result }
     ensures missed { IsErrOf result TraceFault.NoFile → told (S.holds shelf.old) name.now ≡ None }
     ensures cause { CausesTraceFault (counts_of (S.faults shelf.old) (S.absent shelf.old))

@@ -72,13 +72,26 @@ impl<'a> Model for Replay<'a> {
 
     ghost Value = { ReplayView };
 
-    ghost view = { λ r. record { plans = r.plans.now; crew = r.crew; rows = r.rows; engine = r.engine; judge = r.judge; order = r.order.items; pacing = r.pacing; made = r.made; signals = r.signals; kills = r.kills } };
+    ghost view = { λ r. record {
+      plans = r.plans.now;
+      crew = r.crew;
+      rows = r.rows;
+      engine = r.engine;
+      judge = r.judge;
+      order = r.order.items;
+      pacing = r.pacing;
+      made = r.made;
+      signals = r.signals;
+      kills = r.kills;
+    } };
 }
 
 // Samples all groups at the next tick (ns): clocks make the changes up to it, and the engine takes their times.
 fn sample(crew: &mut Crew<'_>, rows: &mut Rows, engine: &mut Engine, at: Ns)
-    requires { (trace : Trace) × (pace : Pace) × (i : ℕ) × IsToSample crew.old rows.old engine.old trace pace i at }
-    ensures { (trace : Trace) (pace : Pace) (i : ℕ) → IsToSample crew.old rows.old engine.old trace pace i at →
+    requires { (trace : Trace) × (pace : Pace) × (i : ℕ)
+        × IsToSample crew.old rows.old engine.old trace pace i at }
+    ensures { (trace : Trace) (pace : Pace) (i : ℕ) →
+        IsToSample crew.old rows.old engine.old trace pace i at →
         IsSampled crew.old.plans crew.new rows.new engine.new trace pace (i + 1) at }
 {
     crew.interval(at);
@@ -95,8 +108,10 @@ fn put_due<K: Sink>(
     pacing: Pacing,
     tick: u64,
 ) -> Result<(), WriteFailed>
-    requires { (trace : Trace) × (pace : Pace) × IsToPut plans.now engine.now order.now pacing trace pace tick }
-    ensures bytes { (trace : Trace) (pace : Pace) → IsToPut plans.now engine.now order.now pacing trace pace tick →
+    requires { (trace : Trace) × (pace : Pace)
+        × IsToPut plans.now engine.now order.now pacing trace pace tick }
+    ensures bytes { (trace : Trace) (pace : Pace) →
+        IsToPut plans.now engine.now order.now pacing trace pace tick →
         PutsAll (K.has out.old) (K.has out.new) result (due_text trace pace tick) }
     ensures cause { HasCause (K.faults out.old) (K.faults out.new) result }
     ensures below { StaysOver (K.below out.old) (K.below out.new) }
@@ -119,8 +134,11 @@ fn put_tick<K: Sink>(
     pacing: Pacing,
     tick: u64,
 ) -> Result<(), WriteFailed>
-    requires { (trace : Trace) × (pace : Pace) × (rules : List Rule) × IsToPut plans.now engine.now order.now pacing trace pace tick × (kills.now ≡ kills_in trace pace rules tick) }
-    ensures bytes { (trace : Trace) (pace : Pace) (rules : List Rule) → IsToPut plans.now engine.now order.now pacing trace pace tick →
+    requires { (trace : Trace) × (pace : Pace) × (rules : List Rule)
+        × IsToPut plans.now engine.now order.now pacing trace pace tick
+        × (kills.now ≡ kills_in trace pace rules tick) }
+    ensures bytes { (trace : Trace) (pace : Pace) (rules : List Rule) →
+        IsToPut plans.now engine.now order.now pacing trace pace tick →
         kills.now ≡ kills_in trace pace rules tick →
         PutsAll (K.has out.old) (K.has out.new) result (tick_text trace pace (with_rules rules) tick) }
     ensures cause { HasCause (K.faults out.old) (K.faults out.new) result }
@@ -144,7 +162,8 @@ pub fn prepare<'a>(
     requires planned { (trace : Trace) × IsPlanned plans.now trace (pace_of options.now) }
     requires fit { FitsRules (rules_in rules) }
     requires often { options.now.interval_s ≤ 3600 }
-    ensures { IfOk result (λ replay. (trace : Trace) → IsPlanned plans.now trace (pace_of options.now) →
+    ensures { IfOk result (λ replay.
+        (trace : Trace) → IsPlanned plans.now trace (pace_of options.now) →
         IsReplay replay trace (pace_of options.now) (rules_in rules) 0) }
 {
     let slots = plans.groups().len() as u32;
@@ -173,7 +192,8 @@ impl<'a> Replay<'a> {
     /// the replay isn't to be used again. Takes no memory.
     pub fn tick<K: Sink>(&mut self, out: &mut K) -> Result<bool, TickFault>
         requires { IsSomeReplay self.old }
-        ensures tick { (trace : Trace) (pace : Pace) (rules : List Rule) (i : ℕ) → IsReplay self.old trace pace rules i →
+        ensures tick { (trace : Trace) (pace : Pace) (rules : List Rule) (i : ℕ) →
+            IsReplay self.old trace pace rules i →
             TickGives trace pace rules i self.new (K.has out.old) (K.has out.new) result }
         ensures cause { HasCause (K.faults out.old) (K.faults out.new) result }
         ensures below { StaysOver (K.below out.old) (K.below out.new) }
@@ -203,8 +223,10 @@ impl<'a> Replay<'a> {
 
     /// Writes the last line, behind the last tick: the end moment, and how many ticks, signals and kills there were.
     pub fn finish<K: Sink>(&mut self, out: &mut K) -> Result<(), WriteFailed>
-        requires { (trace : Trace) × (pace : Pace) × (rules : List Rule) × IsReplay self.old trace pace rules (tick_count trace pace) }
-        ensures bytes { (trace : Trace) (pace : Pace) (rules : List Rule) → IsReplay self.old trace pace rules (tick_count trace pace) →
+        requires { (trace : Trace) × (pace : Pace) × (rules : List Rule)
+            × IsReplay self.old trace pace rules (tick_count trace pace) }
+        ensures bytes { (trace : Trace) (pace : Pace) (rules : List Rule) →
+            IsReplay self.old trace pace rules (tick_count trace pace) →
             PutsAll (K.has out.old) (K.has out.new) result (last_line trace pace (with_rules rules)) }
         ensures cause { HasCause (K.faults out.old) (K.faults out.new) result }
         ensures below { StaysOver (K.below out.old) (K.below out.new) }

@@ -39,8 +39,10 @@ pub(crate) fn put_signals<K: Sink>(
     fired: &[u32],
 ) -> Result<(), WriteFailed>
     requires numbers { All (λ number. number < length triggers.now) fired.now }
-    requires slots { All (λ (trigger : TriggerSpec). trigger.slot.0 < length lives.now) triggers.now }
-    ensures bytes { PutsAll (K.has out.old) (K.has out.new) result (signal_lines at lives.now triggers.now fired.now) }
+    requires slots { All (λ (trigger : TriggerSpec). trigger.slot.0 < length lives.now)
+        triggers.now }
+    ensures bytes { PutsAll (K.has out.old) (K.has out.new) result
+        (signal_lines at lives.now triggers.now fired.now) }
     ensures cause { HasCause (K.faults out.old) (K.faults out.new) result }
     ensures below { StaysOver (K.below out.old) (K.below out.new) }
 {
@@ -60,7 +62,8 @@ pub(crate) fn put_kills<K: Sink>(
     kills: &[Kill],
 ) -> Result<(), WriteFailed>
     requires slots { All (λ (kill : Kill). kill.victim.0 < length lives.now) kills.now }
-    ensures bytes { PutsAll (K.has out.old) (K.has out.new) result (kill_lines lives.now kills.now) }
+    ensures bytes { PutsAll (K.has out.old) (K.has out.new) result
+        (kill_lines lives.now kills.now) }
     ensures cause { HasCause (K.faults out.old) (K.faults out.new) result }
     ensures below { StaysOver (K.below out.old) (K.below out.new) }
 {
@@ -81,7 +84,8 @@ fn put_files<K: Sink>(
     totals: [u64; 6],
     averages: &Averages,
 ) -> Result<(), WriteFailed>
-    ensures bytes { PutsAll (K.has out.old) (K.has out.new) result (files_text at path.now slot.0 totals averages.now.averages) }
+    ensures bytes { PutsAll (K.has out.old) (K.has out.new) result
+        (files_text at path.now slot.0 totals averages.now.averages) }
     ensures cause { HasCause (K.faults out.old) (K.faults out.new) result }
     ensures below { StaysOver (K.below out.old) (K.below out.new) }
 {
@@ -101,7 +105,8 @@ fn put_report<K: Sink>(
 ) -> Result<(), WriteFailed>
     requires made { slot.0 < length lives.now }
     requires kept { length engine.now.groups ≡ length lives.now }
-    ensures bytes { PutsAll (K.has out.old) (K.has out.new) result (slot_report at lives.now (totals_in engine.now) (averages_in engine.now) slot.0) }
+    ensures bytes { PutsAll (K.has out.old) (K.has out.new) result
+        (slot_report at lives.now (totals_in engine.now) (averages_in engine.now) slot.0) }
     ensures cause { HasCause (K.faults out.old) (K.faults out.new) result }
     ensures below { StaysOver (K.below out.old) (K.below out.new) }
 {
@@ -130,7 +135,9 @@ pub(crate) fn put_reports<K: Sink>(
 ) -> Result<(), WriteFailed>
     requires made { All (λ (slot : Slot). slot.0 < length lives.now) order.now }
     requires kept { length engine.now.groups ≡ length lives.now }
-    ensures bytes { PutsAll (K.has out.old) (K.has out.new) result (slot_reports at lives.now (totals_in engine.now) (averages_in engine.now) (numbers_of order.now)) }
+    ensures bytes { PutsAll (K.has out.old) (K.has out.new) result
+        (slot_reports at lives.now (totals_in engine.now) (averages_in engine.now)
+        (numbers_of order.now)) }
     ensures cause { HasCause (K.faults out.old) (K.faults out.new) result }
     ensures below { StaysOver (K.below out.old) (K.below out.new) }
 {

@@ -46,7 +46,8 @@ impl<'a> Crew<'a> {
     /// The clocks of all processors before the first change. They take all the memory that their changes need.
     pub fn make(alloc: Global, plans: &'a Plans) -> Result<Crew<'a>, NoMemory>
         ensures plans { IfOk result (λ crew. crew.plans ≡ plans.now) }
-        ensures fresh { IfOk result (λ crew. (cpu : ℕ) → cpu < length crew.plans.plans → (clocks_at crew.clocks cpu).made ≡ 0) }
+        ensures fresh { IfOk result (λ crew.
+            (cpu : ℕ) → cpu < length crew.plans.plans → (clocks_at crew.clocks cpu).made ≡ 0) }
     {
         Ok(Crew {
             plans,
@@ -68,7 +69,8 @@ impl<'a> Crew<'a> {
     pub fn fill(&mut self, at: Ns, rows: &mut Rows)
         requires there { AreAt self.old.plans self.old.clocks at }
         requires early { at ≤ last_moment }
-        requires sizes { HasSizes (length self.old.plans.plans) (length self.old.plans.lives) rows.old }
+        requires sizes { HasSizes (length self.old.plans.plans)
+            (length self.old.plans.lives) rows.old }
         ensures kept { self.new ≡ self.old }
         ensures table { IsTableAt rows.new self.old.plans at }
     {

@@ -23,7 +23,8 @@ use std::alloc::Global;
 #[tactic(auto, unfolding(crate::specs::Rules::made_at, crate::specs::Plugins::after_of))]
 fn after(args: &Arguments, delay_s: u32) -> Result<After, Fault<RulesFault>>
     requires { IsTime delay_s }
-    ensures value { Gives result (made_at args.now.place (after_of delay_s) (option_map (λ v. view v.now) args.now.found)) }
+    ensures value { Gives result
+        (made_at args.now.place (after_of delay_s) (option_map (λ v. view v.now) args.now.found)) }
     ensures range { IfOk result (λ after. IsTime after.delay_s) }
 {
     let recursive = args.truth_or(Key::Recursive, false)?;
@@ -39,7 +40,9 @@ fn after(args: &Arguments, delay_s: u32) -> Result<After, Fault<RulesFault>>
 #[tactic(auto, unfolding(crate::specs::Rules::action_made_at, crate::specs::Rules::made_at, crate::specs::Plugins::action_of))]
 fn size_or_growth(args: &Arguments, delay_s: u32) -> Result<Action, Fault<RulesFault>>
     requires { IsTime delay_s }
-    ensures value { Gives result (action_made_at args.now.place delay_s name.SizeOrGrowth (option_map (λ v. view v.now) args.now.found)) }
+    ensures value { Gives result
+        (action_made_at args.now.place delay_s name.SizeOrGrowth
+        (option_map (λ v. view v.now) args.now.found)) }
     ensures range { IfOk result FitsAction }
 {
     let cgroup = args.patterns(Key::Cgroup)?;
@@ -59,7 +62,9 @@ fn size_or_growth(args: &Arguments, delay_s: u32) -> Result<Action, Fault<RulesF
 #[tactic(auto, unfolding(crate::specs::Rules::action_made_at, crate::specs::Rules::made_at, crate::specs::Plugins::action_of))]
 fn swap_usage(args: &Arguments, delay_s: u32) -> Result<Action, Fault<RulesFault>>
     requires { IsTime delay_s }
-    ensures value { Gives result (action_made_at args.now.place delay_s name.SwapUsage (option_map (λ v. view v.now) args.now.found)) }
+    ensures value { Gives result
+        (action_made_at args.now.place delay_s name.SwapUsage
+        (option_map (λ v. view v.now) args.now.found)) }
     ensures range { IfOk result FitsAction }
 {
     let cgroup = args.patterns(Key::Cgroup)?;
@@ -75,7 +80,9 @@ fn swap_usage(args: &Arguments, delay_s: u32) -> Result<Action, Fault<RulesFault
 #[tactic(auto, unfolding(crate::specs::Rules::action_made_at, crate::specs::Rules::made_at, crate::specs::Plugins::action_of))]
 fn pressure(args: &Arguments, delay_s: u32) -> Result<Action, Fault<RulesFault>>
     requires { IsTime delay_s }
-    ensures value { Gives result (action_made_at args.now.place delay_s name.Pressure (option_map (λ v. view v.now) args.now.found)) }
+    ensures value { Gives result
+        (action_made_at args.now.place delay_s name.Pressure
+        (option_map (λ v. view v.now) args.now.found)) }
     ensures range { IfOk result FitsAction }
 {
     let cgroup = args.patterns(Key::Cgroup)?;
@@ -91,7 +98,9 @@ fn pressure(args: &Arguments, delay_s: u32) -> Result<Action, Fault<RulesFault>>
 #[tactic(auto, unfolding(crate::specs::Rules::action_made_at, crate::specs::Rules::made_at, crate::specs::Plugins::action_of))]
 fn pg_scan(args: &Arguments, delay_s: u32) -> Result<Action, Fault<RulesFault>>
     requires { IsTime delay_s }
-    ensures value { Gives result (action_made_at args.now.place delay_s name.PgScan (option_map (λ v. view v.now) args.now.found)) }
+    ensures value { Gives result
+        (action_made_at args.now.place delay_s name.PgScan
+        (option_map (λ v. view v.now) args.now.found)) }
     ensures range { IfOk result FitsAction }
 {
     let cgroup = args.patterns(Key::Cgroup)?;
@@ -102,7 +111,8 @@ fn pg_scan(args: &Arguments, delay_s: u32) -> Result<Action, Fault<RulesFault>>
 // What the action of this name makes of its arguments.
 fn made(name: ActionName, args: &Arguments, delay_s: u32) -> Result<Action, Fault<RulesFault>>
     requires { IsTime delay_s }
-    ensures value { Gives result (action_made_at args.now.place delay_s name (option_map (λ v. view v.now) args.now.found)) }
+    ensures value { Gives result
+        (action_made_at args.now.place delay_s name (option_map (λ v. view v.now) args.now.found)) }
     ensures range { IfOk result FitsAction }
 {
     match name {

@@ -46,7 +46,8 @@ fn text_in(alloc: Global, value: &Value) -> Result<Option<String>, NoMemory>
 
 // The same, or WrongKind.
 fn text_of(alloc: Global, value: &Value, place: Place) -> Result<String, Fault<RulesFault>>
-    ensures { GivesBy string_bytes result (or_fault place cause.WrongKind (argument_text (view value.now))) }
+    ensures { GivesBy string_bytes result
+        (or_fault place cause.WrongKind (argument_text (view value.now))) }
 {
     match text_in(alloc, value)? {
         Some(text) => Ok(text),
@@ -165,7 +166,8 @@ impl<'v> Arguments<'v> {
 
     /// The arguments under the key `args` of a plugin, which is an object: none where it isn't there.
     pub fn of_plugin(alloc: Global, plugin: &'v Value, place: Place) -> Result<Self, RulesFault>
-        ensures found { ReadsBy (λ given. option_map (λ v. view v.now) given.found) result (arguments_in place (json.get (codes "args") (view plugin.now))) }
+        ensures found { ReadsBy (λ given. option_map (λ v. view v.now) given.found) result
+            (arguments_in place (json.get (codes "args") (view plugin.now))) }
         ensures place { IfOk result (λ given. given.place ≡ place) }
     {
         let found = match plugin.get("args") {
@@ -181,7 +183,9 @@ impl<'v> Arguments<'v> {
 
     // The argument of this key.
     fn get(&self, key: Key) -> Option<&'v Value>
-        ensures { option_map (λ v. view v.now) result ≡ option_and_then (json.get (key_word key)) (option_map (λ v. view v.now) self.now.found) }
+        ensures { option_map (λ v. view v.now) result
+            ≡ option_and_then (json.get (key_word key))
+            (option_map (λ v. view v.now) self.now.found) }
     {
         match self.found {
             Some(object) => object.get(key.text()),
@@ -191,7 +195,10 @@ impl<'v> Arguments<'v> {
 
     // The argument of this key, which must be there.
     fn needed(&self, key: Key) -> Result<&'v Value, RulesFault>
-        ensures { ReadsBy (λ v. view v.now) result (or_fault self.now.place cause.MissingKey (option_and_then (json.get (key_word key)) (option_map (λ v. view v.now) self.now.found))) }
+        ensures { ReadsBy (λ v. view v.now) result
+            (or_fault self.now.place cause.MissingKey
+            (option_and_then (json.get (key_word key))
+            (option_map (λ v. view v.now) self.now.found))) }
     {
         match self.get(key) {
             Some(value) => Ok(value),
@@ -205,7 +212,9 @@ impl<'v> Arguments<'v> {
     /// The patterns of this key.
     #[tactic(auto, unfolding(crate::specs::Arguments::argument_at))]
     pub fn patterns(&self, key: Key) -> Result<Patterns, Fault<RulesFault>>
-        ensures { Gives result (argument_at self.now.place (needed key kind.patterns) (option_map (λ v. view v.now) self.now.found)) }
+        ensures { Gives result
+            (argument_at self.now.place (needed key kind.patterns)
+            (option_map (λ v. view v.now) self.now.found)) }
     {
         patterns(self.alloc, self.needed(key)?, self.place)
     }
@@ -213,7 +222,9 @@ impl<'v> Arguments<'v> {
     /// The resource of this key.
     #[tactic(auto, unfolding(crate::specs::Arguments::argument_at))]
     pub fn resource(&self, key: Key) -> Result<Res, Fault<RulesFault>>
-        ensures value { Gives result (argument_at self.now.place (needed key kind.resource) (option_map (λ v. view v.now) self.now.found)) }
+        ensures value { Gives result
+            (argument_at self.now.place (needed key kind.resource)
+            (option_map (λ v. view v.now) self.now.found)) }
         ensures range { IfOk result IsStallable }
     {
         resource(self.alloc, self.needed(key)?, self.place)
@@ -222,7 +233,9 @@ impl<'v> Arguments<'v> {
     /// The number of this key, at most so much.
     #[tactic(auto, unfolding(crate::specs::Arguments::argument_at))]
     pub fn number(&self, key: Key, most: u32) -> Result<u32, Fault<RulesFault>>
-        ensures value { Gives result (argument_at self.now.place (needed key (kind.number most)) (option_map (λ v. view v.now) self.now.found)) }
+        ensures value { Gives result
+            (argument_at self.now.place (needed key (kind.number most))
+            (option_map (λ v. view v.now) self.now.found)) }
         ensures range { IfOk result (λ n. n ≤ most) }
     {
         number(self.alloc, self.needed(key)?, most, self.place)
@@ -231,7 +244,9 @@ impl<'v> Arguments<'v> {
     /// The size of this key.
     #[tactic(auto, unfolding(crate::specs::Arguments::argument_at))]
     pub fn size(&self, key: Key) -> Result<Size, Fault<RulesFault>>
-        ensures value { Gives result (argument_at self.now.place (needed key kind.size) (option_map (λ v. view v.now) self.now.found)) }
+        ensures value { Gives result
+            (argument_at self.now.place (needed key kind.size)
+            (option_map (λ v. view v.now) self.now.found)) }
         ensures range { IfOk result IsSize }
     {
         size(self.alloc, self.needed(key)?, self.place)
@@ -241,7 +256,9 @@ impl<'v> Arguments<'v> {
     #[tactic(auto, unfolding(crate::specs::Arguments::argument_at))]
     pub fn number_or(&self, key: Key, most: u32, default: u32) -> Result<u32, Fault<RulesFault>>
         requires { default ≤ most }
-        ensures value { Gives result (argument_at self.now.place (optional key (kind.number most) default) (option_map (λ v. view v.now) self.now.found)) }
+        ensures value { Gives result
+            (argument_at self.now.place (optional key (kind.number most) default)
+            (option_map (λ v. view v.now) self.now.found)) }
         ensures range { IfOk result (λ n. n ≤ most) }
     {
         match self.get(key) {
@@ -254,7 +271,9 @@ impl<'v> Arguments<'v> {
     #[tactic(auto, unfolding(crate::specs::Arguments::argument_at))]
     pub fn ratio_or(&self, key: Key, default: u32) -> Result<u32, Fault<RulesFault>>
         requires { IsRatio default }
-        ensures value { Gives result (argument_at self.now.place (optional key kind.ratio default) (option_map (λ v. view v.now) self.now.found)) }
+        ensures value { Gives result
+            (argument_at self.now.place (optional key kind.ratio default)
+            (option_map (λ v. view v.now) self.now.found)) }
         ensures range { IfOk result IsRatio }
     {
         match self.get(key) {
@@ -267,7 +286,9 @@ impl<'v> Arguments<'v> {
     #[tactic(auto, unfolding(crate::specs::Arguments::argument_at))]
     pub fn size_or(&self, key: Key, default: Size) -> Result<Size, Fault<RulesFault>>
         requires { IsSize default }
-        ensures value { Gives result (argument_at self.now.place (optional key kind.size default) (option_map (λ v. view v.now) self.now.found)) }
+        ensures value { Gives result
+            (argument_at self.now.place (optional key kind.size default)
+            (option_map (λ v. view v.now) self.now.found)) }
         ensures range { IfOk result IsSize }
     {
         match self.get(key) {
@@ -279,7 +300,9 @@ impl<'v> Arguments<'v> {
     /// The truth of this key, or what stands for it where it isn't there.
     #[tactic(auto, unfolding(crate::specs::Arguments::argument_at))]
     pub fn truth_or(&self, key: Key, default: bool) -> Result<bool, Fault<RulesFault>>
-        ensures { Gives result (argument_at self.now.place (optional key kind.truth default) (option_map (λ v. view v.now) self.now.found)) }
+        ensures { Gives result
+            (argument_at self.now.place (optional key kind.truth default)
+            (option_map (λ v. view v.now) self.now.found)) }
     {
         match self.get(key) {
             Some(value) => truth(self.alloc, value, self.place),

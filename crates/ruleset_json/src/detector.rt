@@ -21,7 +21,9 @@ use std::alloc::Global;
 
 #[tactic(auto, unfolding(crate::specs::Rules::made_at, crate::specs::Plugins::detector_of))]
 fn pressure_above(args: &Arguments) -> Result<DetectorSpec, Fault<RulesFault>>
-    ensures value { Gives result (made_at args.now.place (detector_of name.PressureAbove) (option_map (λ v. view v.now) args.now.found)) }
+    ensures value { Gives result
+        (made_at args.now.place (detector_of name.PressureAbove)
+        (option_map (λ v. view v.now) args.now.found)) }
     ensures range { IfOk result FitsDetector }
 {
     let cgroup = args.patterns(Key::Cgroup)?;
@@ -38,7 +40,9 @@ fn pressure_above(args: &Arguments) -> Result<DetectorSpec, Fault<RulesFault>>
 
 #[tactic(auto, unfolding(crate::specs::Rules::made_at, crate::specs::Plugins::detector_of))]
 fn pressure_rising_beyond(args: &Arguments) -> Result<DetectorSpec, Fault<RulesFault>>
-    ensures value { Gives result (made_at args.now.place (detector_of name.PressureRisingBeyond) (option_map (λ v. view v.now) args.now.found)) }
+    ensures value { Gives result
+        (made_at args.now.place (detector_of name.PressureRisingBeyond)
+        (option_map (λ v. view v.now) args.now.found)) }
     ensures range { IfOk result FitsDetector }
 {
     let cgroup = args.patterns(Key::Cgroup)?;
@@ -57,7 +61,9 @@ fn pressure_rising_beyond(args: &Arguments) -> Result<DetectorSpec, Fault<RulesF
 
 #[tactic(auto, unfolding(crate::specs::Rules::made_at, crate::specs::Plugins::detector_of))]
 fn memory_above(args: &Arguments) -> Result<DetectorSpec, Fault<RulesFault>>
-    ensures value { Gives result (made_at args.now.place (detector_of name.MemoryAbove) (option_map (λ v. view v.now) args.now.found)) }
+    ensures value { Gives result
+        (made_at args.now.place (detector_of name.MemoryAbove)
+        (option_map (λ v. view v.now) args.now.found)) }
     ensures range { IfOk result FitsDetector }
 {
     let cgroup = args.patterns(Key::Cgroup)?;
@@ -72,7 +78,9 @@ fn memory_above(args: &Arguments) -> Result<DetectorSpec, Fault<RulesFault>>
 
 #[tactic(auto, unfolding(crate::specs::Rules::made_at, crate::specs::Plugins::detector_of))]
 fn memory_reclaim(args: &Arguments) -> Result<DetectorSpec, Fault<RulesFault>>
-    ensures value { Gives result (made_at args.now.place (detector_of name.MemoryReclaim) (option_map (λ v. view v.now) args.now.found)) }
+    ensures value { Gives result
+        (made_at args.now.place (detector_of name.MemoryReclaim)
+        (option_map (λ v. view v.now) args.now.found)) }
     ensures range { IfOk result FitsDetector }
 {
     let cgroup = args.patterns(Key::Cgroup)?;
@@ -82,7 +90,9 @@ fn memory_reclaim(args: &Arguments) -> Result<DetectorSpec, Fault<RulesFault>>
 
 #[tactic(auto, unfolding(crate::specs::Rules::made_at, crate::specs::Plugins::detector_of))]
 fn swap_free(args: &Arguments) -> Result<DetectorSpec, Fault<RulesFault>>
-    ensures value { Gives result (made_at args.now.place (detector_of name.SwapFree) (option_map (λ v. view v.now) args.now.found)) }
+    ensures value { Gives result
+        (made_at args.now.place (detector_of name.SwapFree)
+        (option_map (λ v. view v.now) args.now.found)) }
     ensures range { IfOk result FitsDetector }
 {
     let threshold_pct = args.number(Key::ThresholdPct, PERCENT)?;
@@ -91,7 +101,9 @@ fn swap_free(args: &Arguments) -> Result<DetectorSpec, Fault<RulesFault>>
 
 #[tactic(auto, unfolding(crate::specs::Rules::made_at, crate::specs::Plugins::detector_of))]
 fn exists(args: &Arguments) -> Result<DetectorSpec, Fault<RulesFault>>
-    ensures value { Gives result (made_at args.now.place (detector_of name.Exists) (option_map (λ v. view v.now) args.now.found)) }
+    ensures value { Gives result
+        (made_at args.now.place (detector_of name.Exists)
+        (option_map (λ v. view v.now) args.now.found)) }
     ensures range { IfOk result FitsDetector }
 {
     let cgroup = args.patterns(Key::Cgroup)?;
@@ -101,7 +113,8 @@ fn exists(args: &Arguments) -> Result<DetectorSpec, Fault<RulesFault>>
 
 // What the detector of this name makes of its arguments.
 fn made(name: DetectorName, args: &Arguments) -> Result<DetectorSpec, Fault<RulesFault>>
-    ensures value { Gives result (made_at args.now.place (detector_of name) (option_map (λ v. view v.now) args.now.found)) }
+    ensures value { Gives result
+        (made_at args.now.place (detector_of name) (option_map (λ v. view v.now) args.now.found)) }
     ensures range { IfOk result FitsDetector }
 {
     match name {

@@ -44,7 +44,8 @@ fn detectors(
     items: &[Value],
 ) -> Result<SpecList, Fault<RulesFault>>
     requires { length items.now ≤ 16 }
-    ensures value { Gives result (each (λ k. detector_in (place.Detector rule group k)) 0 (map view items.now)) }
+    ensures value { Gives result
+        (each (λ k. detector_in (place.Detector rule group k)) 0 (map view items.now)) }
     ensures range { IfOk result (λ found. FitsDetectors found) }
 {
     let mut found = Vec::new(alloc);
@@ -70,7 +71,8 @@ fn actions(
 ) -> Result<ActionList, Fault<RulesFault>>
     requires few { length items.now ≤ 16 }
     requires delay { IsTime delay_s }
-    ensures value { Gives result (each (λ k. action_in delay_s (place.Action rule k)) 0 (map view items.now)) }
+    ensures value { Gives result
+        (each (λ k. action_in delay_s (place.Action rule k)) 0 (map view items.now)) }
     ensures range { IfOk result (λ found. FitsActions found) }
 {
     let mut found = Vec::new(alloc);
@@ -89,7 +91,8 @@ fn actions(
 
 // The first item of a list, which must be there.
 fn first(items: &[Value], place: Place) -> Result<&Value, RulesFault>
-    ensures { ReadsBy (λ v. view v.now) result (or_fault place cause.MissingKey (slice_get (map view items.now) 0)) }
+    ensures { ReadsBy (λ v. view v.now) result
+        (or_fault place cause.MissingKey (slice_get (map view items.now) 0)) }
 {
     match items {
         [first, ..] => Ok(first),

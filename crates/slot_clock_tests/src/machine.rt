@@ -30,7 +30,8 @@ pub struct Machine {
     tasks: Vec<Option<(Slot, Counts)>>,
     clocks: SlotClocks,
     last: Ns,
-    ghost kept: { IsMachine (numbers_of parents.items) (length parents.items) tasks.items clocks last } by { Prim.hlevel props },
+    ghost kept: { IsMachine (numbers_of parents.items)
+        (length parents.items) tasks.items clocks last } by { Prim.hlevel props },
 }
 
 // Each parent has a smaller slot.

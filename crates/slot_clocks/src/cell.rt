@@ -81,7 +81,9 @@ impl Cell {
         ensures clock { ClockFollows self.old.clock at self.new.clock }
         ensures kept { StaysByMask self.old.clock self.new.clock }
         ensures up_to { IsUpTo at self.new.clock }
-        ensures told { (state : State) → mask_holds self.new.clock.mask state ≡ tells state self.new.counts on_cpu current_stalled }
+        ensures told { (state : State) →
+            mask_holds self.new.clock.mask state
+            ≡ tells state self.new.counts on_cpu current_stalled }
     {
         self.counts = follow(&self.counts, minus, plus);
         let mask = mask_of(&self.counts, on_cpu, current_stalled);

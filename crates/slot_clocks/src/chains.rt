@@ -138,15 +138,23 @@ impl Sides {
 // Takes the group at a height through a change. Where the change takes and adds nothing there, and the running task stays,
 // there is nothing to do: it is on the chain of that task alone.
 fn turn_at(cell: &mut Cell, sides: &Sides, chains: &Chains, here: u64)
-    requires fits { CanFollow cell.old.counts (if chains.now.minus == here then sides.now.minus else no_counts) (if chains.now.plus == here then sides.now.plus else no_counts) }
+    requires fits { CanFollow cell.old.counts
+        (if chains.now.minus == here then sides.now.minus else no_counts)
+        (if chains.now.plus == here then sides.now.plus else no_counts) }
     requires up_to { IsUpTo sides.now.at cell.old.clock }
     requires early { sides.now.at ≤ last_moment }
-    requires told { sides.now.stays ≡ true → (state : State) → mask_holds cell.old.clock.mask state ≡ tells state cell.old.counts (chains.now.after == here) sides.now.stalled }
-    ensures counts { Follows cell.old.counts (if chains.now.minus == here then sides.now.minus else no_counts) (if chains.now.plus == here then sides.now.plus else no_counts) cell.new.counts }
+    requires told { sides.now.stays ≡ true → (state : State) →
+        mask_holds cell.old.clock.mask state
+        ≡ tells state cell.old.counts (chains.now.after == here) sides.now.stalled }
+    ensures counts { Follows cell.old.counts
+        (if chains.now.minus == here then sides.now.minus else no_counts)
+        (if chains.now.plus == here then sides.now.plus else no_counts) cell.new.counts }
     ensures clock { ClockFollows cell.old.clock sides.now.at cell.new.clock }
     ensures kept { StaysByMask cell.old.clock cell.new.clock }
     ensures up_to { IsUpTo sides.now.at cell.new.clock }
-    ensures told { (state : State) → mask_holds cell.new.clock.mask state ≡ tells state cell.new.counts (chains.now.after == here) sides.now.stalled }
+    ensures told { (state : State) →
+        mask_holds cell.new.clock.mask state
+        ≡ tells state cell.new.counts (chains.now.after == here) sides.now.stalled }
 {
     let takes = chains.minus == here;
     let adds = chains.plus == here;
@@ -173,11 +181,17 @@ pub(crate) fn walk(
     requires older { AreOlder (numbers_of parents.now) }
     requires slots { top (chains_of current change.now) ≤ length parents.now }
     requires room { length parents.now ≤ length cells.old }
-    requires told { (slot : ℕ) → IsTold (numbers_of parents.now) current slot (cell_in cells.old slot) }
-    requires fits { (slot : ℕ) → CanFollow (cell_in cells.old slot).counts (on_chain (numbers_of parents.now) slot change.now.minus) (on_chain (numbers_of parents.now) slot change.now.plus) }
+    requires told { (slot : ℕ) →
+        IsTold (numbers_of parents.now) current slot (cell_in cells.old slot) }
+    requires fits { (slot : ℕ) →
+        CanFollow (cell_in cells.old slot).counts
+        (on_chain (numbers_of parents.now) slot change.now.minus)
+        (on_chain (numbers_of parents.now) slot change.now.plus) }
     requires up_to { (slot : ℕ) → IsUpTo change.now.at (cell_in cells.old slot).clock }
     requires early { change.now.at ≤ last_moment }
-    ensures turned { (slot : ℕ) → IsTurned (numbers_of parents.now) change.now slot (cell_in cells.old slot) (cell_in cells.new slot) }
+    ensures turned { (slot : ℕ) →
+        IsTurned (numbers_of parents.now) change.now slot (cell_in cells.old slot)
+        (cell_in cells.new slot) }
     ensures room { length cells.new ≡ length cells.old }
 {
     let sides = Sides::of(current, change);

@@ -32,7 +32,8 @@ impl Model for SlotClocks {
 
     ghost Value = { ClocksView };
 
-    ghost view = { λ clocks. record { cells = clocks.cells.items; current = clocks.current; last = clocks.last } };
+    ghost view = { λ clocks.
+        record { cells = clocks.cells.items; current = clocks.current; last = clocks.last } };
 
     ghost invariant = { λ clocks. AreUpTo clocks.cells.items clocks.last };
 }

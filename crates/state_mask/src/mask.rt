@@ -76,7 +76,8 @@ impl Mask {
     pub(crate) fn with(self, state: State, held: bool) -> Mask
         ensures few { IsMask result }
         ensures here { mask_holds result state ≡ (mask_holds self state || held) }
-        ensures others { (other : State) → other ≢ state → mask_holds result other ≡ mask_holds self other }
+        ensures others { (other : State) → other ≢ state →
+            mask_holds result other ≡ mask_holds self other }
     {
         Mask(self.0 | bit_if(state, held))
     }

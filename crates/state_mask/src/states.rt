@@ -42,7 +42,8 @@ fn told(state: State, counts: &Counts, on_cpu: bool, current_stalled: bool) -> b
 /// full then holds, also where the counts alone deny it.
 pub fn mask_of(counts: &Counts, on_cpu: bool, current_stalled: bool) -> Mask
     ensures few { IsMask result }
-    ensures states { (state : State) → mask_holds result state ≡ tells state counts.now on_cpu current_stalled }
+    ensures states { (state : State) →
+        mask_holds result state ≡ tells state counts.now on_cpu current_stalled }
 {
     let mut mask = Mask::empty();
     'states: for state in STATES {

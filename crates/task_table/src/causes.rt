@@ -38,7 +38,8 @@ fn lacks_path(tree: &Tree, path: &Path) -> Option<Cause>
 
 /// A live task is in the group with this path.
 fn is_manned(tree: &Tree, members: &Members, path: &Path) -> bool
-    ensures { (tasks : Tasks) → AreMembers members.now tasks → result ≡ has_member tasks (slot_of tree.now path.now) }
+    ensures { (tasks : Tasks) → AreMembers members.now tasks →
+        result ≡ has_member tasks (slot_of tree.now path.now) }
 {
     match tree.find(path) {
         Some(slot) => members.has(slot),
@@ -48,7 +49,8 @@ fn is_manned(tree: &Tree, members: &Members, path: &Path) -> bool
 
 /// Why a group can't be removed.
 fn remove_refused(tree: &Tree, members: &Members, path: &Path) -> Option<Cause>
-    ensures { (tasks : Tasks) → AreMembers members.now tasks → result ≡ empty_cause tree.now tasks path.now }
+    ensures { (tasks : Tasks) → AreMembers members.now tasks →
+        result ≡ empty_cause tree.now tasks path.now }
 {
     if let Some(cause) = tree.remove_cause(path) {
         return Some(cause);
@@ -149,7 +151,8 @@ fn switch_refused(
     task: Option<Task>,
     how: How,
 ) -> Option<Cause>
-    ensures { result ≡ switch_cause (length running.now) cpu next task how (slice_index_or running.now cpu None) }
+    ensures { result ≡ switch_cause (length running.now) cpu next task how
+        (slice_index_or running.now cpu None) }
 {
     if let Some(cause) = next_refused(next, task, running.len(), cpu) {
         return Some(cause);

@@ -196,7 +196,8 @@ fn put_on(
     requires ready { IfSome task (λ t. (t.cpu.0 ≡ cpu) × (is_ready t.mode ≡ true)) }
     ensures tasks { tasks.new ≡ start next tasks.old }
     ensures index { IsIndex running.new tasks.new }
-    ensures members { (members : List ℕ) → AreMembers members tasks.old → AreMembers members tasks.new }
+    ensures members { (members : List ℕ) → AreMembers members tasks.old →
+        AreMembers members tasks.new }
     ensures length { length running.new ≡ length running.old }
 {
     let Some(pid) = next else {
@@ -265,7 +266,8 @@ fn add_task(
     requires few { tasks_by.len tasks.old ≤ 65536 }
     ensures tasks { OnOk result (tasks.new ≡ put tasks.old pid task) }
     ensures err { OnErr result (tasks.new ≡ tasks.old) }
-    ensures index { (running : List (Option (ℕ × Task))) → IsIndex running tasks.old → IsIndex running tasks.new }
+    ensures index { (running : List (Option (ℕ × Task))) → IsIndex running tasks.old →
+        IsIndex running tasks.new }
     ensures members { AreMembers members.new tasks.new }
     ensures cover { length members.new ≡ length members.old }
     ensures changed { IfOk result (λ c. (c.old ≡ None) × (c.new ≡ Some task)) }
@@ -288,7 +290,8 @@ fn add_group(tree: &mut Tree, members: &mut Members, path: &Path, at: Ns) -> Res
     requires cover { length tree.old ≤ length members.old }
     ensures groups { OnOk result (tree.new ≡ tree.old ++ new_group tree.old path.now at ∷ []) }
     ensures err { OnErr result (tree.new ≡ tree.old) }
-    ensures same { (slot : ℕ) → slice_index_or members.new slot 0 ≡ slice_index_or members.old slot 0 }
+    ensures same { (slot : ℕ) →
+        slice_index_or members.new slot 0 ≡ slice_index_or members.old slot 0 }
     ensures cover { length tree.new ≤ length members.new }
 {
     members.cover(tree.len() + 1)?;
@@ -311,7 +314,8 @@ fn switch(
     requires index { IsIndex running.old tasks.old }
     requires members { AreMembers members.old tasks.old }
     requires task { task ≡ next_task tasks.old next }
-    requires legal { switch_cause (length running.old) cpu next task how (running_on tasks.old cpu) ≡ None }
+    requires legal { switch_cause (length running.old) cpu next task how (running_on tasks.old cpu)
+        ≡ None }
     ensures tasks { tasks.new ≡ start next (leave how tasks.old (running_on tasks.old cpu)) }
     ensures index { IsIndex running.new tasks.new }
     ensures members { AreMembers members.new tasks.new }
@@ -340,7 +344,8 @@ pub(crate) fn change_tasks(
     requires cover { length tree.now ≤ length members.old }
     requires few { tasks_by.len tasks.old ≤ 65536 }
     requires named { named ≡ named_task tasks.old act.now }
-    requires legal { (triggers : ℕ) × (act_cause (length running.old) tree.now tasks.old triggers act.now ≡ None) }
+    requires legal { (triggers : ℕ)
+        × (act_cause (length running.old) tree.now tasks.old triggers act.now ≡ None) }
     ensures tasks { OnOk result (tasks.new ≡ tasks_after tree.now tasks.old act.now) }
     ensures changed { IfOk result (λ changed. IsChanged tree.now tasks.old act.now changed) }
     ensures err { OnErr result ((tasks.new ≡ tasks.old) × (takes_memory act.now ≡ true)) }
@@ -397,7 +402,8 @@ pub(crate) fn change_groups(
     requires legal { groups_cause tree.old act.now ≡ None }
     ensures groups { OnOk result (tree.new ≡ groups_after at tree.old act.now) }
     ensures err { OnErr result ((tree.new ≡ tree.old) × (makes_group act.now ≡ true)) }
-    ensures same { (slot : ℕ) → slice_index_or members.new slot 0 ≡ slice_index_or members.old slot 0 }
+    ensures same { (slot : ℕ) →
+        slice_index_or members.new slot 0 ≡ slice_index_or members.old slot 0 }
     ensures cover { length tree.new ≤ length members.new }
 {
     match act {

@@ -36,7 +36,8 @@ impl Members {
     /// Makes room for so many groups. Those that are new have no task.
     pub(crate) fn cover(&mut self, groups: usize) -> Result<(), NoMemory>
         requires { groups ≤ length self.old + 1 }
-        ensures same { (slot : ℕ) → slice_index_or self.new slot 0 ≡ slice_index_or self.old slot 0 }
+        ensures same { (slot : ℕ) →
+            slice_index_or self.new slot 0 ≡ slice_index_or self.old slot 0 }
         ensures room { OnOk result (groups ≤ length self.new) }
         ensures longer { length self.old ≤ length self.new }
     {

@@ -54,9 +54,11 @@ impl Model for Table {
 
     ghost coded = { view_code };
 
-    ghost view = { λ t. table_of (length t.running.items) t.latest t.tasks t.tree t.triggers t.lines t.last t.ended };
+    ghost view = { λ t. table_of (length t.running.items) t.latest t.tasks t.tree
+        t.triggers t.lines t.last t.ended };
 
-    ghost invariant = { λ t. IsTable (table_of (length t.running.items) t.latest t.tasks t.tree t.triggers t.lines t.last t.ended) t.running.items t.members };
+    ghost invariant = { λ t. IsTable (table_of (length t.running.items) t.latest t.tasks t.tree
+        t.triggers t.lines t.last t.ended) t.running.items t.members };
 }
 
 impl Table {
@@ -64,7 +66,8 @@ impl Table {
     pub fn new(alloc: Global, cpus: u32, latest: Ns) -> Result<Table, NoMemory>
         requires some { 1 ≤ cpus }
         requires few { cpus ≤ 64 }
-        ensures { IfOk result (λ t. t ≡ record { limits = record { cpus = cpus; latest = latest }; world = first_world }) }
+        ensures { IfOk result (λ t.
+            t ≡ record { limits = record { cpus = cpus; latest = latest }; world = first_world }) }
     {
         let mut running: Vec<Running> = Vec::new(alloc);
         for _ in 0..cpus {
@@ -188,7 +191,8 @@ impl Table {
         ensures lines { OnOk result (self.new.world.lines ≤ 4000000) }
         ensures early { OnOk result (self.new.world.last ≤ self.new.limits.latest) }
         ensures forward { OnOk result (self.old.world.last ≤ self.new.world.last) }
-        ensures fault { MatchResult result (λ _. Unit {0}) (IsFault (cause_of self.old.limits self.old.world event.now) event.now.act) }
+        ensures fault { MatchResult result (λ _. Unit {0})
+            (IsFault (cause_of self.old.limits self.old.world event.now) event.now.act) }
         ensures err { OnErr result (self.new ≡ self.old) }
     {
         self.advance(event)?;
@@ -205,13 +209,17 @@ impl Table {
         ensures lines { OnOk result (self.new.world.lines ≤ 4000000) }
         ensures early { OnOk result (self.new.world.last ≤ self.new.limits.latest) }
         ensures forward { OnOk result (self.old.world.last ≤ self.new.world.last) }
-        ensures fault { MatchResult result (λ _. Unit {0}) (IsFault (cause_of self.old.limits self.old.world event.now) event.now.act) }
+        ensures fault { MatchResult result (λ _. Unit {0})
+            (IsFault (cause_of self.old.limits self.old.world event.now) event.now.act) }
         ensures err { OnErr result (self.new ≡ self.old) }
         ensures touch { IfOk result (λ touch. IsTouch self.old.world event.now touch) }
-        ensures cpus { IfOk result (λ touch. AllTouched (λ cpu change. cpu < self.old.limits.cpus) touch) }
-        ensures slots { IfOk result (λ touch. AllTouched (λ cpu change. HasSlotsBelow (length self.old.world.groups) change) touch) }
+        ensures cpus { IfOk result
+            (λ touch. AllTouched (λ cpu change. cpu < self.old.limits.cpus) touch) }
+        ensures slots { IfOk result (λ touch.
+            AllTouched (λ cpu change. HasSlotsBelow (length self.old.world.groups) change) touch) }
         ensures ones { IfOk result (λ touch. AllTouched (λ cpu change. IsOfOne change) touch) }
-        ensures moment { IfOk result (λ touch. AllTouched (λ cpu change. change.at ≡ event.now.at) touch) }
+        ensures moment { IfOk result
+            (λ touch. AllTouched (λ cpu change. change.at ≡ event.now.at) touch) }
     {
         let changed = self.advance(event)?;
         Ok(touch_of(event.at, &event.act, changed, &self.running))
@@ -220,8 +228,10 @@ impl Table {
     /// The world after the event as [`Table::play`] makes it, and the task that the event changes.
     fn advance(&mut self, event: &Event) -> Result<Changed, Fault<Cause>>
         ensures advanced { OnOk result (IsAdvanced self.old event.now self.new) }
-        ensures changed { IfOk result (λ c. IsChanged self.old.world.groups self.old.world.tasks event.now.act c) }
-        ensures fault { MatchResult result (λ _. Unit {0}) (IsFault (cause_of self.old.limits self.old.world event.now) event.now.act) }
+        ensures changed { IfOk result (λ c.
+            IsChanged self.old.world.groups self.old.world.tasks event.now.act c) }
+        ensures fault { MatchResult result (λ _. Unit {0})
+            (IsFault (cause_of self.old.limits self.old.world event.now) event.now.act) }
         ensures err { OnErr result (self.new ≡ self.old) }
     {
         let act = &event.act;

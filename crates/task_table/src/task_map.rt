@@ -128,8 +128,11 @@ fn put(
     task: Task,
 ) -> Result<Option<Task>, NoMemory>
     ensures old { IfOk result (λ old. old ≡ task_of (tasks_in listed.old others.old.entries) pid) }
-    ensures ok { OnOk result (tasks_in listed.new others.new.entries ≡ put (tasks_in listed.old others.old.entries) pid task) }
-    ensures err { OnErr result ((listed.new ≡ listed.old) × (others.new.entries ≡ others.old.entries)) }
+    ensures ok { OnOk result
+        (tasks_in listed.new others.new.entries
+        ≡ put (tasks_in listed.old others.old.entries) pid task) }
+    ensures err { OnErr result
+        ((listed.new ≡ listed.old) × (others.new.entries ≡ others.old.entries)) }
     ensures length { length listed.new ≡ length listed.old }
 {
     let place = pid as usize;
@@ -147,7 +150,8 @@ fn put(
 /// Takes the task with a number away, if there is one.
 fn take(listed: &mut [Option<Task>], others: &mut HashMap<u32, Task>, pid: u32) -> Option<Task>
     ensures old { result ≡ task_of (tasks_in listed.old others.old.entries) pid }
-    ensures tasks { tasks_in listed.new others.new.entries ≡ remove (tasks_in listed.old others.old.entries) pid }
+    ensures tasks { tasks_in listed.new others.new.entries
+        ≡ remove (tasks_in listed.old others.old.entries) pid }
     ensures length { length listed.new ≡ length listed.old }
 {
     let place = pid as usize;

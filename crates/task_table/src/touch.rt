@@ -73,7 +73,10 @@ fn change_of(at: Ns, changed: Changed, running: &[Running], cpu: Cpu) -> Change
 /// The changes at a moment (ns) of the processors that an act touches, by the task that it changes and by the tasks that
 /// run after it. Where a task comes from another processor, that one is the second.
 pub(crate) fn touch_of(at: Ns, act: &Act, changed: Changed, running: &[Running]) -> Touch
-    ensures told { (cpu : ℕ) → told_of result cpu ≡ (if touched act.now changed.old cpu then Some (change_for at changed (slice_index_or running.now cpu None) cpu) else None) }
+    ensures told { (cpu : ℕ) →
+        told_of result cpu
+        ≡ (if touched act.now changed.old cpu
+        then Some (change_for at changed (slice_index_or running.now cpu None) cpu) else None) }
     ensures beside { IsBeside result.first result.second }
 {
     match act {

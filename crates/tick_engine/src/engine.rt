@@ -40,10 +40,11 @@ impl Model for Engine {
 
     ghost Value = { EngineView };
 
-    ghost view = { λ e. seen_as (length e.growths.items) e.last e.groups.items e.watches.items e.fired.items };
+    ghost view = { λ e.
+        seen_as (length e.growths.items) e.last e.groups.items e.watches.items e.fired.items };
 
-    ghost invariant = { λ e. IsRoom (length e.watches.items) (vec_capacity e.fired)
-        × IsEngine (seen_as (length e.growths.items) e.last e.groups.items e.watches.items e.fired.items) };
+    ghost invariant = { λ e. IsRoom (length e.watches.items) (vec_capacity e.fired) × IsEngine
+        (seen_as (length e.growths.items) e.last e.groups.items e.watches.items e.fired.items) };
 }
 
 /// The groups, before the first tick.

@@ -56,7 +56,8 @@ impl Group {
         requires few { length growths.now ≤ 64 }
         requires short { All (λ times. All (λ time. time ≤ longest_tick) times) growths.now }
         requires early { now ≤ last_moment }
-        requires fits { All (λ total. total ≤ last_moment) (plus self.old.totals (shares growths.now)) }
+        requires fits { All (λ total. total ≤ last_moment)
+            (plus self.old.totals (shares growths.now)) }
         ensures { self.new ≡ sampled self.old now (shares growths.now) }
     {
         self.totals.add(share(growths));

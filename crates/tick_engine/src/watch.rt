@@ -114,7 +114,8 @@ pub(crate) fn begin_all(watches: &mut [Watch], groups: &[Group], now: Ns)
 /// Adds a number to those that signalled, where it did. There is room for it.
 fn add_where(fired: &mut Vec<u32>, number: u32, has_signalled: bool)
     requires { vec_len fired.old < vec_capacity fired.old }
-    ensures items { fired.new.items ≡ fired.old.items ++ (if has_signalled then number ∷ [] else []) }
+    ensures items { fired.new.items
+        ≡ fired.old.items ++ (if has_signalled then number ∷ [] else []) }
     ensures few { vec_len fired.new ≤ vec_len fired.old + 1 }
     ensures room { vec_capacity fired.old ≤ vec_capacity fired.new }
 {

@@ -32,7 +32,8 @@ fn by_size_or_growth(
     requires size_threshold { IsPercent size_threshold }
     requires percentile { IsPercent percentile }
     requires ratio { IsRatio ratio }
-    ensures { result ≡ size_choice (sizes_from past.now) scope.now.lives size_threshold percentile ratio
+    ensures { result
+        ≡ size_choice (sizes_from past.now) scope.now.lives size_threshold percentile ratio
         (among scope.now.lives scope.now.act scope.now.above reading.now.seen) }
 {
     let Some(largest) = foremost(scope, reading, past) else {

@@ -52,7 +52,8 @@ fn measured_in(
     requires group { IsGroupReading (length scope.now.lives) group.now }
     ensures { MatchOption result
         ((is_in scope.now group.now && is_eligible scope.now.act host past.now group.now) ≡ false)
-        (λ measure. ((is_in scope.now group.now && is_eligible scope.now.act host past.now group.now) ≡ true)
+        (λ measure. ((is_in scope.now group.now
+        && is_eligible scope.now.act host past.now group.now) ≡ true)
         × (measure ≡ measure_of scope.now.act past.now group.now)) }
 {
     let measure = measured(scope.action(), host, past, group)?;

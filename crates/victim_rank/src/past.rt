@@ -68,7 +68,8 @@ fn take_sizes(sizes: &mut [Sizes], reading: &Reading)
     requires within { All AreSizes sizes.old }
     ensures within { All AreSizes sizes.new }
     ensures sizes { (slot : ℕ) → slice_index_or (map sizes_of sizes.new) slot []
-        ≡ newer_sizes (group_in reading.now.seen slot) (slice_index_or (map sizes_of sizes.old) slot []) }
+        ≡ newer_sizes (group_in reading.now.seen slot)
+        (slice_index_or (map sizes_of sizes.old) slot []) }
 {
     'groups: for group in reading.groups() {
         let slot = group.slot.0 as usize;

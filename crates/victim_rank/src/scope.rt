@@ -67,7 +67,11 @@ impl<'a> Scope<'a> {
 
     /// Among the children of a group.
     pub(crate) fn below(&self, above: Slot) -> Scope<'a>
-        ensures { result ≡ record { lives = self.now.lives; act = self.now.act; above = Some above } }
+        ensures { result ≡ record {
+          lives = self.now.lives;
+          act = self.now.act;
+          above = Some above;
+        } }
     {
         Scope {
             lives: self.lives,

@@ -39,7 +39,16 @@ impl Model for Trigger {
 
     ghost Value = { TriggerState };
 
-    ghost view = { λ t. record { threshold = t.threshold; size = t.size; start = t.start; start_value = t.start_value; last_value = t.last_value; previous = t.previous; pending = t.pending; last_event = t.last_event } };
+    ghost view = { λ t. record {
+      threshold = t.threshold;
+      size = t.size;
+      start = t.start;
+      start_value = t.start_value;
+      last_value = t.last_value;
+      previous = t.previous;
+      pending = t.pending;
+      last_event = t.last_event;
+    } };
 
     ghost invariant = { λ t. IsTrigger t.size t.previous t.last_event };
 }
@@ -63,7 +72,10 @@ impl Trigger {
     pub fn new(at: Ns, value: u64, threshold_us: u64, window_us: u64) -> Result<Trigger, Cause>
         requires at { at ≤ last_moment }
         requires value { value ≤ last_moment }
-        ensures made { MatchResult result (λ t. (is_window threshold_us window_us ≡ true) × (t ≡ model.new_trigger at value threshold_us window_us)) (λ why. (is_window threshold_us window_us ≡ false) × (why ≡ cause.BadWindow)) }
+        ensures made { MatchResult result
+            (λ t. (is_window threshold_us window_us ≡ true)
+            × (t ≡ model.new_trigger at value threshold_us window_us))
+            (λ why. (is_window threshold_us window_us ≡ false) × (why ≡ cause.BadWindow)) }
     {
         if !(500_000..=10_000_000).contains(&window_us)
             || threshold_us < 1
