@@ -1,6 +1,6 @@
 -- Which files a command reads, how long its ticks are, and what it prints of an accepted trace.
 use Rattle.std.specs.Prelude.{◌≡◌, ℕ, ◌*◌, List, Option, None, Some}
-use Rattle.psi_spec.specs.Trace.{Trace}
+use Rattle.psi_spec.specs.Trace.{Trace, text_of}
 use Rattle.ruleset_json.specs.declared.types.Rule.{Rule}
 use Rattle.run_spec.specs.declared.command.Command.{Command}
 use Rattle.run_spec.specs.declared.command.Command.TheVariants.{Stall, Check, Replay, Gen, Stress}
@@ -8,7 +8,8 @@ use Rattle.run_spec.specs.declared.command.Options.{Options}
 use Rattle.run_spec.specs.declared.status.Which.{Which}
 use Rattle.run_spec.specs.declared.status.Which.TheVariants.{RulesFile, TraceFile}
 use Rattle.run_spec.specs.Text.{check_text, stall_text}
-use Rattle.run_spec.specs.Replay.{Pace, replay_text, with_rules}
+use Rattle.run_spec.specs.Generated.{generated}
+use Rattle.run_spec.specs.Replay.{Pace, replay_text, stress_text, with_rules}
 
 -- the name of the trace that a command reads, if it reads one
 abbrev pub trace_name : Command → Option (List ℕ)
@@ -50,11 +51,26 @@ pace_of options = record {
   interval = of_s options.interval_s;
 }
 
--- A text is the whole output of a command for an accepted trace and rulesets. Of commands that aren't built yet nothing is
--- one.
+-- with what options `stress` replays: the defaults, but for reports at the last tick alone, and its
+-- own number of threads
+abbrev pub stress_options : ℕ → Options
+stress_options workers = record {
+  rules = None;
+  tick_ms = 2000;
+  interval_s = 5;
+  report_s = 0;
+  workers = workers;
+  live = None;
+  live_count = 1;
+}
+
+-- A text is the whole output of a command for an accepted trace and rulesets. `gen` and `stress` read
+-- no file: theirs is the trace that their shape gives.
 abbrev pub IsOutput : Command → Trace → List Rule → List ℕ → Type 0
 IsOutput (Stall name) trace rules text = text ≡ stall_text trace
 IsOutput (Check name tick_ms) trace rules text = text ≡ check_text trace
-IsOutput (Replay name options) trace rules text = text ≡ replay_text trace (pace_of options) (with_rules rules)
-IsOutput (Gen shape) trace rules text = ⊥
-IsOutput (Stress shape workers) trace rules text = ⊥
+IsOutput (Replay name options) trace rules text =
+    text ≡ replay_text trace (pace_of options) (with_rules rules)
+IsOutput (Gen shape) trace rules text = (trace ≡ generated shape) × (text ≡ text_of trace)
+IsOutput (Stress shape workers) trace rules text =
+    (trace ≡ generated shape) × (text ≡ stress_text trace (pace_of (stress_options workers)))

@@ -1,6 +1,6 @@
 -- What `replay` prints: at each tick the signals of triggers, where an evaluation is due the kills of rules, and where a
 -- report is due the pressure files of all live groups.
-use Rattle.std.specs.Prelude.{ℕ, ◌-◌, List, [], ◌++◌, length, sum_by, ◌==◌, Option, None, Some, if◌then◌else◌, slice_get}
+use Rattle.std.specs.Prelude.{ℕ, ◌-◌, List, [], ◌++◌, length, sum_by, ◌==◌, Option, None, Some, if◌then◌else◌, slice_get, codes}
 use Rattle.std.specs.List.{flat_map, range_with_len}
 use Rattle.psi_base.specs.declared.event.Event.{Event}
 use Rattle.psi_base.specs.declared.event.Res.{Res}
@@ -127,3 +127,15 @@ last_line trace pace beside =
 -- the text of `replay`
 unfoldable pub replay_text : Trace → Pace → Beside → List ℕ
 replay_text trace pace beside = ticks_text trace pace beside (tick_count trace pace) ++ last_line trace pace beside
+
+-- ---- the end alone
+
+-- the root with its slot
+abbrev pub root_group : List ℕ × ℕ
+root_group = (codes "/", 0)
+
+-- the text of `stress`: the report of the root at the last tick, if there is a tick, and the last line
+abbrev pub stress_text : Trace → Pace → List ℕ
+stress_text trace pace =
+    (if tick_count trace pace == 0 then [] else group_report trace pace (tick_count trace pace) root_group)
+    ++ last_line trace pace (with_rules [])

@@ -1,5 +1,5 @@
 -- What a run of a command promises: what each status says of the files and of the output, and which counts of failures rose.
-use Rattle.std.specs.Prelude.{◌≡◌, ℕ, List, [], Option, None, Some, MatchOption, Ok, Err, ⊤}
+use Rattle.std.specs.Prelude.{◌≡◌, ℕ, List, [], Option, None, Some, IsSome, MatchOption, Ok, Err, ⊤}
 use Rattle.std.specs.Io.KnownBytes.{Appends, Keeps}
 use Rattle.psi_base.specs.Outside.{Files, told, Lacks, Rose, AppendsFront, ShelfCounts, counts_of}
 use Rattle.psi_spec.specs.Trace.{IsAccepted, IsCpuCount, Trace, limits_of, refused, trace_of}
@@ -11,7 +11,7 @@ use Rattle.run_spec.specs.declared.status.Which.TheVariants.{RulesFile, TraceFil
 use Rattle.ruleset_json.specs.declared.types.Rule.{Rule}
 use Rattle.ruleset_json.specs.RuleRanges.{FitsRules}
 use Rattle.ruleset_json.specs.Rules.{rules_of}
-use Rattle.run_spec.specs.Outputs.{IsOutput, file_of, rules_name, tick_length}
+use Rattle.run_spec.specs.Outputs.{IsOutput, file_of, rules_name, tick_length, trace_name}
 
 -- ---- counts
 
@@ -77,6 +77,10 @@ abbrev pub IsPassed : Command → Option Files → Which → Type 0
 IsPassed command files RulesFile = ⊤
 IsPassed command files TraceFile = (rules : List Rule) × TakesRules command files rules
 
+-- a command reads files, of which its trace is one
+abbrev pub ReadsTrace : Command → Type 0
+ReadsTrace command = IsSome (trace_name command)
+
 -- What a status says of a command, whose files the shelf may tell, and of what the sink held before and holds now: the whole
 -- output or a front of it, for an accepted trace and rulesets; the first fault of the rules file; behind the rules the first
 -- refused line of the trace; or a name that isn't there. Where it isn't Done or WriteFault, the sink is as it was.
@@ -87,11 +91,11 @@ Ends command files old new (status.Rules fault) =
     Keeps old new × ((name : List ℕ) × (rules_name command ≡ Some name)
     × ((bytes : List ℕ) → told files name ≡ Some bytes → rules_of bytes ≡ Err fault))
 Ends command files old new (status.Trace line why) =
-    Keeps old new × IsPassed command files TraceFile
+    Keeps old new × ReadsTrace command × IsPassed command files TraceFile
     × ((bytes : List ℕ) → IsTold command TraceFile files bytes → trace_of (tick_length command) bytes ≡ Err (refused line why))
 Ends command files old new (status.NoFile which) =
     Keeps old new × IsPassed command files which × ((name : List ℕ) × (file_of command which ≡ Some name) × (told files name ≡ None))
-Ends command files old new status.ReadFault = Keeps old new
+Ends command files old new status.ReadFault = Keeps old new × ReadsTrace command
 Ends command files old new status.NoMemory = Keeps old new
 Ends command files old new status.Usage = ⊥
 

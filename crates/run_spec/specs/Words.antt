@@ -274,19 +274,17 @@ stress_form = record { word = codes "stress"; options = stress_options; command 
 abbrev pub forms : List Form
 forms = stall_form ∷ check_form ∷ replay_form ∷ gen_form ∷ stress_form ∷ []
 
--- the words of commands and the names of options that are built today
+-- the option of this name is built: the two of live samples aren't yet
 abbrev pub is_built : List ℕ → Bool
-is_built name = is_among name
-    (codes "stall" ∷ codes "check" ∷ codes "replay" ∷ codes "tick-ms" ∷ codes "report-s"
-    ∷ codes "rules" ∷ codes "interval-s" ∷ [])
+is_built name = not (is_among name (codes "live" ∷ codes "live-count" ∷ []))
 
--- a command with those of its options that are built
+-- a command with those of its options that are built: once all are, `forms` stands in its place
 abbrev pub with_built_options : Form → Form
 with_built_options form = record form { options = filter is_built form.options }
 
--- the commands that are built: once all are, with all their options, `forms` stands in its place
+-- the commands with what is built of them
 abbrev pub built_forms : List Form
-built_forms = map with_built_options (filter (λ form. is_built form.word) forms)
+built_forms = map with_built_options forms
 
 -- the command of this form that the words behind its own spell
 abbrev pub spelled : Form → List (List ℕ) → Option Command

@@ -1,0 +1,157 @@
+-- Generated traces: large valid ones, each from the few numbers of its shape, and the same at each time.
+use Rattle.std.specs.Prelude.{◌≡◌, ℕ, zero, suc, ◌+◌, ◌-◌, ◌*◌, ◌/◌, ◌%◌, ◌^◌, ◌==◌}
+use Rattle.std.specs.Prelude.{List, [], ◌∷◌, ◌++◌, map, codes, decimal, is_some}
+use Rattle.std.specs.Prelude.{Option, None, Some, if◌then◌else◌}
+use Rattle.std.specs.List.{range_with_len}
+use Rattle.psi_base.specs.declared.event.Act.{Act}
+use Rattle.psi_base.specs.declared.event.Act.TheVariants as act
+use Rattle.psi_base.specs.declared.event.Event.{Event}
+use Rattle.psi_base.specs.declared.event.How.{How}
+use Rattle.psi_base.specs.declared.event.How.TheVariants.{Idle, IoWait, Preempt, Sleep}
+use Rattle.psi_spec.specs.declared.machine.Mode.{Mode}
+use Rattle.psi_spec.specs.declared.machine.Mode.TheVariants.{Blocked, Ready, Running, Waiting}
+use Rattle.psi_spec.specs.declared.machine.Task.{Task}
+use Rattle.psi_spec.specs.World.{Tasks, World, after, after_event, running_on, task_of}
+use Rattle.psi_spec.specs.Trace.{IsTrace, Trace, text_of, trace_of}
+use Rattle.run_spec.specs.declared.command.Shape.{Shape}
+
+-- ---- random numbers
+
+-- the state behind one of the random numbers: a linear congruence of 64 bits, with the constants of
+-- Knuth's MMIX
+abbrev pub next_state : ℕ → ℕ
+next_state state = (state * 6364136223846793005 + 1442695040888963407) % 2 ^ 64
+
+-- the number below a bound that a state gives, by its 31 high bits
+abbrev pub drawn : ℕ → ℕ → ℕ
+drawn state bound = (state / 2 ^ 33) % bound
+
+-- ---- groups and tasks
+
+-- how many tasks there are: four a processor, numbered from 1
+abbrev pub task_count : Shape → ℕ
+task_count shape = 4 * shape.cpus
+
+-- the path of a group, by its number from 0
+abbrev pub numbered_path : ℕ → List ℕ
+numbered_path number = codes "/g" ++ decimal number
+
+-- the path of a task's group: tasks go to the groups in turn, or to the root where there are none
+abbrev pub home_of : Shape → ℕ → List ℕ
+home_of shape pid =
+    if shape.groups == 0 then codes "/" else numbered_path ((pid - 1) % shape.groups)
+
+-- the act that makes a group, by its number
+abbrev pub made_group : ℕ → Act
+made_group number = act.Group (numbered_path number)
+
+-- the act that makes a task, by its number: on the first processor the first four, and so on
+abbrev pub made_task : Shape → ℕ → Act
+made_task shape pid =
+    act.Fork (record { 0 = pid }) (home_of shape pid) (record { 0 = (pid - 1) / 4 })
+
+-- an act at the moment 0
+abbrev pub at_start : Act → Event
+at_start what = record { at = 0; act = what }
+
+-- the events that make all groups and tasks, at the moment 0
+abbrev pub first_events : Shape → List Event
+first_events shape =
+    map (λ number. at_start (made_group number)) (range_with_len 0 shape.groups)
+    ++ map (λ pid. at_start (made_task shape pid)) (range_with_len 1 (task_count shape))
+
+-- ---- what a task does next
+
+-- an act that was drawn, and the state behind the random numbers that it took
+pub record Drawn : Type 0 where
+  pub act : Act
+  pub state : ℕ
+
+-- a task that sleeps is woken on any processor
+abbrev pub woken : Shape → ℕ → ℕ → Drawn
+woken shape state pid = record {
+  act = act.Wake (record { 0 = pid }) (record { 0 = drawn (next_state state) shape.cpus });
+  state = next_state state;
+}
+
+-- how the running task makes way, by a number below 4: half of them wait for IO
+abbrev pub way_of : ℕ → How
+way_of zero = Preempt
+way_of (suc zero) = Sleep
+way_of (suc (suc more)) = IoWait
+
+-- a ready task runs next on its processor: where that idles nothing more is drawn
+abbrev pub started : Tasks → ℕ → ℕ → Task → Drawn
+started tasks state pid task =
+    if is_some (running_on tasks task.cpu.0)
+    then record {
+      act = act.Switch task.cpu (Some (record { 0 = pid })) (way_of (drawn (next_state state) 4));
+      state = next_state state;
+    }
+    else record { act = act.Switch task.cpu (Some (record { 0 = pid })) Idle; state = state }
+
+-- a task's stall on memory ends where it is in one, and else begins
+abbrev pub stall_turn : ℕ → Task → Act
+stall_turn pid task =
+    if task.stalled then act.Unstall (record { 0 = pid }) else act.Stall (record { 0 = pid })
+
+-- a running task sleeps or waits for IO, or a stall of its begins or ends, by a number below 4
+abbrev pub running_act : ℕ → Task → ℕ → Act
+running_act pid task zero = act.Switch task.cpu None Sleep
+running_act pid task (suc zero) = act.Switch task.cpu None IoWait
+running_act pid task (suc (suc more)) = stall_turn pid task
+
+-- what a task with a number does next, by its mode
+abbrev pub next_of : Shape → Tasks → ℕ → ℕ → Task → Mode → Drawn
+next_of shape tasks state pid task Blocked = woken shape state pid
+next_of shape tasks state pid task Waiting = woken shape state pid
+next_of shape tasks state pid task Ready = started tasks state pid task
+next_of shape tasks state pid task Running = record {
+  act = running_act pid task (drawn (next_state state) 4);
+  state = next_state state;
+}
+
+-- what the task with a number does next; a task that isn't there would be woken, but each is
+abbrev pub next_if : Shape → Tasks → ℕ → ℕ → Option Task → Drawn
+next_if shape tasks state pid None = woken shape state pid
+next_if shape tasks state pid (Some task) = next_of shape tasks state pid task task.mode
+
+-- the task that does something next, by a state
+abbrev pub chosen : Shape → ℕ → ℕ
+chosen shape state = 1 + drawn state (task_count shape)
+
+-- what happens next: the first number gives the time (ns) to it, the second the task
+unfoldable pub next_drawn : Shape → Tasks → ℕ → Drawn
+next_drawn shape tasks state =
+    next_if shape tasks (next_state (next_state state)) (chosen shape (next_state (next_state state)))
+    (task_of tasks (chosen shape (next_state (next_state state))))
+
+-- the event that comes next in a world: up to 2 ms later
+abbrev pub next_event : Shape → World → ℕ → Event
+next_event shape w state = record {
+  at = w.last + drawn (next_state state) 2000000;
+  act = (next_drawn shape w.tasks state).act;
+}
+
+-- so many events from a world and a state on, and the end at the moment of the last
+unfoldable pub events_from : Shape → ℕ → World → ℕ → List Event
+events_from shape zero w state = record { at = w.last; act = act.End } ∷ []
+events_from shape (suc left) w state =
+    next_event shape w state
+    ∷ events_from shape left (after_event w (next_event shape w state))
+    (next_drawn shape w.tasks state).state
+
+-- ---- the trace
+
+-- the trace of a shape: its groups and tasks are made, and then there are its events
+abbrev pub generated : Shape → Trace
+generated shape = record {
+  version = 1;
+  cpus = shape.cpus;
+  events = first_events shape
+      ++ events_from shape shape.events (after (first_events shape)) shape.seed;
+}
+
+-- the text of `gen`
+abbrev pub gen_text : Shape → List ℕ
+gen_text shape = text_of (generated shape)
