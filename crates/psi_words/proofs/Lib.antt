@@ -8,5 +8,4 @@ mod Reading
 mod Rows
 mod Rules
 mod Turning
-mod Unbuilt
 mod Walking

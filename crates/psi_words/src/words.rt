@@ -3,7 +3,6 @@ ghost use Rattle.std.specs.Prelude.{IfOk, map, string_bytes};
 ghost use Rattle.psi_words.specs.Reads.{HasTextNames, Reads};
 ghost use Rattle.run_spec.specs.Words.{command_of, IsCommand};
 
-use crate::built::is_built;
 use crate::tables::{read_check, read_gen, read_replay, read_stall, read_stress};
 use psi_base::Fault;
 use run_spec::Command;
@@ -35,9 +34,6 @@ pub fn read_words(alloc: Global, words: &[String]) -> Result<Command, Fault<BadW
         return Err(Fault::Refused(BadWords));
     };
     let first = first.as_str();
-    if !is_built(first) {
-        return Err(Fault::Refused(BadWords));
-    }
     if first == "stall" {
         read_stall(alloc, words)
     } else if first == "check" {

@@ -7,7 +7,8 @@ use std::test::Fail;
 
 // Words, and behind `=>` the command: its trace, and of `replay` the rules, the numbers of
 // `--tick-ms`, `--interval-s`, `--report-s` and `--workers`, the path and the number of
-// `--live-count`.
+// `--live-count`; of `gen` and `stress` the numbers of `--seed`, `--cpus`, `--groups` and `--events`,
+// and of `stress` that of `--workers`.
 const ACCEPTED: &str = "stall|X => stall X
 stall|- => stall -
 stall|help => stall help
@@ -42,7 +43,17 @@ replay|--rules=-x|X => replay X -x 2000 5 10 64 none 1
 replay|X|--interval-s|1 => replay X none 2000 1 10 64 none 1
 replay|--interval-s=3600|X => replay X none 2000 3600 10 64 none 1
 replay|--|- => replay - none 2000 5 10 64 none 1
-replay|été/1 => replay été/1 none 2000 5 10 64 none 1";
+replay|été/1 => replay été/1 none 2000 5 10 64 none 1
+replay|X|--workers=2 => replay X none 2000 5 10 2 none 1
+replay|--workers|1|X => replay X none 2000 5 10 1 none 1
+replay|X|--workers|64|--tick-ms=9 => replay X none 9 5 10 64 none 1
+gen|--seed=0|--cpus=1|--groups=1|--events=1 => gen 0 1 1 1
+gen|--seed|7|--cpus|8|--groups|12|--events|200000 => gen 7 8 12 200000
+gen|--events=0|--groups=0|--cpus=1|--seed=0 => gen 0 1 0 0
+gen|--seed=18446744073709551615|--cpus=64|--groups=1000|--events=3900000|-- => gen 18446744073709551615 64 1000 3900000
+stress|--seed=0|--cpus=1|--groups=1|--events=1 => stress 0 1 1 1 64
+stress|--seed=0|--cpus=1|--groups=1|--events=1|--workers=2 => stress 0 1 1 1 2
+stress|--workers|1|--seed|7|--cpus|8|--groups|12|--events|9 => stress 7 8 12 9 1";
 
 // The first row has no word.
 const REFUSED: &str = "(none)
@@ -142,8 +153,15 @@ replay|X|--interval-s|3601
 replay|X|--interval-s|05
 stall|X|--rules|R
 check|X|--interval-s|5
-replay|X|--workers=2
-replay|X|--workers|64
+replay|X|--workers=0
+replay|X|--workers=65
+replay|X|--workers=02
+replay|X|--workers|-1
+replay|X|--workers
+replay|X|--workers=2|--workers=2
+replay|X|--worker=2
+stall|X|--workers=2
+check|X|--workers=2
 replay|X|--live|a
 replay|X|--live=/
 replay|X|--live|/
@@ -152,10 +170,29 @@ replay|X|--live-count|1
 replay|X|--drop-in|F
 gen
 gen|X
-gen|--seed=0|--cpus=1|--groups=1|--events=1
-gen|--seed|7|--cpus|8|--groups|12|--events|200000
-stress|--seed=0|--cpus=1|--groups=1|--events=1
-stress|--seed=0|--cpus=1|--groups=1|--events=1|--workers=2
+gen|--cpus=1|--groups=1|--events=1
+gen|--seed=0|--groups=1|--events=1
+gen|--seed=0|--cpus=1|--events=1
+gen|--seed=0|--cpus=1|--groups=1
+gen|--seed=18446744073709551616|--cpus=1|--groups=1|--events=1
+gen|--seed=-1|--cpus=1|--groups=1|--events=1
+gen|--seed=0|--cpus=0|--groups=1|--events=1
+gen|--seed=0|--cpus=65|--groups=1|--events=1
+gen|--seed=0|--cpus=1|--groups=1001|--events=1
+gen|--seed=0|--cpus=1|--groups=1|--events=3900001
+gen|--seed=0|--cpus=1|--groups=1|--events=
+gen|--seed=0|--cpus=1|--groups=1|--events=1|X
+gen|--seed=0|--cpus=1|--groups=1|--events=1|-
+gen|--seed=0|--cpus=1|--groups=1|--events=1|--seed=0
+gen|--seed=0|--cpus=1|--groups=1|--events=1|--workers=2
+gen|--seed=0|--cpus=1|--groups=1|--events=1|--tick-ms=5
+stress
+stress|X
+stress|--cpus=1|--groups=1|--events=1|--workers=2
+stress|--seed=0|--cpus=1|--groups=1|--events=1|--workers=0
+stress|--seed=0|--cpus=1|--groups=1|--events=1|--workers=65
+stress|--seed=0|--cpus=1|--groups=1|--events=1|--report-s=5
+stress|--seed=0|--cpus=1|--groups=1|--events=1|--|X
 import|X
 rules|X
 whatif|X";
