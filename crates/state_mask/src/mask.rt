@@ -1,6 +1,6 @@
 //! A set of states as a byte.
 
-ghost use Rattle.std.specs.Prelude.{◌≡◌, ◌≢◌, ◌^◌, ◌||◌, if◌then◌else◌};
+ghost use Rattle.std.specs.Prelude.{◌≡◌, ◌^◌};
 ghost use Rattle.psi_base.specs.declared.event.State.{State};
 ghost use Rattle.psi_laws.specs.Counts.{IsMask, mask_holds};
 ghost use Rattle.psi_spec.specs.Stall.{number_of};
@@ -33,13 +33,6 @@ fn bit(state: State) -> u8
     1 << state as u8
 }
 
-/// The bit of a state that holds, and none of one that doesn't.
-fn bit_if(state: State, held: bool) -> u8
-    ensures { result ≡ (if held then 2 ^ number_of state else 0) }
-{
-    u8::from(held) * bit(state)
-}
-
 impl Mask {
     /// No state holds.
     pub fn empty() -> Mask
@@ -69,16 +62,5 @@ impl Mask {
         ensures { result ≡ mask_holds self state }
     {
         self.0 & bit(state) != 0
-    }
-
-    /// The mask in which this state holds too, if it is said to hold. There is no branch on that: which states hold is
-    /// hard to foresee.
-    pub(crate) fn with(self, state: State, held: bool) -> Mask
-        ensures few { IsMask result }
-        ensures here { mask_holds result state ≡ (mask_holds self state || held) }
-        ensures others { (other : State) → other ≢ state →
-            mask_holds result other ≡ mask_holds self other }
-    {
-        Mask(self.0 | bit_if(state, held))
     }
 }

@@ -1,8 +1,9 @@
-//! The table of the states.
+//! The states, and the table of their masks.
 
-ghost use Rattle.std.specs.Prelude.{◌≡◌};
+ghost use Rattle.std.specs.Prelude.{◌≡◌, ◌<◌};
 ghost use Rattle.psi_base.specs.declared.event.State.{State};
 ghost use Rattle.psi_laws.specs.Counts.{IsMask, mask_holds, tells};
+ghost use Rattle.state_mask.specs.Signs.{place_by};
 
 use crate::mask::Mask;
 use psi_base::State;
@@ -19,22 +20,34 @@ pub const STATES: [State; 7] = [
     State::Nonidle,
 ];
 
-/// Whether the state holds by these counts. There is no branch on them: which states hold is hard to foresee.
-fn told(state: State, counts: &Counts, on_cpu: bool, current_stalled: bool) -> bool
-    ensures { result ≡ tells state counts.now on_cpu current_stalled }
+// The masks by the signs in counts, in the order of their places. They are bytes: a table of masks, or of another struct, is
+// built anew at each use.
+const MASKS: [u8; 128] = [
+    0, 67, 68, 71, 96, 97, 100, 101, 0, 67, 76, 79, 96, 97, 108, 109, 0, 67, 68, 71, 64, 65, 68,
+    69, 0, 67, 76, 79, 64, 65, 76, 77, 0, 67, 68, 71, 96, 97, 100, 101, 0, 67, 76, 79, 96, 97, 108,
+    109, 8, 75, 76, 79, 72, 73, 76, 77, 8, 75, 76, 79, 72, 73, 76, 77, 16, 83, 84, 87, 112, 113,
+    116, 117, 16, 83, 92, 95, 112, 113, 124, 125, 16, 83, 84, 87, 80, 81, 84, 85, 16, 83, 92, 95,
+    80, 81, 92, 93, 16, 83, 84, 87, 112, 113, 116, 117, 16, 83, 92, 95, 112, 113, 124, 125, 24, 91,
+    92, 95, 88, 89, 92, 93, 24, 91, 92, 95, 88, 89, 92, 93,
+];
+
+// The place of the mask in the table. There is no branch on the signs: which of them hold is hard to foresee.
+fn place(counts: &Counts, on_cpu: bool, current_stalled: bool) -> usize
+    ensures place { result ≡ place_by counts.now on_cpu current_stalled }
+    ensures within { result < 128 }
 {
-    match state {
-        State::IoSome => counts.io > 0,
-        State::IoFull => (counts.io > 0) & (counts.running == 0),
-        State::MemSome => counts.stalled > 0,
-        State::MemFull => {
-            let all_stalled = (counts.stalled > 0) & (counts.running == counts.stalled_running);
-            all_stalled | (on_cpu & current_stalled)
-        }
-        State::CpuSome => counts.running > u32::from(on_cpu),
-        State::CpuFull => (counts.running > 0) & !on_cpu,
-        State::Nonidle => (counts.io > 0) | (counts.stalled > 0) | (counts.running > 0),
-    }
+    let waits = counts.io > 0;
+    let stalls = counts.stalled > 0;
+    let ready = counts.running > 0;
+    let all_stalled = counts.running == counts.stalled_running;
+    let beside = counts.running > u32::from(on_cpu);
+    usize::from(waits)
+        + 2 * usize::from(stalls)
+        + 4 * usize::from(ready)
+        + 8 * usize::from(all_stalled)
+        + 16 * usize::from(on_cpu)
+        + 32 * usize::from(current_stalled)
+        + 64 * usize::from(beside)
 }
 
 /// The states that hold for a group on a processor by the counts of its tasks there. `on_cpu` says that the
@@ -45,9 +58,5 @@ pub fn mask_of(counts: &Counts, on_cpu: bool, current_stalled: bool) -> Mask
     ensures states { (state : State) →
         mask_holds result state ≡ tells state counts.now on_cpu current_stalled }
 {
-    let mut mask = Mask::empty();
-    'states: for state in STATES {
-        mask = mask.with(state, told(state, counts, on_cpu, current_stalled));
-    }
-    mask
+    Mask::from_bits(MASKS[place(counts, on_cpu, current_stalled)])
 }
