@@ -64,7 +64,7 @@ fn changes_of_each_processor(rt: HostRuntime) -> Result<(), Fail> {
         let plan = plans.plan(Cpu(cpu));
         assert_eq!(rt; plan.len(), want.len() as u64, "on {cpu}");
         for k in 1..=plan.len() {
-            assert_eq!(rt; *plan.change(k), want[k as usize - 1], "{k} on {cpu}");
+            assert_eq!(rt; plan.change(k), want[k as usize - 1], "{k} on {cpu}");
             assert_eq!(rt; plan.moment(k), want[k as usize - 1].at, "{k} on {cpu}");
         }
     }

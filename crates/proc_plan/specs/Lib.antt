@@ -1,4 +1,5 @@
 pub mod Clocks
+pub mod Packed
 pub mod Plans
 pub mod Room
 pub mod Sides

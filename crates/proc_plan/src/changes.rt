@@ -1,16 +1,176 @@
-//! A list of changes.
+//! A list of changes, each of which takes 32 bytes.
 
-ghost use Rattle.std.specs.Prelude.{◌≡◌, ◌++◌, ◌<◌, ◌≤◌, [], ◌∷◌, length, OnOk};
+ghost use Rattle.std.specs.Prelude.{◌≡◌, ◌++◌, ◌<◌, ◌≤◌, [], ◌∷◌, length, IfSome, OnOk};
+ghost use Rattle.psi_laws.specs.Touch.{AreAtMost, IsOfOne};
+ghost use Rattle.proc_plan.specs.Packed.{counts_by, current_by, side_by};
 
-use psi_base::NoMemory;
-use psi_laws::Change;
+use psi_base::{NoMemory, Ns, Slot};
+use psi_laws::{Change, Counts};
 use std::alloc::Global;
 use std::marker::Model;
+
+/// What one task counts as: a mark for each count, which is 0 or 1 then.
+#[derive(Clone, Copy)]
+struct Marks {
+    io: bool,
+    stalled: bool,
+    running: bool,
+    stalled_running: bool,
+}
+
+impl Marks {
+    // Of counts of one task at most.
+    fn of(counts: Counts) -> Marks
+        requires { AreAtMost 1 counts }
+        ensures { counts_by result ≡ counts }
+    {
+        Marks {
+            io: counts.io > 0,
+            stalled: counts.stalled > 0,
+            running: counts.running > 0,
+            stalled_running: counts.stalled_running > 0,
+        }
+    }
+
+    // The counts that they stand for.
+    fn counts(self) -> Counts
+        ensures { result ≡ counts_by self }
+    {
+        Counts {
+            io: u32::from(self.io),
+            stalled: u32::from(self.stalled),
+            running: u32::from(self.running),
+            stalled_running: u32::from(self.stalled_running),
+        }
+    }
+}
+
+/// A change in 32 bytes, which can only be one of a single task. Contracts see the change.
+///
+/// Whether a side or a running task is there stands beside its slot. In a plan of 4,000,000 changes each byte counts: a page of
+/// memory that is touched for the first time costs more than what is written there.
+#[derive(Drop)]
+pub(crate) struct Packed {
+    at: Ns,
+    minus: Slot,
+    plus: Slot,
+    current: Slot,
+    minus_marks: Marks,
+    plus_marks: Marks,
+    takes: bool,
+    adds: bool,
+    runs: bool,
+    stalled: bool,
+}
+
+impl Model for Packed {
+    ghost use Rattle.psi_laws.specs.declared.changes.Change.{Change};
+    ghost use Rattle.proc_plan.specs.Packed.{current_by, side_by};
+
+    ghost Value = { Change };
+
+    ghost view = { λ p. record {
+      at = p.at;
+      minus = side_by p.takes p.minus p.minus_marks;
+      plus = side_by p.adds p.plus p.plus_marks;
+      current = current_by p.runs p.current p.stalled;
+    } };
+}
+
+// Whether a side of a change is there, its slot and its marks.
+fn pack_side(side: Option<(Slot, Counts)>) -> (bool, Slot, Marks)
+    requires { IfSome side (λ part. AreAtMost 1 part.1) }
+    ensures { side_by result.0 result.1 result.2 ≡ side }
+{
+    match side {
+        Some((slot, counts)) => (true, slot, Marks::of(counts)),
+        None => {
+            let none = Marks {
+                io: false,
+                stalled: false,
+                running: false,
+                stalled_running: false,
+            };
+            (false, Slot(0), none)
+        }
+    }
+}
+
+// A side of a change that is there or isn't, with its slot and its marks.
+fn unpack_side(there: bool, slot: Slot, marks: Marks) -> Option<(Slot, Counts)>
+    ensures { result ≡ side_by there slot marks }
+{
+    if there {
+        Some((slot, marks.counts()))
+    } else {
+        None
+    }
+}
+
+// Whether a running task is there, its slot, and whether it is in a memory stall.
+fn pack_current(current: Option<(Slot, bool)>) -> (bool, Slot, bool)
+    ensures { current_by result.0 result.1 result.2 ≡ current }
+{
+    match current {
+        Some((slot, stalled)) => (true, slot, stalled),
+        None => (false, Slot(0), false),
+    }
+}
+
+// A running task that is there or isn't, with its slot, and whether it is in a memory stall.
+fn unpack_current(runs: bool, slot: Slot, stalled: bool) -> Option<(Slot, bool)>
+    ensures { result ≡ current_by runs slot stalled }
+{
+    if runs { Some((slot, stalled)) } else { None }
+}
+
+impl Packed {
+    /// A change, packed. It must be of one task.
+    fn new(change: Change) -> Packed
+        requires { IsOfOne change }
+        ensures { result ≡ change }
+    {
+        let (takes, minus, minus_marks) = pack_side(change.minus);
+        let (adds, plus, plus_marks) = pack_side(change.plus);
+        let (runs, current, stalled) = pack_current(change.current);
+        Packed {
+            at: change.at,
+            minus,
+            plus,
+            current,
+            minus_marks,
+            plus_marks,
+            takes,
+            adds,
+            runs,
+            stalled,
+        }
+    }
+
+    /// When it comes, in ns.
+    pub(crate) fn at(&self) -> Ns
+        ensures { result ≡ self.now.at }
+    {
+        self.at
+    }
+
+    /// The change itself.
+    pub(crate) fn change(&self) -> Change
+        ensures { result ≡ self.now }
+    {
+        Change {
+            at: self.at,
+            minus: unpack_side(self.takes, self.minus, self.minus_marks),
+            plus: unpack_side(self.adds, self.plus, self.plus_marks),
+            current: unpack_current(self.runs, self.current, self.stalled),
+        }
+    }
+}
 
 /// The changes of a processor in their order. Contracts see the list of them, and for how many more there is room.
 #[derive(Drop)]
 pub(crate) struct Changes {
-    list: Vec<Change>,
+    list: Vec<Packed>,
 }
 
 impl Model for Changes {
@@ -43,16 +203,17 @@ impl Changes {
         Ok(())
     }
 
-    /// Adds a change behind the others. There must be room for it.
+    /// Adds a change behind the others. There must be room for it, and it must be of one task.
     pub(crate) fn push(&mut self, change: Change)
-        requires { 0 < self.old.room }
+        requires room { 0 < self.old.room }
+        requires one { IsOfOne change }
         ensures { self.new.list ≡ self.old.list ++ change ∷ [] }
     {
-        self.list.push_reserved(change);
+        self.list.push_reserved(Packed::new(change));
     }
 
     /// All of them.
-    pub(crate) fn all(&self) -> &[Change]
+    pub(crate) fn all(&self) -> &[Packed]
         ensures { result.now ≡ self.now.list }
     {
         &self.list

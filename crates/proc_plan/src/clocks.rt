@@ -87,7 +87,7 @@ impl<'a> ProcClocks for PlainClocks<'a> {
 
     fn apply(&mut self) {
         let change = self.plan.change(self.count + 1);
-        self.clocks.apply(self.parents, change);
+        self.clocks.apply(self.parents, &change);
         self.count += 1;
     }
 

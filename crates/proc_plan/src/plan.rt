@@ -7,7 +7,7 @@ ghost use Rattle.slot_clocks.specs.Clocks.{numbers_of};
 ghost use Rattle.slot_clocks.specs.Walk.{slot_in};
 ghost use Rattle.proc_plan.specs.Plans.{AreConcerned, OthersAreAside, plan_view};
 
-use crate::changes::Changes;
+use crate::changes::{Changes, Packed};
 use psi_base::{Ns, Slot};
 use psi_laws::{Change, Counts};
 use std::marker::Model;
@@ -68,12 +68,12 @@ impl Plan {
     }
 
     /// The change with a number from 1.
-    pub fn change(&self, k: u64) -> &Change
+    pub fn change(&self, k: u64) -> Change
         requires from { 1 ≤ k }
         requires to { k ≤ length self.now.changes }
-        ensures { slice_get self.now.changes (k - 1) ≡ Some result.now }
+        ensures { slice_get self.now.changes (k - 1) ≡ Some result }
     {
-        &self.changes.all()[k as usize - 1]
+        self.changes.all()[k as usize - 1].change()
     }
 
     /// The moment (ns) of the change with a number from 1.
@@ -123,9 +123,9 @@ impl Plan {
         ensures next { result < length self.now.changes → at < last_change self.now (result + 1) }
     {
         self.changes.all().partition_point(
-            |change: &Change| -> bool
+            |change: &Packed| -> bool
                 ensures { result ≡ nat_le change.now.at at }
-            { change.at <= at },
+            { change.at() <= at },
         ) as u64
     }
 

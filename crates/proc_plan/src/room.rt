@@ -3,7 +3,7 @@
 ghost use Rattle.std.specs.Prelude.{◌≡◌, ◌++◌, ◌+◌, ◌≤◌, ℕ, length, IfSome, IsSome, None, OnOk, vec_capacity, vec_len};
 ghost use Rattle.psi_spec.specs.Refusal.{cause_of, named_cpu};
 ghost use Rattle.psi_spec.specs.Told.{listed};
-ghost use Rattle.psi_laws.specs.Touch.{IsBeside, told_first, told_of};
+ghost use Rattle.psi_laws.specs.Touch.{AllTouched, IsBeside, IsOfOne, told_first, told_of};
 ghost use Rattle.group_tree.specs.Tree.{IsFault};
 ghost use Rattle.proc_plan.specs.Plans.{AreSmall};
 ghost use Rattle.proc_plan.specs.Room.{AddsTold, HasRoom, HasRoomFor, HasRoomWithin, lists_of};
@@ -96,7 +96,8 @@ pub(crate) fn lacking(table: &Table, event: &Event) -> Fault<Cause>
 
 // Adds what an event changes on a processor, if it changes anything.
 fn add_change(changes: &mut [Changes], touched: Option<(Cpu, Change)>)
-    requires { IfSome touched (λ touched. HasRoom changes.old touched.0.0) }
+    requires room { IfSome touched (λ touched. HasRoom changes.old touched.0.0) }
+    requires one { IfSome touched (λ touched. IsOfOne touched.1) }
     ensures each { length changes.new ≡ length changes.old }
     ensures added { AddsTold changes.old changes.new (λ cpu. told_first cpu touched None) }
     ensures others { (cpu : ℕ) → told_first cpu touched None ≡ None → HasRoom changes.old cpu →
@@ -108,10 +109,12 @@ fn add_change(changes: &mut [Changes], touched: Option<(Cpu, Change)>)
     changes[cpu.0 as usize].push(change);
 }
 
-/// Adds what an event changes on the processors that it touches. There must be room for it.
+/// Adds what an event changes on the processors that it touches. There must be room for it, and each change must be of one
+/// task.
 pub(crate) fn add_changes(changes: &mut [Changes], touch: &Touch)
     requires room { (cpu : ℕ) → IsSome (told_of touch.now cpu) → HasRoom changes.old cpu }
     requires beside { IsBeside touch.now.first touch.now.second }
+    requires ones { AllTouched (λ cpu change. IsOfOne change) touch.now }
     ensures each { length changes.new ≡ length changes.old }
     ensures added { AddsTold changes.old changes.new (told_of touch.now) }
 {

@@ -1,4 +1,4 @@
-use Rattle.std.proofs.Common.{arith, subst, sym, ◌≡◌, ◌≤◌, ◌<◌, ◌+◌, ◌-◌, length, ap, ◌∙◌, Bool}
+use Rattle.std.proofs.Common.{arith, subst, sym, ◌≡◌, ◌≤◌, ◌<◌, ◌+◌, ◌-◌, length, Bool}
 use Rattle.std.specs.Prelude.{IfSome}
 use Rattle.psi_base.specs.declared.event.Slot.{Slot}
 use Rattle.psi_laws.specs.Touch.{HasSlotsBelow}
@@ -19,7 +19,7 @@ apply-requires-clause-slots c =
     let place : c.self.inside.count + 1 - 1 ≡ c.self.inside.count = omega arith in
     let is = rw place at c.change-change.ensures in
     let known = as_many_parents c.self.inside.parents.now c.self.inside.plan.now c.self.invariant.1 in
-    subst (λ n. HasSlotsBelow n c.change-change.result.now) known (c.self.invariant.0.whole.slots c.self.inside.count c.change-change.result.now is)
+    subst (λ n. HasSlotsBelow n c.change-change.result) known (c.self.invariant.0.whole.slots c.self.inside.count c.change-change.result is)
 
 pub apply-requires-clause-told : goal.apply-requires-clause-told
 apply-requires-clause-told c = rw c.self.invariant.1 (told c.self.inside.plan.now c.self.inside.clocks c.self.inside.count c.self.invariant.0)
@@ -28,7 +28,7 @@ pub apply-requires-clause-fits : goal.apply-requires-clause-fits
 apply-requires-clause-fits c =
     let place : c.self.inside.count + 1 - 1 ≡ c.self.inside.count = omega arith in
     let is = rw place at c.change-change.ensures in
-    rw c.self.invariant.1 (can_follow c.self.inside.plan.now c.self.inside.clocks c.self.inside.count c.change-change.result.now c.self.invariant.0 is)
+    rw c.self.invariant.1 (can_follow c.self.inside.plan.now c.self.inside.clocks c.self.inside.count c.change-change.result c.self.invariant.0 is)
 
 pub apply-requires-clause-later : goal.apply-requires-clause-later
 apply-requires-clause-later c =
@@ -36,7 +36,7 @@ apply-requires-clause-later c =
     let is = rw place at c.change-change.ensures in
     let are = c.self.invariant.0 in
     let room : c.self.inside.count < length c.self.inside.plan.now.changes = search (arith, c.requires, c.self.view_is) in
-    omega (arith, are.last, are.whole.order c.self.inside.count room, (current_by_change c.self.inside.plan.now c.self.inside.count c.change-change.result.now is).1)
+    omega (arith, are.last, are.whole.order c.self.inside.count room, (current_by_change c.self.inside.plan.now c.self.inside.count c.change-change.result is).1)
 
 pub apply-requires-clause-early : goal.apply-requires-clause-early
 apply-requires-clause-early c =
@@ -44,12 +44,12 @@ apply-requires-clause-early c =
     let is = rw place at c.change-change.ensures in
     let are = c.self.invariant.0 in
     let room : c.self.inside.count + 1 ≤ length c.self.inside.plan.now.changes = search (arith, c.requires, c.self.view_is) in
-    omega (arith, are.whole.early (c.self.inside.count + 1) room, (current_by_change c.self.inside.plan.now c.self.inside.count c.change-change.result.now is).1)
+    omega (arith, are.whole.early (c.self.inside.count + 1) room, (current_by_change c.self.inside.plan.now c.self.inside.count c.change-change.result is).1)
 
 pub invariant_of-self : goal.invariant_of-self
 invariant_of-self c =
     let place : c.self.inside.count + 1 - 1 ≡ c.self.inside.count = omega arith in
     let is = rw place at c.change-change.ensures in
     let e = rw c.self.invariant.1 at c.apply.ensures in
-    let made : AreMade c.self.inside.plan.now c.change-change.result.now c.self.inside.clocks c.apply.new.self = record { room = e.room; counts = e.counts; clocks = e.clocks; whole = e.whole; told = e.told; current = e.current; last = e.last } in
-    (next_clocks c.self.inside.plan.now c.self.inside.clocks c.apply.new.self c.self.inside.count c.change-change.result.now c.self.invariant.0 is made, c.self.invariant.1)
+    let made : AreMade c.self.inside.plan.now c.change-change.result c.self.inside.clocks c.apply.new.self = record { room = e.room; counts = e.counts; clocks = e.clocks; whole = e.whole; told = e.told; current = e.current; last = e.last } in
+    (next_clocks c.self.inside.plan.now c.self.inside.clocks c.apply.new.self c.self.inside.count c.change-change.result c.self.invariant.0 is made, c.self.invariant.1)

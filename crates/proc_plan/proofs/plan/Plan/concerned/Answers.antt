@@ -1,11 +1,10 @@
-use Rattle.std.proofs.Common.{◌≡◌, ◌∷◌, [], refl, ◌-◌}
-use Rattle.proc_plan.specs.Plans.{AreConcerned}
+use Rattle.std.proofs.Common.{◌∷◌, [], refl, ◌-◌}
 use Rattle.proc_plan.proofs.PlanReads.{others_aside, same_change}
 use Rattle.proc_plan.proofs.plan.Plan.concerned.Goals as goal
 
 pub returns-clause-slots : goal.returns-clause-slots
 returns-clause-slots c = λ change is.
-    let same = same_change c.args.self.now (c.args.k - 1) c.change-change.result.now change c.change-change.ensures is in
+    let same = same_change c.args.self.now (c.args.k - 1) c.change-change.result change c.change-change.ensures is in
     rw (c.part_slot.ensures, c.part_slot-2.ensures, c.current_slot.ensures, c.current_slot-2.ensures, c.current_before.ensures, same) refl
 
 pub returns-clause-aside : goal.returns-clause-aside

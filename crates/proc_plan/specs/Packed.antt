@@ -1,0 +1,21 @@
+-- How a change is kept in few bytes.
+use Rattle.std.specs.Prelude.{ℕ, Bool, if◌then◌else◌, Option, None, Some}
+use Rattle.psi_base.specs.declared.event.Slot.{Slot}
+use Rattle.psi_laws.specs.declared.changes.Counts.{Counts}
+use Rattle.proc_plan.specs.declared.changes.Marks.{Marks}
+
+-- the count that a mark stands for: 1 for a task that counts there, and 0 for none
+abbrev pub count_by : Bool → ℕ
+count_by mark = if mark then 1 else 0
+
+-- the counts of one task at most, by their marks
+abbrev pub counts_by : Marks → Counts
+counts_by marks = record { io = count_by marks.io; stalled = count_by marks.stalled; running = count_by marks.running; stalled_running = count_by marks.stalled_running }
+
+-- one side of a change, where it has that side
+abbrev pub side_by : Bool → Slot → Marks → Option (Slot × Counts)
+side_by there slot marks = if there then Some (slot, counts_by marks) else None
+
+-- the running task that a change shows, where one runs
+abbrev pub current_by : Bool → Slot → Bool → Option (Slot × Bool)
+current_by runs slot stalled = if runs then Some (slot, stalled) else None
