@@ -1,6 +1,6 @@
 //! The table of tasks.
 ghost use Rattle.std.specs.Prelude.{◌≡◌, ◌<◌, ◌≤◌, IfNone, IfOk, OnErr, OnOk, MatchResult, None, length};
-ghost use Rattle.psi_spec.specs.World.{after_event, first_world};
+ghost use Rattle.psi_spec.specs.World.{after_event, first_world, running_on, task_of, task_part};
 ghost use Rattle.psi_laws.specs.Touch.{AllTouched, HasSlotsBelow, IsOfOne, IsTouch, before};
 ghost use Rattle.psi_spec.specs.Refusal.{cause_of};
 ghost use Rattle.psi_laws.specs.Legal.{IsLegalWorld};
@@ -16,7 +16,7 @@ use crate::running::{Running, running_at};
 use crate::task_map::TaskMap;
 use crate::touch::touch_of;
 use group_tree::Tree;
-use psi_base::{Act, Cause, Event, Fault, NoMemory, Ns};
+use psi_base::{Act, Cause, Cpu, Event, Fault, NoMemory, Ns, Pid};
 use psi_laws::Touch;
 use psi_spec::Task;
 use std::alloc::Global;
@@ -122,6 +122,24 @@ impl Table {
         ensures { result ≡ self.world.groups }
     {
         self.tree
+    }
+
+    /// The live task with a number.
+    pub fn task(&self, pid: Pid) -> Option<Task>
+        ensures { result ≡ task_of self.now.world.tasks pid.0 }
+    {
+        self.tasks.get(pid.0)
+    }
+
+    /// The task that runs on a processor, or none where it idles.
+    #[tactic(auto, using(crate::proofs::Index::running_told))]
+    pub fn running(&self, cpu: Cpu) -> Option<Task>
+        ensures { result ≡ task_part (running_on self.now.world.tasks cpu.0) }
+    {
+        match running_at(&self.running, cpu.0) {
+            Some((_, task)) => Some(task),
+            None => None,
+        }
     }
 
     /// The one task whose counts an act changes, as it is before the act.
