@@ -93,6 +93,7 @@ impl Buffer {
     }
 
     /// The bytes that it holds.
+    #[inline(always)]
     pub(crate) fn held(&self) -> &[u8]
         ensures held { result.now ≡ self.now }
         ensures room { length self.now ≤ ROOM }
@@ -101,6 +102,7 @@ impl Buffer {
     }
 
     /// Hands out so many bytes, and lets the one behind them go.
+    #[inline(always)]
     pub(crate) fn take_line(&mut self, count: usize) -> &[u8]
         requires { count < length self.old }
         ensures bytes { result.now ≡ take count self.old }

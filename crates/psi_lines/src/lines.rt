@@ -227,6 +227,32 @@ impl Lines {
         Ok(Some(self.held.take_line(count)))
     }
 
+    /// The bytes that were read and not handed out. It reads nothing.
+    #[inline(always)]
+    pub fn held(&self) -> &[u8]
+        ensures { result.now ≡ self.now.held }
+    {
+        self.held.held()
+    }
+
+    /// Hands out the line at the front of the bytes that it holds, which has so many bytes before its newline. It reads
+    /// nothing, and the caller has seen the line in [`Lines::held`].
+    #[inline(always)]
+    pub fn pass(&mut self, count: usize)
+        requires number { self.old.number < 2 ^ 32 }
+        requires inside { count < length self.old.held }
+        requires short { count ≤ 512 }
+        ensures { self.new ≡ record {
+          name = self.old.name;
+          number = self.old.number + 1;
+          held = drop (count + 1) self.old.held;
+          at = self.old.at;
+        } }
+    {
+        self.number += 1;
+        self.held.take_line(count);
+    }
+
     /// Whether nothing is left behind the lines that were handed out. Where bytes are held, that is known with no
     /// read; else it takes exactly one. No byte is handed out.
     pub fn is_at_end<S: Shelf>(&mut self, shelf: &mut S) -> Result<bool, LineFault>

@@ -1,14 +1,17 @@
 //! The lines of a trace: reading headers and events, and writing events.
 //!
 //! A line is given without its newline. Its parts stand between single spaces, numbers are decimal without leading
-//! zeros, and each event has one spelling: what is read and written again has the same bytes.
+//! zeros, and each event has one spelling: what is read and written again has the same bytes. [`front_event`] finds the
+//! event of a common line in front of bytes, its newline among them, where it stands whole there.
 #![tactic(auto)]
 
 mod field;
+mod front;
 mod header;
 mod read;
 mod write;
 
+pub use front::front_event;
 pub use header::read_header;
 pub use read::read_event;
 pub use write::write_event;

@@ -4,4 +4,6 @@
 #[cfg(test)]
 mod events;
 #[cfg(test)]
+mod fronts;
+#[cfg(test)]
 mod headers;

@@ -1,0 +1,166 @@
+-- Lines at the front of bytes, field by field.
+use Rattle.std.proofs.Common.{◌≡◌, ℕ, ◌+◌, ◌-◌, ◌*◌, ◌^◌, ◌<◌, ◌≤◌, List, [], ◌∷◌, ◌++◌, length, take, drop, get_or, suc, refl, sym, ap, ◌∙◌, arith, true, take-append-drop, append_assoc}
+use Rattle.std.specs.Prelude.{Option, IfSome, decimal, codes}
+use Rattle.std.specs.Str.{all_ascii_digits, bytes_eq}
+use Rattle.std.proofs.lemmas.List.{take_more, drop_more, drop_at, length-take-le, length-append, get_or-take}
+use Rattle.std.proofs.lemmas.Slice.Eq.{bytes_eq-Decides}
+use Rattle.std.proofs.lemmas.Fmt.{decimal_digit, decimal-digits_value}
+use Rattle.std.proofs.Math.Nat.{pow-suc, pow-le-pow_right}
+use Rattle.psi_base.specs.Number.{value_after}
+use Rattle.psi_base.specs.declared.event.Act.{Act}
+use Rattle.psi_base.specs.declared.event.Act.TheVariants as act
+use Rattle.psi_base.specs.declared.event.Cpu.{Cpu}
+use Rattle.psi_base.specs.declared.event.Event.{Event}
+use Rattle.psi_base.specs.declared.event.How.{How}
+use Rattle.psi_base.specs.declared.event.Pid.{Pid}
+use Rattle.psi_base.proofs.NumberLaws.{numerals}
+use Rattle.psi_spec.specs.Fields.{IsPid, how_word, next_word}
+use Rattle.psi_spec.specs.Grammar.{joined, spelling}
+use Rattle.psi_spec.proofs.GrammarReads.{spelled_in_line}
+use Rattle.psi_trace.specs.Front.{AreDigits, BeginsWithEvent, HasInFront}
+
+-- ---- digits
+
+all_digits-snoc : (ds : List ℕ) (d : ℕ) → all_ascii_digits ds ≡ true → 48 ≤ d → d ≤ 57 → all_ascii_digits (ds ++ d ∷ []) ≡ true
+all_digits-snoc [] d all low high = grind (arith, low, high)
+all_digits-snoc (e ∷ ds) d all low high = grind (arith, all, all_digits-snoc ds d)
+
+value_after-snoc : (n : ℕ) (ds : List ℕ) (d : ℕ) → value_after n (ds ++ d ∷ []) ≡ value_after n ds * 10 + (d - 48)
+value_after-snoc n [] d = refl
+value_after-snoc n (e ∷ ds) d = value_after-snoc (n * 10 + (e - 48)) ds d
+
+pub no_digits : (bytes : List ℕ) → AreDigits bytes 0 0
+no_digits bytes = record {
+  inside = omega arith;
+  digits = refl;
+  value = refl;
+}
+
+pub digit_more : (bytes : List ℕ) (count number : ℕ) → AreDigits bytes number count → count < length bytes → 48 ≤ get_or bytes count 0 → get_or bytes count 0 ≤ 57 → AreDigits bytes (number * 10 + (get_or bytes count 0 - 48)) (count + 1)
+digit_more bytes count number are inside low high =
+    let more = take_more bytes count 0 inside in
+    record {
+      inside = omega (arith, inside);
+      digits = rw more (all_digits-snoc (take count bytes) (get_or bytes count 0) are.digits low high);
+      value = rw more (value_after-snoc 0 (take count bytes) (get_or bytes count 0) ∙ ap (λ n. n * 10 + (get_or bytes count 0 - 48)) are.value);
+    }
+
+-- ---- digits of which there are so many
+
+pow_more : (count : ℕ) → 10 ^ (count + 1) ≡ 10 ^ count * 10
+pow_more count = let next : count + 1 ≡ suc count = omega arith in ap (λ n. 10 ^ n) next ∙ pow-suc 10 count
+
+pub below_more : (count number digit : ℕ) → number < 10 ^ count → digit ≤ 57 → number * 10 + (digit - 48) < 10 ^ (count + 1)
+below_more count number digit below high = let step = pow_more count in omega (arith, below, high, step)
+
+-- fewer than 19 have room for one more
+pub has_room : (count number : ℕ) → number < 10 ^ count → count < 19 → number < 10 ^ 18
+has_room count number below few = let most = pow-le-pow_right {n = 10} (omega arith) {i = count} {j = 18} (omega (arith, few)) in omega (arith, below, most)
+
+-- ---- a number and the byte behind it
+
+spelled_digits : (bytes : List ℕ) (number count : ℕ) → AreDigits bytes number count → 0 < count → (get_or bytes 0 0 ≡ 48 → count ≡ 1) → number < 2 ^ 64 → take count bytes ≡ decimal number
+spelled_digits bytes number count are some first fits =
+    let long : length (take count bytes) ≡ count = length-take-le count bytes are.inside in
+    let front : get_or (take count bytes) 0 0 ≡ get_or bytes 0 0 = get_or-take count bytes 0 0 some in
+    let same = decimal-digits_value numerals (take count bytes) are.digits (omega (arith, some, long)) (λ zero. long ∙ first (sym front ∙ zero)) (omega (arith, are.value, fits)) in
+    sym same ∙ ap decimal are.value
+
+pub number_front : (bytes : List ℕ) (number count end : ℕ) → AreDigits bytes number count → 0 < count → (get_or bytes 0 0 ≡ 48 → count ≡ 1) → number < 2 ^ 64 → count < length bytes → get_or bytes count 0 ≡ end → bytes ≡ decimal number ++ end ∷ drop (count + 1) bytes
+number_front bytes number count end are some first fits inside is =
+    sym (take-append-drop count bytes) ∙ ap (λ xs. xs ++ drop count bytes) (spelled_digits bytes number count are some first fits)
+    ∙ ap (λ xs. decimal number ++ xs) (drop_more bytes count 0 inside ∙ ap (λ byte. byte ∷ drop (count + 1) bytes) is)
+
+-- 0 before a byte
+pub zero_front : (bytes rest : List ℕ) (number end : ℕ) → number ≡ 0 → bytes ≡ decimal number ++ end ∷ rest → bytes ≡ 48 ∷ end ∷ rest
+zero_front bytes rest number end zero is = is ∙ ap (λ n. decimal n ++ end ∷ rest) zero ∙ ap (λ ds. ds ++ end ∷ rest) (decimal_digit 0 (omega arith))
+
+-- ---- a verb
+
+-- the time, and a verb that was found behind it
+pub verb_front : (bytes rest front fields verb : List ℕ) (at : ℕ) → bytes ≡ decimal at ++ 32 ∷ rest → front ≡ verb → bytes_eq (take (length front) rest) front ≡ true → fields ≡ drop (length front) rest → bytes ≡ decimal at ++ 32 ∷ (verb ++ fields)
+verb_front bytes rest front fields verb at is same starts behind =
+    let whole : rest ≡ verb ++ fields =
+    sym (take-append-drop (length front) rest) ∙ ap (λ xs. xs ++ drop (length front) rest) ((bytes_eq-Decides (take (length front) rest) front).0 starts) ∙ ap (λ xs. front ++ xs) (sym behind) ∙ ap (λ xs. xs ++ fields) same in
+    is ∙ ap (λ xs. decimal at ++ 32 ∷ xs) whole
+
+-- ---- fields
+
+joined-more : (word next : List ℕ) (words : List (List ℕ)) (rest : List ℕ) → joined (word ∷ next ∷ words) ++ rest ≡ word ++ 32 ∷ (joined (next ∷ words) ++ rest)
+joined-more word next words rest = append_assoc word (32 ∷ joined (next ∷ words)) rest
+
+-- a line of a verb and one, two or three fields
+pub one_field : (time verb first fields rest : List ℕ) → fields ≡ first ++ 10 ∷ rest → time ++ 32 ∷ (verb ++ 32 ∷ fields) ≡ joined (time ∷ verb ∷ first ∷ []) ++ 10 ∷ rest
+one_field time verb first fields rest is =
+    ap (λ xs. time ++ 32 ∷ (verb ++ 32 ∷ xs)) is
+    ∙ sym (joined-more time verb (first ∷ []) (10 ∷ rest) ∙ ap (λ xs. time ++ 32 ∷ xs) (joined-more verb first [] (10 ∷ rest)))
+
+pub two_fields : (time verb first second fields more rest : List ℕ) → fields ≡ first ++ 32 ∷ more → more ≡ second ++ 10 ∷ rest → time ++ 32 ∷ (verb ++ 32 ∷ fields) ≡ joined (time ∷ verb ∷ first ∷ second ∷ []) ++ 10 ∷ rest
+two_fields time verb first second fields more rest is then =
+    let fields_are : fields ≡ joined (first ∷ second ∷ []) ++ 10 ∷ rest = is ∙ ap (λ xs. first ++ 32 ∷ xs) then ∙ sym (joined-more first second [] (10 ∷ rest)) in
+    ap (λ xs. time ++ 32 ∷ (verb ++ 32 ∷ xs)) fields_are
+    ∙ sym (joined-more time verb (first ∷ second ∷ []) (10 ∷ rest) ∙ ap (λ xs. time ++ 32 ∷ xs) (joined-more verb first (second ∷ []) (10 ∷ rest)))
+
+pub three_fields : (time verb first second third fields more last rest : List ℕ) → fields ≡ first ++ 32 ∷ more → more ≡ second ++ 32 ∷ last → last ≡ third ++ 10 ∷ rest
+    → time ++ 32 ∷ (verb ++ 32 ∷ fields) ≡ joined (time ∷ verb ∷ first ∷ second ∷ third ∷ []) ++ 10 ∷ rest
+three_fields time verb first second third fields more last rest is then ends =
+    let more_is : more ≡ joined (second ∷ third ∷ []) ++ 10 ∷ rest = then ∙ ap (λ xs. second ++ 32 ∷ xs) ends ∙ sym (joined-more second third [] (10 ∷ rest)) in
+    let fields_are : fields ≡ joined (first ∷ second ∷ third ∷ []) ++ 10 ∷ rest = is ∙ ap (λ xs. first ++ 32 ∷ xs) more_is ∙ sym (joined-more first second (third ∷ []) (10 ∷ rest)) in
+    ap (λ xs. time ++ 32 ∷ (verb ++ 32 ∷ xs)) fields_are
+    ∙ sym (joined-more time verb (first ∷ second ∷ third ∷ []) (10 ∷ rest) ∙ ap (λ xs. time ++ 32 ∷ xs) (joined-more verb first (second ∷ third ∷ []) (10 ∷ rest)))
+
+-- ---- the events of these lines
+
+abbrev event_at : ℕ → Act → Event
+event_at at what = record { at = at; act = what }
+
+pub switch_front : (at : ℕ) (cpu : Cpu) (next : Option Pid) (how : How) (fields more last rest : List ℕ) → at < 2 ^ 64 → cpu.0 < 2 ^ 32 → IfSome next IsPid → fields ≡ decimal cpu.0 ++ 32 ∷ more → more ≡ next_word next ++ 32 ∷ last → last ≡ how_word how ++ 10 ∷ rest
+    → BeginsWithEvent (decimal at ++ (codes " switch " ++ fields)) (event_at at (act.Switch cpu next how)) rest
+unfolding spelling
+switch_front at cpu next how fields more last rest fits cpu_fits is_next is then ends = record {
+  fits = record { at = fits; act = (cpu_fits, is_next) };
+  whole = three_fields (decimal at) (codes "switch") (decimal cpu.0) (next_word next) (how_word how) fields more last rest is then ends;
+}
+
+pub wake_front : (at : ℕ) (pid : Pid) (cpu : Cpu) (fields more rest : List ℕ) → at < 2 ^ 64 → IsPid pid → cpu.0 < 2 ^ 32 → fields ≡ decimal pid.0 ++ 32 ∷ more → more ≡ decimal cpu.0 ++ 10 ∷ rest
+    → BeginsWithEvent (decimal at ++ (codes " wake " ++ fields)) (event_at at (act.Wake pid cpu)) rest
+unfolding spelling
+wake_front at pid cpu fields more rest fits is_pid cpu_fits is then = record {
+  fits = record { at = fits; act = (is_pid, cpu_fits) };
+  whole = two_fields (decimal at) (codes "wake") (decimal pid.0) (decimal cpu.0) fields more rest is then;
+}
+
+pub migrate_front : (at : ℕ) (pid : Pid) (cpu : Cpu) (fields more rest : List ℕ) → at < 2 ^ 64 → IsPid pid → cpu.0 < 2 ^ 32 → fields ≡ decimal pid.0 ++ 32 ∷ more → more ≡ decimal cpu.0 ++ 10 ∷ rest
+    → BeginsWithEvent (decimal at ++ (codes " migrate " ++ fields)) (event_at at (act.Migrate pid cpu)) rest
+unfolding spelling
+migrate_front at pid cpu fields more rest fits is_pid cpu_fits is then = record {
+  fits = record { at = fits; act = (is_pid, cpu_fits) };
+  whole = two_fields (decimal at) (codes "migrate") (decimal pid.0) (decimal cpu.0) fields more rest is then;
+}
+
+pub stall_front : (at : ℕ) (pid : Pid) (fields rest : List ℕ) → at < 2 ^ 64 → IsPid pid → fields ≡ decimal pid.0 ++ 10 ∷ rest → BeginsWithEvent (decimal at ++ (codes " stall " ++ fields)) (event_at at (act.Stall pid)) rest
+unfolding spelling
+stall_front at pid fields rest fits is_pid is = record {
+  fits = record { at = fits; act = is_pid };
+  whole = one_field (decimal at) (codes "stall") (decimal pid.0) fields rest is;
+}
+
+pub unstall_front : (at : ℕ) (pid : Pid) (fields rest : List ℕ) → at < 2 ^ 64 → IsPid pid → fields ≡ decimal pid.0 ++ 10 ∷ rest → BeginsWithEvent (decimal at ++ (codes " unstall " ++ fields)) (event_at at (act.Unstall pid)) rest
+unfolding spelling
+unstall_front at pid fields rest fits is_pid is = record {
+  fits = record { at = fits; act = is_pid };
+  whole = one_field (decimal at) (codes "unstall") (decimal pid.0) fields rest is;
+}
+
+-- how many bytes the line of an event has
+pub counted_front : (bytes : List ℕ) (event : Event) (rest : List ℕ) → BeginsWithEvent bytes event rest → HasInFront bytes event (length bytes - length rest - 1)
+counted_front bytes event rest begins =
+    let text = spelling event in
+    let long = ap length begins.whole ∙ length-append text (10 ∷ rest) in
+    let count : length bytes - length rest - 1 ≡ length text = omega (arith, long) in
+    let behind : drop (length text + 1) bytes ≡ rest = ap (drop (length text + 1)) (begins.whole ∙ sym (append_assoc text (10 ∷ []) rest)) ∙ drop_at (text ++ 10 ∷ []) rest (length text + 1) (omega (arith, length-append text (10 ∷ []))) in
+    rw count (record {
+      begins = rw behind begins;
+      inside = omega (arith, long);
+      short = (spelled_in_line event begins.fits).short;
+    })
