@@ -1,0 +1,121 @@
+-- The events behind those that make groups and tasks: each may be spelled and is legal in its turn, and the end is the
+-- last.
+use Rattle.std.proofs.Common.{◌≡◌, ℕ, zero, suc, ◌+◌, ◌<◌, ◌≤◌, List, [], ◌∷◌, ◌++◌, refl, ap, ◌∙◌, sym, arith, append_assoc, true, false, None, length}
+use Rattle.std.proofs.Math.Nat.{mod-lt}
+use Rattle.psi_base.specs.declared.event.Act.TheVariants as act
+use Rattle.psi_base.specs.declared.event.Event.{Event}
+use Rattle.psi_spec.specs.Grammar.{Fits}
+use Rattle.psi_spec.specs.Refusal.{AreLegal, cause_of}
+use Rattle.psi_spec.specs.Trace.{AllFit, EndsLast}
+use Rattle.psi_spec.specs.World.{Limits, World, after_event, after_from}
+use Rattle.run_spec.specs.declared.command.Shape.{Shape}
+use Rattle.run_spec.specs.Generated.{drawn, events_from, next_drawn, next_event, next_state}
+use Rattle.run_spec.specs.Words.{IsShape}
+use Rattle.task_table.specs.Causes.{takes_memory}
+use Rattle.task_table.proofs.CauseLaws.{first_of_act}
+use Rattle.trace_gen.specs.Generating.{AreMade, IsGenerating, is_made, limits_in}
+use Rattle.trace_gen.proofs.Stepping.{next_step}
+
+-- ---- events that go on from a world
+
+-- events may be spelled, are legal in their turn, and have acts of generated traces
+pub record Go (limits : Limits) (w : World) (events : List Event) : Type 0 where
+  pub fit : AllFit events
+  pub legal : AreLegal limits w events
+  pub made : AreMade events
+
+-- one event, and those behind it
+pub go_then : (limits : Limits) (w : World) (event : Event) (events : List Event) → Fits event → cause_of limits w event ≡ None → is_made event.act ≡ true → Go limits (after_event w event) events → Go limits w (event ∷ events)
+go_then limits w event events fits legal made rest = record {
+  fit = (fits, rest.fit);
+  legal = (legal, rest.legal);
+  made = (made, rest.made);
+}
+
+-- events, and those behind them
+pub go_on : (limits : Limits) (w : World) (xs ys : List Event) → Go limits w xs → Go limits (after_from w xs) ys → Go limits w (xs ++ ys)
+go_on limits w [] ys front rest = rest
+go_on limits w (x ∷ xs) ys front rest =
+    let inner : Go limits (after_event w x) xs = record { fit = front.fit.1; legal = front.legal.1; made = front.made.1 } in
+    go_then limits w x (xs ++ ys) front.fit.0 front.legal.0 front.made.0 (go_on limits (after_event w x) xs ys inner rest)
+
+-- the end stays last behind other events
+pub ends_behind : (xs ys : List Event) → EndsLast ys → EndsLast (xs ++ ys)
+ends_behind xs ys ends = (xs ++ ends.0, ends.1, ap (λ zs. xs ++ zs) ends.2 ∙ sym (append_assoc xs ends.0 (record { at = ends.1; act = act.End } ∷ [])))
+
+-- ---- one event
+
+-- the event that comes next may be spelled and is legal, and all goes on behind it
+pub record IsNext (shape : Shape) (count : ℕ) (w : World) (event : Event) : Type 0 where
+  pub fits : Fits event
+  pub legal : cause_of (limits_in shape) w event ≡ None
+  pub made : is_made event.act ≡ true
+  pub light : takes_memory event.act ≡ false
+  pub later : IsGenerating shape (count + 1) (after_event w event)
+
+pub next_is : (shape : Shape) → IsShape shape → (count : ℕ) → count < shape.events → (w : World) → IsGenerating shape count w → (state : ℕ) → IsNext shape count w (next_event shape w state)
+next_is shape shaped count more w so state =
+    let step = next_step shape w.tasks shaped so.tasks state in
+    let wait : drawn (next_state state) 2000000 < 2000000 = mod-lt _ (omega arith) in
+    let few = shaped.events in
+    let processors = shaped.cpus.1 in
+    let groups = shaped.groups in
+    let last = so.last in
+    let lines = so.lines in
+    let forward : w.last ≤ w.last + drawn (next_state state) 2000000 = omega arith in
+    let early : w.last + drawn (next_state state) 2000000 ≤ (limits_in shape).latest = omega (arith, last, wait, few, more) in
+    let room : w.lines < 4000000 = omega (arith, lines, few, more, processors, groups) in
+    record {
+      fits = record { at = omega (arith, last, wait, few, more); act = step.fits };
+      legal = first_of_act (limits_in shape) w (next_event shape w state) so.going forward early room ∙ step.legal w.groups w.triggers;
+      made = step.made;
+      light = step.light;
+      later = record {
+        tasks = step.live w.groups;
+        lines = omega (arith, lines);
+        last = omega (arith, last, wait);
+        going = rw (so.going, step.goes) refl;
+      };
+    }
+
+-- the end is legal
+pub end_goes : (shape : Shape) → IsShape shape → (count : ℕ) → count ≤ shape.events → (w : World) → IsGenerating shape count w → Go (limits_in shape) w (record { at = w.last; act = act.End } ∷ [])
+end_goes shape shaped count all w so =
+    let few = shaped.events in
+    let processors = shaped.cpus.1 in
+    let groups = shaped.groups in
+    let last = so.last in
+    let lines = so.lines in
+    let early : w.last ≤ (limits_in shape).latest = omega (arith, last, few, all) in
+    let room : w.lines < 4000000 = omega (arith, lines, few, all, processors, groups) in
+    record {
+      fit = (record { at = omega (arith, last, few, all); act = tt }, tt);
+      legal = (first_of_act (limits_in shape) w (record { at = w.last; act = act.End }) so.going (omega arith) early room, tt);
+      made = (refl, tt);
+    }
+
+-- ---- all of them
+
+-- so many events from a world on, and the end
+pub events_go : (shape : Shape) → IsShape shape → (left count : ℕ) → count + left ≡ shape.events → (w : World) → IsGenerating shape count w → (state : ℕ) → Go (limits_in shape) w (events_from shape left w state)
+unfolding events_from
+events_go shape shaped zero count all w so state = end_goes shape shaped count (omega (arith, all)) w so
+events_go shape shaped (suc left) count all w so state =
+    let next = next_is shape shaped count (omega (arith, all)) w so state in
+    go_then (limits_in shape) w (next_event shape w state) _ next.fits next.legal next.made
+    (events_go shape shaped left (count + 1) (omega (arith, all)) (after_event w (next_event shape w state)) next.later (next_drawn shape w.tasks state).state)
+
+-- the end is the last of them
+pub events_end : (shape : Shape) (left : ℕ) (w : World) (state : ℕ) → EndsLast (events_from shape left w state)
+unfolding events_from
+events_end shape zero w state = ([], w.last, refl)
+events_end shape (suc left) w state =
+    let rest = events_end shape left (after_event w (next_event shape w state)) (next_drawn shape w.tasks state).state in
+    (next_event shape w state ∷ rest.0, rest.1, ap (λ es. next_event shape w state ∷ es) rest.2)
+
+-- how many they are
+pub events_count : (shape : Shape) (left : ℕ) (w : World) (state : ℕ) → length (events_from shape left w state) ≡ left + 1
+unfolding events_from
+events_count shape zero w state = refl
+events_count shape (suc left) w state =
+    let rest = events_count shape left (after_event w (next_event shape w state)) (next_drawn shape w.tasks state).state in omega (arith, rest)

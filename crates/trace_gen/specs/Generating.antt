@@ -1,0 +1,66 @@
+-- What holds while a trace is generated, and the law of generated traces.
+use Rattle.std.specs.Prelude.{◌≡◌, ℕ, ◌+◌, ◌*◌, ◌≤◌, ◌<◌, List, [], ◌∷◌, length}
+use Rattle.std.specs.Prelude.{Bool, true, false, IfSome, IsSome}
+use Rattle.psi_base.specs.declared.event.Act.{Act}
+use Rattle.psi_base.specs.declared.event.Act.TheVariants as act
+use Rattle.psi_base.specs.declared.event.Event.{Event}
+use Rattle.psi_spec.specs.Trace.{IsTrace, limits_of}
+use Rattle.psi_spec.specs.World.{Limits, Tasks, World, task_of}
+use Rattle.run_spec.specs.declared.command.Shape.{Shape}
+use Rattle.run_spec.specs.Generated.{gen_text, generated, task_count}
+use Rattle.run_spec.specs.Outputs.{of_s}
+use Rattle.run_spec.specs.Words.{IsShape}
+
+-- how many events make the groups and tasks
+abbrev pub first_count : Shape → ℕ
+first_count shape = shape.groups + task_count shape
+
+-- how many events a generated trace has in all, the end among them
+abbrev pub event_count : Shape → ℕ
+event_count shape = first_count shape + shape.events + 1
+
+-- what a generated trace can name: its processors, and the moments that the default tick of 2 s allows
+abbrev pub limits_in : Shape → Limits
+limits_in shape = limits_of (of_s 2) shape.cpus
+
+-- ---- while a trace is generated
+
+-- each task of a shape lives, and each that lives is on a processor that there is
+pub record AreLive (shape : Shape) (tasks : Tasks) : Type 0 where
+  pub live : (pid : ℕ) → 1 ≤ pid → pid ≤ task_count shape → IsSome (task_of tasks pid)
+  pub within : (pid : ℕ) → IfSome (task_of tasks pid) (λ task. task.cpu.0 < shape.cpus)
+
+-- The world of a shape after so many events behind those that made its groups and tasks: all tasks live, each event was
+-- a line, none came 2 ms or more behind the one before, and none was the end.
+pub record IsGenerating (shape : Shape) (count : ℕ) (w : World) : Type 0 where
+  pub tasks : AreLive shape w.tasks
+  pub lines : w.lines ≡ first_count shape + count
+  pub last : w.last ≤ 2000000 * count
+  pub going : w.ended ≡ false
+
+-- an act is one of those that generated traces have
+abbrev pub is_made : Act → Bool
+is_made (act.Group path) = true
+is_made (act.Fork pid path cpu) = true
+is_made (act.Wake pid cpu) = true
+is_made (act.Switch cpu next how) = true
+is_made (act.Stall pid) = true
+is_made (act.Unstall pid) = true
+is_made act.End = true
+is_made _ = false
+
+-- each event has such an act
+abbrev pub AreMade : List Event → Type 0
+AreMade [] = Unit {0}
+AreMade (event ∷ events) = (is_made event.act ≡ true) × AreMade events
+
+-- ---- laws
+
+-- Each generated text is one of the generated trace, which is accepted at the default tick.
+abbrev pub GeneratedIsTrace : Type 0
+GeneratedIsTrace = (shape : Shape) → IsShape shape
+    → IsTrace (of_s 2) (gen_text shape) (generated shape)
+
+-- A generated trace has an event for each group and each task, as many more as were asked for, and the end.
+abbrev pub GeneratedCount : Type 0
+GeneratedCount = (shape : Shape) → length (generated shape).events ≡ event_count shape

@@ -1,0 +1,29 @@
+-- What a generator of a trace stands for: the events that are left.
+use Rattle.std.specs.Prelude.{◌≡◌, ℕ, ◌+◌, List, [], ◌++◌, Bool, if◌then◌else◌}
+use Rattle.psi_base.specs.declared.event.Act.{Act}
+use Rattle.psi_base.specs.declared.event.Event.{Event}
+use Rattle.psi_spec.specs.World.{World}
+use Rattle.run_spec.specs.declared.command.Shape.{Shape}
+use Rattle.run_spec.specs.Generated.{Drawn, events_from}
+use Rattle.run_spec.specs.Words.{IsShape}
+use Rattle.task_table.specs.Stands.{TableView}
+use Rattle.trace_gen.specs.Generating.{IsGenerating, limits_in}
+
+-- an act that was drawn, and the state behind it
+abbrev pub drawn_act : Act → ℕ → Drawn
+drawn_act a state = record { act = a; state = state }
+
+-- the events that are left: some of those that make groups and tasks, and unless the end was given, so many more from a
+-- world and a state on, and the end
+abbrev pub events_left : Shape → List Event → World → ℕ → ℕ → Bool → List Event
+events_left shape first w state left ended =
+    first ++ (if ended then [] else events_from shape left w state)
+
+-- What is true of each generator: its shape is in range, and its table has the limits of the shape and a world of it, in
+-- which so many events are left.
+pub record IsGenerator (shape : Shape) (table : TableView) (left : ℕ) : Type 0 where
+  pub shaped : IsShape shape
+  pub limits : table.limits ≡ limits_in shape
+  pub count : ℕ
+  pub all : count + left ≡ shape.events
+  pub world : IsGenerating shape count table.world

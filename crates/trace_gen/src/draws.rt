@@ -1,0 +1,41 @@
+//! Random numbers, the same at each time.
+ghost use Rattle.std.specs.Prelude.{◌≡◌, ℕ, ◌<◌};
+ghost use Rattle.run_spec.specs.Generated.{drawn, next_state};
+
+use std::marker::Model;
+
+/// The state behind random numbers, which contracts see as a number: a linear congruence of 64 bits, with the constants
+/// of Knuth's MMIX.
+#[derive(Drop)]
+pub(crate) struct Draws {
+    state: u64,
+}
+
+impl Model for Draws {
+    ghost Value = { ℕ };
+
+    ghost view = { λ d. d.state };
+}
+
+impl Draws {
+    /// Random numbers that begin at a state.
+    pub(crate) fn new(seed: u64) -> Draws
+        ensures { result ≡ seed }
+    {
+        Draws { state: seed }
+    }
+
+    /// The next number below a bound.
+    pub(crate) fn draw(&mut self, bound: u32) -> u32
+        requires { 0 < bound }
+        ensures state { self.new ≡ next_state self.old }
+        ensures number { result ≡ drawn (next_state self.old) bound }
+        ensures below { result < bound }
+    {
+        self.state = self
+            .state
+            .wrapping_mul(6_364_136_223_846_793_005)
+            .wrapping_add(1_442_695_040_888_963_407);
+        (self.state >> 33) as u32 % bound
+    }
+}

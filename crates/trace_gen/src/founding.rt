@@ -1,0 +1,142 @@
+//! The events that make groups and tasks.
+ghost use Rattle.std.specs.Prelude.{◌≡◌, ◌≤◌, ◌<◌, ◌++◌, ◌∷◌, [], IfOk, OnOk, map};
+ghost use Rattle.std.specs.List.{range_with_len};
+ghost use Rattle.psi_spec.specs.World.{after, after_event};
+ghost use Rattle.run_spec.specs.Generated.{at_start, first_events, home_of, made_group, made_task};
+ghost use Rattle.run_spec.specs.Generated.{numbered_path, task_count};
+ghost use Rattle.run_spec.specs.Words.{IsShape};
+
+use psi_base::{Act, Cpu, Event, NoMemory, Path, Pid};
+use run_spec::Shape;
+use std::alloc::Global;
+use std::collections::VecDeque;
+use task_table::Table;
+
+/// How many tasks there are for each processor.
+pub(crate) const TASKS_EACH: u32 = 4;
+
+/// The path of a group, by its number from 0.
+#[tactic(auto, using(crate::proofs::Naming::numbered_is_path))]
+fn numbered_path(alloc: Global, number: u32) -> Result<Path, NoMemory>
+    ensures { IfOk result (λ path. path ≡ numbered_path number) }
+{
+    let mut buffer = itoa::Buffer::new();
+    let mut bytes: Vec<u8> = Vec::from_slice(alloc, b"/g")?;
+    bytes.extend_from_slice(buffer.format(number).as_bytes())?;
+    match Path::read(alloc, &bytes)? {
+        Some(path) => Ok(path),
+        None => unreachable!(),
+    }
+}
+
+/// The path of a task's group.
+fn home_of(alloc: Global, shape: Shape, pid: u32) -> Result<Path, NoMemory>
+    requires { 1 ≤ pid }
+    ensures { IfOk result (λ path. path ≡ home_of shape pid) }
+{
+    if shape.groups == 0 {
+        Path::root(alloc)
+    } else {
+        numbered_path(alloc, (pid - 1) % shape.groups)
+    }
+}
+
+/// The event that makes a group.
+fn made_group(alloc: Global, number: u32) -> Result<Event, NoMemory>
+    ensures { IfOk result (λ event. event ≡ at_start (made_group number)) }
+{
+    let path = numbered_path(alloc, number)?;
+    Ok(Event {
+        at: 0,
+        act: Act::Group { path },
+    })
+}
+
+/// The event that makes a task.
+fn made_task(alloc: Global, shape: Shape, pid: u32) -> Result<Event, NoMemory>
+    requires { 1 ≤ pid }
+    ensures { IfOk result (λ event. event ≡ at_start (made_task shape pid)) }
+{
+    let path = home_of(alloc, shape, pid)?;
+    Ok(Event {
+        at: 0,
+        act: Act::Fork {
+            pid: Pid(pid),
+            path,
+            cpu: Cpu((pid - 1) / TASKS_EACH),
+        },
+    })
+}
+
+/// Plays an event in a table whose world is that after others, and keeps it behind these. Where it fails there was no
+/// memory, since the events of a generated trace are legal.
+#[tactic(auto, using(crate::proofs::Drawing::one_after))]
+fn play(events: &mut VecDeque<Event>, table: &mut Table, event: Event) -> Result<(), NoMemory>
+    requires { table.old.world ≡ after events.old.items }
+    ensures items { OnOk result (events.new.items ≡ events.old.items ++ event ∷ []) }
+    ensures world { OnOk result (table.new.world ≡ after events.new.items) }
+    ensures limits { OnOk result (table.new.limits ≡ table.old.limits) }
+{
+    if table.play(&event).is_err() {
+        return Err(NoMemory);
+    }
+    events.push_back(event)?;
+    Ok(())
+}
+
+/// Makes so many groups.
+fn make_groups(
+    alloc: Global,
+    count: u32,
+    events: &mut VecDeque<Event>,
+    table: &mut Table,
+) -> Result<(), NoMemory>
+    requires world { table.old.world ≡ after events.old.items }
+    ensures items { OnOk result (events.new.items ≡ events.old.items
+        ++ map (λ number. at_start (made_group number)) (range_with_len 0 count)) }
+    ensures world { OnOk result (table.new.world ≡ after events.new.items) }
+    ensures limits { OnOk result (table.new.limits ≡ table.old.limits) }
+{
+    'groups: for number in 0..count {
+        play(events, table, made_group(alloc, number)?)?;
+    }
+    Ok(())
+}
+
+/// Makes all tasks of a shape.
+fn make_tasks(
+    alloc: Global,
+    shape: Shape,
+    events: &mut VecDeque<Event>,
+    table: &mut Table,
+) -> Result<(), NoMemory>
+    requires shaped { IsShape shape }
+    requires world { table.old.world ≡ after events.old.items }
+    ensures items { OnOk result (events.new.items ≡ events.old.items
+        ++ map (λ pid. at_start (made_task shape pid)) (range_with_len 1 (task_count shape))) }
+    ensures world { OnOk result (table.new.world ≡ after events.new.items) }
+    ensures limits { OnOk result (table.new.limits ≡ table.old.limits) }
+{
+    'tasks: for index in 0..TASKS_EACH * shape.cpus {
+        play(events, table, made_task(alloc, shape, index + 1)?)?;
+    }
+    Ok(())
+}
+
+/// The events that make all groups and tasks of a shape, in the order in which they are played in a new table.
+pub(crate) fn found(
+    alloc: Global,
+    shape: Shape,
+    table: &mut Table,
+) -> Result<VecDeque<Event>, NoMemory>
+    requires shaped { IsShape shape }
+    requires first { table.old.world ≡ after [] }
+    ensures items { IfOk result (λ events. events.items ≡ first_events shape) }
+    ensures world { OnOk result (table.new.world ≡ after (first_events shape)) }
+    ensures limits { OnOk result (table.new.limits ≡ table.old.limits) }
+{
+    let mut events = VecDeque::new(alloc);
+    make_groups(alloc, shape.groups, &mut events, table)?;
+    make_tasks(alloc, shape, &mut events, table)?;
+    Ok(events)
+}

@@ -1,0 +1,225 @@
+//! The events of a generated trace, one by one.
+ghost use Rattle.std.specs.Prelude.{◌≡◌, ◌<◌, ◌≤◌, ◌^◌, IfOk, MatchOption, [], ◌∷◌};
+ghost use Rattle.run_spec.specs.Generated.{events_from, generated, next_drawn, next_event, next_of, running_act};
+ghost use Rattle.run_spec.specs.Generated.{drawn, next_state, stall_turn, started, way_of, woken};
+ghost use Rattle.run_spec.specs.Words.{IsShape};
+ghost use Rattle.trace_gen.specs.Left.{IsGenerator, drawn_act};
+
+use crate::draws::Draws;
+use crate::founding::{TASKS_EACH, found};
+use psi_base::{Act, Cpu, Event, How, NoMemory, Pid};
+use psi_spec::{Mode, Task};
+use run_spec::Shape;
+use std::alloc::Global;
+use std::collections::VecDeque;
+use std::marker::Model;
+use task_table::Table;
+
+/// The time between two events is below this (ns).
+const LONGEST_WAIT: u32 = 2_000_000;
+
+/// The last moment (ns) that the default tick of 2 s allows, a million ticks.
+const LATEST: u64 = 2_000_000_000_000_000;
+
+/// The events of a generated trace, which contracts see as the list of those that are left.
+#[derive(Drop)]
+pub struct Generator {
+    shape: Shape,
+    /// What is left of the events that make the groups and tasks.
+    first: VecDeque<Event>,
+    /// The world after all events that were given, and those in `first`.
+    table: Table,
+    draws: Draws,
+    /// How many events are left behind those in `first`, without the end.
+    left: u32,
+    /// The end was given.
+    ended: bool,
+}
+
+impl Model for Generator {
+    ghost use Rattle.std.specs.Prelude.{List};
+    ghost use Rattle.std.specs.Coded.{coded_list};
+    ghost use Rattle.psi_base.specs.declared.event.Event.{Event};
+    ghost use Rattle.psi_base.specs.contracts.event.Event as event_row;
+    ghost use Rattle.trace_gen.specs.Left.{IsGenerator, events_left};
+
+    ghost Value = { List Event };
+
+    ghost coded = { coded_list event_row.the_row.coded };
+
+    ghost view = { λ g. events_left g.shape g.first.items g.table.world g.draws g.left g.ended };
+
+    ghost invariant = { λ g. IsGenerator g.shape g.table g.left };
+}
+
+impl Generator {
+    /// All events of a shape: seed, processors, groups and the number of events are in range. It takes all memory that
+    /// they need.
+    pub fn make(alloc: Global, shape: Shape) -> Result<Generator, NoMemory>
+        requires { IsShape shape }
+        ensures { IfOk result (λ g. g ≡ (generated shape).events) }
+    {
+        let mut table = Table::new(alloc, shape.cpus, LATEST)?;
+        let first = found(alloc, shape, &mut table)?;
+        Ok(Generator {
+            shape,
+            first,
+            table,
+            draws: Draws::new(shape.seed),
+            left: shape.events,
+            ended: false,
+        })
+    }
+
+    /// The next event, or none behind the end. It takes no memory.
+    pub fn next(&mut self) -> Option<Event>
+        ensures { MatchOption result ((self.old ≡ []) × (self.new ≡ []))
+            (λ event. self.old ≡ event ∷ self.new) }
+    {
+        if let Some(event) = next_first(&mut self.first) {
+            return Some(event);
+        }
+        if self.ended {
+            return None;
+        }
+        if self.left == 0 {
+            self.ended = true;
+            return Some(Event {
+                at: self.table.last(),
+                act: Act::End,
+            });
+        }
+        Some(play_next(self.shape, &mut self.table, &mut self.draws, &mut self.left))
+    }
+}
+
+/// Takes the first of some events.
+fn next_first(events: &mut VecDeque<Event>) -> Option<Event>
+    ensures { MatchOption result ((events.old.items ≡ []) × (events.new.items ≡ []))
+        (λ event. events.old.items ≡ event ∷ events.new.items) }
+{
+    events.pop_front()
+}
+
+/// Plays the event that comes next, of so many. It is legal, and takes no memory.
+fn play_next(shape: Shape, table: &mut Table, draws: &mut Draws, left: &mut u32) -> Event
+    requires some { 0 < left.old }
+    requires so { IsGenerator shape table.old left.old }
+    ensures so { IsGenerator shape table.new left.new }
+    ensures event { events_from shape left.old table.old.world draws.old
+        ≡ result ∷ events_from shape left.new table.new.world draws.new }
+{
+    let event = next_event(shape, table, draws);
+    match table.play(&event) {
+        Ok(()) => {
+            *left -= 1;
+            event
+        }
+        Err(_) => unreachable!(),
+    }
+}
+
+/// The event that comes next in a world.
+#[tactic(auto, unfolding(run_spec::specs::Generated::next_drawn))]
+fn next_event(shape: Shape, table: &Table, draws: &mut Draws) -> Event
+    requires shaped { IsShape shape }
+    requires early { table.now.world.last ≤ 2 ^ 60 }
+    ensures event { result ≡ next_event shape table.now.world draws.old }
+    ensures state { draws.new ≡ (next_drawn shape table.now.world.tasks draws.old).state }
+{
+    let at = table.last() + u64::from(draws.draw(LONGEST_WAIT));
+    let pid = Pid(1 + draws.draw(TASKS_EACH * shape.cpus));
+    let act = match table.task(pid) {
+        Some(task) => act_of(shape, table, draws, pid, task),
+        None => woken(shape, draws, pid),
+    };
+    Event { at, act }
+}
+
+/// What a task does next.
+fn act_of(shape: Shape, table: &Table, draws: &mut Draws, pid: Pid, task: Task) -> Act
+    requires { IsShape shape }
+    ensures { drawn_act result draws.new
+        ≡ next_of shape table.now.world.tasks draws.old pid.0 task task.mode }
+{
+    match task.mode {
+        Mode::Blocked | Mode::Waiting => woken(shape, draws, pid),
+        Mode::Ready => started(table, draws, pid, task),
+        Mode::Running => running_act(draws, pid, task),
+    }
+}
+
+/// A task that sleeps is woken on any processor.
+fn woken(shape: Shape, draws: &mut Draws, pid: Pid) -> Act
+    requires { IsShape shape }
+    ensures { drawn_act result draws.new ≡ woken shape draws.old pid.0 }
+{
+    Act::Wake {
+        pid,
+        cpu: Cpu(draws.draw(shape.cpus)),
+    }
+}
+
+/// A ready task runs next on its processor: where that idles nothing more is drawn.
+#[tactic(auto, using(crate::proofs::Drawing::some_part))]
+fn started(table: &Table, draws: &mut Draws, pid: Pid, task: Task) -> Act
+    ensures { drawn_act result draws.new
+        ≡ started table.now.world.tasks draws.old pid.0 task }
+{
+    let how = match table.running(task.cpu) {
+        None => How::Idle,
+        Some(_) => way_of(draws.draw(4)),
+    };
+    Act::Switch {
+        cpu: task.cpu,
+        next: Some(pid),
+        how,
+    }
+}
+
+/// How the running task makes way, by a number below 4.
+fn way_of(number: u32) -> How
+    ensures { result ≡ way_of number }
+{
+    match number {
+        0 => How::Preempt,
+        1 => How::Sleep,
+        _ => How::IoWait,
+    }
+}
+
+/// A running task sleeps or waits for IO, or a stall of its begins or ends.
+fn running_act(draws: &mut Draws, pid: Pid, task: Task) -> Act
+    ensures { (draws.new ≡ next_state draws.old)
+        × (result ≡ running_act pid.0 task (drawn (next_state draws.old) 4)) }
+{
+    let number = draws.draw(4);
+    leaving(number, pid, task)
+}
+
+/// A running task sleeps or waits for IO, or a stall of its begins or ends, by a number below 4.
+fn leaving(number: u32, pid: Pid, task: Task) -> Act
+    ensures { result ≡ running_act pid.0 task number }
+{
+    let how = match number {
+        0 => How::Sleep,
+        1 => How::IoWait,
+        _ => return stall_turn(pid, task),
+    };
+    Act::Switch {
+        cpu: task.cpu,
+        next: None,
+        how,
+    }
+}
+
+/// A task's stall on memory ends where it is in one, and else begins.
+fn stall_turn(pid: Pid, task: Task) -> Act
+    ensures { result ≡ stall_turn pid.0 task }
+{
+    if task.stalled {
+        Act::Unstall { pid }
+    } else {
+        Act::Stall { pid }
+    }
+}
