@@ -1,14 +1,19 @@
--- One processor and one group more.
-use Rattle.std.proofs.Common.{◌≡◌, ℕ, ◌+◌, ◌<◌, ◌≤◌, List, [], ◌∷◌, ◌++◌, length, get_or, refl, sym, ap, ◌∙◌, subst, arith, ◌⊎◌, ⊎_elim, inl, inr}
-use Rattle.std.specs.Prelude.{◌≢◌}
-use Rattle.std.proofs.lemmas.List.{get_or_append_left, get_or_push, length-append}
+-- One change, one processor and one group more.
+use Rattle.std.proofs.Common.{◌≡◌, ℕ, ◌+◌, ◌*◌, ◌<◌, ◌≤◌, List, [], ◌∷◌, ◌++◌, length, get_or, set, sym, ap, ◌∙◌, subst, arith, cond, ◌⊎◌, ⊎_elim, inl, inr}
+use Rattle.std.specs.Prelude.{◌≢◌, nat_le}
+use Rattle.std.specs.List.{count_by}
+use Rattle.std.proofs.Math.Nat.{mul-le-mul_right}
+use Rattle.std.proofs.lemmas.List.{get_or_append_left, get_or_push, get_or-set_same, get_or-set_other, length-append, length-set}
+use Rattle.std.proofs.lemmas.List.Sums.{length-filter, sum_by-cons}
+use Rattle.psi_laws.specs.declared.changes.Change.{Change}
 use Rattle.psi_laws.specs.Clock.{ClockView, opened, opened_time}
 use Rattle.psi_laws.specs.Plan.{IsClock, PlanView, changes_up_to, last_change, planned_time}
 use Rattle.psi_laws.proofs.ClockLaws.{map_states}
-use Rattle.proc_plan.specs.Clocks.{OnPlan}
 use Rattle.aggregate.specs.Table.{HasSizes, put, times_at}
 use Rattle.aggregate.proofs.TableLaws.{keeps_sizes, sets_one_place}
-use Rattle.replay_workers.specs.Crew.{times_by}
+use Rattle.replay_workers.specs.declared.ticks.Ticks.{Ticks}
+use Rattle.replay_workers.specs.Crew.{moment_in, times_by}
+use Rattle.replay_workers.specs.Lanes.{FillsProcessor, KeepsTick, KeepsTicks, kept_at}
 
 -- what holds of each of a list at its place, and of one behind it
 pub each_more : {X : Type 0} → (P : ℕ → X → Type 0) (xs : List X) (x d : X) → ((k : ℕ) → k < length xs → P k (get_or xs k d)) → P (length xs) x → (k : ℕ) → k < length (xs ++ x ∷ []) → P k (get_or (xs ++ x ∷ []) k d)
@@ -20,26 +25,95 @@ each_more P xs x d before here k below =
     (λ new. subst (P k) (sym (get_or_push xs x d k (sym new))) (subst (λ n. P n x) (sym new) here))
     case
 
--- clocks with the same plan that made as many changes are the same
-pub same_clocks : (one other : OnPlan) → one.plan ≡ other.plan → one.made ≡ other.made → one ≡ other
-same_clocks one other plan made =
-    ap (λ p. let on : OnPlan = record { plan = p; made = one.made } in on) plan ∙ ap (λ m. let on : OnPlan = record { plan = other.plan; made = m } in on) made
+-- ---- changes
+
+one_change : (moment at later : ℕ) → at ≤ later → cond (nat_le moment at) 1 0 ≤ cond (nat_le moment later) 1 0
+one_change moment at later forward = grind arith
+
+counts_more : (at later : ℕ) → at ≤ later → (changes : List Change) → count_by (λ (change : Change). nat_le change.at at) changes ≤ count_by (λ (change : Change). nat_le change.at later) changes
+counts_more at later forward [] = omega arith
+counts_more at later forward (change ∷ changes) =
+    let before = sum_by-cons (λ (change : Change). cond (nat_le change.at at) 1 0) change changes in
+    let behind = sum_by-cons (λ (change : Change). cond (nat_le change.at later) 1 0) change changes in
+    let one = one_change change.at at later forward in
+    let others = counts_more at later forward changes in
+    omega (arith, before, behind, one, others)
+
+-- no fewer changes come up to a later moment
+pub changes_more : (plan : PlanView) (at later : ℕ) → at ≤ later → changes_up_to plan at ≤ changes_up_to plan later
+changes_more plan at later forward =
+    let few = length-filter (λ (change : Change). nat_le change.at at) plan.changes in
+    let more = length-filter (λ (change : Change). nat_le change.at later) plan.changes in
+    let counts = counts_more at later forward plan.changes in
+    omega (arith, few, more, counts)
+
+-- ---- ticks
+
+-- no tick comes before an earlier one
+pub moments_rise : (ticks : Ticks) (j k : ℕ) → j ≤ k → moment_in ticks j ≤ moment_in ticks k
+moments_rise ticks j k before =
+    let more : j * ticks.length ≤ k * ticks.length = mul-le-mul_right ticks.length before in
+    omega (arith, more)
+
+-- the places of a tick end where those of the next begin, at the latest
+pub places_end : (j n slots : ℕ) → j < n → j * slots + slots ≤ n * slots
+places_end j n slots below =
+    let next : j + 1 ≤ n = omega (arith, below) in
+    let all : (j + 1) * slots ≤ n * slots = mul-le-mul_right slots next in
+    let one : (j + 1) * slots ≡ j * slots + slots = grind arith in
+    omega (arith, all, one)
+
+-- the times at one tick more are kept
+pub keeps_more : (old new : List (List ℕ)) (plan : PlanView) (ticks : Ticks) (j at : ℕ) → KeepsTicks old plan ticks j → KeepsTick old new j plan at → at ≡ moment_in ticks j → KeepsTicks new plan ticks (j + 1)
+keeps_more old new plan ticks j at before tick moment = λ k slot early below.
+    let case : (k < j) ⊎ (k ≡ j) = grind (arith, early) in
+    ⊎_elim
+    (λ past.
+    let end = places_end k j (length plan.parents) past in
+    tick.before (k * length plan.parents + slot) (omega (arith, end, below)) ∙ before k slot past below)
+    (λ now. ap (λ n. kept_at new (length plan.parents) n slot) now ∙ tick.here slot below ∙ ap (times_by plan slot) (moment ∙ ap (moment_in ticks) (sym now)))
+    case
+
+-- ---- one group more
 
 -- a clock that stands for a slot after the changes up to a moment opens to the slot's times then
 pub times_by_clock : (clock : ClockView) (plan : PlanView) (slot k at : ℕ) → IsClock clock plan slot k → last_change plan k ≤ at → k ≡ changes_up_to plan at → opened clock at ≡ times_by plan slot at
 times_by_clock clock plan slot k at is later all =
     map_states (opened_time clock at) (λ state. planned_time state plan slot (changes_up_to plan at) at) (λ state. is.times state at later ∙ ap (λ n. planned_time state plan slot n at) all)
 
--- a table in which the times of the first so many groups on a processor are filled in
-pub record FilledTo (old new : List (List (List ℕ))) (cpus slots cpu slot : ℕ) (plan : PlanView) (at : ℕ) : Type 0 where
+-- places in which the times of the first so many groups are kept for a tick
+pub record KeptTo (old new : List (List ℕ)) (slots j slot : ℕ) (plan : PlanView) (at : ℕ) : Type 0 where
+  pub size : length new ≡ length old
+  pub here : (s : ℕ) → s < slot → kept_at new slots j s ≡ times_by plan s at
+  pub before : (place : ℕ) → place < j * slots → get_or new place [] ≡ get_or old place []
+
+-- one group more is kept
+pub kept_more : (old now : List (List ℕ)) (slots j slot : ℕ) (plan : PlanView) (at place : ℕ) (times : List ℕ) → KeptTo old now slots j slot plan at → slot < slots → j * slots + slots ≤ length old → place ≡ j * slots + slot → times ≡ times_by plan slot at
+    → KeptTo old (set now place times) slots j (slot + 1) plan at
+kept_more old now slots j slot plan at place times is below room there value =
+    let inside : place < length now = omega (arith, is.size, below, room, there) in
+    record {
+      size = length-set now place times ∙ is.size;
+      here = λ s early.
+          let case : (s < slot) ⊎ (s ≡ slot) = grind (arith, early) in
+          ⊎_elim
+          (λ past. get_or-set_other now place (j * slots + s) times [] (λ same. omega (arith, same, there, past)) ∙ is.here s past)
+          (λ here.
+          ap (λ n. get_or (set now place times) n []) (ap (λ n. j * slots + n) here ∙ sym there) ∙ get_or-set_same now place times [] inside ∙ value ∙ ap (λ n. times_by plan n at) (sym here))
+          case;
+      before = λ other early. get_or-set_other now place other times [] (λ same. omega (arith, same, there, early)) ∙ is.before other early;
+    }
+
+-- a table in which the times of the first so many groups on a processor are filled in, as they are kept
+pub record FilledTo (old new : List (List (List ℕ))) (cpus slots cpu slot : ℕ) (kept : List (List ℕ)) (j : ℕ) : Type 0 where
   pub sizes : HasSizes cpus slots new
-  pub here : (s : ℕ) → s < slot → times_at new s cpu ≡ times_by plan s at
+  pub here : (s : ℕ) → s < slot → times_at new s cpu ≡ kept_at kept slots j s
   pub others : (s other : ℕ) → other ≢ cpu → times_at new s other ≡ times_at old s other
 
 -- one group more is filled in
-pub filled_more : (old table new : List (List (List ℕ))) (cpus slots cpu slot : ℕ) (plan : PlanView) (at : ℕ) (times : List ℕ)
-    → FilledTo old table cpus slots cpu slot plan at → slot < slots → cpu < cpus → new ≡ put table slot cpu times → times ≡ times_by plan slot at → FilledTo old new cpus slots cpu (slot + 1) plan at
-filled_more old table new cpus slots cpu slot plan at times is below there set value =
+pub filled_more : (old table new : List (List (List ℕ))) (cpus slots cpu slot : ℕ) (kept : List (List ℕ)) (j : ℕ) (times : List ℕ) → FilledTo old table cpus slots cpu slot kept j → slot < slots → cpu < cpus → new ≡ put table slot cpu times
+    → times ≡ kept_at kept slots j slot → FilledTo old new cpus slots cpu (slot + 1) kept j
+filled_more old table new cpus slots cpu slot kept j times is below there set value =
     let place = keeps_sizes.place cpus slots table slot cpu is.sizes below there in
     record {
       sizes = subst (HasSizes cpus slots) (sym set) (keeps_sizes.set cpus slots table slot cpu times is.sizes);
@@ -47,7 +121,15 @@ filled_more old table new cpus slots cpu slot plan at times is below there set v
           let case : (s < slot) ⊎ (s ≡ slot) = grind (arith, early) in
           ⊎_elim
           (λ before. ap (λ t. times_at t s cpu) set ∙ sets_one_place.elsewhere table slot cpu times s cpu place (inl (λ same. omega (arith, same, before))) ∙ is.here s before)
-          (λ now. ap (λ t. times_at t s cpu) set ∙ ap (λ k. times_at (put table slot cpu times) k cpu) now ∙ sets_one_place.here table slot cpu times place ∙ value ∙ ap (λ k. times_by plan k at) (sym now))
+          (λ now. ap (λ t. times_at t s cpu) set ∙ ap (λ k. times_at (put table slot cpu times) k cpu) now ∙ sets_one_place.here table slot cpu times place ∙ value ∙ ap (λ k. kept_at kept slots j k) (sym now))
           case;
       others = λ s other differs. ap (λ t. times_at t s other) set ∙ sets_one_place.elsewhere table slot cpu times s other place (inr differs) ∙ is.others s other differs;
     }
+
+-- so a processor's times are filled in
+pub filled : (old new : List (List (List ℕ))) (cpus slots cpu : ℕ) (kept : List (List ℕ)) (j : ℕ) (plan : PlanView) (at : ℕ) → FilledTo old new cpus slots cpu slots kept j → ((slot : ℕ) → slot < slots → kept_at kept slots j slot ≡ times_by plan slot at)
+    → FillsProcessor old new slots cpu plan at
+filled old new cpus slots cpu kept j plan at is times = record {
+  here = λ slot below. is.here slot below ∙ times slot below;
+  others = is.others;
+}

@@ -1,6 +1,5 @@
 -- The table at a moment by plans is the table of stall times.
-use Rattle.std.proofs.Common.{◌≡◌, ℕ, zero, ◌+◌, ◌<◌, ◌≤◌, List, [], ◌∷◌, length, map, get_or, refl, sym, ap, ◌∙◌, arith}
-use Rattle.std.specs.List.{All, range_with_len}
+use Rattle.std.proofs.Common.{◌≡◌, ℕ, ◌<◌, List, [], length, get_or, sym, ap, ◌∙◌, arith}
 use Rattle.std.proofs.lemmas.List.{ext_get_or}
 use Rattle.std.proofs.lemmas.List.FromFn.{get_or-map-range_with_len, length-map-range_with_len}
 use Rattle.psi_base.specs.declared.event.Event.{Event}
@@ -10,8 +9,7 @@ use Rattle.pressure_spec.specs.Ticks.{row_until, table_until, times_until}
 use Rattle.psi_laws.proofs.PlanPlanned.{planned_until}
 use Rattle.proc_plan.specs.Plans.{PlansView, StandFor, plan_at}
 use Rattle.proc_plan.proofs.Finishing.{standing_plans}
-use Rattle.aggregate.specs.Table.{HasSizes, times_at}
-use Rattle.replay_workers.specs.Crew.{IsTableAt, TableIsOfEvents, times_by}
+use Rattle.replay_workers.specs.Crew.{TableIsOfEvents, times_by}
 
 -- the times of a processor's plan are the stall times there
 times_are : (limits : Limits) (cpus : ℕ) (events : List Event) (plans : PlansView) (slot cpu at : ℕ) → AreLegal limits first_world events → StandFor plans cpus events → cpu < cpus → times_by (plan_at plans cpu) slot at ≡ times_until cpu slot events at

@@ -1,5 +1,6 @@
 -- The clocks of all processors, how far they came, and the table of times that they give at a moment.
-use Rattle.std.specs.Prelude.{◌≡◌, ◌≢◌, ℕ, ◌<◌, ◌≤◌, List, length, slice_index_or}
+use Rattle.std.specs.Prelude.{◌≡◌, ◌⊎◌, ℕ, ◌+◌, ◌-◌, ◌*◌, ◌<◌, ◌≤◌, List, length, map, max, slice_index_or}
+use Rattle.std.specs.List.{range_with_len}
 use Rattle.psi_base.specs.declared.event.Event.{Event}
 use Rattle.psi_spec.specs.Refusal.{AreLegal}
 use Rattle.psi_spec.specs.World.{Limits, first_world}
@@ -8,11 +9,42 @@ use Rattle.pressure_spec.specs.Ticks.{table_until}
 use Rattle.proc_plan.specs.Clocks.{OnPlan}
 use Rattle.proc_plan.specs.Plans.{PlansView, StandFor, plan_at}
 use Rattle.aggregate.specs.Table.{HasSizes, times_at}
+use Rattle.replay_workers.specs.declared.ticks.Ticks.{Ticks}
 
--- A crew: the plans of a trace, and the clocks of each processor.
+-- ---- ticks
+
+-- the moment (ns) of a tick with a number from 0
+abbrev pub moment_in : Ticks → ℕ → ℕ
+moment_in ticks j = ticks.first + j * ticks.length
+
+-- the moments (ns) of all of them
+abbrev pub moments_of : Ticks → List ℕ
+moments_of ticks = map (moment_in ticks) (range_with_len 0 ticks.count)
+
+-- the last of the moments (ns)
+abbrev pub last_of : Ticks → ℕ
+last_of ticks = moment_in ticks (ticks.count - 1)
+
+-- ---- crews
+
+-- A crew: the plans of a trace, the clocks of each processor, the moments (ns) whose tables are ready to be handed out, and
+-- over how many ticks it may go at once.
 pub record CrewView : Type 0 where
   pub plans : PlansView
   pub clocks : List OnPlan
+  pub ready : List ℕ
+  pub room : ℕ
+
+-- the most bytes that the times take that are kept for ticks ahead, where they can be so few: 64 MB
+abbrev pub most_kept : ℕ
+most_kept = 64000000
+
+-- A crew of so many processors and groups may go over so many ticks at once, where a trace is taken to so many moments: over
+-- one at least, over no more than there are, and over no more than can be kept in 56 bytes a tick, group and processor.
+pub record IsRoom (room cpus slots moments : ℕ) : Type 0 where
+  pub some : 1 ≤ room
+  pub within : room ≤ max moments 1
+  pub small : (56 * (room * slots * cpus) ≤ most_kept) ⊎ (room ≡ 1)
 
 -- the clocks of a processor, by its number
 abbrev pub clocks_at : List OnPlan → ℕ → OnPlan
@@ -39,11 +71,6 @@ pub record AreAt (plans : PlansView) (clocks : List OnPlan) (at : ℕ) : Type 0 
 -- the times (ns) of a slot by the changes of a plan up to a moment
 abbrev pub times_by : PlanView → ℕ → ℕ → List ℕ
 times_by plan slot at = planned plan slot (changes_up_to plan at) at
-
--- A table has the times of a processor at a moment, by its plan, and those of the other processors as they were.
-pub record FillsProcessor (old new : List (List (List ℕ))) (slots cpu : ℕ) (plan : PlanView) (at : ℕ) : Type 0 where
-  pub here : (slot : ℕ) → slot < slots → times_at new slot cpu ≡ times_by plan slot at
-  pub others : (slot other : ℕ) → other ≢ cpu → times_at new slot other ≡ times_at old slot other
 
 -- A table of so many processors and slots has the times of each processor at a moment, by its plan.
 pub record IsTableAt (table : List (List (List ℕ))) (plans : PlansView) (at : ℕ) : Type 0 where

@@ -4,7 +4,7 @@ ghost use Rattle.proc_plan.specs.Plans.{plan_at};
 ghost use Rattle.replay_workers.specs.Crew.{AreOnPlans, clocks_at};
 
 use proc_plan::{PlainClocks, Plans, ProcClocks};
-use psi_base::{Cpu, NoMemory};
+use psi_base::{Cpu, Gate, NoMemory};
 use std::alloc::Global;
 
 /// The clocks of all processors before the first change. They take all the memory that their changes need.
@@ -21,8 +21,8 @@ pub fn first_clocks(alloc: Global, plans: &Plans) -> Result<Vec<PlainClocks<'_>>
     Ok(clocks)
 }
 
-/// Makes the changes of a plan that are left up to so many.
-pub fn make_until<C: ProcClocks>(clocks: &mut C, changes: u64)
+/// Makes the changes of a processor's plan that are left up to so many, and tells the gate of each.
+pub fn make_until<C: ProcClocks, G: Gate>(clocks: &mut C, cpu: Cpu, changes: u64, gate: &G)
     requires all { changes ≤ length (C.plan clocks.old).changes }
     requires within { C.made clocks.old ≤ changes }
     ensures plan { C.plan clocks.new ≡ C.plan clocks.old }
@@ -30,5 +30,6 @@ pub fn make_until<C: ProcClocks>(clocks: &mut C, changes: u64)
 {
     'changes: while clocks.count() < changes {
         clocks.apply();
+        gate.moved(cpu, clocks.count());
     }
 }

@@ -1,79 +1,166 @@
-//! The clocks of all processors of a trace.
-ghost use Rattle.std.specs.Prelude.{◌≡◌, ◌<◌, ◌≤◌, ℕ, length, IfOk};
+//! The clocks of all processors of a trace, which go over ticks in the threads of workers.
+ghost use Rattle.std.specs.Prelude.{◌≡◌, ◌<◌, ◌≤◌, ℕ, ◌∷◌, [], drop, length, slice_get, IfOk, Some};
+ghost use Rattle.psi_laws.specs.Plan.{IsClock};
 ghost use Rattle.psi_spec.specs.Trace.{last_moment};
 ghost use Rattle.aggregate.specs.Table.{HasSizes};
-ghost use Rattle.replay_workers.specs.Crew.{AreAt, AreBehind, IsTableAt, clocks_at};
+ghost use Rattle.proc_plan.specs.Plans.{plan_at};
+ghost use Rattle.replay_workers.specs.Crew.{AreAt, AreBehind, AreOnPlans, IsRoom, IsTableAt, clocks_at, last_of, moments_of};
 
-use crate::clocks::{first_clocks, make_until};
-use crate::fill::fill;
+use crate::batch::{Batch, go_all};
+use crate::deal::{deal, room_for};
+use crate::fill::{fill, lane_in};
+use crate::ticks::Ticks;
 use aggregate::Rows;
-use proc_plan::{PlainClocks, Plans};
-use psi_base::{Cpu, NoMemory, Ns};
+use cpu_clock::Clock;
+use proc_plan::Plans;
+use psi_base::{Cpu, Gate, NoMemory, Ns, Slot};
 use std::alloc::Global;
 use std::marker::Model;
+use std::thread::Threads;
 
-/// The clocks of all processors, which make the changes of a trace interval by interval. Contracts see the plans, and how many
-/// changes each processor's clocks made.
+/// The clocks of all processors, which make the changes of a trace over some ticks at a time, each worker those of its own
+/// processors. They keep the times of all groups at each of these ticks, until [`Crew::fill`] hands them out. Contracts see the
+/// plans, how many changes each processor's clocks made, the moments whose times are ready, and over how many ticks the crew
+/// goes at once.
 #[derive(Drop)]
 pub struct Crew<'a> {
     plans: &'a Plans,
-    /// By processor.
-    clocks: Vec<PlainClocks<'a>>,
+    /// By worker: processor `c` is that of worker `c mod workers`.
+    batches: Vec<Batch<'a>>,
+    /// Those that the lanes went over last.
+    ticks: Ticks,
+    /// How many of them were handed out.
+    out: u32,
+    /// Over how many the lanes can go.
+    room: u32,
 }
 
 impl<'a> Model for Crew<'a> {
-    ghost use Rattle.replay_workers.specs.Crew.{AreOnPlans, CrewView};
+    ghost use Rattle.replay_workers.specs.Crew.{CrewView};
+    ghost use Rattle.replay_workers.specs.Lanes.{IsCrew, crew_of};
 
     ghost Value = { CrewView };
 
-    ghost view = { λ c. record { plans = c.plans.now; clocks = c.clocks.items } };
+    ghost view = { λ c. crew_of c.plans.now c.batches.items c.ticks c.out c.room };
 
-    ghost invariant = { λ c. AreOnPlans c.plans.now c.clocks.items };
-}
-
-// Makes the changes of all processors up to a moment (ns), those at the moment among them.
-fn advance(plans: &Plans, clocks: &mut [PlainClocks<'_>], until: Ns)
-    requires { AreBehind plans.now clocks.old until }
-    ensures { AreAt plans.now clocks.new until }
-{
-    'cpus: for cpu in 0..plans.cpus() {
-        let changes = plans.plan(Cpu(cpu)).until(until);
-        make_until(&mut clocks[cpu as usize], changes);
-    }
+    ghost invariant = { λ c. IsCrew c.plans.now c.batches.items c.ticks c.out c.room };
 }
 
 impl<'a> Crew<'a> {
-    /// The clocks of all processors before the first change. They take all the memory that their changes need.
-    pub fn make(alloc: Global, plans: &'a Plans) -> Result<Crew<'a>, NoMemory>
+    /// The clocks of all processors before the first change, for 1 to 64 workers. A trace is to be taken to so many moments; they
+    /// bound what is kept. It takes all the memory that a crew needs.
+    pub fn make(
+        alloc: Global,
+        plans: &'a Plans,
+        workers: u32,
+        moments: u64,
+    ) -> Result<Crew<'a>, NoMemory>
+        requires some { 1 ≤ workers }
+        requires few { workers ≤ 64 }
         ensures plans { IfOk result (λ crew. crew.plans ≡ plans.now) }
+        ensures on { IfOk result (λ crew. AreOnPlans crew.plans crew.clocks) }
         ensures fresh { IfOk result (λ crew.
             (cpu : ℕ) → cpu < length crew.plans.plans → (clocks_at crew.clocks cpu).made ≡ 0) }
+        ensures none { IfOk result (λ crew. crew.ready ≡ []) }
+        ensures room { IfOk result (λ crew.
+            IsRoom crew.room (length crew.plans.plans) (length crew.plans.lives) moments) }
     {
+        let cpus = plans.cpus();
+        let room = room_for(cpus, plans.groups().len() as u32, moments);
         Ok(Crew {
             plans,
-            clocks: first_clocks(alloc, plans)?,
+            batches: deal(alloc, plans, workers.min(cpus), room)?,
+            ticks: Ticks {
+                first: 0,
+                length: 0,
+                count: 0,
+            },
+            out: 0,
+            room,
         })
     }
 
-    /// Makes the changes of all processors up to a moment (ns), those at the moment among them. Takes no memory.
-    pub fn interval(&mut self, until: Ns)
-        requires { AreBehind self.old.plans self.old.clocks until }
-        ensures plans { self.new.plans ≡ self.old.plans }
-        ensures there { AreAt self.new.plans self.new.clocks until }
+    /// Over how many ticks the crew can go at once.
+    pub fn room(&self) -> u32
+        ensures room { result ≡ self.now.room }
+        ensures some { 1 ≤ result }
     {
-        advance(self.plans, &mut self.clocks, until);
+        self.room
     }
 
-    /// Puts the times (ns) of all groups on all processors into a table, at the moment up to which the last interval went. Takes
-    /// no memory.
+    /// How many moments are ready.
+    pub fn ready(&self) -> u32
+        ensures { result ≡ length self.now.ready }
+    {
+        self.ticks.count - self.out
+    }
+
+    /// Goes over ticks: each worker makes the changes of its processors up to each tick, those at the tick among them, and keeps
+    /// the times of all groups there. What was ready before isn't any more. Takes no memory.
+    pub fn intervals<R: Threads + Sync, G: Gate>(&mut self, rt: &R, ticks: Ticks, gate: &G)
+        requires some { 0 < ticks.count }
+        requires within { ticks.count ≤ self.old.room }
+        requires behind { AreBehind self.old.plans self.old.clocks ticks.first }
+        requires early { last_of ticks ≤ last_moment }
+        ensures plans { self.new.plans ≡ self.old.plans }
+        ensures room { self.new.room ≡ self.old.room }
+        ensures there { AreAt self.new.plans self.new.clocks (last_of ticks) }
+        ensures ready { self.new.ready ≡ moments_of ticks }
+    {
+        go_all(rt, &mut self.batches, ticks, gate);
+        self.ticks = ticks;
+        self.out = 0;
+    }
+
+    /// Makes the changes of all processors up to a moment (ns), those at the moment among them, and keeps the times of all groups
+    /// there. Takes no memory.
+    pub fn interval<R: Threads + Sync, G: Gate>(&mut self, rt: &R, until: Ns, gate: &G)
+        requires behind { AreBehind self.old.plans self.old.clocks until }
+        requires early { until ≤ last_moment }
+        ensures plans { self.new.plans ≡ self.old.plans }
+        ensures room { self.new.room ≡ self.old.room }
+        ensures there { AreAt self.new.plans self.new.clocks until }
+        ensures ready { self.new.ready ≡ until ∷ [] }
+    {
+        let _room_for_one = self.room;
+        let ticks = Ticks {
+            first: until,
+            length: 0,
+            count: 1,
+        };
+        self.intervals(rt, ticks, gate);
+    }
+
+    /// Puts the times (ns) of all groups on all processors into a table, at the first moment that is ready. Takes no memory.
     pub fn fill(&mut self, at: Ns, rows: &mut Rows)
-        requires there { AreAt self.old.plans self.old.clocks at }
-        requires early { at ≤ last_moment }
+        requires first { slice_get self.old.ready 0 ≡ Some at }
         requires sizes { HasSizes (length self.old.plans.plans)
             (length self.old.plans.lives) rows.old }
-        ensures kept { self.new ≡ self.old }
+        ensures kept { self.new ≡ record self.old { ready = drop 1 self.old.ready } }
         ensures table { IsTableAt rows.new self.old.plans at }
     {
-        fill(self.plans, &mut self.clocks, at, rows);
+        fill(self.plans, &self.batches, self.out, rows);
+        self.out += 1;
+    }
+
+    /// How many changes of a processor were made.
+    pub fn count(&self, cpu: Cpu) -> u64
+        requires { cpu.0 < length self.now.plans.plans }
+        ensures { result ≡ (clocks_at self.now.clocks cpu.0).made }
+    {
+        lane_in(&self.batches, cpu).count()
+    }
+
+    /// The clock of a slot on a processor, after the changes of the processor that were made.
+    pub fn own(&mut self, cpu: Cpu, slot: Slot) -> Clock
+        requires cpu { cpu.0 < length self.old.plans.plans }
+        requires slot { slot.0 < length self.old.plans.lives }
+        ensures kept { self.new ≡ self.old }
+        ensures clock { IsClock result (plan_at self.old.plans cpu.0) slot.0
+            (clocks_at self.old.clocks cpu.0).made }
+    {
+        let workers = self.batches.len();
+        let batch = &mut self.batches[cpu.0 as usize % workers];
+        batch.lanes[cpu.0 as usize / workers].own(slot)
     }
 }

@@ -1,52 +1,55 @@
-//! The times of all groups at a moment, into a table.
-ghost use Rattle.std.specs.Prelude.{◌≡◌, ◌<◌, ◌≤◌, ℕ, length};
-ghost use Rattle.psi_laws.specs.Plan.{IsPlan, changes_up_to, last_change};
-ghost use Rattle.psi_spec.specs.Trace.{last_moment};
+//! The times of all groups that are kept for a tick, into a table.
+ghost use Rattle.std.specs.Prelude.{◌≡◌, ◌+◌, ◌*◌, ◌<◌, ◌≤◌, ◌/◌, ◌%◌, ℕ, length};
+ghost use Rattle.psi_laws.specs.Plan.{PlanView};
 ghost use Rattle.aggregate.specs.Table.{HasSizes};
-ghost use Rattle.replay_workers.specs.Crew.{AreAt, FillsProcessor, IsTableAt};
+ghost use Rattle.replay_workers.specs.Crew.{IsTableAt, times_by};
+ghost use Rattle.replay_workers.specs.Lanes.{AreKept, FillsProcessor, batch_at, kept_at, lane_of};
 
+use crate::batch::Batch;
+use crate::lane::Lane;
 use aggregate::Rows;
-use proc_plan::{PlainClocks, Plans, ProcClocks};
+use proc_plan::Plans;
 use psi_base::{Cpu, Ns, Slot};
 
-// Puts the times (ns) of all groups on a processor at a moment into a table. The clocks made all changes up to the moment.
-fn fill_processor<C: ProcClocks>(
-    rows: &mut Rows,
-    cpus: u32,
-    slots: u32,
-    cpu: Cpu,
-    clocks: &mut C,
-    at: Ns,
-)
+/// The lane of a processor.
+pub(crate) fn lane_in<'b, 'a>(batches: &'b [Batch<'a>], cpu: Cpu) -> &'b Lane<'a>
+    requires some { 0 < length batches.now }
+    requires place { cpu.0 / length batches.now
+        < length (batch_at batches.now (cpu.0 % length batches.now)) }
+    ensures { result.now ≡ lane_of batches.now cpu.0 }
+{
+    let workers = batches.len();
+    let batch = &batches[cpu.0 as usize % workers];
+    &batch.lanes[cpu.0 as usize / workers]
+}
+
+// Puts the times (ns) of all groups on a processor into a table, those that are kept for the tick with a number from 0.
+fn fill_processor(rows: &mut Rows, cpus: u32, slots: u32, cpu: Cpu, tick: u32, kept: &[[u64; 7]])
     requires sizes { HasSizes cpus slots rows.old }
     requires there { cpu.0 < cpus }
-    requires known { slots ≡ length (C.plan clocks.old).parents }
-    requires whole { IsPlan (C.plan clocks.old) }
-    requires all { C.made clocks.old ≡ changes_up_to (C.plan clocks.old) at }
-    requires past { last_change (C.plan clocks.old) (C.made clocks.old) ≤ at }
-    requires early { at ≤ last_moment }
+    requires room { tick * slots + slots ≤ length kept.now }
     ensures sizes { HasSizes cpus slots rows.new }
-    ensures plan { C.plan clocks.new ≡ C.plan clocks.old }
-    ensures made { C.made clocks.new ≡ C.made clocks.old }
-    ensures filled { FillsProcessor rows.old rows.new slots cpu.0 (C.plan clocks.old) at }
+    ensures filled { (plan : PlanView) (at : ℕ) →
+        ((slot : ℕ) → slot < slots → kept_at kept.now slots tick slot ≡ times_by plan slot at) →
+        FillsProcessor rows.old rows.new slots cpu.0 plan at }
 {
+    let start = tick as usize * slots as usize;
     'slots: for slot in 0..slots {
-        rows.set(cpu, Slot(slot), clocks.own(Slot(slot)).opened(at));
+        rows.set(cpu, Slot(slot), kept[start + slot as usize]);
     }
 }
 
-/// Puts the times (ns) of all groups on all processors at a moment into a table. The clocks made all changes up to it.
-pub(crate) fn fill(plans: &Plans, clocks: &mut [PlainClocks<'_>], at: Ns, rows: &mut Rows)
+/// Puts the times (ns) of all groups on all processors at a moment into a table, those that are kept for the tick with a number
+/// from 0.
+pub(crate) fn fill(plans: &Plans, batches: &[Batch<'_>], tick: u32, rows: &mut Rows)
     requires sizes { HasSizes (length plans.now.plans) (length plans.now.lives) rows.old }
-    requires there { AreAt plans.now clocks.old at }
-    requires early { at ≤ last_moment }
-    ensures table { IsTableAt rows.new plans.now at }
-    ensures kept { clocks.new ≡ clocks.old }
+    requires kept { (at : ℕ) × AreKept plans.now batches.now tick at }
+    ensures { (at : ℕ) → AreKept plans.now batches.now tick at → IsTableAt rows.new plans.now at }
 {
     let slots = plans.groups().len() as u32;
     let cpus = plans.cpus();
     'cpus: for cpu in 0..cpus {
-        let own = &mut clocks[cpu as usize];
-        fill_processor(rows, cpus, slots, Cpu(cpu), own, at);
+        let lane = lane_in(batches, Cpu(cpu));
+        fill_processor(rows, cpus, slots, Cpu(cpu), tick, lane.kept());
     }
 }

@@ -1,12 +1,12 @@
-use Rattle.std.proofs.Common.{◌≡◌, ◌<◌, ◌≤◌, ℕ, length}
+use Rattle.std.proofs.Common.{◌≡◌, ◌<◌, ℕ, length}
 use Rattle.proc_plan.specs.Plans.{plan_at}
 use Rattle.aggregate.specs.Table.{HasSizes, times_at}
 use Rattle.replay_workers.specs.Crew.{times_by}
+use Rattle.replay_workers.specs.Lanes.{AreKept}
 use Rattle.replay_workers.proofs.fill.fill.Given as goal
 
 abbrev pub invariant-cpus : goal.invariant-cpus
 invariant-cpus l = record {
-  kept : l.clocks ≡ l.fn.clocks;
   sizes : HasSizes (length l.plans.plans) (length l.plans.lives) l.rows;
-  here : (slot cpu : ℕ) → slot < length l.plans.lives → cpu < l.cpu → times_at l.rows slot cpu ≡ times_by (plan_at l.plans cpu) slot l.at;
+  here : (at : ℕ) → AreKept l.plans l.batches l.tick at → (slot cpu : ℕ) → slot < length l.plans.lives → cpu < l.cpu → times_at l.rows slot cpu ≡ times_by (plan_at l.plans cpu) slot at;
 }

@@ -1,9 +1,8 @@
-use Rattle.std.proofs.Common.{◌≡◌, ◌≤◌, ◌<◌, ◌+◌, sym, ap, ◌∙◌, subst, arith}
-use Rattle.psi_laws.specs.Plan.{IsPlan, IsClock, last_change}
+use Rattle.std.proofs.Common.{◌≤◌, ◌+◌, ◌*◌, arith, refl, subst, sym, ◌∙◌}
+use Rattle.psi_laws.specs.Plan.{IsClock, IsPlan, last_change}
 use Rattle.psi_laws.proofs.PlanClocks.{clock_is_in_time}
-use Rattle.replay_workers.specs.Crew.{times_by}
-use Rattle.replay_workers.proofs.Steps.{filled_more, times_by_clock}
-use Rattle.replay_workers.proofs.fill.fill_processor.Goals as goal
+use Rattle.replay_workers.proofs.Steps.{kept_more, times_by_clock}
+use Rattle.replay_workers.proofs.lane.keep_tick.Goals as goal
 
 pub opened-requires : goal.opened-requires
 opened-requires g c =
@@ -23,5 +22,5 @@ slots-preserved g c =
     record {
       plan = c.own.ensures.plan ∙ i.plan;
       made = c.own.ensures.made ∙ i.made;
-      filled = filled_more c.args.rows.now c.slots.rows c.set.new.self c.args.cpus c.args.slots c.args.cpu.0 c.slots.slot plan c.args.at c.opened.result i.filled (omega (arith, c.slots-test.true)) c.requires.there c.set.ensures times;
+      kept = kept_more c.args.kept.now c.slots.kept c.args.slots c.args.tick c.slots.slot plan c.args.at (c.args.tick * c.args.slots + c.slots.slot) c.opened.result i.kept (omega (arith, c.slots-test.true)) c.requires.room refl times;
     }

@@ -1,0 +1,268 @@
+-- The lanes of processors, as they are dealt to workers, and what going over ticks makes of them.
+use Rattle.std.proofs.Common.{◌≡◌, ℕ, zero, suc, ◌+◌, ◌*◌, ◌/◌, ◌%◌, ◌^◌, ◌<◌, ◌≤◌, List, [], ◌∷◌, drop, length, get_or, refl, sym, ap, ◌∙◌, subst, arith, ◌⊎◌, ⊎_elim, inl, inr}
+use Rattle.std.specs.Prelude.{Some, max, min, slice_get}
+use Rattle.std.specs.List.{All}
+use Rattle.std.proofs.Math.Nat.{div-mul-le_self, mod-add-div', mod-lt, mul-le-mul_left, mul-le-mul_right}
+use Rattle.std.proofs.Math.Seq.{drop-nil}
+use Rattle.std.proofs.lemmas.Nat.{div-mul-add, mod-mul-add}
+use Rattle.std.proofs.lemmas.List.{get_or-drop, get_or_default, length-drop}
+use Rattle.std.proofs.lemmas.Option.{get_or_from_slice_get}
+use Rattle.std.proofs.lemmas.List.FromFn.{get_or-map-range_with_len, length-map-range_with_len}
+use Rattle.psi_laws.specs.Plan.{IsPlan, PlanView, changes_up_to, last_change, no_plan}
+use Rattle.proc_plan.specs.Clocks.{OnPlan}
+use Rattle.proc_plan.specs.Plans.{PlansView, plan_at}
+use Rattle.replay_workers.specs.declared.ticks.Ticks.{Ticks}
+use Rattle.replay_workers.specs.Crew.{AreAt, AreBehind, AreOnPlans, CrewView, IsRoom, clocks_at, last_of, moment_in, moments_of, times_by}
+use Rattle.replay_workers.specs.Lanes.{AreKept, AreNewBatches, HasGone, HaveAllGone, HaveGone, IsBatchOf, IsCrew, IsLaneOf, KeepsTicks, LaneView, MayAllGo, batch_at, clocks_of, crew_of, kept_at, lane_at, lane_of, no_lane, no_ticks}
+use Rattle.replay_workers.proofs.Steps.{places_end}
+
+-- ---- places
+
+-- a number is told by what its division leaves
+place_is : (cpu n : ℕ) → cpu / n * n + cpu % n ≡ cpu
+place_is cpu n =
+    let both = mod-add-div' cpu n in
+    omega (arith, both)
+
+-- the lane at a place is that of a processor
+lane_of_place : (batches : List (List LaneView)) (worker k : ℕ) → worker < length batches → lane_of batches (k * length batches + worker) ≡ lane_at (batch_at batches worker) k
+lane_of_place batches worker k below =
+    ap (λ w. lane_at (batch_at batches w) ((k * length batches + worker) / length batches)) (mod-mul-add k (length batches) worker below)
+    ∙ ap (lane_at (batch_at batches worker)) (div-mul-add k (length batches) worker below)
+
+-- the lane of each processor is there
+pub lane_there : (plans : PlansView) (batches : List (List LaneView)) (ticks : Ticks) (out room cpu : ℕ) → IsCrew plans batches ticks out room → cpu < length plans.plans → cpu / length batches < length (batch_at batches (cpu % length batches))
+lane_there plans batches ticks out room cpu is below =
+    (is.each (cpu % length batches) (mod-lt cpu is.some)).all (cpu / length batches) (subst (λ c. c < length plans.plans) (sym (place_is cpu (length batches))) below)
+
+-- it is the processor's
+pub lane_is : (plans : PlansView) (batches : List (List LaneView)) (ticks : Ticks) (out room cpu : ℕ) → IsCrew plans batches ticks out room → cpu < length plans.plans → IsLaneOf plans ticks room cpu (lane_of batches cpu)
+lane_is plans batches ticks out room cpu is below =
+    subst (λ c. IsLaneOf plans ticks room c (lane_of batches cpu)) (place_is cpu (length batches))
+    ((is.each (cpu % length batches) (mod-lt cpu is.some)).each (cpu / length batches) (lane_there plans batches ticks out room cpu is below))
+
+-- what stands at a processor's places is its batch
+pub batch_found : (batches : List (List LaneView)) (workers cpu : ℕ) (batch : List LaneView) → workers ≡ length batches → 0 < length batches → batch ≡ get_or batches (cpu % workers) batch → batch ≡ batch_at batches (cpu % length batches)
+batch_found batches workers cpu batch many some there =
+    there ∙ ap (λ n. get_or batches (cpu % n) batch) many ∙ get_or_default batches (cpu % length batches) batch [] (mod-lt cpu some)
+
+-- and its lane
+pub lane_found : (batches : List (List LaneView)) (workers cpu : ℕ) (batch : List LaneView) (lane : LaneView) → workers ≡ length batches → batch ≡ batch_at batches (cpu % length batches) → cpu / length batches < length (batch_at batches (cpu % length batches))
+    → lane ≡ get_or batch (cpu / workers) lane → lane ≡ lane_of batches cpu
+lane_found batches workers cpu batch lane many same below there =
+    there ∙ ap (λ n. get_or batch (cpu / n) lane) many ∙ ap (λ xs. get_or xs (cpu / length batches) lane) same ∙ get_or_default (batch_at batches (cpu % length batches)) (cpu / length batches) lane no_lane below
+
+-- ---- clocks
+
+pub clocks_many : (batches : List (List LaneView)) (cpus : ℕ) → length (clocks_of batches cpus) ≡ cpus
+clocks_many batches cpus = length-map-range_with_len (λ cpu. (lane_of batches cpu).on) 0 cpus
+
+pub clocks_are : (batches : List (List LaneView)) (cpus cpu : ℕ) → cpu < cpus → clocks_at (clocks_of batches cpus) cpu ≡ (lane_of batches cpu).on
+clocks_are batches cpus cpu below = get_or-map-range_with_len (λ cpu. (lane_of batches cpu).on) 0 cpus cpu cpu (record { plan = no_plan; made = 0 }) below (omega arith)
+
+-- the clocks of a crew are on the plans
+pub on_plans : (plans : PlansView) (batches : List (List LaneView)) (ticks : Ticks) (out room : ℕ) → IsCrew plans batches ticks out room → AreOnPlans plans (clocks_of batches (length plans.plans))
+on_plans plans batches ticks out room is =
+    let many = clocks_many batches (length plans.plans) in
+    record {
+      each = many;
+      on = λ cpu below.
+          let inside : cpu < length plans.plans = omega (arith, below, many) in
+          ap (λ (on : OnPlan). on.plan) (clocks_are batches (length plans.plans) cpu inside) ∙ (lane_is plans batches ticks out room cpu is inside).plan;
+      whole = λ cpu below. (lane_is plans batches ticks out room cpu is (omega (arith, below, many))).whole;
+      slots = λ cpu below. (lane_is plans batches ticks out room cpu is (omega (arith, below, many))).slots;
+    }
+
+-- ---- before a fork
+
+batch_may_go : (plans : PlansView) (batches : List (List LaneView)) (old ticks : Ticks) (out room : ℕ) → IsCrew plans batches old out room → ticks.count ≤ room → AreBehind plans (clocks_of batches (length plans.plans)) ticks.first
+    → (worker : ℕ) → worker < length batches → MayAllGo ticks (batch_at batches worker)
+batch_may_go plans batches old ticks out room is within behind worker below = λ k inside.
+    let lane = lane_at (batch_at batches worker) k in
+    let cpu = k * length batches + worker in
+    let own = (is.each worker below).each k inside in
+    let slots : length lane.on.plan.parents ≡ length plans.lives = ap (λ (plan : PlanView). length plan.parents) own.plan ∙ own.slots in
+    let few : ticks.count * length plans.lives ≤ room * length plans.lives = mul-le-mul_right (length plans.lives) within in
+    let here : clocks_at (clocks_of batches (length plans.plans)) cpu ≡ lane.on = clocks_are batches (length plans.plans) cpu own.below ∙ ap (λ (l : LaneView). l.on) (lane_of_place batches worker k below) in
+    let made = behind.behind cpu (omega (arith, own.below, clocks_many batches (length plans.plans))) in
+    record {
+      room = subst (λ n. ticks.count * n ≤ length lane.kept) (sym slots) (omega (arith, few, own.size));
+      behind = subst (λ (plan : PlanView). lane.on.made ≤ changes_up_to plan ticks.first) (sym own.plan) (subst (λ (on : OnPlan). on.made ≤ changes_up_to (plan_at plans cpu) ticks.first) here made);
+    }
+
+-- each lane of a crew may go over ticks, where no clock is ahead of the first
+pub may_go : (plans : PlansView) (batches : List (List LaneView)) (old ticks : Ticks) (out room : ℕ) → IsCrew plans batches old out room → ticks.count ≤ room → AreBehind plans (clocks_of batches (length plans.plans)) ticks.first
+    → All (MayAllGo ticks) batches
+may_go plans batches old ticks out room is within behind = λ worker d below.
+    subst (MayAllGo ticks) (get_or_default batches worker [] d below) (batch_may_go plans batches old ticks out room is within behind worker below)
+
+-- ---- behind it
+
+lane_gone : (plans : PlansView) (before ticks : Ticks) (room cpu : ℕ) (old new : LaneView) → IsLaneOf plans before room cpu old → HasGone ticks old new → IsLaneOf plans ticks room cpu new
+lane_gone plans before ticks room cpu old new is gone = record {
+  cpu_is = gone.cpu ∙ is.cpu_is;
+  below = is.below;
+  plan = gone.plan ∙ is.plan;
+  whole = is.whole;
+  slots = is.slots;
+  size = gone.size ∙ is.size;
+  keeps = subst (λ (plan : PlanView). KeepsTicks new.kept plan ticks ticks.count) is.plan gone.keeps;
+}
+
+batch_gone : (plans : PlansView) (before ticks : Ticks) (room workers worker : ℕ) (old new : List LaneView) → IsBatchOf plans before room workers worker old → HaveGone ticks old new → IsBatchOf plans ticks room workers worker new
+batch_gone plans before ticks room workers worker old new is gone = record {
+  all = λ k below. subst (λ n. k < n) (sym gone.many) (is.all k below);
+  each = λ k below.
+      let inside : k < length old = omega (arith, below, gone.many) in
+      lane_gone plans before ticks room (k * workers + worker) (lane_at old k) (lane_at new k) (is.each k inside) (gone.each k inside);
+}
+
+-- a crew whose batches went over ticks is one
+pub crew_gone : (plans : PlansView) (old new : List (List LaneView)) (before ticks : Ticks) (out room : ℕ) → IsCrew plans old before out room → ticks.count ≤ room → HaveAllGone ticks old new → IsCrew plans new ticks 0 room
+crew_gone plans old new before ticks out room is within gone = record {
+  some = subst (λ n. 0 < n) (sym gone.many) is.some;
+  roomy = is.roomy;
+  countable = is.countable;
+  within = within;
+  out_within = omega arith;
+  each = λ worker below.
+      let inside : worker < length old = omega (arith, below, gone.many) in
+      subst (λ n. IsBatchOf plans ticks room n worker (batch_at new worker)) (sym gone.many)
+      (batch_gone plans before ticks room (length old) worker (batch_at old worker) (batch_at new worker) (is.each worker inside) (gone.each worker inside));
+}
+
+-- so went the lane of each processor
+gone_there : (plans : PlansView) (old new : List (List LaneView)) (before ticks : Ticks) (out room cpu : ℕ) → IsCrew plans old before out room → HaveAllGone ticks old new → cpu < length plans.plans → HasGone ticks (lane_of old cpu) (lane_of new cpu)
+gone_there plans old new before ticks out room cpu is gone below =
+    let there = lane_there plans old before out room cpu is below in
+    let at_old = (gone.each (cpu % length old) (mod-lt cpu is.some)).each (cpu / length old) there in
+    subst (λ n. HasGone ticks (lane_of old cpu) (lane_at (batch_at new (cpu % n)) (cpu / n))) (sym gone.many) at_old
+
+-- and all clocks are at the last tick
+pub gone_at : (plans : PlansView) (old new : List (List LaneView)) (before ticks : Ticks) (out room : ℕ) → IsCrew plans old before out room → ticks.count ≤ room → HaveAllGone ticks old new → AreAt plans (clocks_of new (length plans.plans)) (last_of ticks)
+gone_at plans old new before ticks out room is within gone =
+    let cpus = length plans.plans in
+    let many = clocks_many new cpus in
+    record {
+      on_plans = on_plans plans new ticks 0 room (crew_gone plans old new before ticks out room is within gone);
+      there = λ cpu below.
+          let inside : cpu < cpus = omega (arith, below, many) in
+          let own = gone_there plans old new before ticks out room cpu is gone inside in
+          let lane = lane_is plans old before out room cpu is inside in
+          ap (λ (on : OnPlan). on.made) (clocks_are new cpus cpu inside) ∙ own.made ∙ ap (λ (plan : PlanView). changes_up_to plan (last_of ticks)) lane.plan;
+      past = λ cpu below.
+          let inside : cpu < cpus = omega (arith, below, many) in
+          let own = gone_there plans old new before ticks out room cpu is gone inside in
+          let lane = lane_is plans old before out room cpu is inside in
+          subst (λ (plan : PlanView). last_change plan (changes_up_to plan (last_of ticks)) ≤ last_of ticks) lane.plan own.past;
+    }
+
+-- ---- tables
+
+-- the times of all processors are kept for each tick that isn't handed out
+pub are_kept : (plans : PlansView) (batches : List (List LaneView)) (ticks : Ticks) (out room : ℕ) → IsCrew plans batches ticks out room → out < ticks.count → AreKept plans batches out (moment_in ticks out)
+are_kept plans batches ticks out room is left = λ cpu below.
+    let lane = lane_is plans batches ticks out room cpu is below in
+    let within = is.within in
+    let end = places_end out room (length plans.lives) (omega (arith, left, within)) in
+    record {
+      some = is.some;
+      place = lane_there plans batches ticks out room cpu is below;
+      room = omega (arith, end, lane.size);
+      times = λ slot inside. subst (λ n. kept_at (lane_of batches cpu).kept n out slot ≡ times_by (plan_at plans cpu) slot (moment_in ticks out)) lane.slots (lane.keeps out slot left (subst (λ n. slot < n) (sym lane.slots) inside));
+    }
+
+some_inside : (moments : List ℕ) (at : ℕ) → slice_get moments 0 ≡ Some at → 0 < length moments
+some_inside [] at is = absurd (let no : ⊥ = cc in no)
+some_inside (moment ∷ moments) at is = omega arith
+
+-- the first moment that is ready is that of the tick behind those that were handed out
+pub first_ready : (ticks : Ticks) (out at : ℕ) → slice_get (drop out (moments_of ticks)) 0 ≡ Some at → (out < ticks.count) × (at ≡ moment_in ticks out)
+first_ready ticks out at is =
+    let all = moments_of ticks in
+    let many = length-map-range_with_len (moment_in ticks) 0 ticks.count in
+    let some = some_inside (drop out all) at is in
+    let left : out < ticks.count = omega (arith, some, many, length-drop out all) in
+    (left, sym (get_or_from_slice_get (drop out all) 0 at 0 is) ∙ get_or-drop out all 0 0 ∙ get_or-map-range_with_len (moment_in ticks) 0 ticks.count (out + 0) out 0 (omega (arith, left)) (omega arith))
+
+-- one less is ready then
+pub ready_less : {X : Type 0} (out : ℕ) (xs : List X) → drop (out + 1) xs ≡ drop 1 (drop out xs)
+ready_less zero xs = refl
+ready_less (suc out) [] = drop-nil (suc out + 1) ∙ sym (ap (drop 1) (drop-nil (suc out)) ∙ drop-nil 1)
+ready_less (suc out) (x ∷ xs) =
+    let next : suc out + 1 ≡ suc (out + 1) = omega arith in
+    ap (λ n. drop n (x ∷ xs)) next ∙ ready_less out xs
+
+-- a crew of which one table more was handed out, as contracts see it
+pub crew_less : (plans : PlansView) (batches : List (List LaneView)) (ticks : Ticks) (out room : ℕ) (old : CrewView) → crew_of plans batches ticks out room ≡ old → crew_of plans batches ticks (out + 1) room ≡ record old { ready = drop 1 old.ready }
+crew_less plans batches ticks out room old same =
+    ap (λ ready. let crew : CrewView = record { plans = plans; clocks = clocks_of batches (length plans.plans); ready = ready; room = room } in crew) (ready_less out (moments_of ticks))
+    ∙ ap (λ (view : CrewView). let crew : CrewView = record view { ready = drop 1 view.ready } in crew) same
+
+-- a crew of which one table more was handed out is one
+pub handed_out : (plans : PlansView) (batches : List (List LaneView)) (ticks : Ticks) (out room : ℕ) → IsCrew plans batches ticks out room → out < ticks.count → IsCrew plans batches ticks (out + 1) room
+handed_out plans batches ticks out room is left = record {
+  some = is.some;
+  roomy = is.roomy;
+  countable = is.countable;
+  within = is.within;
+  out_within = omega (arith, left);
+  each = is.each;
+}
+
+-- ---- a new crew
+
+-- the batches of new workers are a crew
+pub crew_new : (plans : PlansView) (batches : List (List LaneView)) (workers room : ℕ) → AreNewBatches plans room workers batches → 0 < workers → 1 ≤ room → room < 2 ^ 32 → IsCrew plans batches no_ticks 0 room
+crew_new plans batches workers room new some roomy countable = record {
+  some = subst (λ n. 0 < n) (sym new.many) some;
+  roomy = roomy;
+  countable = countable;
+  within = omega arith;
+  out_within = omega arith;
+  each = λ worker below. subst (λ n. IsBatchOf plans no_ticks room n worker (batch_at batches worker)) (sym new.many) (new.each worker (omega (arith, below, new.many))).batch;
+}
+
+-- none of its clocks made a change
+pub clocks_new : (plans : PlansView) (batches : List (List LaneView)) (workers room : ℕ) → AreNewBatches plans room workers batches → 0 < workers → 1 ≤ room → room < 2 ^ 32 → (cpu : ℕ) → cpu < length plans.plans → (clocks_at (clocks_of batches (length plans.plans)) cpu).made ≡ 0
+clocks_new plans batches workers room new some roomy countable cpu below =
+    let is = crew_new plans batches workers room new some roomy countable in
+    let there = lane_there plans batches no_ticks 0 room cpu is below in
+    let mine : cpu % length batches < workers = omega (arith, mod-lt cpu is.some, new.many) in
+    ap (λ (on : OnPlan). on.made) (clocks_are batches (length plans.plans) cpu below) ∙ (new.each (cpu % length batches) mine).fresh (cpu / length batches) there
+
+-- the lane of a processor that was made of plans is one of theirs
+pub new_lane : (plans : PlansView) (room cpu number : ℕ) (lane : LaneView) → number ≡ cpu → number < length plans.plans → lane.cpu ≡ number → lane.on ≡ record { plan = plan_at plans number; made = 0 } → length lane.kept ≡ room * length plans.lives → IsPlan lane.on.plan
+    → length lane.on.plan.parents ≡ length plans.lives → IsLaneOf plans no_ticks room cpu lane
+new_lane plans room cpu number lane same below own on size whole slots =
+    let plan : lane.on.plan ≡ plan_at plans cpu = ap (λ (on : OnPlan). on.plan) on ∙ ap (plan_at plans) same in
+    record {
+      cpu_is = own ∙ same;
+      below = subst (λ n. n < length plans.plans) same below;
+      plan = plan;
+      whole = subst IsPlan plan whole;
+      slots = subst (λ (p : PlanView). length p.parents ≡ length plans.lives) plan slots;
+      size = size;
+      keeps = λ j slot early inside. absurd (let no : ⊥ = omega (arith, early) in no);
+    }
+
+-- ---- room
+
+-- so many ticks are room for, where so many bytes fit
+pub room_is : (cpus slots moments fits room : ℕ) → fits ≡ 64000000 / max (56 * (slots * cpus)) 1 → room ≡ max (min fits moments) 1 → IsRoom room cpus slots moments
+room_is cpus slots moments fits room few is =
+    let bytes = 56 * (slots * cpus) in
+    let case : (room ≡ 1) ⊎ (room ≤ fits) = grind (arith, is) in
+    record {
+      some = grind (arith, is);
+      within = grind (arith, is);
+      small = ⊎_elim (λ one. inr one)
+          (λ below.
+          let most : fits * max bytes 1 ≤ 64000000 = rw few (div-mul-le_self 64000000 (max bytes 1)) in
+          let more : bytes ≤ max bytes 1 = grind arith in
+          let one : room * bytes ≤ fits * bytes = mul-le-mul_right bytes below in
+          let two : fits * bytes ≤ fits * max bytes 1 = mul-le-mul_left fits more in
+          let same : 56 * (room * slots * cpus) ≡ room * bytes = grind arith in
+          inl (omega (arith, most, one, two, same)))
+          case;
+    }

@@ -1,0 +1,154 @@
+-- The lanes of a crew, one for each processor, and how they are dealt to batches, one for each worker that has a lane.
+use Rattle.std.specs.Prelude.{◌≡◌, ◌≢◌, ℕ, ◌+◌, ◌*◌, ◌/◌, ◌%◌, ◌^◌, ◌<◌, ◌≤◌, List, [], drop, length, map, slice_index_or}
+use Rattle.std.specs.List.{range_with_len}
+use Rattle.psi_laws.specs.Plan.{IsPlan, PlanView, changes_up_to, last_change, no_plan}
+use Rattle.proc_plan.specs.Clocks.{OnPlan}
+use Rattle.proc_plan.specs.Plans.{PlansView, plan_at}
+use Rattle.aggregate.specs.Table.{times_at}
+use Rattle.replay_workers.specs.declared.ticks.Ticks.{Ticks}
+use Rattle.replay_workers.specs.Crew.{CrewView, last_of, moment_in, moments_of, times_by}
+
+-- ---- one processor
+
+-- A lane: a processor's number, its clocks, and the times (ns) that it keeps, tick by tick and slot by slot.
+pub record LaneView : Type 0 where
+  pub cpu : ℕ
+  pub on : OnPlan
+  pub kept : List (List ℕ)
+
+-- no lane
+abbrev pub no_lane : LaneView
+no_lane = record { cpu = 0; on = record { plan = no_plan; made = 0 }; kept = [] }
+
+-- the times (ns) of a slot that are kept for a tick with a number from 0
+abbrev pub kept_at : List (List ℕ) → ℕ → ℕ → ℕ → List ℕ
+kept_at kept slots j slot = slice_index_or kept (j * slots + slot) []
+
+-- the times of all slots at each of the first so many ticks are kept
+abbrev pub KeepsTicks : List (List ℕ) → PlanView → Ticks → ℕ → Type 0
+KeepsTicks kept plan ticks n = (j slot : ℕ) → j < n → slot < length plan.parents →
+    kept_at kept (length plan.parents) j slot ≡ times_by plan slot (moment_in ticks j)
+
+-- The times of all slots at a moment (ns) are kept for a tick with a number from 0, and those for the ticks before it stay.
+pub record KeepsTick (old new : List (List ℕ)) (j : ℕ) (plan : PlanView) (at : ℕ) : Type 0 where
+  pub size : length new ≡ length old
+  pub here : (slot : ℕ) → slot < length plan.parents → kept_at new (length plan.parents) j slot ≡ times_by plan slot at
+  pub before : (place : ℕ) → place < j * length plan.parents → slice_index_or new place [] ≡ slice_index_or old place []
+
+-- A lane's clocks are on its own plan, which is whole and has a parent or none for each of so many slots.
+pub record IsLane (plan : PlanView) (slots : ℕ) (on : OnPlan) : Type 0 where
+  pub on_plan : on.plan ≡ plan
+  pub whole : IsPlan plan
+  pub slots_are : slots ≡ length plan.parents
+
+-- a lane may go over ticks: there is a place for all times, and no change was made that is later than the first tick
+pub record MayGo (ticks : Ticks) (lane : LaneView) : Type 0 where
+  pub room : ticks.count * length lane.on.plan.parents ≤ length lane.kept
+  pub behind : lane.on.made ≤ changes_up_to lane.on.plan ticks.first
+
+-- A lane went over ticks: its clocks made the changes up to the last, and no others, and the times at each are kept.
+pub record HasGone (ticks : Ticks) (old new : LaneView) : Type 0 where
+  pub cpu : new.cpu ≡ old.cpu
+  pub plan : new.on.plan ≡ old.on.plan
+  pub made : new.on.made ≡ changes_up_to old.on.plan (last_of ticks)
+  pub past : last_change old.on.plan (changes_up_to old.on.plan (last_of ticks)) ≤ last_of ticks
+  pub size : length new.kept ≡ length old.kept
+  pub keeps : KeepsTicks new.kept old.on.plan ticks ticks.count
+
+-- A table has the times of a processor at a moment, by its plan, and those of the other processors as they were.
+pub record FillsProcessor (old new : List (List (List ℕ))) (slots cpu : ℕ) (plan : PlanView) (at : ℕ) : Type 0 where
+  pub here : (slot : ℕ) → slot < slots → times_at new slot cpu ≡ times_by plan slot at
+  pub others : (slot other : ℕ) → other ≢ cpu → times_at new slot other ≡ times_at old slot other
+
+-- ---- batches
+
+-- a lane of a batch, by its place
+abbrev pub lane_at : List LaneView → ℕ → LaneView
+lane_at lanes k = slice_index_or lanes k no_lane
+
+-- a batch, by its worker
+abbrev pub batch_at : List (List LaneView) → ℕ → List LaneView
+batch_at batches worker = slice_index_or batches worker []
+
+-- each lane of a batch may go over ticks
+abbrev pub MayAllGo : Ticks → List LaneView → Type 0
+MayAllGo ticks lanes = (k : ℕ) → k < length lanes → MayGo ticks (lane_at lanes k)
+
+-- each lane of a batch went over ticks, as it does alone
+pub record HaveGone (ticks : Ticks) (old new : List LaneView) : Type 0 where
+  pub many : length new ≡ length old
+  pub each : (k : ℕ) → k < length old → HasGone ticks (lane_at old k) (lane_at new k)
+
+-- so did each batch
+pub record HaveAllGone (ticks : Ticks) (old new : List (List LaneView)) : Type 0 where
+  pub many : length new ≡ length old
+  pub each : (worker : ℕ) → worker < length old → HaveGone ticks (batch_at old worker) (batch_at new worker)
+
+-- The lane of a processor is the one at the place of its number over that of the workers, in the batch of the rest.
+abbrev pub lane_of : List (List LaneView) → ℕ → LaneView
+lane_of batches cpu = lane_at (batch_at batches (cpu % length batches)) (cpu / length batches)
+
+-- The lane of a processor is there, and keeps the times of all groups at a moment (ns) for a tick with a number from 0.
+pub record IsKept (plans : PlansView) (batches : List (List LaneView)) (cpu tick at : ℕ) : Type 0 where
+  pub some : 0 < length batches
+  pub place : cpu / length batches < length (batch_at batches (cpu % length batches))
+  pub room : tick * length plans.lives + length plans.lives ≤ length (lane_of batches cpu).kept
+  pub times : (slot : ℕ) → slot < length plans.lives → kept_at (lane_of batches cpu).kept (length plans.lives) tick slot ≡ times_by (plan_at plans cpu) slot at
+
+-- so it is for each processor
+abbrev pub AreKept : PlansView → List (List LaneView) → ℕ → ℕ → Type 0
+AreKept plans batches tick at = (cpu : ℕ) → cpu < length plans.plans → IsKept plans batches cpu tick at
+
+-- the clocks of so many processors
+abbrev pub clocks_of : List (List LaneView) → ℕ → List OnPlan
+clocks_of batches cpus = map (λ cpu. (lane_of batches cpu).on) (range_with_len 0 cpus)
+
+-- ---- crews
+
+-- A lane of a crew is that of a processor: its clocks are on the processor's plan, there is room for so many ticks, and the
+-- times at ticks are kept.
+pub record IsLaneOf (plans : PlansView) (ticks : Ticks) (room cpu : ℕ) (lane : LaneView) : Type 0 where
+  pub cpu_is : lane.cpu ≡ cpu
+  pub below : cpu < length plans.plans
+  pub plan : lane.on.plan ≡ plan_at plans cpu
+  pub whole : IsPlan (plan_at plans cpu)
+  pub slots : length (plan_at plans cpu).parents ≡ length plans.lives
+  pub size : length lane.kept ≡ room * length plans.lives
+  pub keeps : KeepsTicks lane.kept (plan_at plans cpu) ticks ticks.count
+
+-- A batch has the lanes of its worker, which has each processor whose number over that of the workers leaves the worker's own.
+pub record IsBatchOf (plans : PlansView) (ticks : Ticks) (room workers worker : ℕ) (lanes : List LaneView) : Type 0 where
+  pub all : (k : ℕ) → k * workers + worker < length plans.plans → k < length lanes
+  pub each : (k : ℕ) → k < length lanes → IsLaneOf plans ticks room (k * workers + worker) (lane_at lanes k)
+
+-- before any tick
+abbrev pub no_ticks : Ticks
+no_ticks = record { first = 0; length = 0; count = 0 }
+
+-- A batch has the lanes of its worker, and no lane made a change yet.
+pub record IsNewBatch (plans : PlansView) (room workers worker : ℕ) (lanes : List LaneView) : Type 0 where
+  pub batch : IsBatchOf plans no_ticks room workers worker lanes
+  pub fresh : (k : ℕ) → k < length lanes → (lane_at lanes k).on.made ≡ 0
+
+-- the batches of workers, none of which made a change yet
+pub record AreNewBatches (plans : PlansView) (room workers : ℕ) (batches : List (List LaneView)) : Type 0 where
+  pub many : length batches ≡ workers
+  pub each : (worker : ℕ) → worker < workers → IsNewBatch plans room workers worker (batch_at batches worker)
+
+-- A crew has a batch for each of some workers, and handed out so many of the ticks that its lanes went over.
+pub record IsCrew (plans : PlansView) (batches : List (List LaneView)) (ticks : Ticks) (out room : ℕ) : Type 0 where
+  pub some : 0 < length batches
+  pub roomy : 1 ≤ room
+  pub countable : room < 2 ^ 32
+  pub within : ticks.count ≤ room
+  pub out_within : out ≤ ticks.count
+  pub each : (worker : ℕ) → worker < length batches → IsBatchOf plans ticks room (length batches) worker (batch_at batches worker)
+
+-- a crew of these parts
+abbrev pub crew_of : PlansView → List (List LaneView) → Ticks → ℕ → ℕ → CrewView
+crew_of plans batches ticks out room = record {
+  plans = plans;
+  clocks = clocks_of batches (length plans.plans);
+  ready = drop out (moments_of ticks);
+  room = room;
+}

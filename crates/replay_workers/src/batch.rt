@@ -1,0 +1,83 @@
+//! The processors of one worker.
+ghost use Rattle.std.specs.Prelude.{◌≡◌, ◌<◌, ◌≤◌, length};
+ghost use Rattle.std.specs.List.{All};
+ghost use Rattle.psi_spec.specs.Trace.{last_moment};
+ghost use Rattle.replay_workers.specs.Crew.{last_of};
+ghost use Rattle.replay_workers.specs.Lanes.{HaveAllGone, HaveGone, MayAllGo};
+
+use crate::lane::Lane;
+use crate::ticks::Ticks;
+use psi_base::{Gate, Ns};
+use std::marker::Model;
+use std::thread;
+use std::thread::Threads;
+
+/// The lanes of one worker. Contracts see them as a list.
+#[derive(Drop)]
+pub(crate) struct Batch<'a> {
+    pub(crate) lanes: Vec<Lane<'a>>,
+}
+
+impl<'a> Model for Batch<'a> {
+    ghost use Rattle.std.specs.Prelude.{List};
+    ghost use Rattle.replay_workers.specs.Lanes.{LaneView};
+
+    ghost Value = { List LaneView };
+
+    ghost view = { λ b. b.lanes.items };
+}
+
+impl<'a> Batch<'a> {
+    /// Makes the changes of all lanes up to each tick, and keeps the times of all groups there.
+    pub(crate) fn go_over<G: Gate>(&mut self, ticks: Ticks, gate: &G)
+        requires some { 0 < ticks.count }
+        requires early { last_of ticks ≤ last_moment }
+        requires may { MayAllGo ticks self.old }
+        ensures { HaveGone ticks self.old self.new }
+    {
+        'lanes: for lane in self.lanes.iter_mut() {
+            lane.go_over(ticks, gate);
+        }
+    }
+
+    /// Whether a processor has a change left up to a moment (ns).
+    fn is_busy(&self, until: Ns) -> bool {
+        self.lanes.iter().any(|lane| lane.is_busy(until))
+    }
+}
+
+// In how many threads to work: in the caller's alone, where no more than one batch has a change up to a moment (ns).
+fn threads_for(batches: &[Batch<'_>], until: Ns) -> usize
+    requires { 0 < length batches.now }
+    ensures { 0 < result }
+{
+    let busy = batches.iter().filter(|batch| batch.is_busy(until)).count();
+    if busy > 1 { batches.len() } else { 1 }
+}
+
+/// Makes the changes of all batches up to each tick, and keeps the times of all groups there, each batch in a thread of its own
+/// where one can be started: they tell nothing of one another.
+pub(crate) fn go_all<R: Threads + Sync, G: Gate>(
+    rt: &R,
+    batches: &mut [Batch<'_>],
+    ticks: Ticks,
+    gate: &G,
+)
+    requires any { 0 < length batches.old }
+    requires some { 0 < ticks.count }
+    requires early { last_of ticks ≤ last_moment }
+    requires may { All (MayAllGo ticks) batches.old }
+    ensures { HaveAllGone ticks batches.old batches.new }
+{
+    let last = ticks.last();
+    let threads = threads_for(batches, last);
+    thread::for_each_mut(
+        rt,
+        batches,
+        threads,
+        &|_: usize, batch: &mut Batch<'_>|
+            requires { (0 < ticks.count) × (last_of ticks ≤ last_moment) × MayAllGo ticks batch.now }
+            ensures { HaveGone ticks batch.old batch.new }
+        { batch.go_over(ticks, gate) },
+    );
+}

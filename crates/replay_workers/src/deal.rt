@@ -1,0 +1,68 @@
+//! How processors are dealt to workers.
+ghost use Rattle.std.specs.Prelude.{◌≡◌, ◌<◌, ◌≤◌, length, IfOk};
+ghost use Rattle.replay_workers.specs.Crew.{IsRoom};
+ghost use Rattle.replay_workers.specs.Lanes.{AreNewBatches, IsNewBatch};
+
+use crate::batch::Batch;
+use crate::lane::Lane;
+use proc_plan::Plans;
+use psi_base::{Cpu, NoMemory};
+use std::alloc::Global;
+
+/// How many bytes the times take at most that are kept for ticks ahead.
+const MOST_KEPT: u64 = 64_000_000;
+
+/// How many bytes the times of a group on a processor take.
+const TIMES_BYTES: u64 = 56;
+
+/// Over how many ticks a crew goes at once, where a trace is taken to so many moments: over as many as can be kept, and over one
+/// at least.
+pub(crate) fn room_for(cpus: u32, slots: u32, moments: u64) -> u32
+    requires { cpus ≤ 64 }
+    ensures { IsRoom result cpus slots moments }
+{
+    let bytes = TIMES_BYTES * (u64::from(slots) * u64::from(cpus));
+    let fits = MOST_KEPT / bytes.max(1);
+    fits.min(moments).max(1) as u32
+}
+
+// The lanes of a worker, before any change: each processor whose number over that of the workers leaves the worker's own.
+fn deal_batch<'a>(
+    alloc: Global,
+    plans: &'a Plans,
+    worker: u32,
+    workers: u32,
+    room: u32,
+) -> Result<Batch<'a>, NoMemory>
+    requires below { worker < workers }
+    requires few { workers ≤ 64 }
+    requires roomy { 1 ≤ room }
+    ensures { IfOk result (IsNewBatch plans.now room workers worker) }
+{
+    let cpus = plans.cpus();
+    let mut lanes = Vec::new(alloc);
+    let mut cpu = worker;
+    'cpus: while cpu < cpus {
+        lanes.push(Lane::make(alloc, plans, Cpu(cpu), room)?)?;
+        cpu += workers;
+    }
+    Ok(Batch { lanes })
+}
+
+/// All processors, dealt to so many workers, before any change.
+pub(crate) fn deal<'a>(
+    alloc: Global,
+    plans: &'a Plans,
+    workers: u32,
+    room: u32,
+) -> Result<Vec<Batch<'a>>, NoMemory>
+    requires few { workers ≤ 64 }
+    requires roomy { 1 ≤ room }
+    ensures { IfOk result (λ batches. AreNewBatches plans.now room workers batches.items) }
+{
+    let mut batches = Vec::new(alloc);
+    'workers: for worker in 0..workers {
+        batches.push(deal_batch(alloc, plans, worker, workers, room)?)?;
+    }
+    Ok(batches)
+}

@@ -1,0 +1,35 @@
+//! Ticks that one fork goes over.
+ghost use Rattle.std.specs.Prelude.{◌≡◌, ◌<◌, ◌≤◌, ◌^◌};
+ghost use Rattle.replay_workers.specs.Crew.{last_of, moment_in};
+
+use psi_base::Ns;
+
+/// Moments that are one length apart.
+#[derive(Clone, Copy, Debug)]
+pub struct Ticks {
+    /// The first moment, in ns.
+    pub first: Ns,
+    /// From each moment to the next, in ns.
+    pub length: Ns,
+    /// How many there are.
+    pub count: u32,
+}
+
+impl Ticks {
+    /// The moment (ns) of the tick with a number from 0.
+    pub(crate) fn moment(self, number: u32) -> Ns
+        requires { moment_in self number < 2 ^ 64 }
+        ensures { result ≡ moment_in self number }
+    {
+        self.first + u64::from(number) * self.length
+    }
+
+    /// The last moment (ns).
+    pub(crate) fn last(self) -> Ns
+        requires some { 0 < self.count }
+        requires fits { last_of self < 2 ^ 64 }
+        ensures { result ≡ last_of self }
+    {
+        self.moment(self.count - 1)
+    }
+}
