@@ -1,7 +1,6 @@
 -- What holds of the kills of a tick: they are few, and each is of a group that there is.
-use Rattle.std.proofs.Common.{◌≡◌, ℕ, zero, suc, ◌+◌, ◌-◌, ◌*◌, ◌≤◌, ◌<◌, ◌^◌, List, [], ◌∷◌, ◌++◌, length, refl, sym, ap, ◌∙◌, subst, arith, Bool, true, false, get_or}
-use Rattle.std.specs.Prelude.{All, Contains, Option, None, Some, if◌then◌else◌, map, nat_le, sum_by}
-use Rattle.std.specs.List.{range_with_len}
+use Rattle.std.proofs.Common.{◌≡◌, ℕ, zero, suc, ◌+◌, ◌-◌, ◌*◌, ◌≤◌, ◌<◌, ◌^◌, List, [], ◌∷◌, length, sym, subst, arith, Bool, true, false, get_or}
+use Rattle.std.specs.Prelude.{All, Option, None, Some, if◌then◌else◌, map, nat_le}
 use Rattle.std.proofs.lemmas.List.Elements.{All-append, All-contains, All-contains_itself, All-filter, All-map, All-nil}
 use Rattle.std.proofs.lemmas.List.{get_or-map, length-append, length-map}
 use Rattle.psi_base.specs.declared.event.Slot.{Slot}
@@ -18,9 +17,8 @@ use Rattle.ruleset_json.specs.RuleRanges.{FitsRule, FitsRules}
 use Rattle.kill_spec.specs.declared.kill.Kill.{Kill}
 use Rattle.kill_spec.specs.declared.reading.GroupReading.{GroupReading}
 use Rattle.kill_spec.specs.Readings.{Reading}
-use Rattle.kill_spec.specs.Detectors.{fires}
 use Rattle.kill_spec.specs.Victims.{after_of, victim}
-use Rattle.kill_spec.specs.Kills.{and_then, chain, is_paused, kill_by, kills, kills_at, kills_from, kills_of, last_ending}
+use Rattle.kill_spec.specs.Kills.{and_then, chain, kill_by, kills, kills_at, kills_from, kills_of}
 use Rattle.kill_spec.specs.Evaluations.{averages_at, group_seen, reading_at, readings_until}
 use Rattle.kill_spec.proofs.KillLaws.{of_actions}
 use Rattle.kill_spec.proofs.VictimLaws.{victims_match}

@@ -1,5 +1,5 @@
 -- A replay before its first tick.
-use Rattle.std.proofs.Common.{◌≡◌, ℕ, ◌*◌, ◌≤◌, ◌<◌, List, [], length, get_or, sym, subst, arith}
+use Rattle.std.proofs.Common.{◌≡◌, ℕ, ◌*◌, ◌≤◌, ◌<◌, List, [], length, get_or, refl, sym, subst, arith}
 use Rattle.std.specs.Prelude.{All, IfSome, Option, None, Some}
 use Rattle.psi_base.specs.declared.event.TriggerSpec.{TriggerSpec}
 use Rattle.psi_spec.specs.declared.machine.GroupLife.{GroupLife}
@@ -85,22 +85,26 @@ engine_new plans engine trace pace planned stands =
 
 -- what was made of plans is a replay of their trace before its first tick
 pub replay_new : (replay : ReplayView) (trace : Trace) (pace : Pace) (rules : List Rule) → IsPlanned replay.plans trace pace →
-    replay.crew.plans ≡ replay.plans → AreOnPlans replay.crew.plans replay.crew.clocks →
+    replay.crew.plans ≡ replay.plans → AreOnPlans replay.crew.plans replay.crew.clocks → replay.crew.ready ≡ [] →
     ((cpu : ℕ) → cpu < length replay.crew.plans.plans → (clocks_at replay.crew.clocks cpu).made ≡ 0) →
     replay.rows ≡ new_table (length replay.plans.plans) (length replay.plans.lives) →
     StandsFor replay.engine (length replay.plans.plans) replay.plans.lives replay.plans.triggers [] →
     IsPathOrder replay.plans.lives (numbers_of replay.order) → IsPaced replay.pacing trace pace → HasJudged replay.judge trace pace rules 0 → FitsRules rules → replay.made ≡ 0 → replay.signals ≡ 0 → replay.kills ≡ 0 → IsReplay replay trace pace rules 0
-replay_new replay trace pace rules planned same on fresh rows stands order paced judged fits made signals kills =
+replay_new replay trace pace rules planned same on none fresh rows stands order paced judged fits made signals kills =
     let here = subst (λ plans. AreOnPlans plans replay.crew.clocks) same on in
     record {
       planned = planned;
       paced = paced;
       made = made;
       within = omega arith;
-      crew = same;
-      behind = record {
-        on_plans = here;
-        behind = λ cpu below. omega (arith, fresh cpu (omega (arith, below, on.each)));
+      ahead = record {
+        same = same;
+        ready = rw none refl;
+        within = rw none (omega arith);
+        behind = record {
+          on_plans = here;
+          behind = λ cpu below. omega (arith, fresh cpu (omega (arith, below, on.each)));
+        };
       };
       sizes = rw rows (keeps_sizes.new (length replay.plans.plans) (length replay.plans.lives));
       engine = engine_new replay.plans replay.engine trace pace planned stands;

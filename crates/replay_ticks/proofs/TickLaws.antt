@@ -1,28 +1,23 @@
 -- What one tick more makes of a replay.
-use Rattle.std.proofs.Common.{◌≡◌, ℕ, zero, suc, ◌+◌, ◌-◌, ◌*◌, ◌/◌, ◌<◌, ◌≤◌, ◌^◌, List, [], ◌∷◌, ◌++◌, length, sym, ap, ◌∙◌, subst, arith, cond}
-use Rattle.std.specs.Prelude.{Bool, Err, IsErr, Ok, Option, Result, nat_le}
-use Rattle.std.specs.List.{count_by, range_with_len}
-use Rattle.std.proofs.Math.Nat.{le-div_iff_mul-le, mul-le-mul_left}
+use Rattle.std.proofs.Common.{◌≡◌, ℕ, zero, suc, ◌+◌, ◌-◌, ◌*◌, ◌<◌, ◌≤◌, ◌^◌, List, [], ◌∷◌, ◌++◌, length, sym, ap, ◌∙◌, subst, arith}
+use Rattle.std.specs.Prelude.{Bool, Err, IsErr, true, Ok, Option, Result}
+use Rattle.std.specs.List.{range_with_len}
+use Rattle.std.proofs.Math.Nat.{mul-le-mul_left}
 use Rattle.std.proofs.lemmas.List.FromFn.{length-range_with_len}
-use Rattle.std.proofs.lemmas.List.Sums.{length-filter, count_by-le-length, sum_by-cons}
+use Rattle.std.proofs.lemmas.List.Sums.{length-filter, count_by-le-length}
 use Rattle.psi_spec.specs.Told.{triggers_of}
 use Rattle.psi_spec.specs.Trace.{Trace, last_moment, limits_of}
-use Rattle.psi_laws.specs.declared.changes.Change.{Change}
-use Rattle.psi_laws.specs.Plan.{changes_up_to, PlanView}
-use Rattle.psi_laws.proofs.PlanStates.{legal_after}
 use Rattle.psi_laws.proofs.MomentsTriggers.{triggers_are_within}
 use Rattle.pressure_spec.specs.Samples.{fired_at, fires_by_number}
 use Rattle.pressure_spec.specs.Ticks.{IsNextTick, table_until, tick_moment, tick_of, ticks_of}
 use Rattle.run_spec.specs.Replay.{Pace, fired_in, kills_in, lives_of, signals_until, tick_count, tick_text, with_rules}
-use Rattle.run_spec.specs.Text.{end_of}
 use Rattle.run_laws.proofs.OneMore.{kills_more, signals_more, ticks_more}
 use Rattle.run_laws.proofs.Following.{ticks_follow}
-use Rattle.proc_plan.specs.Plans.{PlansView, plan_at}
+use Rattle.proc_plan.specs.Plans.{PlansView}
 use Rattle.aggregate.specs.Table.{HasSizes}
 use Rattle.tick_engine.specs.Engine.{EngineView, StandsFor, Takes}
 use Rattle.tick_engine.specs.Tables.{tick_at}
-use Rattle.proc_plan.specs.Clocks.{OnPlan}
-use Rattle.replay_workers.specs.Crew.{AreAt, AreBehind, CrewView, IsTableAt}
+use Rattle.replay_workers.specs.Crew.{CrewView, IsTableAt}
 use Rattle.replay_workers.proofs.Tables.{table_is_of_events}
 use Rattle.psi_base.specs.Outside.{AppendsFront}
 use Rattle.psi_base.specs.declared.event.Slot.{Slot}
@@ -32,20 +27,8 @@ use Rattle.ruleset_json.specs.declared.types.Rule.{Rule}
 use Rattle.kill_spec.specs.declared.kill.Kill.{Kill}
 use Rattle.replay_rules.specs.Planned.{HasTicked, IsPlanned, numbers_of}
 use Rattle.replay_rules.specs.Judged.{HasJudged, IsToJudge, JudgeView, kills_of}
-use Rattle.replay_ticks.specs.Replays.{HasPlaces, IsReplay, IsSampled, IsToPut, IsToSample, ReplayView, TickGives}
-
--- ---- moments
-
--- each tick that a trace has comes up to its end
-within_end : (length end n : ℕ) → 0 < length → n ≤ end / length → n * length ≤ end
-within_end length end n some few = (le-div_iff_mul-le some).0 few
-
--- so it comes within the last moment
-pub moment_early : (plans : PlansView) (trace : Trace) (pace : Pace) (n : ℕ) → IsPlanned plans trace pace → n ≤ tick_count trace pace → tick_moment pace.length n ≤ last_moment
-moment_early plans trace pace n planned few =
-    let before = within_end pace.length (end_of trace.events) n planned.some few in
-    let world = legal_after (limits_of pace.length trace.cpus) trace.events planned.accepted.legal in
-    omega (arith, before, world.early, planned.short)
+use Rattle.replay_ticks.specs.Replays.{HasPlaces, IsAhead, IsReady, IsReplay, IsSampled, IsToGo, IsToPut, IsToSample, Passes, ReplayView, TickGives}
+use Rattle.replay_ticks.proofs.AheadLaws.{moment_early}
 
 -- ---- one tick
 
@@ -83,49 +66,11 @@ tick_taken plans engine new trace pace i at table planned moment stands is takes
 
 -- the next tick is sampled
 pub is_sampled : (plans : PlansView) (crew : CrewView) (rows : List (List (List ℕ))) (engine new : EngineView) (trace : Trace) (pace : Pace) (i at : ℕ) → IsPlanned plans trace pace → at ≡ tick_moment pace.length (i + 1)
-    → HasTicked engine trace pace i → crew.plans ≡ plans → AreAt plans crew.clocks at → IsTableAt rows plans at → Takes engine (tick_at at rows) new → IsSampled plans crew rows new trace pace (i + 1) at
-is_sampled plans crew rows engine new trace pace i at planned moment stands same there is takes = record {
-  same = same;
-  there = there;
+    → HasTicked engine trace pace i → IsAhead plans crew trace pace (i + 1) → IsTableAt rows plans at → Takes engine (tick_at at rows) new → IsSampled plans crew rows new trace pace (i + 1)
+is_sampled plans crew rows engine new trace pace i at planned moment stands ahead is takes = record {
+  ahead = ahead;
   sizes = is.sizes;
   ticked = tick_taken plans engine new trace pace i at rows planned moment stands is takes;
-}
-
--- ---- clocks
-
-one_change : (moment at later : ℕ) → at ≤ later → cond (nat_le moment at) 1 0 ≤ cond (nat_le moment later) 1 0
-one_change moment at later forward = grind arith
-
-counts_more : (at later : ℕ) → at ≤ later → (changes : List Change) → count_by (λ (change : Change). nat_le change.at at) changes ≤ count_by (λ (change : Change). nat_le change.at later) changes
-counts_more at later forward [] = omega arith
-counts_more at later forward (change ∷ changes) =
-    let before = sum_by-cons (λ (change : Change). cond (nat_le change.at at) 1 0) change changes in
-    let behind = sum_by-cons (λ (change : Change). cond (nat_le change.at later) 1 0) change changes in
-    let one = one_change change.at at later forward in
-    let others = counts_more at later forward changes in
-    omega (arith, before, behind, one, others)
-
--- no fewer changes come up to a later moment
-changes_more : (plan : PlanView) (at later : ℕ) → at ≤ later → changes_up_to plan at ≤ changes_up_to plan later
-changes_more plan at later forward =
-    let few = length-filter (λ (change : Change). nat_le change.at at) plan.changes in
-    let more = length-filter (λ (change : Change). nat_le change.at later) plan.changes in
-    let counts = counts_more at later forward plan.changes in
-    omega (arith, few, more, counts)
-
-pub behind_later : (plans : PlansView) (clocks : List OnPlan) (at later : ℕ) → at ≤ later → AreBehind plans clocks at → AreBehind plans clocks later
-behind_later plans clocks at later forward behind = record {
-  on_plans = behind.on_plans;
-  behind = λ cpu below.
-      let made = behind.behind cpu below in
-      let more = changes_more (plan_at plans cpu) at later forward in
-      omega (arith, made, more);
-}
-
-pub at_is_behind : (plans : PlansView) (clocks : List OnPlan) (at : ℕ) → AreAt plans clocks at → AreBehind plans clocks at
-at_is_behind plans clocks at there = record {
-  on_plans = there.on_plans;
-  behind = λ cpu below. let made = there.there cpu below in omega (arith, made);
 }
 
 -- ---- signals
@@ -219,50 +164,63 @@ moment_fits replay trace pace rules i is open_ =
     let same = moment_is replay trace pace rules i is in
     omega (arith, early, same)
 
-planned_by_crew : (replay : ReplayView) (trace : Trace) (pace : Pace) (rules : List Rule) (i : ℕ) → IsReplay replay trace pace rules i → IsPlanned replay.crew.plans trace pace
-planned_by_crew replay trace pace rules i is = subst (λ plans. IsPlanned plans trace pace) (sym is.crew) is.planned
-
--- all is there to sample it
-pub to_sample : (replay : ReplayView) (trace : Trace) (pace : Pace) (rules : List Rule) (i at : ℕ) → IsReplay replay trace pace rules i → (replay.made ≡ replay.pacing.last → ⊥) → at ≡ tick_moment replay.pacing.length (replay.made + 1)
-    → IsToSample replay.crew replay.rows replay.engine trace pace i at
-to_sample replay trace pace rules i at is open_ moment =
-    let here : at ≡ tick_moment pace.length (i + 1) = moment ∙ moment_is replay trace pace rules i is in
-    let apart : tick_moment pace.length (i + 1) ≡ tick_moment pace.length i + pace.length = grind arith in
-    let behind = behind_later replay.plans replay.crew.clocks (tick_moment pace.length i) at (omega (arith, here, apart)) is.behind in
-    record {
-      planned = planned_by_crew replay trace pace rules i is;
-      left = one_left replay trace pace rules i is open_;
-      at_is = here;
-      behind = subst (λ plans. AreBehind plans replay.crew.clocks at) (sym is.crew) behind;
-      sizes = subst (λ plans. HasPlaces plans replay.rows) (sym is.crew) is.sizes;
-      ticked = is.engine;
-    }
-
--- all is there to write its lines
-pub to_put : (replay : ReplayView) (crew : CrewView) (rows : List (List (List ℕ))) (engine : EngineView) (order : List Slot) (trace : Trace) (pace : Pace) (rules : List Rule) (i at : ℕ) → IsReplay replay trace pace rules i → (replay.made ≡ replay.pacing.last → ⊥)
-    → order ≡ replay.order → IsSampled replay.crew.plans crew rows engine trace pace (i + 1) at → IsToPut replay.plans engine order replay.pacing trace pace (replay.made + 1)
-to_put replay crew rows engine order trace pace rules i at is open_ ordered sampled =
+-- all is there to go over the ticks that come next
+pub to_go : (replay : ReplayView) (trace : Trace) (pace : Pace) (rules : List Rule) (i : ℕ) → IsReplay replay trace pace rules i → (replay.made ≡ replay.pacing.last → ⊥) → IsToGo replay.crew.plans replay.crew replay.pacing trace pace replay.made
+to_go replay trace pace rules i is open_ =
     let left = one_left replay trace pace rules i is open_ in
+    subst (λ plans. IsToGo plans replay.crew replay.pacing trace pace replay.made) (sym is.ahead.same)
+    (record {
+      planned = is.planned;
+      paced = is.paced;
+      left = subst (λ n. n < tick_count trace pace) (sym is.made) left;
+      ahead = subst (IsAhead replay.plans replay.crew trace pace) (sym is.made) is.ahead;
+    })
+
+-- all is there to sample the next
+pub to_sample : (replay : ReplayView) (crew : CrewView) (trace : Trace) (pace : Pace) (rules : List Rule) (i at : ℕ) → IsReplay replay trace pace rules i → (replay.made ≡ replay.pacing.last → ⊥) → at ≡ tick_moment replay.pacing.length (replay.made + 1)
+    → IsReady replay.crew.plans crew trace pace replay.made → IsToSample crew.plans crew replay.rows replay.engine trace pace i at
+to_sample replay crew trace pace rules i at is open_ moment ready =
+    let own : crew.plans ≡ replay.plans = ready.ahead.same ∙ is.ahead.same in
+    subst (λ plans. IsToSample plans crew replay.rows replay.engine trace pace i at) (sym own)
+    (record {
+      planned = is.planned;
+      left = one_left replay trace pace rules i is open_;
+      at_is = moment ∙ moment_is replay trace pace rules i is;
+      ready = subst (λ plans. IsReady plans crew trace pace i) is.ahead.same (subst (IsReady replay.crew.plans crew trace pace) is.made ready);
+      sizes = is.sizes;
+      ticked = is.engine;
+    })
+
+-- it was sampled by the plans of the replay
+pub sampled_is : (replay : ReplayView) (crew new : CrewView) (rows : List (List (List ℕ))) (engine : EngineView) (trace : Trace) (pace : Pace) (rules : List Rule) (i : ℕ) → IsReplay replay trace pace rules i → IsReady replay.crew.plans crew trace pace replay.made
+    → IsSampled crew.plans new rows engine trace pace (i + 1) → IsSampled replay.plans new rows engine trace pace (i + 1)
+sampled_is replay crew new rows engine trace pace rules i is ready sampled =
+    subst (λ plans. IsSampled plans new rows engine trace pace (i + 1)) (ready.ahead.same ∙ is.ahead.same) sampled
+
+-- all is there to write the lines of the tick that was made last
+pub to_put : (replay : ReplayView) (order : List Slot) (trace : Trace) (pace : Pace) (rules : List Rule) (i : ℕ) → IsReplay replay trace pace rules (i + 1) → order ≡ replay.order → IsToPut replay.plans replay.engine order replay.pacing trace pace replay.made
+to_put replay order trace pace rules i is ordered =
     let made = is.made in
+    let within = is.within in
     record {
       planned = is.planned;
       paced = is.paced;
-      some = omega arith;
-      within = omega (arith, left, made);
-      ticked = subst (λ n. HasTicked engine trace pace (n + 1)) (sym made) sampled.ticked;
+      some = omega (arith, made);
+      within = omega (arith, within, made);
+      ticked = subst (HasTicked replay.engine trace pace) (sym made) is.engine;
       by_path = subst (λ slots. IsPathOrder replay.plans.lives (numbers_of slots)) (sym ordered) is.order;
     }
 
 -- its signals can be counted
-pub count_fits : (replay : ReplayView) (crew : CrewView) (rows : List (List (List ℕ))) (engine : EngineView) (trace : Trace) (pace : Pace) (rules : List Rule) (i at : ℕ) → IsReplay replay trace pace rules i → (replay.made ≡ replay.pacing.last → ⊥)
-    → IsSampled replay.crew.plans crew rows engine trace pace (i + 1) at → replay.signals + length engine.fired < 2 ^ 64
-count_fits replay crew rows engine trace pace rules i at is open_ sampled =
+pub count_fits : (replay : ReplayView) (crew : CrewView) (rows : List (List (List ℕ))) (engine : EngineView) (trace : Trace) (pace : Pace) (rules : List Rule) (i : ℕ) → IsReplay replay trace pace rules i → (replay.made ≡ replay.pacing.last → ⊥)
+    → IsSampled replay.plans crew rows engine trace pace (i + 1) → replay.signals + length engine.fired < 2 ^ 64
+count_fits replay crew rows engine trace pace rules i is open_ sampled =
     signals_fit replay.plans engine trace pace i replay.signals is.planned (one_left replay trace pace rules i is open_) sampled.ticked is.signals
 
 -- all is there to decide by rules
-pub to_judge : (replay : ReplayView) (crew : CrewView) (rows : List (List (List ℕ))) (engine : EngineView) (order : List Slot) (trace : Trace) (pace : Pace) (rules : List Rule) (i at : ℕ) → IsReplay replay trace pace rules i → (replay.made ≡ replay.pacing.last → ⊥)
-    → order ≡ replay.order → IsSampled replay.crew.plans crew rows engine trace pace (i + 1) at → IsToJudge replay.judge replay.plans engine order trace pace rules i
-to_judge replay crew rows engine order trace pace rules i at is open_ ordered sampled = record {
+pub to_judge : (replay : ReplayView) (crew : CrewView) (rows : List (List (List ℕ))) (engine : EngineView) (order : List Slot) (trace : Trace) (pace : Pace) (rules : List Rule) (i : ℕ) → IsReplay replay trace pace rules i → (replay.made ≡ replay.pacing.last → ⊥)
+    → order ≡ replay.order → IsSampled replay.plans crew rows engine trace pace (i + 1) → IsToJudge replay.judge replay.plans engine order trace pace rules i
+to_judge replay crew rows engine order trace pace rules i is open_ ordered sampled = record {
   planned = is.planned;
   left = one_left replay trace pace rules i is open_;
   ticked = sampled.ticked;
@@ -275,13 +233,11 @@ pub kills_are : (judge : JudgeView) (trace : Trace) (pace : Pace) (rules : List 
 kills_are judge trace pace rules number found judged same = same ∙ judged.kills
 
 -- one tick more was made
-pub is_ticked : (replay : ReplayView) (crew : CrewView) (rows : List (List (List ℕ))) (engine : EngineView) (judge : JudgeView) (trace : Trace) (pace : Pace) (rules : List Rule) (i at : ℕ) → IsReplay replay trace pace rules i
-    → (replay.made ≡ replay.pacing.last → ⊥) → at ≡ tick_moment replay.pacing.length (replay.made + 1) → IsSampled replay.crew.plans crew rows engine trace pace (i + 1) at
+pub is_ticked : (replay : ReplayView) (crew : CrewView) (rows : List (List (List ℕ))) (engine : EngineView) (judge : JudgeView) (trace : Trace) (pace : Pace) (rules : List Rule) (i : ℕ) → IsReplay replay trace pace rules i
+    → (replay.made ≡ replay.pacing.last → ⊥) → IsSampled replay.plans crew rows engine trace pace (i + 1)
     → HasJudged judge trace pace rules (i + 1) → IsReplay (ticked_replay replay crew rows engine judge) trace pace rules (i + 1)
-is_ticked replay crew rows engine judge trace pace rules i at is open_ moment sampled judged =
+is_ticked replay crew rows engine judge trace pace rules i is open_ sampled judged =
     let left = one_left replay trace pace rules i is open_ in
-    let here : at ≡ tick_moment pace.length (i + 1) = moment ∙ moment_is replay trace pace rules i is in
-    let behind = at_is_behind replay.crew.plans crew.clocks at sampled.there in
     let more = kills_more trace pace rules i in
     let found = ap length judged.kills in
     record {
@@ -289,9 +245,8 @@ is_ticked replay crew rows engine judge trace pace rules i at is open_ moment sa
       paced = is.paced;
       made = ap (λ n. n + 1) is.made;
       within = omega (arith, left);
-      crew = sampled.same ∙ is.crew;
-      behind = subst (λ plans. AreBehind plans crew.clocks (tick_moment pace.length (i + 1))) is.crew (subst (AreBehind replay.crew.plans crew.clocks) here behind);
-      sizes = subst (λ plans. HasPlaces plans rows) is.crew sampled.sizes;
+      ahead = sampled.ahead;
+      sizes = sampled.sizes;
       engine = sampled.ticked;
       judge = judged;
       fit = is.fit;
@@ -300,9 +255,17 @@ is_ticked replay crew rows engine judge trace pace rules i at is open_ moment sa
       kills = omega (arith, more, found, is.kills);
     }
 
--- the lines of the next tick are those of the tick with the number to which the count went
-pub text_is : (replay : ReplayView) (trace : Trace) (pace : Pace) (rules : List Rule) (i : ℕ) → IsReplay replay trace pace rules i → tick_text trace pace (with_rules rules) (replay.made + 1) ≡ tick_text trace pace (with_rules rules) (i + 1)
-text_is replay trace pace rules i is = ap (λ n. tick_text trace pace (with_rules rules) (n + 1)) is.made
+-- the kills of the tick that was made last
+pub kills_made : (replay : ReplayView) (trace : Trace) (pace : Pace) (rules : List Rule) (i : ℕ) (found : List Kill) → IsReplay replay trace pace rules (i + 1) → found ≡ kills_of replay.judge → found ≡ kills_in trace pace rules replay.made
+kills_made replay trace pace rules i found is same = same ∙ is.judge.kills ∙ ap (kills_in trace pace rules) (sym is.made)
+
+-- its lines are those of the tick with its number
+pub text_is : (replay : ReplayView) (trace : Trace) (pace : Pace) (rules : List Rule) (i : ℕ) → IsReplay replay trace pace rules (i + 1) → tick_text trace pace (with_rules rules) replay.made ≡ tick_text trace pace (with_rules rules) (i + 1)
+text_is replay trace pace rules i is = ap (tick_text trace pace (with_rules rules)) is.made
+
+-- a tick was made
+pub passed : (trace : Trace) (pace : Pace) (rules : List Rule) (i : ℕ) (old new : ReplayView) (result : Bool) → Passes trace pace rules i old new result → result ≡ true → (i < tick_count trace pace) × IsReplay new trace pace rules (i + 1)
+passed trace pace rules i old new result given made = subst (Passes trace pace rules i old new) made given
 
 -- the next tick gives a front of its lines, where it fails
 pub gives_front : (trace : Trace) (pace : Pace) (rules : List Rule) (i : ℕ) (new : ReplayView) (had has : Option (List ℕ)) (result : Result Bool TickFault) → IsErr result → i < tick_count trace pace

@@ -3,25 +3,27 @@ ghost use Rattle.std.specs.Prelude.{◌≡◌, ◌+◌, ◌≤◌, ◌<◌, ℕ,
 ghost use Rattle.psi_base.specs.Outside.{HasCause, PutsAll, StaysOver};
 ghost use Rattle.psi_spec.specs.Trace.{Trace};
 ghost use Rattle.run_spec.specs.Outputs.{pace_of};
+ghost use Rattle.run_spec.specs.Words.{IsWithin};
 ghost use Rattle.run_spec.specs.Replay.{Pace, kills_in, last_line, tick_count, tick_text, with_rules};
 ghost use Rattle.ruleset_json.specs.declared.types.Rule.{Rule};
 ghost use Rattle.ruleset_json.specs.RuleRanges.{FitsRules};
 ghost use Rattle.replay_rules.specs.Judged.{rules_in};
 ghost use Rattle.replay_rules.specs.Planned.{IsPlanned};
-ghost use Rattle.replay_ticks.specs.Replays.{IsReplay, IsSampled, IsSomeReplay, IsToPut, IsToSample, TickGives, due_text};
+ghost use Rattle.replay_ticks.specs.Replays.{IsReady, IsReplay, IsSampled, IsSomeReplay, IsToGo, IsToPut, IsToPutRoot, IsToSample, Passes, TickGives, due_text, root_report};
 
 use crate::pacing::Pacing;
-use crate::reports::{put_kills, put_reports, put_signals};
+use crate::reports::{put_files, put_kills, put_reports, put_signals};
 use aggregate::Rows;
 use pressure_text::write_end;
 use proc_plan::Plans;
-use psi_base::{NoMemory, Ns, Sink, Slot, WriteFailed};
+use psi_base::{Gate, NoMemory, Ns, Sink, Slot, WriteFailed};
 use replay_rules::{Judge, Kill};
-use replay_workers::Crew;
+use replay_workers::{Crew, Ticks};
 use ruleset_json::Rules;
 use run_spec::Options;
 use std::alloc::Global;
 use std::marker::Model;
+use std::thread::Threads;
 use tick_engine::Engine;
 
 /// How many ns a millisecond has.
@@ -29,6 +31,9 @@ const MILLISECOND: Ns = 1_000_000;
 
 /// How many ns a second has.
 const SECOND: Ns = 1_000_000_000;
+
+/// The slot of the root.
+const ROOT: Slot = Slot(0);
 
 /// Why a tick wasn't written in whole.
 #[derive(Clone, Copy, Debug, PartialEq, Eq)]
@@ -86,15 +91,41 @@ impl<'a> Model for Replay<'a> {
     } };
 }
 
-// Samples all groups at the next tick (ns): clocks make the changes up to it, and the engine takes their times.
+// Makes the changes up to the ticks behind the first so many, where the table of none is ready: over as many ticks at once as are
+// left and as the crew can go over.
+fn look_ahead<R: Threads + Sync, G: Gate>(
+    rt: &R,
+    crew: &mut Crew<'_>,
+    pacing: Pacing,
+    made: u64,
+    gate: &G,
+)
+    requires { (trace : Trace) × (pace : Pace)
+        × IsToGo crew.old.plans crew.old pacing trace pace made }
+    ensures { (trace : Trace) (pace : Pace) →
+        IsToGo crew.old.plans crew.old pacing trace pace made →
+        IsReady crew.old.plans crew.new trace pace made }
+{
+    if crew.ready() > 0 {
+        return;
+    }
+    let left = pacing.last - made;
+    let ticks = Ticks {
+        first: pacing.moment(made + 1),
+        length: pacing.length,
+        count: left.min(u64::from(crew.room())) as u32,
+    };
+    crew.intervals(rt, ticks, gate);
+}
+
+// Samples all groups at the next tick (ns), whose table is ready: the engine takes their times.
 fn sample(crew: &mut Crew<'_>, rows: &mut Rows, engine: &mut Engine, at: Ns)
     requires { (trace : Trace) × (pace : Pace) × (i : ℕ)
-        × IsToSample crew.old rows.old engine.old trace pace i at }
+        × IsToSample crew.old.plans crew.old rows.old engine.old trace pace i at }
     ensures { (trace : Trace) (pace : Pace) (i : ℕ) →
-        IsToSample crew.old rows.old engine.old trace pace i at →
-        IsSampled crew.old.plans crew.new rows.new engine.new trace pace (i + 1) at }
+        IsToSample crew.old.plans crew.old rows.old engine.old trace pace i at →
+        IsSampled crew.old.plans crew.new rows.new engine.new trace pace (i + 1) }
 {
-    crew.interval(at);
     crew.fill(at, rows);
     engine.tick(at, rows);
 }
@@ -151,6 +182,28 @@ fn put_tick<K: Sink>(
     put_due(out, plans, engine, order, pacing, tick)
 }
 
+// Writes the pressure files of the root at the tick that was the last to be sampled, by its number from 1.
+fn put_root<K: Sink>(
+    out: &mut K,
+    plans: &Plans,
+    engine: &Engine,
+    pacing: Pacing,
+    tick: u64,
+) -> Result<(), WriteFailed>
+    requires { (trace : Trace) × (pace : Pace)
+        × IsToPutRoot plans.now engine.now pacing trace pace tick }
+    ensures bytes { (trace : Trace) (pace : Pace) →
+        IsToPutRoot plans.now engine.now pacing trace pace tick →
+        PutsAll (K.has out.old) (K.has out.new) result (root_report trace pace tick) }
+    ensures cause { HasCause (K.faults out.old) (K.faults out.new) result }
+    ensures below { StaysOver (K.below out.old) (K.below out.new) }
+{
+    let at = pacing.moment(tick);
+    let path = &plans.lives()[0].path;
+    let totals = engine.totals(ROOT);
+    put_files(out, at, path, ROOT, totals, engine.averages(ROOT))
+}
+
 /// A replay of the trace that the plans stand for, with rules if there are some, before its first tick: a trace that is
 /// accepted at the options' length of a tick. It takes all memory that the replay needs.
 pub fn prepare<'a>(
@@ -162,6 +215,7 @@ pub fn prepare<'a>(
     requires planned { (trace : Trace) × IsPlanned plans.now trace (pace_of options.now) }
     requires fit { FitsRules (rules_in rules) }
     requires often { options.now.interval_s ≤ 3600 }
+    requires workers { IsWithin 1 64 options.now.workers }
     ensures { IfOk result (λ replay.
         (trace : Trace) → IsPlanned plans.now trace (pace_of options.now) →
         IsReplay replay trace (pace_of options.now) (rules_in rules) 0) }
@@ -169,9 +223,10 @@ pub fn prepare<'a>(
     let slots = plans.groups().len() as u32;
     let length = Ns::from(options.tick_ms) * MILLISECOND;
     let interval = Ns::from(options.interval_s) * SECOND;
+    let last = plans.finish() / length;
     Ok(Replay {
         plans,
-        crew: Crew::make(alloc, plans)?,
+        crew: Crew::make(alloc, plans, options.workers, last)?,
         rows: Rows::make(alloc, plans.cpus(), slots)?,
         engine: Engine::make(alloc, plans.lives(), plans.triggers(), plans.cpus())?,
         judge: Judge::make(alloc, plans, rules, length, interval)?,
@@ -179,7 +234,7 @@ pub fn prepare<'a>(
         pacing: Pacing {
             length,
             report: Ns::from(options.report_s) * SECOND,
-            last: plans.finish() / length,
+            last,
         },
         made: 0,
         signals: 0,
@@ -188,9 +243,35 @@ pub fn prepare<'a>(
 }
 
 impl<'a> Replay<'a> {
+    /// Makes the next tick, and writes nothing. False exactly where no tick is left; then nothing changes. Takes no memory.
+    pub fn pass<R: Threads + Sync, G: Gate>(&mut self, rt: &R, gate: &G) -> bool
+        requires { IsSomeReplay self.old }
+        ensures { (trace : Trace) (pace : Pace) (rules : List Rule) (i : ℕ) →
+            IsReplay self.old trace pace rules i →
+            Passes trace pace rules i self.old self.new result }
+    {
+        if self.made == self.pacing.last {
+            return false;
+        }
+        look_ahead(rt, &mut self.crew, self.pacing, self.made, gate);
+        self.made += 1;
+        let at = self.pacing.moment(self.made);
+        sample(&mut self.crew, &mut self.rows, &mut self.engine, at);
+        self.signals += self.engine.fired().len() as u64;
+        self.judge
+            .tick(self.plans, &self.engine, &self.order, self.made);
+        self.kills += self.judge.kills().len() as u64;
+        true
+    }
+
     /// Makes the next tick and writes its lines. False exactly where no tick is left; then nothing is written. After a fault
     /// the replay isn't to be used again. Takes no memory.
-    pub fn tick<K: Sink>(&mut self, out: &mut K) -> Result<bool, TickFault>
+    pub fn tick<R: Threads + Sync, K: Sink, G: Gate>(
+        &mut self,
+        rt: &R,
+        out: &mut K,
+        gate: &G,
+    ) -> Result<bool, TickFault>
         requires { IsSomeReplay self.old }
         ensures tick { (trace : Trace) (pace : Pace) (rules : List Rule) (i : ℕ) →
             IsReplay self.old trace pace rules i →
@@ -198,27 +279,32 @@ impl<'a> Replay<'a> {
         ensures cause { HasCause (K.faults out.old) (K.faults out.new) result }
         ensures below { StaysOver (K.below out.old) (K.below out.new) }
     {
-        if self.made == self.pacing.last {
+        if !self.pass(rt, gate) {
             return Ok(false);
         }
-        self.made += 1;
-        let at = self.pacing.moment(self.made);
-        sample(&mut self.crew, &mut self.rows, &mut self.engine, at);
-        self.signals += self.engine.fired().len() as u64;
-        self.judge
-            .tick(self.plans, &self.engine, &self.order, self.made);
-        let kills = self.judge.kills();
-        self.kills += kills.len() as u64;
         put_tick(
             out,
             self.plans,
             &self.engine,
-            kills,
+            self.judge.kills(),
             &self.order,
             self.pacing,
             self.made,
         )?;
         Ok(true)
+    }
+
+    /// Writes the pressure files of the root at the tick that was made last.
+    pub fn put_root<K: Sink>(&self, out: &mut K) -> Result<(), WriteFailed>
+        requires { (trace : Trace) × (pace : Pace) × (rules : List Rule) × (i : ℕ)
+            × (0 < i) × IsReplay self.now trace pace rules i }
+        ensures bytes { (trace : Trace) (pace : Pace) (rules : List Rule) (i : ℕ) → 0 < i →
+            IsReplay self.now trace pace rules i →
+            PutsAll (K.has out.old) (K.has out.new) result (root_report trace pace i) }
+        ensures cause { HasCause (K.faults out.old) (K.faults out.new) result }
+        ensures below { StaysOver (K.below out.old) (K.below out.new) }
+    {
+        put_root(out, self.plans, &self.engine, self.pacing, self.made)
     }
 
     /// Writes the last line, behind the last tick: the end moment, and how many ticks, signals and kills there were.

@@ -74,9 +74,9 @@ pub(crate) fn put_kills<K: Sink>(
     Ok(())
 }
 
-// Writes the pressure files of a group at a moment (ns).
+/// Writes the pressure files of a group at a moment (ns).
 #[tactic(auto, using(psi_base::proofs::Grows::growth))]
-fn put_files<K: Sink>(
+pub(crate) fn put_files<K: Sink>(
     out: &mut K,
     at: Ns,
     path: &Path,

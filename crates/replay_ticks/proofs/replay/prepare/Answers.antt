@@ -2,7 +2,6 @@ use Rattle.std.proofs.Common.{arith, ◌≡◌, [], ◌*◌, ◌/◌, length, re
 use Rattle.psi_spec.specs.Groups.{IsPathOrder}
 use Rattle.aggregate.specs.Table.{new_table}
 use Rattle.tick_engine.specs.Engine.{StandsFor}
-use Rattle.replay_workers.specs.Crew.{AreOnPlans}
 use Rattle.run_spec.specs.Replay.{tick_count}
 use Rattle.run_spec.specs.Outputs.{pace_of}
 use Rattle.replay_rules.specs.Planned.{numbers_of}
@@ -23,11 +22,10 @@ returns c = λ trace planned.
     let slots : c.len-slots.result ≡ length plans.lives = c.len-slots.ensures.len ∙ ap length c.groups.ensures.lives in
     let rows : c.in_ok-make-2.field-0 ≡ new_table (length plans.plans) (length plans.lives) = c.in_ok-make-2.ensures ∙ rw (c.cpus.ensures.cpus, slots) refl in
     let order : IsPathOrder plans.lives (numbers_of c.in_ok-path_order.field-0.items) = rw (← c.groups-2.ensures.lives) c.in_ok-path_order.ensures in
-    let on : AreOnPlans c.in_ok-make.field-0.plans c.in_ok-make.field-0.clocks = rw (← c.drop-2.view_is) c.drop-2.invariant in
     let last : c.finish.result / (c.from-length.result * 1000000) ≡ tick_count trace (pace_of c.args.options.now) = ap (λ n. n / (c.from-length.result * 1000000)) (c.finish.ensures ∙ planned.stand.finish) ∙ rw c.from-length.ensures refl in
     let begins : IsToBegin plans trace (pace_of c.args.options.now) (c.from-length.result * 1000000) (c.from-interval.result * 1000000000) = record { planned = planned; tick_is = rw c.from-length.ensures refl; interval_is = rw c.from-interval.ensures refl } in
     let judged = c.in_ok-make-4.ensures.judged trace (pace_of c.args.options.now) begins in
-    replay_new _ trace (pace_of c.args.options.now) (rules_in c.args.rules) planned c.in_ok-make.ensures.plans on c.in_ok-make.ensures.fresh rows engine order (record { length = rw c.from-length.ensures refl; report = rw c.from.ensures refl; last = last }) judged c.requires.fit refl refl refl
+    replay_new _ trace (pace_of c.args.options.now) (rules_in c.args.rules) planned c.in_ok-make.ensures.plans c.in_ok-make.ensures.on c.in_ok-make.ensures.none c.in_ok-make.ensures.fresh rows engine order (record { length = rw c.from-length.ensures refl; report = rw c.from.ensures refl; last = last }) judged c.requires.fit refl refl refl
 
 pub overflow_mul-interval : goal.overflow_mul-interval
 overflow_mul-interval c = grind (arith, c.from-interval.ensures, c.requires.often)

@@ -1,4 +1,3 @@
-use Rattle.std.proofs.Common.{sym, ◌∙◌}
 use Rattle.psi_base.proofs.Grows.{PutsAll-failed}
 use Rattle.run_spec.specs.Replay.{tick_text, with_rules}
 use Rattle.replay_ticks.proofs.KillLaws.{kills_below}

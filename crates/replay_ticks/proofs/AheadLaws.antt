@@ -1,0 +1,178 @@
+-- A crew that goes over many ticks at once, and hands out their tables one after another.
+use Rattle.std.proofs.Common.{◌≡◌, ℕ, zero, suc, ◌+◌, ◌-◌, ◌*◌, ◌/◌, ◌<◌, ◌≤◌, ◌^◌, List, drop, length, map, refl, sym, ap, ◌∙◌, subst, arith}
+use Rattle.std.specs.Prelude.{Some, min, slice_get}
+use Rattle.std.specs.List.{range_with_len}
+use Rattle.std.proofs.Math.Nat.{le-div_iff_mul-le}
+use Rattle.std.proofs.lemmas.Option.{slice_get-get_or}
+use Rattle.std.proofs.lemmas.List.{length-drop}
+use Rattle.std.proofs.lemmas.List.FromFn.{fill_by_all, get_or-map-range_with_len, length-map-range_with_len}
+use Rattle.psi_spec.specs.Trace.{Trace, last_moment, limits_of}
+use Rattle.psi_laws.proofs.PlanStates.{legal_after}
+use Rattle.pressure_spec.specs.Ticks.{tick_moment}
+use Rattle.run_spec.specs.Replay.{Pace, tick_count}
+use Rattle.run_spec.specs.Text.{end_of}
+use Rattle.proc_plan.specs.Clocks.{OnPlan}
+use Rattle.proc_plan.specs.Plans.{PlansView, plan_at}
+use Rattle.replay_workers.specs.declared.ticks.Ticks.{Ticks}
+use Rattle.replay_workers.specs.Crew.{AreAt, AreBehind, CrewView, last_of, moment_in, moments_of}
+use Rattle.replay_workers.proofs.Steps.{changes_more}
+use Rattle.replay_rules.specs.Planned.{IsPlanned}
+use Rattle.replay_ticks.specs.declared.pacing.Pacing.{Pacing}
+use Rattle.replay_ticks.specs.Replays.{IsAhead, IsReady, IsToGo, moments_behind}
+
+-- ---- moments
+
+-- each tick that a trace has comes up to its end
+within_end : (length end n : ℕ) → 0 < length → n ≤ end / length → n * length ≤ end
+within_end length end n some few = (le-div_iff_mul-le some).0 few
+
+-- so it comes within the last moment
+pub moment_early : (plans : PlansView) (trace : Trace) (pace : Pace) (n : ℕ) → IsPlanned plans trace pace → n ≤ tick_count trace pace → tick_moment pace.length n ≤ last_moment
+moment_early plans trace pace n planned few =
+    let before = within_end pace.length (end_of trace.events) n planned.some few in
+    let world = legal_after (limits_of pace.length trace.cpus) trace.events planned.accepted.legal in
+    omega (arith, before, world.early, planned.short)
+
+-- the moments of ticks that a crew goes over, from one on, are those of the trace's ticks
+pub moments_are : (ticks : Ticks) (length i n : ℕ) → ticks.first ≡ tick_moment length (i + 1) → ticks.length ≡ length → ticks.count ≡ n → moments_of ticks ≡ moments_behind length i n
+moments_are ticks length i n first apart many =
+    let all = moments_behind length i n in
+    ap (λ k. map (moment_in ticks) (range_with_len 0 k)) many
+    ∙ sym (fill_by_all (moment_in ticks) all n 0 (length-map-range_with_len (tick_moment length) (i + 1) n)
+    (λ k below.
+    let far : (i + 1 + k) * length ≡ (i + 1) * length + k * length = grind arith in
+    get_or-map-range_with_len (tick_moment length) (i + 1) n k (i + 1 + k) 0 below refl ∙ far ∙ rw (← first, ← apart) refl))
+
+-- the last of them
+pub last_is : (ticks : Ticks) (length i n : ℕ) → 0 < n → ticks.first ≡ tick_moment length (i + 1) → ticks.length ≡ length → ticks.count ≡ n → last_of ticks ≡ tick_moment length (i + n)
+last_is ticks length i n some first apart many =
+    let here : (i + 1) * length + (n - 1) * length ≡ (i + n) * length =
+    let sum : (i + 1) * length + (n - 1) * length ≡ (i + 1 + (n - 1)) * length = grind arith in
+    let same : i + 1 + (n - 1) ≡ i + n = omega (arith, some) in
+    sum ∙ ap (λ k. k * length) same in
+    rw (first, apart, many) here
+
+-- the first of them, and those behind it
+first_of : (length i n : ℕ) → 0 < n → slice_get (moments_behind length i n) 0 ≡ Some (tick_moment length (i + 1))
+first_of length i n some =
+    let many = length-map-range_with_len (tick_moment length) (i + 1) n in
+    slice_get-get_or (moments_behind length i n) 0 0 (omega (arith, many, some)) ∙ ap Some (get_or-map-range_with_len (tick_moment length) (i + 1) n 0 (i + 1) 0 some (omega arith))
+
+behind_first : (length i n : ℕ) → drop 1 (moments_behind length i n) ≡ moments_behind length (i + 1) (n - 1)
+behind_first length i zero = refl
+behind_first length i (suc n) = ap (moments_behind length (i + 1)) (let same : n ≡ suc n - 1 = omega arith in same)
+
+-- ---- clocks
+
+pub behind_later : (plans : PlansView) (clocks : List OnPlan) (at later : ℕ) → at ≤ later → AreBehind plans clocks at → AreBehind plans clocks later
+behind_later plans clocks at later forward behind = record {
+  on_plans = behind.on_plans;
+  behind = λ cpu below.
+      let made = behind.behind cpu below in
+      let more = changes_more (plan_at plans cpu) at later forward in
+      omega (arith, made, more);
+}
+
+at_is_behind : (plans : PlansView) (clocks : List OnPlan) (at : ℕ) → AreAt plans clocks at → AreBehind plans clocks at
+at_is_behind plans clocks at there = record {
+  on_plans = there.on_plans;
+  behind = λ cpu below. let made = there.there cpu below in omega (arith, made);
+}
+
+-- ---- going over ticks
+
+-- the ticks that a crew is to go over, behind the first so many: as many as are left, and as it has room for
+pub record AreNext (ticks : Ticks) (crew : CrewView) (pacing : Pacing) (i : ℕ) : Type 0 where
+  pub first : ticks.first ≡ tick_moment pacing.length (i + 1)
+  pub length : ticks.length ≡ pacing.length
+  pub count : ticks.count ≡ min (pacing.last - i) crew.room
+
+next_many : (ticks : Ticks) (plans : PlansView) (crew : CrewView) (pacing : Pacing) (trace : Trace) (pace : Pace) (i : ℕ) → IsToGo plans crew pacing trace pace i → AreNext ticks crew pacing i → i + ticks.count ≤ tick_count trace pace
+next_many ticks plans crew pacing trace pace i is next =
+    let last = is.paced.last in
+    let left = is.left in
+    let count = next.count in
+    grind (arith, last, left, count)
+
+first_next : (ticks : Ticks) (plans : PlansView) (crew : CrewView) (pacing : Pacing) (trace : Trace) (pace : Pace) (i : ℕ) → IsToGo plans crew pacing trace pace i → AreNext ticks crew pacing i → ticks.first ≡ tick_moment pace.length (i + 1)
+first_next ticks plans crew pacing trace pace i is next = next.first ∙ ap (λ l. tick_moment l (i + 1)) is.paced.length
+
+-- the moment of the first fits
+pub next_fits : (plans : PlansView) (crew : CrewView) (pacing : Pacing) (trace : Trace) (pace : Pace) (i : ℕ) → IsToGo plans crew pacing trace pace i → tick_moment pacing.length (i + 1) < 2 ^ 64
+next_fits plans crew pacing trace pace i is =
+    let left = is.left in
+    let early = moment_early plans trace pace (i + 1) is.planned (omega (arith, left)) in
+    let same = ap (λ l. tick_moment l (i + 1)) is.paced.length in
+    omega (arith, early, same)
+
+-- some are left
+pub next_some : (ticks : Ticks) (plans : PlansView) (crew : CrewView) (pacing : Pacing) (trace : Trace) (pace : Pace) (i : ℕ) → IsToGo plans crew pacing trace pace i → 1 ≤ crew.room → AreNext ticks crew pacing i → 0 < ticks.count
+next_some ticks plans crew pacing trace pace i is roomy next =
+    let last = is.paced.last in
+    let left = is.left in
+    let count = next.count in
+    grind (arith, last, left, count, roomy)
+
+-- no clock is past the first of them, where no table is ready
+pub next_behind : (ticks : Ticks) (plans : PlansView) (crew : CrewView) (pacing : Pacing) (trace : Trace) (pace : Pace) (i : ℕ) → IsToGo plans crew pacing trace pace i → length crew.ready ≡ 0 → AreNext ticks crew pacing i → AreBehind crew.plans crew.clocks ticks.first
+next_behind ticks plans crew pacing trace pace i is none next =
+    let first = first_next ticks plans crew pacing trace pace i is next in
+    let here : i + length crew.ready ≡ i = omega (arith, none) in
+    let apart : tick_moment pace.length (i + 1) ≡ tick_moment pace.length i + pace.length = grind arith in
+    let behind = subst (λ n. AreBehind plans crew.clocks (tick_moment pace.length n)) here is.ahead.behind in
+    subst (λ p. AreBehind p crew.clocks ticks.first) (sym is.ahead.same)
+    (behind_later plans crew.clocks (tick_moment pace.length i) ticks.first (omega (arith, first, apart)) behind)
+
+-- the last of them is early
+pub next_early : (ticks : Ticks) (plans : PlansView) (crew : CrewView) (pacing : Pacing) (trace : Trace) (pace : Pace) (i : ℕ) → IsToGo plans crew pacing trace pace i → 1 ≤ crew.room → AreNext ticks crew pacing i → last_of ticks ≤ last_moment
+next_early ticks plans crew pacing trace pace i is roomy next =
+    let some = next_some ticks plans crew pacing trace pace i is roomy next in
+    let last = last_is ticks pace.length i ticks.count some (first_next ticks plans crew pacing trace pace i is next) (next.length ∙ is.paced.length) refl in
+    let early = moment_early plans trace pace (i + ticks.count) is.planned (next_many ticks plans crew pacing trace pace i is next) in
+    omega (arith, last, early)
+
+-- a crew that went over them has the next table ready
+pub next_ready : (ticks : Ticks) (plans : PlansView) (crew new : CrewView) (pacing : Pacing) (trace : Trace) (pace : Pace) (i : ℕ) → IsToGo plans crew pacing trace pace i → 1 ≤ crew.room → AreNext ticks crew pacing i → new.plans ≡ crew.plans → new.ready ≡ moments_of ticks → AreAt new.plans new.clocks (last_of ticks)
+    → IsReady plans new trace pace i
+next_ready ticks plans crew new pacing trace pace i is roomy next same ready there =
+    let some = next_some ticks plans crew pacing trace pace i is roomy next in
+    let first = first_next ticks plans crew pacing trace pace i is next in
+    let apart = next.length ∙ is.paced.length in
+    let last = last_is ticks pace.length i ticks.count some first apart refl in
+    let moments = ready ∙ moments_are ticks pace.length i ticks.count first apart refl in
+    let many : length new.ready ≡ ticks.count = ap length moments ∙ length-map-range_with_len (tick_moment pace.length) (i + 1) ticks.count in
+    let own : new.plans ≡ plans = same ∙ is.ahead.same in
+    let here = at_is_behind plans new.clocks (last_of ticks) (subst (λ p. AreAt p new.clocks (last_of ticks)) own there) in
+    let end : last_of ticks ≡ tick_moment pace.length (i + length new.ready) = last ∙ ap (λ n. tick_moment pace.length (i + n)) (sym many) in
+    record {
+      ahead = record {
+        same = own;
+        ready = moments ∙ ap (moments_behind pace.length i) (sym many);
+        within = omega (arith, many, next_many ticks plans crew pacing trace pace i is next);
+        behind = subst (AreBehind plans new.clocks) end here;
+      };
+      some = omega (arith, many, some);
+    }
+
+-- ---- one table
+
+-- the first table that is ready is that of the next tick
+pub first_is : (plans : PlansView) (crew : CrewView) (trace : Trace) (pace : Pace) (i at : ℕ) → IsReady plans crew trace pace i → at ≡ tick_moment pace.length (i + 1) → slice_get crew.ready 0 ≡ Some at
+first_is plans crew trace pace i at is moment =
+    ap (λ moments. slice_get moments 0) is.ahead.ready ∙ first_of pace.length i (length crew.ready) is.some ∙ ap Some (sym moment)
+
+-- a crew that handed it out is ahead of the ticks behind it
+pub handed_out : (plans : PlansView) (crew new : CrewView) (trace : Trace) (pace : Pace) (i : ℕ) → IsReady plans crew trace pace i → new ≡ record crew { ready = drop 1 crew.ready } → IsAhead plans new trace pace (i + 1)
+handed_out plans crew new trace pace i is same =
+    let left : drop 1 crew.ready ≡ moments_behind pace.length (i + 1) (length crew.ready - 1) = ap (drop 1) is.ahead.ready ∙ behind_first pace.length i (length crew.ready) in
+    let many : length (drop 1 crew.ready) ≡ length crew.ready - 1 = length-drop 1 crew.ready in
+    let some = is.some in
+    let within = is.ahead.within in
+    let far : i + length crew.ready ≡ i + 1 + length (drop 1 crew.ready) = omega (arith, many, some) in
+    subst (λ (c : CrewView). IsAhead plans c trace pace (i + 1)) (sym same)
+    (record {
+      same = is.ahead.same;
+      ready = left ∙ ap (moments_behind pace.length (i + 1)) (sym many);
+      within = omega (arith, far, within);
+      behind = subst (λ n. AreBehind plans crew.clocks (tick_moment pace.length n)) far is.ahead.behind;
+    })
