@@ -1,6 +1,6 @@
+pub mod GeneratedLaws
 pub mod LineLaws
 pub mod LineTexts
-pub mod NameLaws
 pub mod Pieces
 pub mod PlayLaws
 pub mod ReplayLaws

@@ -1,5 +1,5 @@
 -- Reading a trace line by line, against the definition over its bytes.
-use Rattle.std.proofs.Common.{◌≡◌, ◌≢◌, ℕ, ◌+◌, ◌<◌, ◌≤◌, List, [], ◌∷◌, ◌++◌, length, get_or, refl, sym, ap, ◌∙◌, subst, arith, ◌⊎◌, ⊎_elim, true, false, Bool}
+use Rattle.std.proofs.Common.{◌≡◌, ◌≢◌, ℕ, ◌+◌, ◌<◌, ◌≤◌, List, [], ◌∷◌, ◌++◌, length, drop, append_assoc, get_or, refl, sym, ap, ◌∙◌, subst, arith, ◌⊎◌, ⊎_elim, true, false, Bool}
 use Rattle.std.specs.Prelude.{IfOk, Result, Ok, Err, Option, None, Some, nat_lt, if◌then◌else◌}
 use Rattle.std.proofs.lemmas.List.{append-nil, length-append}
 use Rattle.std.proofs.Math.Seq.{get_or-append_seam}
@@ -10,7 +10,9 @@ use Rattle.psi_base.specs.declared.event.Cause.TheVariants as cause
 use Rattle.psi_base.specs.declared.event.Refusal.{Refusal}
 use Rattle.psi_base.specs.declared.event.Fault.{Fault}
 use Rattle.psi_base.specs.declared.event.Fault.TheVariants as fault
-use Rattle.psi_lines.specs.Lines.{BeginsWithLine, IsTooLong, IsCut}
+use Rattle.psi_lines.specs.Lines.{BeginsWithLine, IsTooLong, IsCut, Reader, left}
+use Rattle.psi_trace.specs.Front.{HasInFront}
+use Rattle.psi_spec.proofs.GrammarReads.{reads_spelled, spelled_in_line}
 use Rattle.psi_spec.specs.World.{World, Limits, after, after_event, first_world}
 use Rattle.psi_spec.specs.Refusal.{cause_of}
 use Rattle.psi_spec.specs.Grammar.{Fits, event_of, header_of, spelling}
@@ -107,6 +109,37 @@ pub line_faulted : (Before After : Plays) (line : ℕ) (part : List ℕ) (before
 line_faulted Before After line part before behind known (fault.Refused why) found at takes begins = λ limits events played running bytes tells.
     rw at (line_refused limits (after events) line (before bytes) part (behind bytes) why (begins bytes tells) (takes limits events played running))
 line_faulted Before After line part before behind known fault.NoMemory found at takes begins = λ limits events played running bytes tells. rw at tt
+
+-- ---- players of legal events
+
+fits_push : (events : List Event) (event : Event) → AllFit events → Fits event → AllFit (events ++ event ∷ [])
+fits_push [] event all one = (one, tt)
+fits_push (first ∷ events) event all one = (all.0, fits_push events event all.1 one)
+
+-- an event that a player takes is taken behind events that can be spelled and are legal, where it can be spelled
+legally : (Before After : Plays) (event : Event) (result : Result (Unit {0}) (Fault Cause)) → Fits event → Takes Before After event result → Takes (Legally Before) (Legally After) event result
+legally Before After event (Ok x) fits takes = λ limits events played.
+    let taken = takes limits events played.0 in
+    (taken.0, (taken.1, fits_push events event played.1 fits, legal_push limits first_world events event played.2 taken.0), taken.2)
+legally Before After event (Err (fault.Refused why)) fits takes = λ limits events played. takes limits events played.0
+legally Before After event (Err fault.NoMemory) fits takes = tt
+
+-- ---- the line of an event in front of what is held
+
+-- it is the next line of the file
+pub front_begins : (old new : Reader) (event : Event) (count : ℕ) (bytes : List ℕ) → HasInFront old.held event count → new.held ≡ drop (count + 1) old.held → new.at ≡ old.at → BeginsWithLine (left old bytes) (spelling event) (left new bytes)
+front_begins old new event count bytes front held at =
+    let is_line = spelled_in_line event front.begins.fits in
+    record {
+      whole = rw (held, at) (ap (λ bs. bs ++ drop old.at bytes) front.begins.whole ∙ append_assoc (spelling event) (10 ∷ drop (count + 1) old.held) (drop old.at bytes));
+      short = is_line.short;
+      one = λ k below. is_line.one k below;
+    }
+
+-- and it takes what its event takes
+pub front_takes : (Before After : Plays) (held : List ℕ) (event : Event) (count : ℕ) (result : Result (Unit {0}) (Fault Cause)) → HasInFront held event count → Takes Before After event result → TakesLine (Legally Before) (Legally After) (spelling event) result
+front_takes Before After held event count result front takes =
+    takes_event (Legally Before) (Legally After) (spelling event) event result (spelled_in_line event front.begins.fits).short ((reads_spelled (spelling event) event).1 (front.begins.fits, refl)) (legally Before After event result front.begins.fits takes)
 
 -- ---- the end of the input before the end of the trace
 
@@ -317,19 +350,7 @@ trace_played Played tick cpus named behind known x counted headed rest = record 
   read = λ bytes tells. headed bytes tells ∙ ap (with_events cpus) (rest.read bytes tells);
 }
 
--- ---- players of legal events
-
-fits_push : (events : List Event) (event : Event) → AllFit events → Fits event → AllFit (events ++ event ∷ [])
-fits_push [] event all one = (one, tt)
-fits_push (first ∷ events) event all one = (all.0, fits_push events event all.1 one)
-
--- an event that a player takes is taken behind events that can be spelled and are legal, where it can be spelled
-legally : (Before After : Plays) (event : Event) (result : Result (Unit {0}) (Fault Cause)) → Fits event → Takes Before After event result → Takes (Legally Before) (Legally After) event result
-legally Before After event (Ok x) fits takes = λ limits events played.
-    let taken = takes limits events played.0 in
-    (taken.0, (taken.1, fits_push events event played.1 fits, legal_push limits first_world events event played.2 taken.0), taken.2)
-legally Before After event (Err (fault.Refused why)) fits takes = λ limits events played. takes limits events played.0
-legally Before After event (Err fault.NoMemory) fits takes = tt
+-- ---- what players of legal events read
 
 pub legally_read : (Before After : Plays) (read : Result Event (Fault Cause)) (result : Result (Unit {0}) (Fault Cause)) → IfOk read Fits → TakesRead Before After read result → TakesRead (Legally Before) (Legally After) read result
 legally_read Before After (Ok event) result fits takes = legally Before After event result fits takes

@@ -1,7 +1,6 @@
 -- Texts that are written in pieces.
-use Rattle.std.proofs.Common.{◌≡◌, ℕ, List, [], ◌∷◌, ◌++◌, sym, ap, ◌∙◌, append_assoc}
+use Rattle.std.proofs.Common.{◌≡◌, ℕ, List, [], ◌++◌, sym, ap, append_assoc}
 use Rattle.std.specs.Prelude.{codes, decimal, Option, None, Some, Result, Ok, Err}
-use Rattle.std.specs.Io.KnownBytes.{Appends}
 use Rattle.std.proofs.lemmas.List.{append-nil}
 use Rattle.psi_base.specs.Outside.{AppendsFront, PutsAll}
 use Rattle.psi_base.proofs.Grows.{AppendsFront-of}

@@ -1,10 +1,8 @@
 -- What the front of a rules file tells of its rules.
-use Rattle.std.proofs.Common.{◌≡◌, ℕ, ◌+◌, ◌<◌, ◌≤◌, List, length, take, refl, sym, ap, ◌∙◌, subst, arith, length-take, true, Option, None, Some, Ok, Err}
-use Rattle.std.specs.Prelude.{Result, nat_lt, if◌then◌else◌}
+use Rattle.std.proofs.Common.{◌≡◌, ℕ, ◌<◌, ◌≤◌, List, length, take, sym, ap, ◌∙◌, arith, length-take}
+use Rattle.std.specs.Prelude.{nat_lt}
 use Rattle.std.proofs.lemmas.List.{take_all}
 use Rattle.kill_spec.proofs.Foremost.{by_test}
-use Rattle.ruleset_json.specs.declared.types.Rules.{Rules}
-use Rattle.ruleset_json.specs.declared.fault.RulesFault.{RulesFault}
 use Rattle.ruleset_json.specs.declared.fault.Place.TheVariants as place
 use Rattle.ruleset_json.specs.declared.fault.RulesCause.TheVariants as cause
 use Rattle.ruleset_json.specs.Arguments.{refused}

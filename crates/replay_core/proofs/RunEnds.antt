@@ -1,9 +1,9 @@
 -- What a run over a buffered sink comes to, and what its status tells of its files.
-use Rattle.std.proofs.Common.{◌≡◌, ◌≢◌, ◌⊎◌, inl, inr, ℕ, ◌+◌, ◌≤◌, List, [], ◌++◌, length, refl, sym, ap, ◌∙◌, subst, arith, Option, None, Some}
+use Rattle.std.proofs.Common.{◌≡◌, ◌≢◌, ◌⊎◌, inl, inr, ℕ, ◌≤◌, List, [], ◌++◌, length, refl, sym, ap, ◌∙◌, subst, arith, Option, None, Some}
 use Rattle.std.specs.Prelude.{MatchOption, Result, Ok, Err}
 use Rattle.std.specs.Io.KnownBytes.{Appends, Keeps, append_known}
 use Rattle.std.proofs.lemmas.List.{append-nil, length-append, nil_from_length}
-use Rattle.psi_base.specs.Outside.{AppendsFront, Files, Rose, known_count, told}
+use Rattle.psi_base.specs.Outside.{Files, Rose, known_count, told}
 use Rattle.psi_base.specs.declared.event.Cause.{Cause}
 use Rattle.psi_base.specs.declared.event.Refusal.{Refusal}
 use Rattle.psi_base.proofs.Buffered.{flush_failed, flushed, put_failed}
@@ -17,7 +17,7 @@ use Rattle.run_spec.specs.declared.status.Which.{Which}
 use Rattle.run_spec.specs.declared.status.Which.TheVariants.{RulesFile, TraceFile}
 use Rattle.run_spec.specs.Outputs.{pace_of, rules_name, tick_length, trace_name}
 use Rattle.run_spec.specs.Replay.{replay_text, with_rules}
-use Rattle.run_spec.specs.Run.{CountsTell, Ends, IsOfMissing, IsTold, RisesWhere, RulesTold, RunCounts, Runs, TakesRules}
+use Rattle.run_spec.specs.Run.{CountsTell, Ends, IsOfMissing, IsTold, RulesTold, RunCounts, Runs, TakesRules}
 use Rattle.ruleset_json.specs.Rules.{rules_of}
 use Rattle.ruleset_json.specs.declared.fault.RulesFault.{RulesFault}
 use Rattle.ruleset_json.specs.declared.types.Rule.{Rule}
@@ -38,9 +38,9 @@ ends_below : (command : Command) (files : Option Files) (had below : Option (Lis
 ends_below command files had below pending status.Done not ends more = absurd (not refl)
 ends_below command files had below pending status.WriteFault not ends more = (ends.0, ends.1, ends.2, ends.3, (ends.4.0, ends.4.1, put_failed had below pending ends.4.0 ends.4.2 more))
 ends_below command files had below pending (status.Rules fault) not ends more = (kept_below had below pending ends.0 more, ends.1)
-ends_below command files had below pending (status.Trace line why) not ends more = (kept_below had below pending ends.0 more, ends.1, ends.2)
+ends_below command files had below pending (status.Trace line why) not ends more = (kept_below had below pending ends.0 more, ends.1, ends.2, ends.3)
 ends_below command files had below pending (status.NoFile which) not ends more = (kept_below had below pending ends.0 more, ends.1, ends.2)
-ends_below command files had below pending status.ReadFault not ends more = kept_below had below pending ends more
+ends_below command files had below pending status.ReadFault not ends more = (kept_below had below pending ends.0 more, ends.1)
 ends_below command files had below pending status.NoMemory not ends more = kept_below had below pending ends more
 ends_below command files had below pending status.Usage not ends more = ends
 
@@ -149,7 +149,7 @@ completes command files before now had has status.WriteFault runs rules bytes tr
 completes command files before now had has status.ReadFault runs rules bytes trace given tells is reads writes = absurd (reads (runs.counts.faults.rose refl))
 completes command files before now had has status.Usage runs rules bytes trace given tells is reads writes = absurd runs.ends
 completes command files before now had has (status.Rules fault) runs rules bytes trace given tells is reads writes = absurd (no_fault command files rules fault had has given runs.ends)
-completes command files before now had has (status.Trace line why) runs rules bytes trace given tells is reads writes = let other = runs.ends.2 bytes tells in absurd (let no : ⊥ = cc (is, other) in no)
+completes command files before now had has (status.Trace line why) runs rules bytes trace given tells is reads writes = let other = runs.ends.3 bytes tells in absurd (let no : ⊥ = cc (is, other) in no)
 completes command files before now had has (status.NoFile RulesFile) runs rules bytes trace given tells is reads writes = absurd (no_missed command files rules had has given runs.ends)
 completes command files before now had has (status.NoFile TraceFile) runs rules bytes trace given tells is reads writes = absurd (none_told command files bytes had has tells runs.ends)
 
@@ -164,7 +164,7 @@ refuses command files before now had has status.ReadFault runs rules bytes line 
 refuses command files before now had has status.Usage runs rules bytes line why given tells is reads = absurd runs.ends
 refuses command files before now had has (status.Rules fault) runs rules bytes line why given tells is reads = absurd (no_fault command files rules fault had has given runs.ends)
 refuses command files before now had has (status.Trace at cause) runs rules bytes line why given tells is reads =
-    let other = runs.ends.2 bytes tells in
+    let other = runs.ends.3 bytes tells in
     let same : refused at cause ≡ refused line why = cc (is, other) in
     inl (ap (λ (r : Refusal). status.Trace r.line r.cause) same)
 refuses command files before now had has (status.NoFile RulesFile) runs rules bytes line why given tells is reads = absurd (no_missed command files rules had has given runs.ends)
@@ -191,6 +191,6 @@ faults command files before now had has status.WriteFault runs name bytes fault 
 faults command files before now had has status.ReadFault runs name bytes fault named tells is reads = absurd (reads (runs.counts.faults.rose refl))
 faults command files before now had has status.Usage runs name bytes fault named tells is reads = absurd runs.ends
 faults command files before now had has (status.Rules found) runs name bytes fault named tells is reads = inl (ap status.Rules (found_fault command files had has name bytes found fault runs.ends named tells is))
-faults command files before now had has (status.Trace line why) runs name bytes fault named tells is reads = absurd (none_taken command files runs.ends.1.0 name bytes fault runs.ends.1.1 named tells is)
+faults command files before now had has (status.Trace line why) runs name bytes fault named tells is reads = absurd (none_taken command files runs.ends.2.0 name bytes fault runs.ends.2.1 named tells is)
 faults command files before now had has (status.NoFile RulesFile) runs name bytes fault named tells is reads = absurd (one_told files name runs.ends.2.0 bytes (rules_name command) named runs.ends.2.1 tells runs.ends.2.2)
 faults command files before now had has (status.NoFile TraceFile) runs name bytes fault named tells is reads = absurd (none_taken command files runs.ends.1.0 name bytes fault runs.ends.1.1 named tells is)

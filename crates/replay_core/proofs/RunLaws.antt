@@ -1,8 +1,8 @@
 -- What reading a trace and writing a text come to as a run.
-use Rattle.std.proofs.Common.{◌≡◌, ℕ, List, [], arith, refl, sym, ap, ◌∙◌, subst, Option, None, Some, Ok, Err}
-use Rattle.std.specs.Prelude.{IsErrOf, Result}
+use Rattle.std.proofs.Common.{◌≡◌, ℕ, List, [], arith, refl, sym, ◌∙◌, subst, Option, None, Some, Ok, Err}
+use Rattle.std.specs.Prelude.{IsErrOf, IsSome}
 use Rattle.std.specs.Io.KnownBytes.{Keeps}
-use Rattle.psi_base.specs.Outside.{Files, HasCauses, Lacks, Rose, ShelfCounts, told}
+use Rattle.psi_base.specs.Outside.{Files, Lacks, Rose, told}
 use Rattle.psi_base.specs.declared.event.Event.{Event}
 use Rattle.psi_spec.specs.Trace.{IsAccepted, IsCpuCount, Trace, limits_of, trace_of}
 use Rattle.run_spec.specs.declared.command.Command.{Command}
@@ -12,7 +12,7 @@ use Rattle.run_spec.specs.declared.status.Status.TheVariants as status
 use Rattle.run_spec.specs.declared.status.Which.{Which}
 use Rattle.run_spec.specs.declared.status.Which.TheVariants.{RulesFile, TraceFile}
 use Rattle.run_spec.specs.Outputs.{IsOutput, file_of, rules_name, tick_length, trace_name}
-use Rattle.run_spec.specs.Run.{CountsTell, IsOfMissing, IsTold, RisesWhere, RunCounts, Runs, TakesRules, TakesTrace}
+use Rattle.run_spec.specs.Run.{CountsTell, IsOfMissing, ReadsTrace, RisesWhere, RunCounts, Runs, TakesRules, TakesTrace}
 use Rattle.std.proofs.lemmas.List.Elements.{All-nil}
 use Rattle.ruleset_json.specs.RuleRanges.{FitsRule}
 use Rattle.ruleset_json.specs.declared.types.Rule.{Rule}
@@ -20,7 +20,7 @@ use Rattle.ruleset_json.specs.declared.fault.RulesFault.{RulesFault}
 use Rattle.replay_core.specs.Rules.{CausesRulesError, IsStatusOfRules, RulesFailed, RulesGiven}
 use Rattle.replay_core.specs.declared.rules.RulesError.{RulesError}
 use Rattle.replay_core.specs.declared.rules.RulesError.TheVariants as error
-use Rattle.replay_core.specs.Reads.{CausesTraceFault, FaultOf, TellsNothing, TracePlayed, TraceRefused, plain_trace}
+use Rattle.replay_core.specs.Reads.{CausesTraceFault, TellsNothing, TraceRefused, plain_trace}
 use Rattle.replay_core.specs.Writes.{IsStatusOf, WritesText}
 use Rattle.replay_core.specs.declared.trace.TraceFault.{TraceFault}
 use Rattle.replay_core.specs.declared.trace.TraceFault.TheVariants as fault
@@ -136,11 +136,15 @@ runs_lacking command files counts had = record {
   counts = counts_written counts counts status.NoMemory refl refl (λ is. cc is) (λ is. cc is.1) (stays _ counts.writes counts.writes (λ is. cc is) refl);
 }
 
+-- a command with a name of its trace reads files
+reads_trace : (command : Command) (name : List ℕ) → trace_name command ≡ Some name → ReadsTrace command
+reads_trace command name named = subst IsSome (sym named) refl
+
 -- a read failed
-read_failed : (command : Command) (files : Option Files) (before now : RunCounts) (had : Option (List ℕ)) → Rose before.shelf.faults now.shelf.faults → now.shelf.absent ≡ before.shelf.absent → now.writes ≡ before.writes
+read_failed : (command : Command) (files : Option Files) (before now : RunCounts) (had : Option (List ℕ)) → ReadsTrace command → Rose before.shelf.faults now.shelf.faults → now.shelf.absent ≡ before.shelf.absent → now.writes ≡ before.writes
     → Runs command files before now had had status.ReadFault
-read_failed command files before now had rose absent writes = record {
-  ends = keeps_same had;
+read_failed command files before now had reads rose absent writes = record {
+  ends = (keeps_same had, reads);
   missing = λ which other also lacks. missing_read which;
   counts = record {
     faults = record { rose = λ _. rose; same = λ not. absurd (not refl) };
@@ -174,7 +178,7 @@ pub runs_refused : {T : Type 0} → (command : Command) (name : List ℕ) (files
     → IsStatusOf found result → Runs command files before now had had result
 runs_refused command name files before now had rules (fault.Refused refusal) result named given refused lacking missed causes writes is =
     subst (Runs command files before now had had) (sym is) (record {
-      ends = (keeps_same had, (rules, takes_given command _ files rules refl given), λ bytes known. refused bytes (subst (λ n. told files n ≡ Some bytes) (same_name command name known.0 named known.1) known.2));
+      ends = (keeps_same had, reads_trace command name named, (rules, takes_given command _ files rules refl given), λ bytes known. refused bytes (subst (λ n. told files n ≡ Some bytes) (same_name command name known.0 named known.1) known.2));
       missing = λ which other also lacks. absurd (none_missing command name files rules named given lacking which other also lacks);
       counts = counts_written before now (status.Trace refusal.line refusal.cause) (causes.faults_same (λ is. cc is)) (causes.absent_same (λ is. cc is)) (λ is. cc is) (λ is. cc is.1) (stays _ before.writes now.writes (λ is. cc is) writes);
     })
@@ -185,7 +189,7 @@ runs_refused command name files before now had rules fault.NoFile result named g
       counts = missed_counts TraceFile before now (causes.faults_same (λ is. cc is)) (causes.missed refl) writes;
     })
 runs_refused command name files before now had rules fault.ReadFault result named given refused lacking missed causes writes is =
-    subst (Runs command files before now had had) (sym is) (read_failed command files before now had (causes.failed refl) (causes.absent_same (λ is. cc is)) writes)
+    subst (Runs command files before now had had) (sym is) (read_failed command files before now had (reads_trace command name named) (causes.failed refl) (causes.absent_same (λ is. cc is)) writes)
 runs_refused command name files before now had rules fault.NoMemory result named given refused lacking missed causes writes is =
     subst (Runs command files before now had had) (sym is) (memory_wanting command files before now had (causes.faults_same (λ is. cc is)) (causes.absent_same (λ is. cc is)) writes)
 
@@ -194,6 +198,14 @@ missing_fault : (command : Command) (name : List ℕ) (files : Option Files) →
     → file_of command which ≡ Some other → Lacks files other → IsOfMissing which (status.Rules fault_is)
 missing_fault command name files named held fault_is TraceFile other is lacks = tt
 missing_fault command name files named held fault_is RulesFile other is lacks = absurd (held (subst (Lacks files) (same_rules command name other named is) lacks))
+
+-- a command that names a rules file reads a trace too
+rules_read : (command : Command) (name : List ℕ) → rules_name command ≡ Some name → ReadsTrace command
+rules_read (words.Stall trace) name named = refl
+rules_read (words.Check trace tick_ms) name named = refl
+rules_read (words.Replay trace options) name named = refl
+rules_read (words.Gen shape) name named = absurd (let no : ⊥ = cc named in no)
+rules_read (words.Stress shape workers) name named = absurd (let no : ⊥ = cc named in no)
 
 -- rules that can't be read
 pub rules_refused : {T : Type 0} → (command : Command) (name : List ℕ) (files : Option Files) (before now : RunCounts) (had : Option (List ℕ)) (found : RulesError) (result : Status)
@@ -213,6 +225,6 @@ rules_refused command name files before now had error.NoFile result named failed
       counts = missed_counts RulesFile before now (causes.faults_same (λ is. cc is)) (causes.missed refl) writes;
     })
 rules_refused command name files before now had error.ReadFault result named failed causes writes is =
-    subst (Runs command files before now had had) (sym is) (read_failed command files before now had (causes.failed refl) (causes.absent_same (λ is. cc is)) writes)
+    subst (Runs command files before now had had) (sym is) (read_failed command files before now had (rules_read command name named) (causes.failed refl) (causes.absent_same (λ is. cc is)) writes)
 rules_refused command name files before now had error.NoMemory result named failed causes writes is =
     subst (Runs command files before now had had) (sym is) (memory_wanting command files before now had (causes.faults_same (λ is. cc is)) (causes.absent_same (λ is. cc is)) writes)

@@ -66,6 +66,14 @@ abbrev pub IsFaultAt : ℕ → Fault Cause → TraceFault → Type 0
 IsFaultAt line (fault.Refused why) result = result ≡ Refused (refused line why)
 IsFaultAt line fault.NoMemory result = result ≡ NoMemory
 
+-- no fault is one of reading
+abbrev pub IsNoRead : {A : Type 0} → Result A TraceFault → Type 0
+IsNoRead (Ok x) = ⊤
+IsNoRead (Err (Refused refusal)) = ⊤
+IsNoRead (Err NoFile) = ⊥
+IsNoRead (Err ReadFault) = ⊥
+IsNoRead (Err NoMemory) = ⊤
+
 -- an event was played behind those before; where the bytes that were left are told, it is theirs, and others are left
 pub record NextPlayed (After : Plays) (limits : Limits) (events : List Event) (line : ℕ) (before after_bytes : List ℕ → List ℕ) (known : Option (List ℕ)) : Type 0 where
   pub event : Event

@@ -7,6 +7,7 @@ use Rattle.psi_spec.specs.Trace.{IsAccepted, limits_of}
 use Rattle.psi_spec.specs.World.{Limits}
 use Rattle.proc_plan.specs.Plans.{HasTaken, PlannerView}
 use Rattle.run_spec.specs.Outputs.{of_ms}
+use Rattle.run_spec.specs.Words.{IsWithin}
 use Rattle.run_spec.specs.declared.command.Options.{Options}
 use Rattle.run_spec.specs.declared.status.Status.{Status}
 use Rattle.run_spec.specs.declared.status.Status.TheVariants as status
@@ -38,3 +39,4 @@ pub record IsToReplay (planner : PlannerView) (options : Options) (limits : Limi
   pub short : options.tick_ms ≤ 60000
   pub interval : 1 ≤ options.interval_s
   pub often : options.interval_s ≤ 3600
+  pub workers : IsWithin 1 64 options.workers

@@ -1,24 +1,24 @@
 //! The commands, each over its trace.
-ghost use Rattle.std.specs.Prelude.{◌≡◌, ◌≤◌, ℕ, List, IfSome, IsSome, IsUtf8};
+ghost use Rattle.std.specs.Prelude.{◌≡◌, ◌≤◌, ℕ, List, IfSome, IsUtf8};
 ghost use Rattle.psi_base.specs.Outside.{StaysOver};
 ghost use Rattle.psi_base.specs.declared.event.Event.{Event};
 ghost use Rattle.psi_spec.specs.World.{Limits};
 ghost use Rattle.run_spec.specs.Text.{check_text};
-ghost use Rattle.run_spec.specs.Outputs.{trace_name};
 ghost use Rattle.run_spec.specs.Run.{Runs, run_counts};
-ghost use Rattle.run_spec.specs.Words.{IsCommand};
+ghost use Rattle.run_spec.specs.Words.{IsCommand, IsWithin};
 ghost use Rattle.psi_words.specs.Reads.{HasTextNames};
 ghost use Rattle.replay_core.specs.Reads.{IsPlayed, plain_trace};
 ghost use Rattle.replay_core.specs.Rules.{IsStatusOfRules};
 ghost use Rattle.replay_core.specs.Writes.{IsStatusOf, WritesText};
 
+use crate::generated::{write_generated, write_stress};
 use crate::lines::put_check;
 use crate::replay::write_replay;
 use crate::rules::{RulesError, read_rules};
 use crate::stalls::write_stalls;
 use crate::trace::{TraceFault, play_trace};
 use proc_plan::Planner;
-use psi_base::{Ns, Shelf, Sink, Text, WriteFailed};
+use psi_base::{Gate, Ns, Shelf, Sink, Text, WriteFailed};
 use run_spec::{Command, Options, Status, Which};
 use std::alloc::Global;
 use std::thread::Threads;
@@ -116,13 +116,16 @@ fn run_check<S: Shelf, K: Sink>(
 }
 
 // Runs `replay` over a trace, with the rules of its rules file if it names one.
-fn run_replay<S: Shelf, K: Sink>(
+fn run_replay<R: Threads + Sync, S: Shelf, K: Sink, G: Gate>(
+    rt: &R,
     alloc: Global,
     name: &str,
     options: &Options,
     shelf: &mut S,
     out: &mut K,
+    gate: &G,
 ) -> Status
+    requires workers { IsWithin 1 64 options.now.workers }
     requires some { 1 ≤ options.now.tick_ms }
     requires short { options.now.tick_ms ≤ 60000 }
     requires interval { 1 ≤ options.now.interval_s }
@@ -140,7 +143,7 @@ fn run_replay<S: Shelf, K: Sink>(
     };
     let tick = Ns::from(options.tick_ms) * MILLISECOND;
     match play_trace::<S, Planner>(alloc, name, shelf, tick) {
-        Ok(planner) => write_replay(alloc, planner, rules, options, out),
+        Ok(planner) => write_replay(rt, alloc, planner, rules, options, out, gate),
         Err(fault) => fault_status(fault),
     }
 }
@@ -157,16 +160,16 @@ pub(crate) fn name_of(text: &Text) -> &str
 }
 
 /// Runs a command over its trace.
-pub(crate) fn run_command<R: Threads + Sync, S: Shelf, K: Sink>(
+pub(crate) fn run_command<R: Threads + Sync, S: Shelf, K: Sink, G: Gate>(
     rt: &R,
     alloc: Global,
     command: &Command,
     shelf: &mut S,
     out: &mut K,
+    gate: &G,
 ) -> Status
     requires ranges { IsCommand command.now }
     requires texts { HasTextNames command.now }
-    requires over { IsSome (trace_name command.now) }
     ensures kept { S.holds shelf.new ≡ S.holds shelf.old }
     ensures runs { Runs command.now (S.holds shelf.old)
         (run_counts (S.faults shelf.old) (S.absent shelf.old) (K.faults out.old))
@@ -179,9 +182,11 @@ pub(crate) fn run_command<R: Threads + Sync, S: Shelf, K: Sink>(
             run_check(alloc, name_of(trace), *tick_ms, shelf, out)
         }
         Command::Replay { trace, options } => {
-            run_replay(alloc, name_of(trace), options, shelf, out)
+            run_replay(rt, alloc, name_of(trace), options, shelf, out, gate)
         }
-        // They have no trace.
-        Command::Gen { .. } | Command::Stress { .. } => unreachable!(),
+        Command::Gen { shape } => write_generated(alloc, *shape, out),
+        Command::Stress { shape, workers } => {
+            write_stress(rt, alloc, *shape, *workers, out, gate)
+        }
     }
 }

@@ -1,5 +1,5 @@
 //! The top call.
-ghost use Rattle.std.specs.Prelude.{◌≡◌, ◌⊎◌, ◌≢◌, ℕ, List, Some, None, Ok, Err, IsSome, map, string_bytes};
+ghost use Rattle.std.specs.Prelude.{◌≡◌, ◌⊎◌, ◌≢◌, ℕ, List, Some, None, Ok, Err, map, string_bytes};
 ghost use Rattle.std.specs.Io.KnownBytes.{Appends, Keeps};
 ghost use Rattle.psi_base.specs.Outside.{AppendsFront, Rose, told};
 ghost use Rattle.psi_base.specs.declared.event.Cause.{Cause};
@@ -26,16 +26,16 @@ use std::alloc::Global;
 use std::thread::Threads;
 
 // Runs a command, and sends its output on in large pieces.
-fn run_buffered<R: Threads + Sync, S: Shelf, K: Sink>(
+fn run_buffered<R: Threads + Sync, S: Shelf, K: Sink, G: Gate>(
     rt: &R,
     alloc: Global,
     command: &Command,
     shelf: &mut S,
     out: &mut K,
+    gate: &G,
 ) -> Status
     requires ranges { IsCommand command.now }
     requires texts { HasTextNames command.now }
-    requires over { IsSome (trace_name command.now) }
     ensures kept { S.holds shelf.new ≡ S.holds shelf.old }
     ensures runs { Runs command.now (S.holds shelf.old)
         (run_counts (S.faults shelf.old) (S.absent shelf.old) (K.faults out.old))
@@ -45,7 +45,7 @@ fn run_buffered<R: Threads + Sync, S: Shelf, K: Sink>(
         return Status::NoMemory;
     };
     let mut buffered = BufferedSink::new(out, &mut pending);
-    match run_command(rt, alloc, command, shelf, &mut buffered) {
+    match run_command(rt, alloc, command, shelf, &mut buffered, gate) {
         Status::Done => match buffered.flush() {
             Ok(()) => Status::Done,
             Err(_) => Status::WriteFault,
@@ -55,8 +55,8 @@ fn run_buffered<R: Threads + Sync, S: Shelf, K: Sink>(
 }
 
 /// Runs the command of these words, the command line without the program's name. The output goes to `out`, and one
-/// line that tells of the status to `note`; of `Done` nothing is told. A fault of `note` changes no status. The gate
-/// isn't used yet.
+/// line that tells of the status to `note`; of `Done` nothing is told. A fault of `note` changes no status. The threads of a
+/// replay tell the gate of each change that they have made.
 pub fn run<R: Threads + Sync, S: Shelf, K: Sink, N: Sink, G: Gate>(
     rt: &R,
     alloc: Global,
@@ -64,7 +64,7 @@ pub fn run<R: Threads + Sync, S: Shelf, K: Sink, N: Sink, G: Gate>(
     shelf: &mut S,
     out: &mut K,
     note: &mut N,
-    _gate: &G,
+    gate: &G,
 ) -> Status
     // Files stay as they are.
     ensures kept { S.holds shelf.new ≡ S.holds shelf.old }
@@ -119,6 +119,12 @@ pub fn run<R: Threads + Sync, S: Shelf, K: Sink, N: Sink, G: Gate>(
         (Rose (S.faults shelf.old) (S.faults shelf.new) → ⊥) →
         (result ≡ Status.Trace line why) ⊎ (result ≡ Status.NoMemory) }
 
+    // A command that reads no file ends with its whole output, unless a count of failed writes rose or memory was wanting.
+    ensures made { (command : Command) → command_of (map string_bytes words.now) ≡ Some command →
+        trace_name command ≡ None →
+        (Rose (K.faults out.old) (K.faults out.new) → ⊥) →
+        (result ≡ Status.Done) ⊎ (result ≡ Status.NoMemory) }
+
     // Each count of failures rose exactly where the status tells of its failure.
     ensures counts { CountsTell
         (run_counts (S.faults shelf.old) (S.absent shelf.old) (K.faults out.old))
@@ -137,7 +143,7 @@ pub fn run<R: Threads + Sync, S: Shelf, K: Sink, N: Sink, G: Gate>(
 {
     match read_words(alloc, words) {
         Ok(command) => {
-            let status = run_buffered(rt, alloc, &command, shelf, out);
+            let status = run_buffered(rt, alloc, &command, shelf, out, gate);
             let _ = put_status(note, Some(&command), status);
             status
         }

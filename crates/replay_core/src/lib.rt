@@ -3,6 +3,7 @@
 
 mod command;
 mod entry;
+mod generated;
 mod lines;
 mod note;
 mod player;

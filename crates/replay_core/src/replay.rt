@@ -14,14 +14,20 @@ ghost use Rattle.replay_rules.specs.Judged.{rules_in};
 ghost use Rattle.replay_core.specs.Writes.{IsToReplay, WritesText};
 
 use proc_plan::Planner;
-use psi_base::{Sink, WriteFailed};
+use psi_base::{Gate, Sink, WriteFailed};
 use replay_ticks::{Replay, TickFault, prepare};
 use ruleset_json::Rules;
 use run_spec::{Options, Status};
 use std::alloc::Global;
+use std::thread::Threads;
 
 // Makes all ticks that are left, and writes their lines and the last line.
-fn put_replay<K: Sink>(replay: &mut Replay<'_>, out: &mut K) -> Result<(), WriteFailed>
+fn put_replay<R: Threads + Sync, K: Sink, G: Gate>(
+    rt: &R,
+    replay: &mut Replay<'_>,
+    out: &mut K,
+    gate: &G,
+) -> Result<(), WriteFailed>
     requires { (trace : Trace) × (pace : Pace) × (rules : List Rule)
         × IsReplay replay.old trace pace rules 0 }
     ensures bytes { (trace : Trace) (pace : Pace) (rules : List Rule) →
@@ -31,7 +37,7 @@ fn put_replay<K: Sink>(replay: &mut Replay<'_>, out: &mut K) -> Result<(), Write
     ensures below { StaysOver (K.below out.old) (K.below out.new) }
 {
     'ticks: loop {
-        match replay.tick(out) {
+        match replay.tick(rt, out, gate) {
             Ok(true) => {}
             Ok(false) => return replay.finish(out),
             Err(TickFault::WriteFault) => return Err(WriteFailed),
@@ -40,12 +46,14 @@ fn put_replay<K: Sink>(replay: &mut Replay<'_>, out: &mut K) -> Result<(), Write
 }
 
 /// Writes the output of `replay` for a trace that was taken apart, with rules if there are some. Where memory is wanting, nothing is written.
-pub(crate) fn write_replay<K: Sink>(
+pub(crate) fn write_replay<R: Threads + Sync, K: Sink, G: Gate>(
+    rt: &R,
     alloc: Global,
     planner: Planner,
     rules: Option<Rules>,
     options: &Options,
     out: &mut K,
+    gate: &G,
 ) -> Status
     requires taken { (limits : Limits) × (events : List Event)
         × IsToReplay planner options.now limits events }
@@ -61,7 +69,7 @@ pub(crate) fn write_replay<K: Sink>(
     let Ok(mut replay) = prepare(alloc, &plans, rules, options) else {
         return Status::NoMemory;
     };
-    match put_replay(&mut replay, out) {
+    match put_replay(rt, &mut replay, out, gate) {
         Ok(()) => Status::Done,
         Err(WriteFailed) => Status::WriteFault,
     }

@@ -12,7 +12,7 @@ ghost use Rattle.replay_core.specs.Writes.{WritesText};
 
 use crate::lines::put_lines;
 use proc_plan::{PlainClocks, Planner, Plans, ProcClocks};
-use psi_base::{Cpu, Ns, Sink, WriteFailed};
+use psi_base::{Cpu, Ns, OpenGate, Sink, WriteFailed};
 use replay_workers::{first_clocks, make_until};
 use run_spec::Status;
 use std::alloc::Global;
@@ -42,7 +42,10 @@ fn make_each<R: Threads + Sync>(rt: &R, plans: &Plans, clocks: &mut [PlainClocks
             requires { (place < 64) × (place < length plans.now.plans)
                 × (clocks.now ≡ record { plan = plan_at plans.now place; made = 0 }) }
             ensures { HasMadeAll (plan_at plans.entry.now place) clocks.new }
-        { make_until(clocks, plans.plan(Cpu(place as u32)).len()) },
+        {
+            let cpu = Cpu(place as u32);
+            make_until(clocks, cpu, plans.plan(cpu).len(), &OpenGate);
+        },
     );
 }
 

@@ -1,16 +1,17 @@
 //! Traces from a shelf.
-ghost use Rattle.std.specs.Prelude.{◌≡◌, ◌+◌, ◌*◌, ◌<◌, ◌≤◌, ◌^◌, ℕ, List, [], OnOk, IfOk, IsErrOf, Some, None, Ok, MatchResult, false, length, IsErr};
+ghost use Rattle.std.specs.Prelude.{◌≡◌, ◌+◌, ◌*◌, ◌<◌, ◌≤◌, ◌^◌, ℕ, List, [], Option, OnOk, IfOk, IsErrOf, Some, None, Ok, MatchResult, false, length, IsErr};
 ghost use Rattle.psi_base.specs.Outside.{told, Lacks, counts_of};
 ghost use Rattle.psi_base.specs.declared.event.Cause.TheVariants as cause;
 ghost use Rattle.psi_lines.specs.Lines.{left};
 ghost use Rattle.psi_spec.specs.Grammar.{Fits};
 ghost use Rattle.psi_spec.specs.Trace.{IsCpuCount, limits_of, refused};
-ghost use Rattle.replay_core.specs.Reads.{CausesTraceFault, HeadGives, IsFaultAt, Legally, NextGives, RestGives, TailGives, TakesLine, TakesRead, TellsNothing, TracePlayed, TraceRefused};
+ghost use Rattle.psi_trace.specs.Front.{HasInFront};
+ghost use Rattle.replay_core.specs.Reads.{CausesTraceFault, HeadGives, IsFaultAt, IsNoRead, Legally, NextGives, RestGives, TailGives, TakesLine, TakesRead, TellsNothing, TracePlayed, TraceRefused};
 
 use crate::player::Player;
 use psi_base::{Cause, Event, Fault, NoMemory, Ns, Refusal, Shelf};
 use psi_lines::{LineFault, Lines};
-use psi_trace::{read_event, read_header};
+use psi_trace::{front_event, read_event, read_header};
 use std::alloc::{AllocFailed, Global};
 
 /// Why there is no trace.
@@ -85,7 +86,32 @@ fn take_line<P: Player>(alloc: Global, player: &mut P, line: &[u8]) -> Result<()
     take_read(player, &read_event(alloc, line))
 }
 
-// Reads and plays the next event line, where the trace hasn't ended.
+// Plays the event of the line at the front of what is held, which has so many bytes before its newline, where the trace
+// hasn't ended.
+#[inline(always)]
+fn play_front<P: Player>(
+    lines: &mut Lines,
+    player: &mut P,
+    event: &Event,
+    count: usize,
+    line: u32,
+) -> Result<(), TraceFault>
+    requires number { lines.old.number ≡ line }
+    requires front { HasInFront lines.old.held event.now count }
+    ensures name { lines.new.name ≡ lines.old.name }
+    ensures number { OnOk result (lines.new.number ≡ line + 1) }
+    ensures content { (known : Option (List ℕ)) → NextGives (Legally (P.Played player.old))
+        (Legally (P.Played player.new)) line (left lines.old) (left lines.new) known result }
+    ensures faults { IsNoRead result }
+{
+    lines.pass(count);
+    match player.take(event) {
+        Ok(()) => Ok(()),
+        Err(fault) => Err(fault_at(line, fault)),
+    }
+}
+
+// Reads and plays the next event line, whichever it is, where the trace hasn't ended.
 fn next_event<S: Shelf, P: Player>(
     alloc: Global,
     lines: &mut Lines,
@@ -115,6 +141,33 @@ fn next_event<S: Shelf, P: Player>(
         Err(LineFault::NoFile) => Err(TraceFault::NoFile),
         Err(LineFault::ReadFault) => Err(TraceFault::ReadFault),
         Err(LineFault::NoMemory) => Err(TraceFault::NoMemory),
+    }
+}
+
+// Plays the next event line, where the trace hasn't ended: as it stands in what is held, if it is whole there and of the
+// kinds that a trace has most of, and else read from the shelf as any line is.
+#[inline(always)]
+fn play_next<S: Shelf, P: Player>(
+    alloc: Global,
+    lines: &mut Lines,
+    shelf: &mut S,
+    player: &mut P,
+    line: u32,
+) -> Result<(), TraceFault>
+    requires number { lines.old.number ≡ line }
+    ensures kept { S.holds shelf.new ≡ S.holds shelf.old }
+    ensures name { lines.new.name ≡ lines.old.name }
+    ensures number { OnOk result (lines.new.number ≡ line + 1) }
+    ensures content { NextGives (Legally (P.Played player.old)) (Legally (P.Played player.new)) line
+        (left lines.old) (left lines.new) (told (S.holds shelf.old) lines.old.name) result }
+    ensures missed { IsErrOf result TraceFault.NoFile →
+        told (S.holds shelf.old) lines.old.name ≡ None }
+    ensures cause { CausesTraceFault (counts_of (S.faults shelf.old) (S.absent shelf.old))
+        (counts_of (S.faults shelf.new) (S.absent shelf.new)) result }
+{
+    match front_event(lines.held()) {
+        Some((event, count)) => play_front(lines, player, &event, count, line),
+        None => next_event(alloc, lines, shelf, player, line),
     }
 }
 
@@ -158,7 +211,7 @@ fn play_events<S: Shelf, P: Player>(
         (counts_of (S.faults shelf.new) (S.absent shelf.new)) result }
 {
     'lines: for count in 0..4_000_001u32 {
-        match next_event(alloc, lines, shelf, player, count + 2) {
+        match play_next(alloc, lines, shelf, player, count + 2) {
             Ok(()) => {}
             Err(fault) => return Err(fault),
         }

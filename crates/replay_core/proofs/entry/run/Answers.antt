@@ -1,12 +1,10 @@
-use Rattle.std.proofs.Common.{◌≡◌}
+use Rattle.std.proofs.Common.{◌≡◌, None}
+use Rattle.run_spec.specs.Outputs.{trace_name}
 use Rattle.run_spec.specs.declared.command.Command.TheVariants.{Replay}
-use Rattle.replay_core.proofs.NameLaws.{trace_named}
+use Rattle.replay_core.proofs.GeneratedLaws.{makes, without_rules}
 use Rattle.replay_core.proofs.Pieces.{front_of_puts}
 use Rattle.replay_core.proofs.RunEnds.{completes, faults, headlined, refuses}
 use Rattle.replay_core.proofs.entry.run.Goals as goal
-
-pub run_buffered-status-requires-clause-over : goal.run_buffered-status-requires-clause-over
-run_buffered-status-requires-clause-over g c κs within = trace_named _ c.in-Ok.command c.in-Ok.ensures.exact
 
 pub returns-in-Ok-clause-headline : goal.returns-in-Ok-clause-headline
 returns-in-Ok-clause-headline g c = λ name bytes options rules is tells given done.
@@ -28,6 +26,12 @@ pub returns-in-Ok-clause-refuses : goal.returns-in-Ok-clause-refuses
 returns-in-Ok-clause-refuses g c = λ command rules bytes line why is.
     let same : c.in-Ok.command ≡ command = cc (c.in-Ok.ensures.exact, is) in
     rw (← same) (refuses c.in-Ok.command (g.S.Shelf.holds c.args.shelf.now) _ _ _ _ c.run_buffered-status.result c.run_buffered-status.ensures.runs rules bytes line why)
+
+pub returns-in-Ok-clause-made : goal.returns-in-Ok-clause-made
+returns-in-Ok-clause-made g c = λ command is unnamed.
+    let same : c.in-Ok.command ≡ command = cc (c.in-Ok.ensures.exact, is) in
+    let none : trace_name c.in-Ok.command ≡ None = rw same unnamed in
+    makes c.in-Ok.command (g.S.Shelf.holds c.args.shelf.now) _ _ _ _ c.run_buffered-status.result c.run_buffered-status.ensures.runs none (without_rules c.in-Ok.command none)
 
 pub returns-in-Ok-clause-note_front : goal.returns-in-Ok-clause-note_front
 returns-in-Ok-clause-note_front g c = rw c.in-Ok.ensures.exact (front_of_puts _ _ _ _ c.put_status.ensures.bytes)

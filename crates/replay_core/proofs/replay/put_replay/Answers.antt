@@ -1,5 +1,5 @@
 use Rattle.std.proofs.Common.{arith, subst, ◌∙◌}
-use Rattle.std.specs.Prelude.{Ok, Bool}
+use Rattle.std.specs.Prelude.{Ok}
 use Rattle.replay_ticks.specs.Replays.{TickGives}
 use Rattle.replay_core.proofs.ReplayLaws.{last_ticked, tick_failed, tick_more, whole_ticked}
 use Rattle.replay_core.proofs.replay.put_replay.Goals as goal

@@ -1,4 +1,4 @@
-use Rattle.std.proofs.Common.{◌≡◌, ℕ, List, ◌-◌}
+use Rattle.std.proofs.Common.{List, ◌-◌}
 use Rattle.std.specs.Prelude.{Ok}
 use Rattle.psi_base.specs.Outside.{HasCause, StaysOver}
 use Rattle.psi_spec.specs.Trace.{Trace}

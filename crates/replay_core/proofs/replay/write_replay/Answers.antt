@@ -10,8 +10,8 @@ prepare-requires-clause-planned g c =
     let events = c.requires.taken.1 in
     (plain_trace limits.cpus events, planned c.args.planner c.in-Ok.plans c.args.options.now limits events c.requires.taken.2 c.in-Ok.ensures)
 
-pub put_replay-requires : goal.put_replay-requires
-put_replay-requires g c =
+pub put_replay-requires-after_bounds : goal.put_replay-requires-after_bounds
+put_replay-requires-after_bounds g c κs within =
     let limits = c.requires.taken.0 in
     let events = c.requires.taken.1 in
     let trace = plain_trace limits.cpus events in

@@ -1,4 +1,4 @@
-use Rattle.std.proofs.Common.{◌≡◌, List, ℕ, Some, Ok, Err, take, refl, sym, ap, ◌∙◌, subst}
+use Rattle.std.proofs.Common.{◌≡◌, Some, Ok, take, sym, ap, ◌∙◌, subst}
 use Rattle.psi_base.specs.Outside.{Lacks, told}
 use Rattle.ruleset_json.specs.Rules.{rules_of}
 use Rattle.replay_core.proofs.RulesLaws.{of_front}

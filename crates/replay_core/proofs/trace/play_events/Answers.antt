@@ -11,7 +11,7 @@ lines-preserved g c =
     let i = c.lines.invariant in
     let known = told (g.S.Shelf.holds c.args.shelf.now) c.args.lines.now.name in
     let next = rw (i.kept, i.name) at c.in-Ok.ensures.content in
-    let one = laws.one_more (Legally (g.P.Player.Played c.lines.player)) (Legally (g.P.Player.Played c.next_event.new.player)) (limits_of c.args.tick c.args.cpus) c.lines.count (left c.args.lines.now) (left c.lines.lines) (left c.next_event.new.lines) known tt i.so_far next in
+    let one = laws.one_more (Legally (g.P.Player.Played c.lines.player)) (Legally (g.P.Player.Played c.play_next.new.player)) (limits_of c.args.tick c.args.cpus) c.lines.count (left c.args.lines.now) (left c.lines.lines) (left c.play_next.new.lines) known tt i.so_far next in
     record {
       kept = cc;
       faults = c.in-Ok.ensures.cause.faults_same (λ is. cc is) ∙ i.faults;
@@ -19,7 +19,7 @@ lines-preserved g c =
       name = cc;
       number = omega (arith, c.in-Ok.ensures.number);
       few = omega (arith, one.few);
-      so_far = laws.goes_on (Legally (g.P.Player.Played c.next_event.new.player)) (limits_of c.args.tick c.args.cpus) c.lines.count _ (left c.args.lines.now) (left c.next_event.new.lines) known c.is_ended.result (omega arith) one (λ limits events played. c.is_ended.ensures limits events played.0) c.if-is_ended.false;
+      so_far = laws.goes_on (Legally (g.P.Player.Played c.play_next.new.player)) (limits_of c.args.tick c.args.cpus) c.lines.count _ (left c.args.lines.now) (left c.play_next.new.lines) known c.is_ended.result (omega arith) one (λ limits events played. c.is_ended.ensures limits events played.0) c.if-is_ended.false;
     }
 
 pub returns-then-is_ended-clause-content : goal.returns-then-is_ended-clause-content
@@ -27,9 +27,9 @@ returns-then-is_ended-clause-content g c =
     let i = c.lines.invariant in
     let known = told (g.S.Shelf.holds c.args.shelf.now) c.args.lines.now.name in
     let next = rw (i.kept, i.name) at c.in-Ok.ensures.content in
-    let one = laws.one_more (Legally (g.P.Player.Played c.lines.player)) (Legally (g.P.Player.Played c.next_event.new.player)) (limits_of c.args.tick c.args.cpus) c.lines.count (left c.args.lines.now) (left c.lines.lines) (left c.next_event.new.lines) known tt i.so_far next in
-    laws.ends_here (Legally (g.P.Player.Played c.next_event.new.player)) (limits_of c.args.tick c.args.cpus) c.lines.count (left c.args.lines.now) (left c.next_event.new.lines) known c.is_ended.result c.close.result one (λ limits events played. c.is_ended.ensures limits events played.0) c.if-is_ended.true
-    (λ bytes tells. rw (c.next_event.ensures.kept, i.kept, c.next_event.ensures.name, i.name) at (c.close.ensures.content bytes) tells)
+    let one = laws.one_more (Legally (g.P.Player.Played c.lines.player)) (Legally (g.P.Player.Played c.play_next.new.player)) (limits_of c.args.tick c.args.cpus) c.lines.count (left c.args.lines.now) (left c.lines.lines) (left c.play_next.new.lines) known tt i.so_far next in
+    laws.ends_here (Legally (g.P.Player.Played c.play_next.new.player)) (limits_of c.args.tick c.args.cpus) c.lines.count (left c.args.lines.now) (left c.play_next.new.lines) known c.is_ended.result c.close.result one (λ limits events played. c.is_ended.ensures limits events played.0) c.if-is_ended.true
+    (λ bytes tells. rw (c.play_next.ensures.kept, i.kept, c.play_next.ensures.name, i.name) at (c.close.ensures.content bytes) tells)
 
 pub unreachable-requires : goal.unreachable-requires
 unreachable-requires g c = absurd (omega (arith, c.lines.invariant.few, c.lines-test.false))

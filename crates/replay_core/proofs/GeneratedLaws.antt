@@ -1,0 +1,270 @@
+-- What the commands over generated traces come to as a run.
+use Rattle.std.proofs.Common.{◌≡◌, ◌⊎◌, inl, inr, ℕ, ◌<◌, ◌-◌, List, [], ◌∷◌, ◌++◌, refl, sym, ap, ◌∙◌, subst, arith, true≢false}
+use Rattle.std.proofs.Common.{append_assoc, Option, None, Some, is_some, Bool, true, false, ◌==◌, if◌then◌else◌}
+use Rattle.psi_base.specs.Outside.{Files, Rose}
+use Rattle.psi_base.specs.declared.event.Event.{Event}
+use Rattle.psi_spec.specs.Grammar.{Fits}
+use Rattle.psi_spec.specs.Refusal.{AreLegal, cause_of}
+use Rattle.psi_spec.specs.Trace.{AllFit, IsAccepted, Trace, limits_of}
+use Rattle.psi_spec.specs.World.{Limits, World, after, after_event, after_from, first_world}
+use Rattle.proc_plan.specs.Plans.{HasTaken, PlannerView, PlansView, StandForTaken}
+use Rattle.run_spec.specs.declared.command.Command.{Command}
+use Rattle.run_spec.specs.declared.command.Command.TheVariants as words
+use Rattle.run_spec.specs.declared.command.Shape.{Shape}
+use Rattle.run_spec.specs.declared.status.Status.{Status}
+use Rattle.run_spec.specs.declared.status.Status.TheVariants as status
+use Rattle.run_spec.specs.declared.status.Which.{Which}
+use Rattle.run_spec.specs.declared.status.Which.TheVariants.{RulesFile, TraceFile}
+use Rattle.run_spec.specs.Generated.{generated}
+use Rattle.run_spec.specs.Outputs.{IsOutput, file_of, of_s, pace_of, rules_name, stress_options, tick_length, trace_name}
+use Rattle.run_spec.specs.Run.{ReadsTrace, RunCounts, Runs, TakesTrace}
+use Rattle.run_spec.specs.Words.{IsShape, IsWithin}
+use Rattle.replay_rules.specs.Planned.{IsPlanned}
+use Rattle.trace_gen.proofs.Accepting.{generated_is_trace}
+use Rattle.run_spec.specs.Replay.{Pace, group_report, last_line, root_group, stress_text, tick_count, with_rules}
+use Rattle.replay_ticks.specs.Replays.{IsReplay, Passes, ReplayView}
+use Rattle.replay_core.specs.Writes.{WritesText}
+use Rattle.replay_core.proofs.ReplayLaws.{planned}
+use Rattle.replay_core.proofs.RunLaws.{counts_written, none_given, stays, takes_given}
+
+-- ---- the events of a generated trace, one by one
+
+-- what comes next can be spelled
+pub next_fits : (played : List Event) (event : Event) (left : List Event)
+    → AllFit (played ++ event ∷ left) → Fits event
+next_fits [] event left fit = fit.0
+next_fits (first ∷ played) event left fit = next_fits played event left fit.1
+
+-- and is legal
+pub next_legal : (limits : Limits) (w : World) (played : List Event) (event : Event) (left : List Event)
+    → AreLegal limits w (played ++ event ∷ left) → cause_of limits (after_from w played) event ≡ None
+next_legal limits w [] event left legal = legal.0
+next_legal limits w (first ∷ played) event left legal =
+    next_legal limits (after_event w first) played event left legal.1
+
+-- one more is played
+pub one_more : (played left rest all : List Event) (event : Event) → played ++ left ≡ all
+    → left ≡ event ∷ rest → (played ++ event ∷ []) ++ rest ≡ all
+one_more played left rest all event split is =
+    append_assoc played (event ∷ []) rest ∙ ap (λ xs. played ++ xs) (sym is) ∙ split
+
+-- A planner has taken the events of a generated trace but those that are left.
+pub record HasPlayed (shape : Shape) (planner : PlannerView) (left : List Event) : Type 0 where
+  pub played : List Event
+  pub taken : HasTaken planner (limits_of (of_s 2) shape.cpus) played
+  pub split : played ++ left ≡ (generated shape).events
+
+-- the events of a generated trace are those that were played, the next one and the rest
+whole : (shape : Shape) (planner : PlannerView) (left rest : List Event) (event : Event)
+    → (so : HasPlayed shape planner left) → left ≡ event ∷ rest
+    → (generated shape).events ≡ so.played ++ event ∷ rest
+whole shape planner left rest event so split = sym so.split ∙ ap (λ xs. so.played ++ xs) split
+
+-- the next event can be spelled
+pub next_can : (shape : Shape) (planner : PlannerView) (left rest : List Event) (event : Event)
+    → IsShape shape → HasPlayed shape planner left → left ≡ event ∷ rest → Fits event
+next_can shape planner left rest event is so split =
+    next_fits so.played event rest
+    (subst AllFit (whole shape planner left rest event so split) (generated_is_trace shape is).accepted.fit)
+
+-- and is legal behind those that were taken
+pub next_may : (shape : Shape) (planner : PlannerView) (left rest : List Event) (event : Event)
+    → IsShape shape → HasPlayed shape planner left → left ≡ event ∷ rest
+    → (limits : Limits) × (events : List Event) × HasTaken planner limits events
+    × (cause_of limits (after events) event ≡ None)
+next_may shape planner left rest event is so split =
+    let limits = limits_of (of_s 2) shape.cpus in (
+      limits,
+      so.played,
+      so.taken,
+      next_legal limits first_world so.played event rest
+          (subst (AreLegal limits first_world) (whole shape planner left rest event so split)
+          (generated_is_trace shape is).accepted.legal),
+    )
+
+-- and then it is taken
+pub next_taken : (shape : Shape) (old new : PlannerView) (left rest : List Event) (event : Event)
+    → HasPlayed shape old left → left ≡ event ∷ rest
+    → ((limits : Limits) (events : List Event) → HasTaken old limits events
+    → HasTaken new limits (events ++ event ∷ []))
+    → HasPlayed shape new rest
+next_taken shape old new left rest event played split takes = record {
+  played = played.played ++ event ∷ [];
+  taken = takes (limits_of (of_s 2) shape.cpus) played.played played.taken;
+  split = one_more played.played left rest (generated shape).events event played.split split;
+}
+
+-- ---- a replay of which the end alone is written
+
+-- A replay without rules has made some ticks, and whether there was one is told.
+pub record HasPassed (replay : ReplayView) (trace : Trace) (pace : Pace) (ticked : Bool) : Type 0 where
+  pub is : IsReplay replay trace pace [] replay.made
+  pub some : ticked ≡ true → 0 < replay.made
+  pub none : ticked ≡ false → replay.made ≡ 0
+
+-- before its first tick there was none
+pub none_passed : (replay : ReplayView) (trace : Trace) (pace : Pace)
+    → IsReplay replay trace pace [] 0 → HasPassed replay trace pace false
+none_passed replay trace pace is = record {
+  is = subst (IsReplay replay trace pace []) (sym is.made) is;
+  some = λ other. absurd (true≢false (sym other));
+  none = λ _. is.made;
+}
+
+-- one tick more
+pub passed_more : (old new : ReplayView) (trace : Trace) (pace : Pace) (ticked : Bool)
+    → HasPassed old trace pace ticked → Passes trace pace [] old.made old new true
+    → HasPassed new trace pace true
+passed_more old new trace pace ticked so given = record {
+  is = subst (IsReplay new trace pace []) (sym given.1.made) given.1;
+  some = λ _. omega (arith, given.1.made);
+  none = λ other. absurd (true≢false other);
+}
+
+-- fewer ticks are left then
+pub fewer_to_pass : (old new : ReplayView) (trace : Trace) (pace : Pace) (ticked : Bool)
+    → HasPassed old trace pace ticked → Passes trace pace [] old.made old new true
+    → new.pacing.last - new.made < old.pacing.last - old.made
+fewer_to_pass old new trace pace ticked so given =
+    omega (arith, given.0, given.1.made, given.1.paced.last, so.is.paced.last)
+
+if_some : {A : Type 0} (n : ℕ) (x y : A) → 0 < n → (if n == 0 then x else y) ≡ y
+if_some n x y some =
+    let not : (n == 0) ≡ false = grind (arith, some) in
+    rw not refl
+
+if_none : {A : Type 0} (n : ℕ) (x y : A) → n ≡ 0 → (if n == 0 then x else y) ≡ x
+if_none n x y none = rw none refl
+
+-- the text where there is a tick
+pub stress_some : (trace : Trace) (pace : Pace) → 0 < tick_count trace pace
+    → stress_text trace pace
+    ≡ group_report trace pace (tick_count trace pace) root_group ++ last_line trace pace (with_rules [])
+stress_some trace pace some =
+    ap (λ xs. xs ++ last_line trace pace (with_rules []))
+    (if_some (tick_count trace pace) [] (group_report trace pace (tick_count trace pace) root_group) some)
+
+-- and where there is none
+pub stress_none : (trace : Trace) (pace : Pace) → tick_count trace pace ≡ 0
+    → stress_text trace pace ≡ last_line trace pace (with_rules [])
+stress_none trace pace none =
+    ap (λ xs. xs ++ last_line trace pace (with_rules []))
+    (if_none (tick_count trace pace) [] (group_report trace pace (tick_count trace pace) root_group) none)
+
+-- where no tick is left, all were made
+pub all_passed : (old new : ReplayView) (trace : Trace) (pace : Pace) (ticked : Bool)
+    → HasPassed old trace pace ticked → Passes trace pace [] old.made old new false
+    → IsReplay new trace pace [] (tick_count trace pace) × (new.made ≡ tick_count trace pace)
+all_passed old new trace pace ticked so given = (
+  subst (IsReplay new trace pace []) given.0
+      (subst (λ r. IsReplay r trace pace [] old.made) (sym given.1) so.is),
+  ap (λ (r : ReplayView). r.made) given.1 ∙ given.0,
+)
+
+-- where none is left and there was one, all were made
+pub end_made : (old new : ReplayView) (trace : Trace) (pace : Pace) (ticked left : Bool)
+    → HasPassed old trace pace ticked → ticked ≡ true → left ≡ false
+    → Passes trace pace [] old.made old new left
+    → IsReplay new trace pace [] (tick_count trace pace) × (0 < tick_count trace pace)
+end_made old new trace pace false left so some over given = absurd (true≢false (sym some))
+end_made old new trace pace true true so some over given = absurd (true≢false over)
+end_made old new trace pace true false so some over given =
+    let all = all_passed old new trace pace true so given in
+    (all.0, omega (arith, so.some refl, given.0))
+
+-- plans of a generated trace may be replayed as `stress` does
+pub planned_generated : (planner : PlannerView) (plans : PlansView) (shape : Shape) (workers : ℕ)
+    → IsShape shape → IsWithin 1 64 workers
+    → HasTaken planner (limits_of (of_s 2) shape.cpus) (generated shape).events
+    → StandForTaken planner plans
+    → IsPlanned plans (generated shape) (pace_of (stress_options workers))
+planned_generated planner plans shape workers is within taken stand =
+    planned planner plans (stress_options workers) (limits_of (of_s 2) shape.cpus) (generated shape).events
+    (record {
+      taken = taken;
+      ended = (generated_is_trace shape is).accepted;
+      latest = refl;
+      some = omega arith;
+      short = omega arith;
+      interval = omega arith;
+      often = omega arith;
+      workers = within;
+    })
+    stand
+
+-- ---- a command that reads no file
+
+-- it has no file of any kind
+no_file : (command : Command) (which : Which) (name : List ℕ) → trace_name command ≡ None
+    → rules_name command ≡ None → file_of command which ≡ Some name → ⊥
+no_file command RulesFile name unnamed unruled is = cc (unruled, is)
+no_file command TraceFile name unnamed unruled is = cc (unnamed, is)
+
+-- nor has it rules, since a command that reads rules reads a trace
+pub without_rules : (command : Command) → trace_name command ≡ None → rules_name command ≡ None
+without_rules (words.Stall trace) unnamed = refl
+without_rules (words.Check trace tick_ms) unnamed = refl
+without_rules (words.Replay trace options) unnamed = absurd (let no : ⊥ = cc unnamed in no)
+without_rules (words.Gen shape) unnamed = refl
+without_rules (words.Stress shape workers) unnamed = refl
+
+-- it takes the trace that is generated
+pub takes_generated : (command : Command) (shape : Shape) (files : Option Files)
+    → trace_name command ≡ None → tick_length command ≡ of_s 2 → IsShape shape
+    → TakesTrace command files (generated shape)
+takes_generated command shape files unnamed tick is =
+    let traced = generated_is_trace shape is in record {
+      version = refl;
+      cpus = traced.cpus;
+      accepted = subst (λ n. IsAccepted (limits_of n shape.cpus) (generated shape).events) (sym tick) traced.accepted;
+      read = λ bytes known. absurd (let no : ⊥ = cc (unnamed, known.1) in no);
+    }
+
+-- a text that was written of a generated trace
+pub runs_generated : (command : Command) (files : Option Files) (before now : RunCounts)
+    (had has : Option (List ℕ)) (trace : Trace) (text : List ℕ) (result : Status)
+    → trace_name command ≡ None → rules_name command ≡ None → TakesTrace command files trace
+    → IsOutput command trace [] text → now.shelf ≡ before.shelf
+    → WritesText text before.writes now.writes had has result
+    → Runs command files before now had has result
+runs_generated command files before now had has trace text status.Done unnamed unruled takes output shelf wrote = record {
+  ends = (trace, [], takes, takes_given command None files [] unruled (none_given files), (text, output, wrote.0));
+  missing = λ which name is lacks. absurd (no_file command which name unnamed unruled is);
+  counts = counts_written before now status.Done (ap (λ s. s.faults) shelf) (ap (λ s. s.absent) shelf)
+      (λ is. cc is) (λ is. cc is.1) (stays _ before.writes now.writes (λ is. cc is) wrote.1);
+}
+runs_generated command files before now had has trace text status.WriteFault unnamed unruled takes output shelf wrote = record {
+  ends = (trace, [], takes, takes_given command None files [] unruled (none_given files), (text, output, wrote.0));
+  missing = λ which name is lacks. absurd (no_file command which name unnamed unruled is);
+  counts = counts_written before now status.WriteFault (ap (λ s. s.faults) shelf) (ap (λ s. s.absent) shelf)
+      (λ is. cc is) (λ is. cc is.1) (record { rose = λ _. wrote.1; same = λ not. absurd (not refl) });
+}
+runs_generated command files before now had has trace text status.NoMemory unnamed unruled takes output shelf wrote = record {
+  ends = wrote.0;
+  missing = λ which name is lacks. absurd (no_file command which name unnamed unruled is);
+  counts = counts_written before now status.NoMemory (ap (λ s. s.faults) shelf) (ap (λ s. s.absent) shelf)
+      (λ is. cc is) (λ is. cc is.1) (stays _ before.writes now.writes (λ is. cc is) wrote.1);
+}
+runs_generated command files before now had has trace text _ unnamed unruled takes output shelf wrote = absurd wrote
+
+no_trace : (command : Command) → trace_name command ≡ None → ReadsTrace command → ⊥
+no_trace command unnamed reads = true≢false (sym reads ∙ ap is_some unnamed)
+
+-- such a run is done, where no write failed and memory was there
+pub makes : (command : Command) (files : Option Files) (before now : RunCounts)
+    (had has : Option (List ℕ)) (result : Status) → Runs command files before now had has result
+    → trace_name command ≡ None → rules_name command ≡ None
+    → (Rose before.writes now.writes → ⊥) → (result ≡ status.Done) ⊎ (result ≡ status.NoMemory)
+makes command files before now had has status.Done runs unnamed unruled writes = inl refl
+makes command files before now had has status.NoMemory runs unnamed unruled writes = inr refl
+makes command files before now had has status.WriteFault runs unnamed unruled writes =
+    absurd (writes (runs.counts.writes.rose refl))
+makes command files before now had has status.ReadFault runs unnamed unruled writes =
+    absurd (no_trace command unnamed runs.ends.1)
+makes command files before now had has status.Usage runs unnamed unruled writes = absurd runs.ends
+makes command files before now had has (status.Rules fault) runs unnamed unruled writes =
+    let named = runs.ends.1.1 in absurd (let no : ⊥ = cc (unruled, named) in no)
+makes command files before now had has (status.Trace line why) runs unnamed unruled writes =
+    absurd (no_trace command unnamed runs.ends.1)
+makes command files before now had has (status.NoFile which) runs unnamed unruled writes =
+    let named = runs.ends.2.1 in absurd (no_file command which runs.ends.2.0 unnamed unruled named)
