@@ -1,6 +1,6 @@
 //! Running words over one trace in memory.
 
-use psi_base::{MemShelf, MemSink, OpenGate, Text};
+use psi_base::{Gate, MemShelf, MemSink, OpenGate, Text};
 use replay_core::{Status, run};
 use std::test::Fail;
 use std::thread::Threads;
@@ -35,7 +35,7 @@ pub struct Failing {
 pub const NONE: u64 = 1_000_000;
 
 /// No call fails.
-const NO_FAULT: Failing = Failing {
+pub const NO_FAULT: Failing = Failing {
     read: NONE,
     write: NONE,
     note: NONE,
@@ -48,14 +48,15 @@ pub const ONE_WAIT: &str = "psitrace 1 cpus=1\n\
     0 switch 0 0 iowait\n\
     2000000000 end\n";
 
-/// Runs a command line over a shelf with the one file `t`, where some calls fail. The shelf and both sinks move at most
-/// so many bytes a call.
-pub fn run_failing<R: Threads + AllocGlobal + Sync>(
+/// Runs a command line over a shelf with the one file `t`, where some calls fail, and threads are held by a gate. The shelf and
+/// both sinks move at most so many bytes a call.
+pub fn run_gated<R: Threads + AllocGlobal + Sync, G: Gate>(
     rt: &R,
     line: &str,
     trace: &str,
     most: usize,
     failing: Failing,
+    gate: &G,
 ) -> Result<Ran, Fail> {
     let alloc = rt.alloc();
     let words = words_of(rt, line)?;
@@ -69,14 +70,23 @@ pub fn run_failing<R: Threads + AllocGlobal + Sync>(
     let mut shelf = MemShelf::new(files, most, vec![in alloc; failing.read]?);
     let mut out = MemSink::new(alloc, 4096, most, vec![in alloc; failing.write]?)?;
     let mut note = MemSink::new(alloc, 4096, most, vec![in alloc; failing.note]?)?;
-    let status = run(
-        rt, alloc, &words, &mut shelf, &mut out, &mut note, &OpenGate,
-    );
+    let status = run(rt, alloc, &words, &mut shelf, &mut out, &mut note, gate);
     Ok(Ran {
         status,
         output: out.bytes,
         note: note.bytes,
     })
+}
+
+/// Runs a command line over a shelf with the one file `t`, where some calls fail.
+pub fn run_failing<R: Threads + AllocGlobal + Sync>(
+    rt: &R,
+    line: &str,
+    trace: &str,
+    most: usize,
+    failing: Failing,
+) -> Result<Ran, Fail> {
+    run_gated(rt, line, trace, most, failing, &OpenGate)
 }
 
 /// Whether a run ended with this status, output and note.
