@@ -1,5 +1,5 @@
 #!/usr/bin/env python3
-"""Times psi_oomd on a made trace against `wc -lw` on the same file, in one run.
+"""Times psi_oomd on a made trace against `wc -lw` on the same file, in one run, and `gen` and `stress` of as many events.
 
 usage: bench/measure.py [EVENTS [TASKS [CPUS [GROUPS [DEPTH]]]]]     (1000000, 16, 1, 0 and 1 if left out)
 
@@ -42,11 +42,18 @@ def main():
         events, tasks, cpus, groups, depth = numbers
         print(f"trace: {events} events, {tasks} tasks, {cpus} processors, {groups} groups in chains of {depth}, {size} bytes")
         count, _ = best(["wc", "-lw", trace.name])
-        print(f"wc -lw:  {count:.3f} s")
-        for command in COMMANDS:
-            seconds, memory = best([program, command, trace.name])
-            print(f"{command:<8} {seconds:.3f} s, {seconds / count:.2f} times wc -lw, {memory / 1e6:.0f} MB at most")
+        print(f"{'wc -lw':<18} {count:.3f} s")
+        shape = ["--seed", "1", "--cpus", cpus, "--groups", groups, "--events", events]
+        for name, words in [
+            ("check", ["check", trace.name]),
+            ("stall", ["stall", trace.name]),
+            ("replay", ["replay", trace.name]),
+            ("replay, one worker", ["replay", trace.name, "--workers", "1"]),
+            ("gen", ["gen", *shape]),
+            ("stress", ["stress", *shape]),
+        ]:
+            seconds, memory = best([program, *words])
+            print(f"{name:<18} {seconds:.3f} s, {seconds / count:.2f} times wc -lw, {memory / 1e6:.0f} MB at most")
 
 
-COMMANDS = ["check", "stall", "replay"]
 main()
