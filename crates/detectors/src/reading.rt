@@ -39,7 +39,8 @@ impl Reading {
     /// A reading of none of these groups, at 0, with room for all.
     pub fn make(alloc: Global, lives: &[GroupLife]) -> Result<Reading, NoMemory>
         requires { length lives.now ≤ 1024 }
-        ensures { IfOk result (λ reading. reading ≡ reading_of lives.now (seen_at 0 no_host [])) }
+        ensures { IfOk result (λ reading.
+            reading ≡ reading_of lives.now (seen_at 0 no_host [])) }
     {
         Ok(Reading {
             lives: copy_lives(alloc, lives)?,

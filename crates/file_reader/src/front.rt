@@ -44,7 +44,8 @@ fn read_behind<S: Shelf>(
         → IfOk result (λ n. ReadsBytes whole held n (drop held bytes.old) (drop held bytes.new)) }
     ensures cause { CausesFileFault (counts_of (S.faults shelf.old) (S.absent shelf.old))
         (counts_of (S.faults shelf.new) (S.absent shelf.new)) result }
-    ensures missed { IsErrOf result FileFault.NoFile → told (S.holds shelf.old) name.now ≡ None }
+    ensures missed { IsErrOf result FileFault.NoFile →
+        told (S.holds shelf.old) name.now ≡ None }
     ensures lacking { Lacks (S.holds shelf.old) name.now → TellsNothing result }
 {
     match shelf.read_at(name, held as u64, &mut bytes[held..]) {
@@ -64,7 +65,8 @@ fn fill<S: Shelf>(shelf: &mut S, name: &str, bytes: &mut [u8]) -> Result<usize, 
         IfOk result (λ n. take n bytes.new ≡ take (length bytes.new) whole) }
     ensures cause { CausesFileFault (counts_of (S.faults shelf.old) (S.absent shelf.old))
         (counts_of (S.faults shelf.new) (S.absent shelf.new)) result }
-    ensures missed { IsErrOf result FileFault.NoFile → told (S.holds shelf.old) name.now ≡ None }
+    ensures missed { IsErrOf result FileFault.NoFile →
+        told (S.holds shelf.old) name.now ≡ None }
     ensures lacking { Lacks (S.holds shelf.old) name.now → TellsNothing result }
 {
     let mut held = 0;
@@ -93,7 +95,8 @@ pub fn read_front<S: Shelf>(
     ensures short { IfOk result (λ bytes. length bytes.items ≤ most) }
     ensures cause { CausesFileFault (counts_of (S.faults shelf.old) (S.absent shelf.old))
         (counts_of (S.faults shelf.new) (S.absent shelf.new)) result }
-    ensures missed { IsErrOf result FileFault.NoFile → told (S.holds shelf.old) name.now ≡ None }
+    ensures missed { IsErrOf result FileFault.NoFile →
+        told (S.holds shelf.old) name.now ≡ None }
     ensures lacking { Lacks (S.holds shelf.old) name.now → TellsNothing result }
 {
     let mut bytes = vec![in alloc; 0; most]?;

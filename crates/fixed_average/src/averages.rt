@@ -53,7 +53,8 @@ fn samples_of(
     totals: &[u64; PRESSURE_STATES],
 ) -> [u64; PRESSURE_STATES]
     ensures value { result ≡ model.samples_of time sampled.now totals.now }
-    ensures fits { (k : ℕ) → k < 6 → slice_index sampled.now k + slice_index result k < 2 ^ 64 }
+    ensures fits { (k : ℕ) → k < 6 →
+        slice_index sampled.now k + slice_index result k < 2 ^ 64 }
 {
     let mut samples = [0u64; PRESSURE_STATES];
     'each: for i in 0..PRESSURE_STATES {
@@ -64,8 +65,10 @@ fn samples_of(
 
 /// Adds the samples to what was sampled before.
 fn add_samples(sampled: &mut [u64; PRESSURE_STATES], samples: &[u64; PRESSURE_STATES])
-    requires { (k : ℕ) → k < 6 → slice_index sampled.old k + slice_index samples.now k < 2 ^ 64 }
-    ensures { sampled.new ≡ zip_with (λ sampled sample. sampled + sample) sampled.old samples.now }
+    requires { (k : ℕ) → k < 6 →
+        slice_index sampled.old k + slice_index samples.now k < 2 ^ 64 }
+    ensures { sampled.new ≡
+        zip_with (λ sampled sample. sampled + sample) sampled.old samples.now }
 {
     'each: for i in 0..PRESSURE_STATES {
         sampled[i] += samples[i];

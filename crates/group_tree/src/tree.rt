@@ -144,7 +144,8 @@ impl Tree {
     /// The slot of the group above. None for the root alone.
     pub fn parent(&self, slot: Slot) -> Option<Slot>
         requires made { slot.0 < length self.now }
-        ensures parent { number_of_slot result ≡ slice_index_or (parents_of self.now) slot.0 None }
+        ensures parent { number_of_slot result ≡
+            slice_index_or (parents_of self.now) slot.0 None }
         ensures older { IfSome result (λ parent. parent.0 < slot.0) }
         ensures root { (result ≡ None) ↔ (slot.0 ≡ 0) }
     {
@@ -189,9 +190,11 @@ impl Tree {
     /// [`Tree::add_cause`], and nothing changes then, nor where there is no memory.
     pub fn add(&mut self, path: &Path, at: Ns) -> Result<Slot, Fault<Cause>>
         ensures legal { OnOk result (add_cause self.old path.now ≡ None) }
-        ensures groups { OnOk result (self.new ≡ self.old ++ new_group self.old path.now at ∷ []) }
+        ensures groups { OnOk result
+            (self.new ≡ self.old ++ new_group self.old path.now at ∷ []) }
         ensures slot { IfOk result (λ slot. slot.0 ≡ length self.old) }
-        ensures fault { MatchResult result (λ _. Unit {0}) (IsFault (add_cause self.old path.now)) }
+        ensures fault { MatchResult result (λ _. Unit {0})
+            (IsFault (add_cause self.old path.now)) }
         ensures err { OnErr result (self.new ≡ self.old) }
     {
         if let Some(cause) = self.add_cause(path) {

@@ -17,7 +17,8 @@ use Rattle.psi_spec.specs.World.{World, Limits, after, after_event, first_world,
 use Rattle.psi_spec.specs.Refusal.{AreLegal, cause_of}
 use Rattle.psi_spec.proofs.TaskLaws.{no_entries}
 use Rattle.psi_spec.proofs.RefusalLaws.{none_stands}
-use Rattle.psi_laws.specs.Touch.{before, after_of}
+use Rattle.psi_laws.specs.Touch.{after_of}
+use Rattle.psi_spec.specs.Changes.{before}
 use Rattle.psi_laws.proofs.CountLaws.{one}
 use Rattle.psi_laws.proofs.LegalLaws.{chosen_fewer, more_groups}
 use Rattle.psi_laws.proofs.MomentsEvents.{by_legal}

@@ -16,7 +16,8 @@ use Rattle.psi_spec.specs.Trace.{AllFit}
 use Rattle.psi_spec.specs.World.{World, Limits, after, after_event, after_from, first_world, tasks_after}
 use Rattle.psi_spec.specs.Refusal.{AreLegal, cause_of}
 use Rattle.psi_laws.specs.Legal.{with_change}
-use Rattle.psi_laws.specs.Touch.{AllTouched, IsTouch, after_of, before, change_of, change_on, told_first, told_of, touched}
+use Rattle.psi_laws.specs.Touch.{AllTouched, IsTouch, after_of, change_of, change_on, told_first, told_of}
+use Rattle.psi_spec.specs.Changes.{before, touched}
 use Rattle.psi_laws.proofs.PlanLaws.{after-push, changes_from-push}
 use Rattle.proc_plan.specs.declared.side.Side.{Side}
 use Rattle.group_tree.specs.Tree.{IsFault}

@@ -17,7 +17,8 @@ use Rattle.psi_spec.specs.Groups.{AreGroups, leads_to}
 use Rattle.psi_spec.specs.Stall.{number_of_slot, parents_of}
 use Rattle.psi_spec.specs.Trace.{AllFit, IsAccepted, IsCpuCount, last_moment}
 use Rattle.psi_laws.specs.Legal.{changes_from}
-use Rattle.psi_laws.specs.Plan.{IsAside, IsPlan, PlanView, change_at, changes_of, current_after, no_plan, plan_of}
+use Rattle.psi_laws.specs.Plan.{IsAside, IsPlan, PlanView, change_at, current_after, no_plan, plan_of}
+use Rattle.psi_spec.specs.Changes.{changes_of}
 use Rattle.group_tree.specs.Tree.{IsFault}
 use Rattle.slot_clocks.specs.Clocks.{numbers_of}
 use Rattle.slot_clocks.specs.Walk.{slot_in}

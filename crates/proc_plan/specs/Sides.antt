@@ -9,7 +9,8 @@ use Rattle.psi_spec.specs.declared.machine.Task.{Task}
 use Rattle.psi_spec.specs.declared.machine.GroupLife.{GroupLife}
 use Rattle.psi_spec.specs.World.{World, first_world}
 use Rattle.psi_spec.specs.Told.{slot_named, told_from}
-use Rattle.psi_laws.specs.Touch.{before, after_of}
+use Rattle.psi_laws.specs.Touch.{after_of}
+use Rattle.psi_spec.specs.Changes.{before}
 use Rattle.proc_plan.specs.declared.side.Side.{Side}
 use Rattle.proc_plan.specs.declared.side.SideAct.{SideAct}
 use Rattle.proc_plan.specs.declared.side.SideAct.TheVariants as side

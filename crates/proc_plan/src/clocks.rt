@@ -18,6 +18,11 @@ pub trait ProcClocks {
     /// How many of its changes were made.
     ghost made: { Self → ℕ };
 
+    /// What tells these clocks from others, so that what is shared with them is known again: no call changes it.
+    ghost Home: { Type 0 };
+
+    ghost home: { Self → Home };
+
     /// How many changes were made.
     fn count(&self) -> u64
         ensures { result ≡ made self.now };
@@ -26,7 +31,8 @@ pub trait ProcClocks {
     fn apply(&mut self)
         requires { made self.old < length (plan self.old).changes }
         ensures plan { plan self.new ≡ plan self.old }
-        ensures made { made self.new ≡ made self.old + 1 };
+        ensures made { made self.new ≡ made self.old + 1 }
+        ensures home { home self.new ≡ home self.old };
 
     /// The clock of a slot that the plan knows, after the changes that were made. It may have started earlier than the last of
     /// them, where they left the slot's states as they were.
@@ -34,6 +40,7 @@ pub trait ProcClocks {
         requires made { slot.0 < length (plan self.old).parents }
         ensures plan { plan self.new ≡ plan self.old }
         ensures made { made self.new ≡ made self.old }
+        ensures home { home self.new ≡ home self.old }
         ensures clock { IsClock result (plan self.old) slot.0 (made self.old) };
 }
 
@@ -80,6 +87,11 @@ impl<'a> ProcClocks for PlainClocks<'a> {
     ghost plan = { λ clocks. clocks.plan };
 
     ghost made = { λ clocks. clocks.made };
+
+    // Nothing is shared with them.
+    ghost Home = { Unit {0} };
+
+    ghost home = { λ _. tt };
 
     fn count(&self) -> u64 {
         self.count

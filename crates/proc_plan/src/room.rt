@@ -100,7 +100,8 @@ fn add_change(changes: &mut [Changes], touched: Option<(Cpu, Change)>)
     requires one { IfSome touched (λ touched. IsOfOne touched.1) }
     ensures each { length changes.new ≡ length changes.old }
     ensures added { AddsTold changes.old changes.new (λ cpu. told_first cpu touched None) }
-    ensures others { (cpu : ℕ) → told_first cpu touched None ≡ None → HasRoom changes.old cpu →
+    ensures others { (cpu : ℕ) → told_first cpu touched None ≡ None →
+        HasRoom changes.old cpu →
         HasRoom changes.new cpu }
 {
     let Some((cpu, change)) = touched else {

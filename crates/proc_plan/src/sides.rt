@@ -2,7 +2,7 @@
 
 ghost use Rattle.std.specs.Prelude.{◌≡◌, ◌++◌, IfSome};
 ghost use Rattle.psi_spec.specs.Grammar.{ActFits};
-ghost use Rattle.psi_laws.specs.Touch.{before};
+ghost use Rattle.psi_spec.specs.Changes.{before};
 ghost use Rattle.psi_spec.specs.Told.{listed, slot_named, trigger_by};
 ghost use Rattle.proc_plan.specs.Sides.{IsSmall, group_of, passage, sample_by, sides_by};
 

@@ -47,7 +47,8 @@ impl Shelf for HonestShelf {
     fn read_at(&mut self, name: &str, at: u64, into: &mut [u8]) -> Result<usize, ShelfFault>
         ensures kept { (self.new.files ≡ self.old.files) × (self.new.most ≡ self.old.most) }
         ensures bound { IfOk result (λ n. n ≤ length into.new) }
-        ensures bytes { (bytes : List ℕ) → told (Some self.old.files.items) name.now ≡ Some bytes
+        ensures bytes { (bytes : List ℕ) →
+            told (Some self.old.files.items) name.now ≡ Some bytes
             → IfOk result (λ n. ReadsBytes bytes at n into.old into.new) }
         ensures cause { HasCauses (counts_of 0 self.old.absent) (counts_of 0 self.new.absent)
             (IsErrOf result ShelfFault.Failed) (IsErrOf result ShelfFault.NoFile) }
@@ -88,7 +89,8 @@ pub struct HonestSink {
 impl HonestSink {
     /// An empty sink with this room in bytes, before its first call.
     pub fn new(alloc: Global, room: usize) -> Result<HonestSink, NoMemory>
-        ensures { IfOk result (λ s. (s.bytes.items ≡ []) × (s.room ≡ room) × (s.faults ≡ 0)) }
+        ensures { IfOk result (λ s. (s.bytes.items ≡ []) × (s.room ≡ room)
+            × (s.faults ≡ 0)) }
     {
         let bytes = Vec::with_capacity(alloc, room)?;
         Ok(HonestSink {

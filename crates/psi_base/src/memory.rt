@@ -115,7 +115,8 @@ impl Shelf for MemShelf {
         ensures kept { (self.new.files ≡ self.old.files) × (self.new.most ≡ self.old.most)
             × (self.new.fails ≡ self.old.fails) }
         ensures bound { IfOk result (λ n. n ≤ length into.new) }
-        ensures bytes { (bytes : List ℕ) → told (Some self.old.files.items) name.now ≡ Some bytes
+        ensures bytes { (bytes : List ℕ) →
+            told (Some self.old.files.items) name.now ≡ Some bytes
             → IfOk result (λ n. ReadsBytes bytes at n into.old into.new) }
         ensures cause { HasCauses (counts_of self.old.faults self.old.absent)
             (counts_of self.new.faults self.new.absent)
@@ -182,7 +183,8 @@ impl MemSink {
         fails: Vec<u64>,
     ) -> Result<MemSink, NoMemory>
         requires { 0 < most }
-        ensures { IfOk result (λ s. (s.bytes.items ≡ []) × (s.room ≡ room) × (s.most ≡ most)
+        ensures { IfOk result (λ s. (s.bytes.items ≡ []) × (s.room ≡ room)
+            × (s.most ≡ most)
             × (s.fails ≡ fails) × (s.calls ≡ 0) × (s.faults ≡ 0)) }
     {
         let bytes = Vec::with_capacity(alloc, room)?;

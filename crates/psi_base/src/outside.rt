@@ -44,7 +44,8 @@ pub trait Shelf {
         ensures cause { HasCauses (counts_of (faults self.old) (absent self.old))
             (counts_of (faults self.new) (absent self.new))
             (IsErrOf result ShelfFault.Failed) (IsErrOf result ShelfFault.NoFile) }
-        ensures missed { IsErrOf result ShelfFault.NoFile → told (holds self.old) name.now ≡ None }
+        ensures missed { IsErrOf result ShelfFault.NoFile →
+            told (holds self.old) name.now ≡ None }
         ensures lacking { Lacks (holds self.old) name.now → IsErrOf result ShelfFault.NoFile
             ⊎ IsErrOf result ShelfFault.Failed };
 }

@@ -20,7 +20,8 @@ use Rattle.psi_spec.specs.World.{World, Limits, Tasks, after, after_from, first_
 use Rattle.psi_spec.specs.Refusal.{cause_of, stands, order, AreLegal}
 use Rattle.psi_spec.specs.Stall.{is_under, is_in, parents_of, number_of_slot, tasks_in}
 use Rattle.psi_laws.specs.Counts.{counts_among, how_many}
-use Rattle.psi_laws.specs.Touch.{changed, left_if, AreWithin, Follows, change_of, change_on, no_counts, on_chain, part, touched, before, after_of}
+use Rattle.psi_laws.specs.Touch.{changed, left_if, AreWithin, Follows, change_of, change_on, no_counts, on_chain, part, after_of}
+use Rattle.psi_spec.specs.Changes.{touched, before}
 use Rattle.psi_spec.specs.Groups.{new_parents}
 use Rattle.psi_laws.specs.Legal.{IsLegalWorld, added, both_counts, changes_from, taken, with_change, CountsAreSums, LegalFirst, LegalKept, SameTasksLater, CountsAreFew}
 use Rattle.psi_laws.proofs.CountLaws.{one}

@@ -9,9 +9,10 @@ use Rattle.psi_base.specs.declared.event.Event.{Event}
 use Rattle.psi_laws.specs.declared.changes.Change.{Change}
 use Rattle.psi_spec.specs.World.{World, after, after_event, after_from, first_world, tasks_after}
 use Rattle.psi_spec.specs.Stall.{moment_of}
-use Rattle.psi_laws.specs.Touch.{before, after_of, touched, change_of, change_on}
+use Rattle.psi_laws.specs.Touch.{after_of, change_of, change_on}
+use Rattle.psi_spec.specs.Changes.{before, changes_of, event_of_change, is_change, touched, touches, until_change}
 use Rattle.psi_laws.specs.Legal.{changes_from, with_change}
-use Rattle.psi_laws.specs.Plan.{touches, is_change, changes_of, event_of_change, until_change, change_at, last_change, plan_of, ChangesAreNumbered, ChangesUntil}
+use Rattle.psi_laws.specs.Plan.{change_at, last_change, plan_of, ChangesAreNumbered, ChangesUntil}
 use Rattle.psi_spec.proofs.Accepting.{after_from-append}
 
 -- ---- lists from their ends

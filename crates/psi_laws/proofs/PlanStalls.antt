@@ -14,7 +14,8 @@ use Rattle.psi_spec.specs.World.{World, Limits, after, after_event, after_from, 
 use Rattle.psi_spec.specs.Refusal.{cause_of, stands, order, AreLegal}
 use Rattle.psi_spec.specs.Stall.{holds, holds_of, is_in, parents_of, stall}
 use Rattle.psi_laws.specs.Legal.{changes_from}
-use Rattle.psi_laws.specs.Plan.{AreInOrder, PlanView, changes_of, event_of_change, holds_after, last_change, plan_of, planned_after, planned_time, until_change, PlannedIsStall, StallByOwnChanges}
+use Rattle.psi_laws.specs.Plan.{AreInOrder, PlanView, holds_after, last_change, plan_of, planned_after, planned_time, PlannedIsStall, StallByOwnChanges}
+use Rattle.psi_spec.specs.Changes.{changes_of, event_of_change, until_change}
 use Rattle.psi_spec.proofs.Accepting.{after_from-append}
 use Rattle.psi_laws.proofs.PlanLaws.{after-push, as_many, by_last, changes_same, changes_grow, get-front, touched_or_not, until_is}
 use Rattle.psi_laws.proofs.PlanStates.{Prolongs, holds_by_front, legal_front, legal_last, prolongs_back, told_by, told_by_changes, until_legal, until_prolongs}

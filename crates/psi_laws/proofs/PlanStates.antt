@@ -16,7 +16,8 @@ use Rattle.psi_laws.specs.Counts.{IsRunningTold, tells}
 use Rattle.psi_spec.specs.Groups.{new_parents}
 use Rattle.psi_laws.specs.Touch.{AreAtMost, Follows, is_current_in, is_current_stalled, no_counts}
 use Rattle.psi_laws.specs.Legal.{IsLegalWorld, added, changes_from, taken}
-use Rattle.psi_laws.specs.Plan.{FitsPlan, event_of_change, plan_of, holds_after, less, Leaves, LeavesFew, until_change, PlanTellsStates}
+use Rattle.psi_laws.specs.Plan.{FitsPlan, plan_of, holds_after, less, Leaves, LeavesFew, PlanTellsStates}
+use Rattle.psi_spec.specs.Changes.{event_of_change, until_change}
 use Rattle.psi_spec.proofs.Accepting.{after_from-append}
 use Rattle.psi_spec.proofs.GroupLaws.{parents_kept}
 use Rattle.psi_laws.proofs.LegalLaws.{counts_are_few, counts_are_sums, legal_first, legal_kept, same_tasks_later}

@@ -11,7 +11,8 @@ use Rattle.psi_spec.specs.Stall.{parents_of, stall}
 use Rattle.psi_laws.specs.Touch.{change_of}
 use Rattle.psi_laws.specs.Legal.{changes_from, with_change}
 use Rattle.psi_spec.specs.World.{up_to}
-use Rattle.psi_laws.specs.Plan.{changes_of, count_at, event_of_change, touches, until_change, CountsByPlan, StallUpTo, StatesStay}
+use Rattle.psi_laws.specs.Plan.{CountsByPlan, StallUpTo, StatesStay}
+use Rattle.psi_spec.specs.Changes.{changes_of, count_at, event_of_change, touches, until_change}
 use Rattle.psi_laws.proofs.PlanLaws.{as_many, by_last, changes_same, changes_of-push, get-front, touched_or_not, until_is}
 use Rattle.psi_laws.proofs.PlanStates.{legal_front}
 use Rattle.psi_laws.proofs.PlanStalls.{held_on, in_turn, stall_by_own_changes, until_earlier}

@@ -11,7 +11,8 @@ use Rattle.psi_spec.specs.Groups.{AreOlder, HaveParents}
 use Rattle.psi_spec.specs.Trace.{last_moment}
 use Rattle.psi_laws.specs.Touch.{HasSlotsBelow, IsOfOne}
 use Rattle.psi_laws.specs.Legal.{added, changes_from, taken}
-use Rattle.psi_laws.specs.Plan.{EmptyIsPlan, FitsPlan, LeavesFew, no_plan, last_change, PlanIsWhole, until_change}
+use Rattle.psi_laws.specs.Plan.{EmptyIsPlan, FitsPlan, LeavesFew, no_plan, last_change, PlanIsWhole}
+use Rattle.psi_spec.specs.Changes.{until_change}
 use Rattle.psi_laws.proofs.LegalLaws.{parent_each, more_groups}
 use Rattle.psi_laws.proofs.PlanLaws.{after-push, as_many, by_last, changes_same, changes_grow, touched_or_not, until_is}
 use Rattle.psi_laws.proofs.PlanStalls.{plan_is_in_order}

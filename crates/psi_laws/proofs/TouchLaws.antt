@@ -1,6 +1,6 @@
 -- What a legal event does to counts of tasks, on the processors that it touches and on the others.
-use Rattle.std.proofs.Common.{◌≡◌, ℕ, zero, suc, ◌+◌, ◌≤◌, List, [], ◌∷◌, refl, ap, ◌∙◌, sym, subst, Bool, true, false, arith, cond, Option, None, Some, nat_lt, ◌==◌, ⊎_elim}
-use Rattle.std.specs.Prelude.{map, find, ◌&&◌, ◌||◌, not, if◌then◌else◌, is_some, slice_get}
+use Rattle.std.proofs.Common.{◌≡◌, ℕ, ◌+◌, ◌≤◌, List, [], ◌∷◌, refl, ap, ◌∙◌, sym, Bool, true, false, arith, cond, Option, None, Some, nat_lt, ◌==◌, ⊎_elim}
+use Rattle.std.specs.Prelude.{map, find, ◌&&◌, ◌||◌, if◌then◌else◌}
 use Rattle.std.specs.List.{list_any}
 use Rattle.std.specs.FinMap as fin
 use Rattle.std.proofs.lemmas.Bool.Decides.{nat_tests, eqb_tells}
@@ -10,18 +10,17 @@ use Rattle.psi_base.specs.declared.event.Pid.{Pid}
 use Rattle.psi_base.specs.declared.event.Act.{Act}
 use Rattle.psi_base.specs.declared.event.Act.TheVariants as act
 use Rattle.psi_base.specs.declared.event.Event.{Event}
-use Rattle.psi_base.specs.declared.event.Cause.{Cause}
-use Rattle.psi_base.specs.declared.event.Cause.TheVariants as cause
 use Rattle.psi_spec.specs.declared.machine.Task.{Task}
 use Rattle.psi_laws.specs.declared.changes.Change.{Change}
 use Rattle.psi_laws.specs.declared.changes.Counts.{Counts}
 use Rattle.psi_spec.specs.declared.machine.Mode.{Mode}
 use Rattle.psi_spec.specs.declared.machine.Mode.TheVariants.{Blocked, Waiting, Ready, Running}
 use Rattle.psi_spec.specs.World.{World, Limits, Tasks, task_of, test_task, task_part, change_to, leave, left_by, start, running_on, is_running_on, is_ready_on, is_running, is_ready, is_waiting, is_active, tasks_after, after_event, new_task, readied}
-use Rattle.psi_spec.specs.Refusal.{cause_of, stands, order, is_wrong, isnt_ready}
+use Rattle.psi_spec.specs.Refusal.{cause_of, is_wrong, isnt_ready}
 use Rattle.psi_spec.specs.Stall.{is_under, is_in, tasks_in, waits, stalls, is_up, runs}
 use Rattle.psi_laws.specs.Counts.{how_many, counts_among, is_up_stalled, runs_stalled}
-use Rattle.psi_laws.specs.Touch.{changed, before, after_of, is_at, touched, part, shown, change_on, change_of, no_counts, on_chain, RunsOnce, is_current_in, is_current_stalled, CountsFollow, RunsOnceFirst, RunsOnceKept, CurrentTells, StaysUntouched}
+use Rattle.psi_laws.specs.Touch.{changed, after_of, part, shown, change_on, change_of, no_counts, on_chain, RunsOnce, is_current_in, is_current_stalled, CountsFollow, RunsOnceFirst, RunsOnceKept, CurrentTells, StaysUntouched}
+use Rattle.psi_spec.specs.Changes.{before, is_at, touched}
 use Rattle.psi_laws.proofs.CountLaws.{one, how_many-cons, any_counted}
 use Rattle.psi_spec.proofs.RefusalLaws.{first_true, is_none, none_stands, not_false, second_true}
 use Rattle.psi_spec.proofs.TaskLaws.{no_entries, task_placed}

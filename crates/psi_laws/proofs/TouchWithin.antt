@@ -22,7 +22,8 @@ use Rattle.psi_spec.specs.World.{World, Limits, Tasks, task_of, test_task, task_
 use Rattle.psi_spec.specs.Refusal.{cause_of, named_cpu}
 use Rattle.psi_spec.specs.Stall.{tasks_in, waits, stalls, is_up}
 use Rattle.psi_laws.specs.Counts.{how_many, counts_among, is_up_stalled, IsRunningTold}
-use Rattle.psi_laws.specs.Touch.{changed, left_if, before, after_of, is_at, touched, part, shown, change_on, change_of, told_first, IsBeside, IsTouch, AllTouched, HasSlotsBelow, AreAtMost, IsOfOne, AreWithin, WithinFirst, WithinKept, ChangesAreWithin, on_chain, Follows, is_current_in, is_current_stalled, ChangeTells, TouchesItsOwn}
+use Rattle.psi_laws.specs.Touch.{changed, left_if, after_of, part, shown, change_on, change_of, told_first, IsBeside, IsTouch, AllTouched, HasSlotsBelow, AreAtMost, IsOfOne, AreWithin, WithinFirst, WithinKept, ChangesAreWithin, on_chain, Follows, is_current_in, is_current_stalled, ChangeTells, TouchesItsOwn}
+use Rattle.psi_spec.specs.Changes.{before, is_at, touched}
 use Rattle.psi_laws.proofs.CountLaws.{one, how_many-cons}
 use Rattle.psi_spec.proofs.TaskLaws.{itself, task_placed}
 use Rattle.psi_laws.proofs.TouchCounts.{running_found}

@@ -14,35 +14,11 @@ use Rattle.psi_spec.specs.Groups.{AreOlder, HaveParents}
 use Rattle.psi_spec.specs.Stall.{is_under, parents_of, holds, stall, moment_of, states}
 use Rattle.psi_laws.specs.Counts.{tells, mask_holds}
 use Rattle.psi_laws.specs.Clock.{ClockView, ClockFollows, IsInTime, IsWholeClock, zero_clock, opened_time}
-use Rattle.psi_laws.specs.Touch.{AreAtMost, Follows, HasSlotsBelow, IsOfOne, before, touched, change_of, is_current_in, is_current_stalled, on_chain}
+use Rattle.psi_laws.specs.Touch.{AreAtMost, Follows, HasSlotsBelow, IsOfOne, change_of, is_current_in, is_current_stalled, on_chain}
+use Rattle.psi_spec.specs.Changes.{changes_of, count_at, times_after, touches, until_change}
 use Rattle.psi_laws.specs.Legal.{changes_from, added, taken}
 
--- ---- which events change a processor
-
--- an event, if there is one, touches a processor in a world
-abbrev pub touches : World → Option Event → ℕ → Bool
-touches w None cpu = false
-touches w (Some event) cpu = touched event.act (before w.tasks event.act) cpu
-
--- the event with a number from 1 changes a processor: it touches it in the world after the events before it
-abbrev pub is_change : ℕ → List Event → ℕ → Bool
-is_change cpu events i = touches (after (take (i - 1) events)) (slice_get events (i - 1)) cpu
-
--- the numbers of the events that change a processor
-unfoldable pub changes_of : ℕ → List Event → List ℕ
-changes_of cpu events = filter (is_change cpu events) (range_with_len 1 (length events))
-
--- the number of the event that is a processor's change with a number from 1, and 0 before its first
-abbrev pub event_of_change : ℕ → List Event → ℕ → ℕ
-event_of_change cpu events k = slice_index_or (0 ∷ changes_of cpu events) k 0
-
--- the events up to a processor's change with a number from 1, and none for 0; meant for numbers of changes that there are
-abbrev pub until_change : ℕ → List Event → ℕ → List Event
-until_change cpu events k = take (event_of_change cpu events k) events
-
--- how many changes of a processor come up to a moment (ns)
-abbrev pub count_at : ℕ → List Event → ℕ → ℕ
-count_at cpu events at = length (changes_of cpu (up_to events at))
+-- ---- what events change on a processor
 
 -- what an event, if there is one, changes on a processor in a world
 abbrev pub change_by : ℕ → World → Option Event → Option Change
@@ -284,3 +260,9 @@ abbrev pub PlannedUntil : Type 0
 PlannedUntil = (limits : Limits) (events : List Event) → AreLegal limits first_world events → (cpu slot at : ℕ) →
     planned (plan_of cpu events) slot (changes_up_to (plan_of cpu events) at) at
     ≡ map (λ state. stall state cpu slot (up_to events at) at) states
+
+-- The planned times after some changes are those of the processor after them.
+abbrev pub PlannedAfter : Type 0
+PlannedAfter = (limits : Limits) (events : List Event) → AreLegal limits first_world events → (cpu slot k at : ℕ) →
+    k ≤ length (changes_of cpu events) → last_change (plan_of cpu events) k ≤ at →
+    planned (plan_of cpu events) slot k at ≡ times_after cpu slot events k at

@@ -1,5 +1,5 @@
 -- What an event changes on the processors that it touches, and how counts of tasks follow such changes.
-use Rattle.std.specs.Prelude.{◌≡◌, ◌≢◌, ℕ, ◌+◌, ◌≤◌, ◌<◌, List, [], ◌∷◌, length, ◌==◌, ◌||◌, Bool, true, false, if◌then◌else◌, unwrap_or, Option, None, Some, IfSome}
+use Rattle.std.specs.Prelude.{◌≡◌, ◌≢◌, ℕ, ◌+◌, ◌≤◌, ◌<◌, List, [], ◌∷◌, length, ◌==◌, Bool, true, false, if◌then◌else◌, unwrap_or, Option, None, Some, IfSome}
 use Rattle.std.specs.FinMap as tasks_by
 use Rattle.psi_base.specs.declared.event.Cpu.{Cpu}
 use Rattle.psi_base.specs.declared.event.Slot.{Slot}
@@ -15,6 +15,7 @@ use Rattle.psi_spec.specs.declared.machine.GroupLife.{GroupLife}
 use Rattle.psi_spec.specs.World.{World, Limits, Tasks, no_tasks, task_of, test_task, task_part, running_on, is_running_on, new_task, readied, left_by, slot_of, tasks_after, after_event}
 use Rattle.psi_spec.specs.Refusal.{cause_of, named_cpu}
 use Rattle.psi_spec.specs.Stall.{is_under, tasks_in}
+use Rattle.psi_spec.specs.Changes.{before, is_at, touched}
 use Rattle.psi_laws.specs.Counts.{how_many, counts_among, IsRunningTold}
 
 -- ---- the task whose counts an act changes
@@ -29,25 +30,7 @@ abbrev pub left_if : How → Option Task → Option Task
 left_if how None = None
 left_if how (Some task) = left_by how task
 
--- The one task whose counts an act changes, before it. The task that a switch puts on a processor is ready before and
--- runs after, and counts the same; so it is the task that leaves whose counts change.
-abbrev pub before : Tasks → Act → Option Task
-before tasks (act.Group path) = None
-before tasks (act.Remove path) = None
-before tasks (act.Prefer path preference) = None
-before tasks (act.Fork pid path cpu) = None
-before tasks (act.Wake pid cpu) = task_of tasks pid.0
-before tasks (act.Switch cpu next how) = task_part (running_on tasks cpu.0)
-before tasks (act.Stall pid) = task_of tasks pid.0
-before tasks (act.Unstall pid) = task_of tasks pid.0
-before tasks (act.Migrate pid cpu) = task_of tasks pid.0
-before tasks (act.Move pid path) = task_of tasks pid.0
-before tasks (act.Mem path current swap scan) = None
-before tasks (act.Host mem_total swap_total swap_free) = None
-before tasks (act.Trigger path res level threshold_us window_us) = None
-before tasks act.End = None
-
--- the same task after the act
+-- the task whose counts an act changes, after it
 abbrev pub after_of : List GroupLife → Tasks → Act → Option Task
 after_of groups tasks (act.Group path) = None
 after_of groups tasks (act.Remove path) = None
@@ -63,30 +46,6 @@ after_of groups tasks (act.Mem path current swap scan) = None
 after_of groups tasks (act.Host mem_total swap_total swap_free) = None
 after_of groups tasks (act.Trigger path res level threshold_us window_us) = None
 after_of groups tasks act.End = None
-
--- ---- the processors that an act touches
-
--- the task is on a processor, asleep or not
-abbrev pub is_at : ℕ → Task → Bool
-is_at cpu task = task.cpu.0 == cpu
-
--- An act touches a processor, by the task that it changes as it is before: the processor that a fork or a switch names,
--- the one that a task comes to and the one that it was on at a wake or a migration, and the task's at other acts on it.
-abbrev pub touched : Act → Option Task → ℕ → Bool
-touched (act.Group path) old cpu = false
-touched (act.Remove path) old cpu = false
-touched (act.Prefer path preference) old cpu = false
-touched (act.Fork pid path named) old cpu = named.0 == cpu
-touched (act.Wake pid named) old cpu = named.0 == cpu || test_task old (is_at cpu)
-touched (act.Switch named next how) old cpu = named.0 == cpu
-touched (act.Stall pid) old cpu = test_task old (is_at cpu)
-touched (act.Unstall pid) old cpu = test_task old (is_at cpu)
-touched (act.Migrate pid named) old cpu = named.0 == cpu || test_task old (is_at cpu)
-touched (act.Move pid path) old cpu = test_task old (is_at cpu)
-touched (act.Mem path current swap scan) old cpu = false
-touched (act.Host mem_total swap_total swap_free) old cpu = false
-touched (act.Trigger path res level threshold_us window_us) old cpu = false
-touched act.End old cpu = false
 
 -- ---- changes
 

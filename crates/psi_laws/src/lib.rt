@@ -18,8 +18,8 @@ pub use clocks::{clock_times, clock_words, masks, same_clocks, states_by_counts}
 pub use legal::{legal_counts, legal_worlds};
 pub use moments::{law_growth, law_lives, law_path_order, law_triggers};
 pub use plans::{
-    law_planned_until, numbered_changes, own_changes, plan_clocks, plan_states, plan_steps,
-    planned_times, whole_plans,
+    law_planned_after, law_planned_until, numbered_changes, own_changes, plan_clocks, plan_states,
+    plan_steps, planned_times, whole_plans,
 };
 pub use touches::{
     change_tells, changes_are_within, counts_follow, current_tells, runs_once, touched, within,

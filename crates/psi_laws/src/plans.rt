@@ -1,6 +1,6 @@
 //! Laws of plans: the changes of one processor, and the clocks that run on them alone. Each function has an empty body: its
 //! contract is the law.
-ghost use Rattle.psi_laws.specs.Plan.{AsideStays, ChangesAreNumbered, ChangesUntil, ClockIsInTime, CountsByChange, CountsByPlan, CurrentByChange, EmptyIsPlan, FollowedIsClock, KeptIsClock, PlaceOfMoment, PlanCountsAreFew, PlanIsWhole, PlanTellsStates, PlannedByChange, PlannedIsStall, PlannedUntil, StallByOwnChanges, StallUpTo, StatesStay, ZeroIsClock};
+ghost use Rattle.psi_laws.specs.Plan.{AsideStays, ChangesAreNumbered, ChangesUntil, ClockIsInTime, CountsByChange, CountsByPlan, CurrentByChange, EmptyIsPlan, FollowedIsClock, KeptIsClock, PlaceOfMoment, PlanCountsAreFew, PlanIsWhole, PlanTellsStates, PlannedAfter, PlannedByChange, PlannedIsStall, PlannedUntil, StallByOwnChanges, StallUpTo, StatesStay, ZeroIsClock};
 
 /// A processor's changes are what the events change that touch it, in their order and at their moments. The events up to
 /// the k-th of these have the first k changes, and end with the k-th.
@@ -60,4 +60,9 @@ pub fn plan_clocks()
 /// The planned times by the changes up to a moment are the stall times of the events up to it.
 pub fn law_planned_until()
     ensures { PlannedUntil }
+{}
+
+/// The planned times after some changes are those of the events up to the last of them.
+pub fn law_planned_after()
+    ensures { PlannedAfter }
 {}

@@ -44,7 +44,8 @@ fn read_behind<S: Shelf>(
         → IfOk result (λ n. ReadsBytes all at n (drop held bytes.old) (drop held bytes.new)) }
     ensures cause { CausesFault (counts_of (S.faults shelf.old) (S.absent shelf.old))
         (counts_of (S.faults shelf.new) (S.absent shelf.new)) result }
-    ensures missed { IsErrOf result LineFault.NoFile → told (S.holds shelf.old) name.now ≡ None }
+    ensures missed { IsErrOf result LineFault.NoFile →
+        told (S.holds shelf.old) name.now ≡ None }
     ensures lacking { Lacks (S.holds shelf.old) name.now → IsErrOf result LineFault.NoFile
         ⊎ IsErrOf result LineFault.ReadFault }
     ensures faults { IsReadFault result }
@@ -106,7 +107,8 @@ impl Buffer {
     pub(crate) fn take_line(&mut self, count: usize) -> &[u8]
         requires { count < length self.old }
         ensures bytes { result.now ≡ take count self.old }
-        ensures* rest { sem 𝓛 (Rests the_row self.entry (λ new. new ≡ drop (count + 1) self.old)) }
+        ensures* rest { sem 𝓛 (Rests the_row self.entry (λ new.
+            new ≡ drop (count + 1) self.old)) }
     {
         let start = self.start;
         self.start += count + 1;

@@ -112,7 +112,8 @@ fn find_line<S: Shelf>(
         → EndsAt bytes at.new result }
     ensures cause { CausesFault (counts_of (S.faults shelf.old) (S.absent shelf.old))
         (counts_of (S.faults shelf.new) (S.absent shelf.new)) result }
-    ensures missed { IsErrOf result LineFault.NoFile → told (S.holds shelf.old) name.now ≡ None }
+    ensures missed { IsErrOf result LineFault.NoFile →
+        told (S.holds shelf.old) name.now ≡ None }
     ensures missing { held.old ≡ [] → Lacks (S.holds shelf.old) name.now → (held.new ≡ [])
         × (at.new ≡ at.old) × IsMissing result }
 {
@@ -145,7 +146,8 @@ impl Lines {
 
     /// A reader at the first byte of the name, before line 1. Nothing is read yet.
     pub fn new(alloc: Global, name: &str) -> Result<Lines, NoMemory>
-        ensures { IfOk result (λ l. l ≡ record { name = name.now; number = 1; held = []; at = 0 }) }
+        ensures { IfOk result (λ l.
+            l ≡ record { name = name.now; number = 1; held = []; at = 0 }) }
     {
         Ok(Lines {
             alloc,

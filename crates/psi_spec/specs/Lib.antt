@@ -4,5 +4,6 @@ pub mod World
 pub mod Refusal
 pub mod Groups
 pub mod Stall
+pub mod Changes
 pub mod Trace
 pub mod Told

@@ -3,7 +3,7 @@
 //!
 //! In `specs/`, in the order of reading: `Fields` and `Grammar` (which bytes spell an event), `World` (tasks and groups, and
 //! what an event does to them), `Refusal` (which events are legal, and the first cause against others), `Groups`, `Stall`
-//! (when a group is in a state, and for how long), `Trace` (which bytes are a trace).
+//! (when a group is in a state, and for how long), `Changes` (which events change a processor), `Trace` (which bytes are a trace).
 #![tactic(auto)]
 
 mod grammar;

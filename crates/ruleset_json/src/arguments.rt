@@ -29,7 +29,8 @@ pub const LONGEST_S: u32 = 1_000_000;
 
 // The text that an argument is taken as: its own, or the spelling of a whole number or a truth.
 fn text_in(alloc: Global, value: &Value) -> Result<Option<String>, NoMemory>
-    ensures { IfOk result (λ text. option_map string_bytes text ≡ argument_text (view value.now)) }
+    ensures { IfOk result (λ text.
+        option_map string_bytes text ≡ argument_text (view value.now)) }
 {
     if let Some(text) = value.as_str() {
         return Ok(Some(String::from_str(alloc, text)?));

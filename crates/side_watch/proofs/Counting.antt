@@ -19,7 +19,8 @@ use Rattle.psi_spec.specs.Told.{slot_named}
 use Rattle.psi_spec.proofs.GroupLaws.{climbs_kept}
 use Rattle.psi_spec.proofs.TaskLaws.{found, no_entries}
 use Rattle.psi_laws.specs.Legal.{IsLegalWorld}
-use Rattle.psi_laws.specs.Touch.{AreWithin, before, after_of}
+use Rattle.psi_laws.specs.Touch.{AreWithin, after_of}
+use Rattle.psi_spec.specs.Changes.{before}
 use Rattle.psi_laws.proofs.CountLaws.{one}
 use Rattle.psi_laws.proofs.LegalLaws.{chosen_fewer}
 use Rattle.psi_laws.proofs.MomentsEvents.{by_legal}

@@ -15,7 +15,8 @@ use Rattle.psi_spec.specs.declared.machine.Task.{Task}
 use Rattle.psi_spec.specs.World.{World, after, after_event, first_world}
 use Rattle.psi_spec.specs.Stall.{is_under, parents_of}
 use Rattle.psi_spec.specs.Told.{told_from}
-use Rattle.psi_laws.specs.Touch.{before, after_of}
+use Rattle.psi_laws.specs.Touch.{after_of}
+use Rattle.psi_spec.specs.Changes.{before}
 use Rattle.psi_laws.proofs.CountLaws.{any_counted}
 use Rattle.kill_spec.specs.declared.reading.HostReading.{HostReading}
 use Rattle.kill_spec.specs.Readings.{no_host}

@@ -86,7 +86,8 @@ impl SlotClocks {
     /// change on.
     pub fn clock(&self, slot: Slot) -> Clock
         ensures value { result ≡ (cell_at self.now slot.0).clock }
-        ensures in_time { (at : ℕ) → self.now.last ≤ at → at ≤ last_moment → IsInTime result at }
+        ensures in_time { (at : ℕ) → self.now.last ≤ at → at ≤ last_moment →
+            IsInTime result at }
     {
         match self.cells.get(slot.0 as usize) {
             Some(cell) => cell.clock,

@@ -13,7 +13,8 @@ use Rattle.task_table.specs.declared.changed.Changed.{Changed}
 use Rattle.task_table.specs.Named.{IsChanged, change_for}
 use Rattle.task_table.specs.Stands.{IsIndex, table_of}
 use Rattle.psi_spec.specs.Refusal.{cause_of}
-use Rattle.psi_laws.specs.Touch.{touched, change_of, told_of, IsBeside, IsTouch, AllTouched, HasSlotsBelow, IsOfOne, AreWithin}
+use Rattle.psi_laws.specs.Touch.{change_of, told_of, IsBeside, IsTouch, AllTouched, HasSlotsBelow, IsOfOne, AreWithin}
+use Rattle.psi_spec.specs.Changes.{touched}
 use Rattle.psi_laws.proofs.TouchWithin.{changes_are_within, all_touched}
 
 -- a touch that is read off the task that an event changes, and off the tasks that run after it

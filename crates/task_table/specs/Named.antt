@@ -7,7 +7,8 @@ use Rattle.psi_laws.specs.declared.changes.Change.{Change}
 use Rattle.psi_spec.specs.declared.machine.GroupLife.{GroupLife}
 use Rattle.psi_spec.specs.declared.machine.Task.{Task}
 use Rattle.psi_spec.specs.World.{Tasks, is_running_on, task_of}
-use Rattle.psi_laws.specs.Touch.{after_of, before, part, shown}
+use Rattle.psi_laws.specs.Touch.{after_of, part, shown}
+use Rattle.psi_spec.specs.Changes.{before}
 use Rattle.task_table.specs.declared.changed.Changed.{Changed}
 
 -- the task that runs next, if one is named and lives

@@ -230,7 +230,8 @@ fn replace(
     requires few { tasks_by.len tasks.old ≤ 65536 }
     requires old { old ≡ task_of tasks.old pid }
     requires new { MayReplaceIf (length members.old) old new }
-    ensures tasks { (f : Task → Task) → new ≡ changed f old → tasks.new ≡ change tasks.old pid f }
+    ensures tasks { (f : Task → Task) → new ≡ changed f old →
+        tasks.new ≡ change tasks.old pid f }
     ensures index { IsIndex running.new tasks.new }
     ensures members { AreMembers members.new tasks.new }
     ensures cover { length members.new ≡ length members.old }

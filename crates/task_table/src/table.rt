@@ -1,7 +1,8 @@
 //! The table of tasks.
 ghost use Rattle.std.specs.Prelude.{◌≡◌, ◌<◌, ◌≤◌, IfNone, IfOk, OnErr, OnOk, MatchResult, None, length};
 ghost use Rattle.psi_spec.specs.World.{after_event, first_world, running_on, task_of, task_part};
-ghost use Rattle.psi_laws.specs.Touch.{AllTouched, HasSlotsBelow, IsOfOne, IsTouch, before};
+ghost use Rattle.psi_laws.specs.Touch.{AllTouched, HasSlotsBelow, IsOfOne, IsTouch};
+ghost use Rattle.psi_spec.specs.Changes.{before};
 ghost use Rattle.psi_spec.specs.Refusal.{cause_of};
 ghost use Rattle.psi_laws.specs.Legal.{IsLegalWorld};
 ghost use Rattle.task_table.specs.Causes.{IsFault};

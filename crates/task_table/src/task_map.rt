@@ -127,7 +127,8 @@ fn put(
     pid: u32,
     task: Task,
 ) -> Result<Option<Task>, NoMemory>
-    ensures old { IfOk result (λ old. old ≡ task_of (tasks_in listed.old others.old.entries) pid) }
+    ensures old { IfOk result (λ old.
+        old ≡ task_of (tasks_in listed.old others.old.entries) pid) }
     ensures ok { OnOk result
         (tasks_in listed.new others.new.entries
         ≡ put (tasks_in listed.old others.old.entries) pid task) }

@@ -2,7 +2,8 @@
 //! ones: no walk over the tasks.
 ghost use Rattle.std.specs.Prelude.{◌≡◌, ℕ, if◌then◌else◌, Some, None, [], ◌∷◌, slice_index_or};
 ghost use Rattle.psi_laws.specs.Counts.{counts_among};
-ghost use Rattle.psi_laws.specs.Touch.{touched, part, shown, told_of, IsBeside};
+ghost use Rattle.psi_laws.specs.Touch.{part, shown, told_of, IsBeside};
+ghost use Rattle.psi_spec.specs.Changes.{touched};
 ghost use Rattle.task_table.specs.Named.{change_for};
 
 use crate::changed::Changed;

@@ -132,7 +132,8 @@ pub(crate) fn step_all(watches: &mut [Watch], groups: &[Group], now: Ns, fired: 
     requires totals { All (λ group. AreTotalsWithin last_moment group) groups.now }
     requires early { now ≤ last_moment }
     ensures watches { watches.new ≡ map (watch_stepped groups.now now) watches.old }
-    ensures fired { fired.new.items ≡ fired_among groups.now now watches.old (length watches.old) }
+    ensures fired { fired.new.items ≡ fired_among groups.now now watches.old
+        (length watches.old) }
     ensures room { vec_capacity fired.old ≤ vec_capacity fired.new }
 {
     fired.clear();

@@ -71,7 +71,8 @@ fn leads(next: &Grown, best: &Grown) -> bool
 
 // There is no group before, or the next one leads it.
 fn leads_any(next: &Grown, best: Option<Grown>) -> bool
-    ensures { MatchOption best (result ≡ true) (λ before. result ≡ leads_grown next.now before) }
+    ensures { MatchOption best (result ≡ true) (λ before.
+        result ≡ leads_grown next.now before) }
 {
     match best {
         Some(best) => leads(next, &best),

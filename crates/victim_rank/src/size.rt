@@ -87,7 +87,8 @@ pub(crate) fn is_among_largest(
     requires lives { reading.now.lives ≡ scope.now.lives }
     requires few { 0 < few }
     requires slot { group.now.slot.0 < length scope.now.lives }
-    ensures { result ≡ nat_lt (length (filter (λ other. is_larger scope.now.lives other group.now)
+    ensures { result ≡ nat_lt (length (filter (λ other.
+        is_larger scope.now.lives other group.now)
         (filter (is_in_rank scope.now best_rank) reading.now.seen.groups))) few }
 {
     let mut larger: u128 = 0;
