@@ -1,8 +1,9 @@
 //! A reader of a row.
-ghost use Rattle.std.specs.Prelude.{◌≡◌, ◌<◌, ◌≤◌, length, IfErr, IfOk};
+ghost use Rattle.std.specs.Prelude.{◌≡◌, ◌<◌, ◌≤◌, ◌∷◌, [], length, IfErr, IfOk};
 ghost use Rattle.std.specs.Arc.{arc_value};
 ghost use Rattle.psi_laws.specs.Plan.{IsClock};
 ghost use Rattle.clock_row.specs.Ends.{AllAreClocks, IsBusy, sampled};
+ghost use Rattle.clock_row.specs.Tries.{IsTried};
 
 use crate::steps::{begin_try, end_try};
 use crate::view::{Board, RowSeat};
@@ -51,6 +52,9 @@ pub struct Busy {
     pub second: u64,
 }
 
+/// How often a sample is tried before the last one stands for it again.
+const TRIES: u64 = 8;
+
 impl ClockReader {
     /// The greatest number of changes that it has seen in the row.
     pub fn seen(&self) -> u64
@@ -90,6 +94,28 @@ impl ClockReader {
             count: self.seen,
             clock: Clock::from_words(words),
         })
+    }
+
+    /// The clock of a slot, after at least as many changes as the last sample of it: the first that a try gives, or the last
+    /// sample again, where eight tries met a change. Takes no memory, and ends after eight tries.
+    pub fn sample_or(&mut self, slot: Slot, last: &Sample) -> Sample
+        requires slot { slot.0 < length self.old.knows.plan.parents }
+        requires last { IsClock last.now.clock self.old.knows.plan slot.0 last.now.count }
+        requires seen { last.now.count ≡ self.old.knows.seen }
+        ensures row { self.new.row ≡ self.old.row }
+        ensures plan { self.new.knows.plan ≡ self.old.knows.plan }
+        ensures clock { IsClock result.clock self.old.knows.plan slot.0 result.count }
+        ensures later { last.now.count ≤ result.count }
+        ensures seen { self.new.knows.seen ≡ result.count }
+        ensures tried { IsTried (result.count ∷ []) last.now.count
+            self.old.knows self.new.knows }
+    {
+        'tries: for tries in 0..TRIES {
+            if let Ok(sample) = self.try_sample(slot) {
+                return sample;
+            }
+        }
+        *last
     }
 
     /// Tries to take the clocks of all slots at one number of changes, which it answers. There must be a place for each slot;

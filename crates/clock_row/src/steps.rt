@@ -185,7 +185,8 @@ pub(crate) fn tell_note(board: &Board, seat: &mut RowSeat, note: RowSeat)
     requires note { IsNote note }
     requires writer { IsWriter seat.old }
     ensures seat { IsSameSeat seat.old seat.new }
-    ensures view { seat.new.me.0 ≡ Writer (told_of (number_noted note.me.0) (writer_on seat.old)) }
+    ensures view { seat.new.me.0 ≡
+        Writer (told_of (number_noted note.me.0) (writer_on seat.old)) }
 {
     board.shared.join_seat::<TakenNote>(seat, note);
 }

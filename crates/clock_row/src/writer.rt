@@ -1,5 +1,6 @@
 //! The writer of a row.
 ghost use Rattle.std.specs.Prelude.{◌≡◌, ◌+◌, ◌*◌, ◌<◌, ◌≤◌, length, replicate, IfOk, Ok};
+ghost use Rattle.atomic_table.specs.Seated.{TableId};
 ghost use Rattle.psi_laws.specs.Clock.{words_of};
 ghost use Rattle.psi_laws.specs.Plan.{IsClock, IsPlan};
 ghost use Rattle.clock_row.specs.Row.{writer_at_start};
@@ -78,6 +79,10 @@ impl<'a> ProcClocks for ClockWriter<'a> {
     ghost plan = { λ writer. writer.knows.plan };
 
     ghost made = { λ writer. writer.knows.count };
+
+    ghost Home = { TableId };
+
+    ghost home = { λ writer. writer.row };
 
     fn count(&self) -> u64
         ensures { result ≡ self.now.knows.count }
