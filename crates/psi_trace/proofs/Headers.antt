@@ -5,6 +5,7 @@ use Rattle.std.specs.Str.{bytes_eq}
 use Rattle.std.proofs.lemmas.Slice.Eq.{bytes_eq-Decides}
 use Rattle.std.proofs.lemmas.Fmt.{decimal_digit}
 use Rattle.psi_spec.specs.Grammar.{header, header_of}
+use Rattle.psi_spec.proofs.GrammarWords.{decimal_short}
 use Rattle.psi_spec.proofs.GrammarHeaders.{headers_spelled, header-injective}
 
 -- what stands ahead of the number of processors
@@ -14,6 +15,10 @@ prefix = codes "psitrace 1 cpus="
 pub header-prefix : (n : ℕ) → header 1 n ≡ prefix ++ decimal n
 unfolding header
 header-prefix n = ap (λ version. codes "psitrace " ++ version ++ codes " cpus=" ++ decimal n) (decimal_digit 1 (omega arith))
+
+-- a header has at most 36 bytes
+pub header_short : (n : ℕ) → n < 2 ^ 64 → length (header 1 n) ≤ 36
+header_short n fits = rw (header-prefix n) (let short = decimal_short n fits in omega (arith, short))
 
 -- what a line is from which a number of processors was read, or none
 abbrev pub HasNumber : List ℕ → Option ℕ → Type 0

@@ -1,4 +1,4 @@
 pub mod Fronts
-pub mod Growth
 pub mod Headers
+pub mod InPieces
 pub mod Spelled

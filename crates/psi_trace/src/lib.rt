@@ -1,4 +1,4 @@
-//! The lines of a trace: reading headers and events, and writing events.
+//! The lines of a trace: reading and writing headers and events.
 //!
 //! A line is given without its newline. Its parts stand between single spaces, numbers are decimal without leading
 //! zeros, and each event has one spelling: what is read and written again has the same bytes. [`front_event`] finds the
@@ -8,10 +8,11 @@
 mod field;
 mod front;
 mod header;
+mod line;
 mod read;
 mod write;
 
 pub use front::front_event;
 pub use header::read_header;
 pub use read::read_event;
-pub use write::write_event;
+pub use write::{write_event, write_header};

@@ -277,7 +277,8 @@ fn event_in(alloc: Global, line: &[u8]) -> Result<Event, Fault<Cause>>
 pub fn read_event(alloc: Global, line: &[u8]) -> Result<Event, Fault<Cause>>
     ensures exact { Gives result (event_of line.now) }
     ensures found { IfOk result (λ event. Fits event × (line.now ≡ spelling event)) }
-    ensures none { (why : Cause) → result ≡ Err (fault.Refused why) → (event : Event) → Fits event →
+    ensures none { (why : Cause) → result ≡ Err (fault.Refused why) → (event : Event) →
+        Fits event →
         line.now ≢ spelling event }
     ensures memory { result ≡ Err fault.NoMemory →
         names_path (drop 1 (parts_at 32 line.now)) ≡ true }

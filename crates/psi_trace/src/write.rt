@@ -1,251 +1,366 @@
-//! Events to lines.
-ghost use Rattle.std.specs.Prelude.{◌≡◌, ◌++◌, decimal, map, OnOk, OnErr};
-ghost use Rattle.psi_spec.specs.Fields as kind;
-ghost use Rattle.psi_spec.specs.Grammar.{Fits, act_words, spelling};
-ghost use Rattle.psi_trace.specs.Writes.{Grows, spaced, word_bytes};
+//! Headers and events to lines.
+ghost use Rattle.std.specs.Prelude.{◌≡◌, ◌≤◌, ◌<◌, ◌+◌, ◌++◌, ◌∷◌, [], true, false, OnOk, OnErr, codes, decimal, length};
+ghost use Rattle.std.specs.Prelude.{vec_capacity, vec_len};
+ghost use Rattle.psi_spec.specs.Fields as fields;
+ghost use Rattle.psi_spec.specs.Grammar.{Fits, act_words, header, spelling};
+ghost use Rattle.psi_trace.specs.Writes.{is_short, spaced};
 
-use psi_base::{Act, Event, How, Level, NoMemory, Pid, Preference, Res};
+use crate::line::Line;
+use psi_base::{Act, Cpu, Event, How, Level, NoMemory, Path, Pid, Preference, Res};
 
-// A word of a line: a text as it stands, or a number in decimal digits.
-#[derive(Clone, Copy)]
-enum Word<'a> {
-    Text(&'a [u8]),
-    Number(u64),
-}
+/// A header, or the line of an event that has few words and no path: time, verb, processor, task and how it leaves.
+type ShortLine = Line<80>;
 
-fn next_word(next: Option<Pid>) -> Word<'static>
-    ensures { word_bytes result ≡ kind.next_word next }
+/// The line of any other event. The longest is that of the memory of a group with a path of 255 bytes.
+type LongLine = Line<384>;
+
+/// Whether an act has few words, and no path among them.
+fn is_short(act: &Act) -> bool
+    ensures { result ≡ is_short act.now }
 {
-    match next {
-        None => Word::Text(b"0".as_slice()),
-        Some(pid) => Word::Number(u64::from(pid.0)),
-    }
+    matches!(
+        act,
+        Act::Wake { .. }
+            | Act::Switch { .. }
+            | Act::Stall { .. }
+            | Act::Unstall { .. }
+            | Act::Migrate { .. }
+            | Act::End
+    )
 }
 
-fn how_word(how: How) -> Word<'static>
-    ensures { word_bytes result ≡ kind.how_word how }
-{
-    Word::Text(match how {
-        How::Preempt => b"preempt".as_slice(),
-        How::Sleep => b"sleep".as_slice(),
-        How::IoWait => b"iowait".as_slice(),
-        How::Exit => b"exit".as_slice(),
-        How::Idle => b"idle".as_slice(),
-    })
-}
-
-fn preference_word(preference: Preference) -> Word<'static>
-    ensures { word_bytes result ≡ kind.preference_word preference }
-{
-    Word::Text(match preference {
-        Preference::Prefer => b"prefer".as_slice(),
-        Preference::Avoid => b"avoid".as_slice(),
-        Preference::Plain => b"none".as_slice(),
-    })
-}
-
-fn resource_word(res: Res) -> Word<'static>
-    ensures { word_bytes result ≡ kind.resource_word res }
-{
-    Word::Text(match res {
-        Res::Io => b"io".as_slice(),
-        Res::Memory => b"memory".as_slice(),
-        Res::Cpu => b"cpu".as_slice(),
-    })
-}
-
-fn level_word(level: Level) -> Word<'static>
-    ensures { word_bytes result ≡ kind.level_word level }
-{
-    Word::Text(match level {
-        Level::SomeStalled => b"some".as_slice(),
-        Level::FullStalled => b"full".as_slice(),
-    })
-}
-
-fn put_number(n: u64, to: &mut Vec<u8>) -> Result<(), NoMemory>
-    ensures { Grows to.old.items to.new.items result (decimal n) }
-{
-    let mut buffer = itoa::Buffer::new();
-    to.extend_from_slice(buffer.format(n).as_bytes())?;
-    Ok(())
-}
-
-fn put_text(text: &[u8], to: &mut Vec<u8>) -> Result<(), NoMemory>
-    ensures { Grows to.old.items to.new.items result text.now }
-{
-    to.extend_from_slice(text)?;
-    Ok(())
-}
-
-fn put_word(word: Word, to: &mut Vec<u8>) -> Result<(), NoMemory>
-    ensures { Grows to.old.items to.new.items result (word_bytes word.entry) }
-{
-    match word {
-        Word::Text(text) => put_text(text, to),
-        Word::Number(n) => put_number(n, to),
-    }
-}
-
-// The words, with a space ahead of each.
-fn put_words(words: &[Word], to: &mut Vec<u8>) -> Result<(), NoMemory>
-    ensures { Grows to.old.items to.new.items result (spaced (map word_bytes words.now)) }
-{
-    for word in words {
-        put_text(b" ".as_slice(), to)?;
-        put_word(*word, to)?;
-    }
-    Ok(())
-}
-
-// The verb of an act and its fields, with a space ahead of each.
-fn put_act(act: &Act, to: &mut Vec<u8>) -> Result<(), NoMemory>
-    ensures { Grows to.old.items to.new.items result (spaced (act_words act.now)) }
+/// Puts the words of such an act into an empty line, each behind a space.
+#[tactic(auto, using(crate::proofs::InPieces::lines))]
+fn put_short_act(line: &mut ShortLine, act: &Act)
+    requires short { is_short act.now ≡ true }
+    requires empty { length line.old ≡ 0 }
+    ensures bytes { line.new ≡ spaced (act_words act.now) ++ line.old }
+    ensures room { length line.new ≤ 60 }
 {
     match act {
-        Act::Group { path } => put_words(
-            &[Word::Text(b"group".as_slice()), Word::Text(path.bytes())],
-            to,
-        ),
-        Act::Remove { path } => put_words(
-            &[Word::Text(b"rmgroup".as_slice()), Word::Text(path.bytes())],
-            to,
-        ),
-        Act::Prefer { path, preference } => put_words(
-            &[
-                Word::Text(b"prefer".as_slice()),
-                Word::Text(path.bytes()),
-                preference_word(*preference),
-            ],
-            to,
-        ),
-        Act::Fork { pid, path, cpu } => put_words(
-            &[
-                Word::Text(b"fork".as_slice()),
-                Word::Number(u64::from(pid.0)),
-                Word::Text(path.bytes()),
-                Word::Number(u64::from(cpu.0)),
-            ],
-            to,
-        ),
-        Act::Wake { pid, cpu } => put_words(
-            &[
-                Word::Text(b"wake".as_slice()),
-                Word::Number(u64::from(pid.0)),
-                Word::Number(u64::from(cpu.0)),
-            ],
-            to,
-        ),
-        Act::Switch { cpu, next, how } => put_words(
-            &[
-                Word::Text(b"switch".as_slice()),
-                Word::Number(u64::from(cpu.0)),
-                next_word(*next),
-                how_word(*how),
-            ],
-            to,
-        ),
-        Act::Stall { pid } => put_words(
-            &[
-                Word::Text(b"stall".as_slice()),
-                Word::Number(u64::from(pid.0)),
-            ],
-            to,
-        ),
-        Act::Unstall { pid } => put_words(
-            &[
-                Word::Text(b"unstall".as_slice()),
-                Word::Number(u64::from(pid.0)),
-            ],
-            to,
-        ),
-        Act::Migrate { pid, cpu } => put_words(
-            &[
-                Word::Text(b"migrate".as_slice()),
-                Word::Number(u64::from(pid.0)),
-                Word::Number(u64::from(cpu.0)),
-            ],
-            to,
-        ),
-        Act::Move { pid, path } => put_words(
-            &[
-                Word::Text(b"move".as_slice()),
-                Word::Number(u64::from(pid.0)),
-                Word::Text(path.bytes()),
-            ],
-            to,
-        ),
+        Act::Wake { pid, cpu } => put_task_on(line, b" wake ", *pid, *cpu),
+        Act::Switch { cpu, next, how } => put_switch(line, *cpu, *next, *how),
+        Act::Stall { pid } => put_task(line, b" stall ", *pid),
+        Act::Unstall { pid } => put_task(line, b" unstall ", *pid),
+        Act::Migrate { pid, cpu } => put_task_on(line, b" migrate ", *pid, *cpu),
+        Act::End => line.text(b" end"),
+        _ => unreachable!(),
+    }
+}
+
+/// Puts the words of another act into an empty line, each behind a space.
+#[tactic(auto, using(crate::proofs::InPieces::lines))]
+fn put_long_act(line: &mut LongLine, act: &Act)
+    requires long { is_short act.now ≡ false }
+    requires empty { length line.old ≡ 0 }
+    ensures bytes { line.new ≡ spaced (act_words act.now) ++ line.old }
+    ensures room { length line.new ≤ 330 }
+{
+    match act {
+        Act::Group { path } => put_group(line, b" group ", path),
+        Act::Remove { path } => put_group(line, b" rmgroup ", path),
+        Act::Prefer { path, preference } => put_wish(line, path, *preference),
+        Act::Fork { pid, path, cpu } => put_fork(line, *pid, path, *cpu),
+        Act::Move { pid, path } => put_move(line, *pid, path),
         Act::Mem {
             path,
             current,
             swap,
             scan,
-        } => put_words(
-            &[
-                Word::Text(b"mem".as_slice()),
-                Word::Text(path.bytes()),
-                Word::Number(*current),
-                Word::Number(*swap),
-                Word::Number(*scan),
-            ],
-            to,
-        ),
+        } => {
+            put_numbers(line, *current, *swap, *scan);
+            put_group(line, b" mem ", path)
+        }
         Act::Host {
             mem_total,
             swap_total,
             swap_free,
-        } => put_words(
-            &[
-                Word::Text(b"host".as_slice()),
-                Word::Number(*mem_total),
-                Word::Number(*swap_total),
-                Word::Number(*swap_free),
-            ],
-            to,
-        ),
+        } => {
+            put_numbers(line, *mem_total, *swap_total, *swap_free);
+            line.text(b" host")
+        }
         Act::Trigger {
             path,
             res,
             level,
             threshold_us,
             window_us,
-        } => put_words(
-            &[
-                Word::Text(b"trigger".as_slice()),
-                Word::Text(path.bytes()),
-                resource_word(*res),
-                level_word(*level),
-                Word::Number(*threshold_us),
-                Word::Number(*window_us),
-            ],
-            to,
-        ),
-        Act::End => put_words(&[Word::Text(b"end".as_slice())], to),
+        } => {
+            put_number(line, *window_us);
+            put_number(line, *threshold_us);
+            put_level(line, *level);
+            put_resource(line, *res);
+            put_group(line, b" trigger ", path)
+        }
+        _ => unreachable!(),
     }
 }
 
-fn put_event(event: &Event, to: &mut Vec<u8>) -> Result<(), NoMemory>
-    ensures { Grows to.old.items to.new.items result
-        (decimal event.now.at ++ spaced (act_words event.now.act)) }
+/// Puts a verb between spaces and a group behind it in front.
+#[tactic(auto, using(crate::proofs::InPieces::lines))]
+fn put_group(line: &mut LongLine, verb: &[u8], path: &Path)
+    requires room { length line.old ≤ 63 }
+    requires short { length verb.now ≤ 10 }
+    ensures bytes { line.new ≡ verb.now ++ (path.now ++ line.old) }
+    ensures room { length line.new ≤ 330 }
 {
-    put_number(event.at, to)?;
-    put_act(&event.act, to)
+    line.text(path.bytes());
+    line.text(verb);
+}
+
+/// Puts the words of what a group wishes of the killer in front.
+#[tactic(auto, using(crate::proofs::InPieces::lines))]
+fn put_wish(line: &mut LongLine, path: &Path, preference: Preference)
+    requires { length line.old ≡ 0 }
+    ensures bytes { line.new
+        ≡ spaced (codes "prefer" ∷ path.now ∷ fields.preference_word preference ∷ []) ++ line.old }
+    ensures room { length line.new ≤ 330 }
+{
+    put_preference(line, preference);
+    put_group(line, b" prefer ", path);
+}
+
+/// Puts the words of a new task in front.
+#[tactic(auto, using(crate::proofs::InPieces::lines))]
+fn put_fork(line: &mut LongLine, pid: Pid, path: &Path, cpu: Cpu)
+    requires { length line.old ≡ 0 }
+    ensures bytes { line.new
+        ≡ spaced (codes "fork" ∷ decimal pid.0 ∷ path.now ∷ decimal cpu.0 ∷ []) ++ line.old }
+    ensures room { length line.new ≤ 330 }
+{
+    line.number(u64::from(cpu.0));
+    line.text(b" ");
+    line.text(path.bytes());
+    line.text(b" ");
+    line.number(u64::from(pid.0));
+    line.text(b" fork ");
+}
+
+/// Puts the words of a task that goes to another group in front.
+#[tactic(auto, using(crate::proofs::InPieces::lines))]
+fn put_move(line: &mut LongLine, pid: Pid, path: &Path)
+    requires { length line.old ≡ 0 }
+    ensures bytes { line.new
+        ≡ spaced (codes "move" ∷ decimal pid.0 ∷ path.now ∷ []) ++ line.old }
+    ensures room { length line.new ≤ 330 }
+{
+    line.text(path.bytes());
+    line.text(b" ");
+    line.number(u64::from(pid.0));
+    line.text(b" move ");
+}
+
+/// Puts the words of a switch in front.
+#[tactic(auto, using(crate::proofs::InPieces::lines))]
+fn put_switch(line: &mut ShortLine, cpu: Cpu, next: Option<Pid>, how: How)
+    requires { length line.old ≡ 0 }
+    ensures bytes { line.new
+        ≡ spaced (codes "switch" ∷ decimal cpu.0 ∷ fields.next_word next ∷ fields.how_word how ∷ [])
+        ++ line.old }
+    ensures room { length line.new ≤ 60 }
+{
+    put_how(line, how);
+    match next {
+        Some(pid) => line.number(u64::from(pid.0)),
+        None => line.text(b"0"),
+    }
+    line.text(b" ");
+    line.number(u64::from(cpu.0));
+    line.text(b" switch ");
+}
+
+/// Puts a verb between spaces and a task behind it in front.
+#[inline(always)]
+#[tactic(auto, using(crate::proofs::InPieces::lines))]
+fn put_task(line: &mut ShortLine, verb: &[u8], pid: Pid)
+    requires room { length line.old ≤ 21 }
+    requires short { length verb.now ≤ 10 }
+    ensures bytes { line.new ≡ verb.now ++ (decimal pid.0 ++ line.old) }
+    ensures room { length line.new ≤ 60 }
+{
+    line.number(u64::from(pid.0));
+    line.text(verb);
+}
+
+/// Puts a verb between spaces, and a task and a processor behind it, in front.
+#[inline(always)]
+#[tactic(auto, using(crate::proofs::InPieces::lines))]
+fn put_task_on(line: &mut ShortLine, verb: &[u8], pid: Pid, cpu: Cpu)
+    requires room { length line.old ≡ 0 }
+    requires short { length verb.now ≤ 10 }
+    ensures bytes { line.new
+        ≡ verb.now ++ (decimal pid.0 ++ 32 ∷ decimal cpu.0 ++ line.old) }
+    ensures room { length line.new ≤ 60 }
+{
+    line.number(u64::from(cpu.0));
+    line.text(b" ");
+    put_task(line, verb, pid);
+}
+
+/// Puts a number in front, behind a space.
+#[tactic(auto, using(crate::proofs::InPieces::lines))]
+fn put_number(line: &mut LongLine, number: u64)
+    requires { length line.old ≤ 63 }
+    ensures bytes { line.new ≡ 32 ∷ decimal number ++ line.old }
+    ensures room { length line.new ≤ 21 + length line.old }
+{
+    line.number(number);
+    line.text(b" ");
+}
+
+/// Puts three numbers in front, each behind a space.
+#[tactic(auto, using(crate::proofs::InPieces::lines))]
+fn put_numbers(line: &mut LongLine, first: u64, second: u64, third: u64)
+    requires { length line.old ≡ 0 }
+    ensures bytes { line.new
+        ≡ spaced (decimal first ∷ decimal second ∷ decimal third ∷ []) ++ line.old }
+    ensures room { length line.new ≤ 63 }
+{
+    put_number(line, third);
+    put_number(line, second);
+    put_number(line, first);
+}
+
+/// Puts the word for how a task leaves in front, behind a space.
+fn put_how(line: &mut ShortLine, how: How)
+    requires { length line.old ≡ 0 }
+    ensures bytes { line.new ≡ 32 ∷ fields.how_word how ++ line.old }
+    ensures room { length line.new ≤ 8 }
+{
+    match how {
+        How::Preempt => line.text(b" preempt"),
+        How::Sleep => line.text(b" sleep"),
+        How::IoWait => line.text(b" iowait"),
+        How::Exit => line.text(b" exit"),
+        How::Idle => line.text(b" idle"),
+    }
+}
+
+/// Puts the word for a wish in front, behind a space.
+fn put_preference(line: &mut LongLine, preference: Preference)
+    requires { length line.old ≤ 63 }
+    ensures bytes { line.new ≡ 32 ∷ fields.preference_word preference ++ line.old }
+    ensures room { length line.new ≤ 7 + length line.old }
+{
+    match preference {
+        Preference::Prefer => line.text(b" prefer"),
+        Preference::Avoid => line.text(b" avoid"),
+        Preference::Plain => line.text(b" none"),
+    }
+}
+
+/// Puts the word for a resource in front, behind a space.
+fn put_resource(line: &mut LongLine, res: Res)
+    requires { length line.old ≤ 63 }
+    ensures bytes { line.new ≡ 32 ∷ fields.resource_word res ++ line.old }
+    ensures room { length line.new ≤ 7 + length line.old }
+{
+    match res {
+        Res::Io => line.text(b" io"),
+        Res::Memory => line.text(b" memory"),
+        Res::Cpu => line.text(b" cpu"),
+    }
+}
+
+/// Puts the word for some or all tasks in front, behind a space.
+fn put_level(line: &mut LongLine, level: Level)
+    requires { length line.old ≤ 63 }
+    ensures bytes { line.new ≡ 32 ∷ fields.level_word level ++ line.old }
+    ensures room { length line.new ≤ 5 + length line.old }
+{
+    match level {
+        Level::SomeStalled => line.text(b" some"),
+        Level::FullStalled => line.text(b" full"),
+    }
+}
+
+/// Puts the one spelling of an event with few words into an empty line.
+#[tactic(auto, using(crate::proofs::InPieces::lines))]
+fn put_short(line: &mut ShortLine, event: &Event)
+    requires short { is_short event.now.act ≡ true }
+    requires empty { line.old ≡ [] }
+    ensures { line.new ≡ spelling event.now }
+{
+    put_short_act(line, &event.act);
+    line.number(event.at);
+}
+
+/// Puts the one spelling of another event into an empty line.
+#[tactic(auto, using(crate::proofs::InPieces::lines))]
+fn put_long(line: &mut LongLine, event: &Event)
+    requires long { is_short event.now.act ≡ false }
+    requires empty { line.old ≡ [] }
+    ensures { line.new ≡ spelling event.now }
+{
+    put_long_act(line, &event.act);
+    line.number(event.at);
+}
+
+/// Puts the header for so many processors into an empty line.
+#[tactic(auto, using(crate::proofs::InPieces::lines))]
+fn put_header(line: &mut ShortLine, cpus: u32)
+    requires { line.old ≡ [] }
+    ensures { line.new ≡ header 1 cpus }
+{
+    line.number(u64::from(cpus));
+    line.text(b"psitrace 1 cpus=");
+}
+
+/// Appends bytes to a buffer; where memory runs out the buffer stays as it was, and had no room for them.
+fn append(bytes: &[u8], to: &mut Vec<u8>) -> Result<(), NoMemory>
+    ensures written { OnOk result (to.new.items ≡ to.old.items ++ bytes.now) }
+    ensures kept { OnErr result (to.new.items ≡ to.old.items) }
+    ensures full { OnErr result (vec_capacity to.old < vec_len to.old + length bytes.now) }
+    ensures capacity { vec_capacity to.old ≤ vec_capacity to.new }
+{
+    to.extend_from_slice(bytes)?;
+    Ok(())
+}
+
+/// Appends the one spelling of another event. It stands apart, since a function that has a long line clears room for it.
+#[inline(never)]
+fn write_long(event: &Event, to: &mut Vec<u8>) -> Result<(), NoMemory>
+    requires { is_short event.now.act ≡ false }
+    ensures written { OnOk result (to.new.items ≡ to.old.items ++ spelling event.now) }
+    ensures kept { OnErr result (to.new.items ≡ to.old.items) }
+    ensures full { OnErr result
+        (vec_capacity to.old < vec_len to.old + length (spelling event.now)) }
+    ensures capacity { vec_capacity to.old ≤ vec_capacity to.new }
+{
+    let mut line = LongLine::new();
+    put_long(&mut line, event);
+    append(line.bytes(), to)
+}
+
+/// Appends the header for so many processors, without a newline, to a buffer; where memory runs out the buffer stays as
+/// it was, and the header had no room there.
+pub fn write_header(cpus: u32, to: &mut Vec<u8>) -> Result<(), NoMemory>
+    ensures written { OnOk result (to.new.items ≡ to.old.items ++ header 1 cpus) }
+    ensures kept { OnErr result (to.new.items ≡ to.old.items) }
+    ensures full { OnErr result
+        (vec_capacity to.old < vec_len to.old + length (header 1 cpus)) }
+    ensures capacity { vec_capacity to.old ≤ vec_capacity to.new }
+{
+    let mut line = ShortLine::new();
+    put_header(&mut line, cpus);
+    append(line.bytes(), to)
 }
 
 /// Appends the one spelling of an event, without a newline, to a buffer; where memory runs out the buffer stays as it
-/// was. The event is one that a trace may speak of: times below 2^64 ns, tasks from 1, sizes and quantities of at most
-/// 2^60.
+/// was, and the line had no room there. The event is one that a trace may speak of: times below 2^64 ns, tasks from 1,
+/// sizes and quantities of at most 2^60.
 pub fn write_event(event: &Event, to: &mut Vec<u8>) -> Result<(), NoMemory>
     requires { Fits event.now }
     ensures written { OnOk result (to.new.items ≡ to.old.items ++ spelling event.now) }
     ensures kept { OnErr result (to.new.items ≡ to.old.items) }
+    ensures full { OnErr result
+        (vec_capacity to.old < vec_len to.old + length (spelling event.now)) }
+    ensures capacity { vec_capacity to.old ≤ vec_capacity to.new }
 {
-    let length = to.len();
-    match put_event(event, to) {
-        Ok(()) => Ok(()),
-        Err(fault) => {
-            to.truncate(length);
-            Err(fault)
-        }
+    if !is_short(&event.act) {
+        return write_long(event, to);
     }
+    let mut line = ShortLine::new();
+    put_short(&mut line, event);
+    append(line.bytes(), to)
 }

@@ -23,7 +23,7 @@ use Rattle.run_spec.specs.declared.command.Shape.{Shape}
 use Rattle.run_spec.specs.Generated.{at_start, first_events, home_of, made_group, made_task, numbered_path, task_count}
 use Rattle.run_spec.specs.Words.{IsShape}
 use Rattle.task_table.proofs.CauseLaws.{first_of_act}
-use Rattle.trace_gen.specs.Generating.{IsGenerating, is_made, limits_in}
+use Rattle.trace_gen.specs.Generating.{IsGenerating, limits_in}
 use Rattle.trace_gen.proofs.Following.{Go, go_on, go_then}
 use Rattle.trace_gen.proofs.Naming.{numbered_apart, numbered_is_path, numbered_parent}
 
@@ -33,7 +33,6 @@ use Rattle.trace_gen.proofs.Naming.{numbered_apart, numbered_is_path, numbered_p
 record IsGood (limits : Limits) (Holds : ℕ → World → Type 0) (number : ℕ) (w : World) (event : Event) : Type 0 where
   fits : Fits event
   legal : cause_of limits w event ≡ None
-  made : is_made event.act ≡ true
   later : Holds (number + 1) (after_event w event)
 
 -- so many events by numbers, and what holds after them
@@ -44,11 +43,11 @@ record InRow (limits : Limits) (Holds : ℕ → World → Type 0) (end : ℕ) (w
 in_row : (limits : Limits) (Holds : ℕ → World → Type 0) (end : ℕ) (make : ℕ → Event) → ((number : ℕ) (w : World) → number < end → Holds number w → IsGood limits Holds number w (make number))
     → (count from : ℕ) → from + count ≡ end → (w : World) → Holds from w → InRow limits Holds end w (map make (range_with_len from count))
 in_row limits Holds end make good zero from all w so =
-    let same : from ≡ end = omega (arith, all) in record { go = record { fit = tt; legal = tt; made = tt }; later = subst (λ n. Holds n w) same so }
+    let same : from ≡ end = omega (arith, all) in record { go = record { fit = tt; legal = tt }; later = subst (λ n. Holds n w) same so }
 in_row limits Holds end make good (suc count) from all w so =
     let one = good from w (omega (arith, all)) so in
     let rest = in_row limits Holds end make good count (from + 1) (omega (arith, all)) (after_event w (make from)) one.later in
-    record { go = go_then limits w (make from) (map make (range_with_len (from + 1) count)) one.fits one.legal one.made rest.go; later = rest.later }
+    record { go = go_then limits w (make from) (map make (range_with_len (from + 1) count)) one.fits one.legal rest.go; later = rest.later }
 
 -- ---- groups
 
@@ -104,7 +103,6 @@ group_good shape shaped number w room so =
     record {
       fits = record { at = omega arith; act = numbered_is_path number fits };
       legal = first_of_act (limits_in shape) w (at_start (made_group number)) so.going (omega (arith, last)) (omega arith) (omega (arith, lines, few, room)) ∙ rw (free, fresh, parent) refl;
-      made = refl;
       later = record {
         root = still_found w.groups group (codes "/") so.root;
         made = λ i below. ⊎_elim
@@ -217,7 +215,6 @@ task_good shape shaped pid w room so =
     record {
       fits = record { at = omega arith; act = ((omega (arith, low), omega (arith, room, processors)), home_is_path shape groups pid, omega (arith, place, processors)) };
       legal = first_of_act (limits_in shape) w (at_start (made_task shape pid)) so.going (omega (arith, last)) (omega arith) (omega (arith, lines, room, processors, groups)) ∙ rw (free, found, fresh, there) refl;
-      made = refl;
       later = record {
         low = omega arith;
         root = so.root;

@@ -1,6 +1,6 @@
 -- The events behind those that make groups and tasks: each may be spelled and is legal in its turn, and the end is the
 -- last.
-use Rattle.std.proofs.Common.{◌≡◌, ℕ, zero, suc, ◌+◌, ◌<◌, ◌≤◌, List, [], ◌∷◌, ◌++◌, refl, ap, ◌∙◌, sym, arith, append_assoc, true, false, None, length}
+use Rattle.std.proofs.Common.{◌≡◌, ℕ, zero, suc, ◌+◌, ◌<◌, ◌≤◌, List, [], ◌∷◌, ◌++◌, refl, ap, ◌∙◌, sym, arith, append_assoc, false, None, length}
 use Rattle.std.proofs.Math.Nat.{mod-lt}
 use Rattle.psi_base.specs.declared.event.Act.TheVariants as act
 use Rattle.psi_base.specs.declared.event.Event.{Event}
@@ -13,31 +13,29 @@ use Rattle.run_spec.specs.Generated.{drawn, events_from, next_drawn, next_event,
 use Rattle.run_spec.specs.Words.{IsShape}
 use Rattle.task_table.specs.Causes.{takes_memory}
 use Rattle.task_table.proofs.CauseLaws.{first_of_act}
-use Rattle.trace_gen.specs.Generating.{AreMade, IsGenerating, is_made, limits_in}
+use Rattle.trace_gen.specs.Generating.{IsGenerating, limits_in}
 use Rattle.trace_gen.proofs.Stepping.{next_step}
 
 -- ---- events that go on from a world
 
--- events may be spelled, are legal in their turn, and have acts of generated traces
+-- events may be spelled, and are legal in their turn
 pub record Go (limits : Limits) (w : World) (events : List Event) : Type 0 where
   pub fit : AllFit events
   pub legal : AreLegal limits w events
-  pub made : AreMade events
 
 -- one event, and those behind it
-pub go_then : (limits : Limits) (w : World) (event : Event) (events : List Event) → Fits event → cause_of limits w event ≡ None → is_made event.act ≡ true → Go limits (after_event w event) events → Go limits w (event ∷ events)
-go_then limits w event events fits legal made rest = record {
+pub go_then : (limits : Limits) (w : World) (event : Event) (events : List Event) → Fits event → cause_of limits w event ≡ None → Go limits (after_event w event) events → Go limits w (event ∷ events)
+go_then limits w event events fits legal rest = record {
   fit = (fits, rest.fit);
   legal = (legal, rest.legal);
-  made = (made, rest.made);
 }
 
 -- events, and those behind them
 pub go_on : (limits : Limits) (w : World) (xs ys : List Event) → Go limits w xs → Go limits (after_from w xs) ys → Go limits w (xs ++ ys)
 go_on limits w [] ys front rest = rest
 go_on limits w (x ∷ xs) ys front rest =
-    let inner : Go limits (after_event w x) xs = record { fit = front.fit.1; legal = front.legal.1; made = front.made.1 } in
-    go_then limits w x (xs ++ ys) front.fit.0 front.legal.0 front.made.0 (go_on limits (after_event w x) xs ys inner rest)
+    let inner : Go limits (after_event w x) xs = record { fit = front.fit.1; legal = front.legal.1 } in
+    go_then limits w x (xs ++ ys) front.fit.0 front.legal.0 (go_on limits (after_event w x) xs ys inner rest)
 
 -- the end stays last behind other events
 pub ends_behind : (xs ys : List Event) → EndsLast ys → EndsLast (xs ++ ys)
@@ -49,7 +47,6 @@ ends_behind xs ys ends = (xs ++ ends.0, ends.1, ap (λ zs. xs ++ zs) ends.2 ∙ 
 pub record IsNext (shape : Shape) (count : ℕ) (w : World) (event : Event) : Type 0 where
   pub fits : Fits event
   pub legal : cause_of (limits_in shape) w event ≡ None
-  pub made : is_made event.act ≡ true
   pub light : takes_memory event.act ≡ false
   pub later : IsGenerating shape (count + 1) (after_event w event)
 
@@ -68,7 +65,6 @@ next_is shape shaped count more w so state =
     record {
       fits = record { at = omega (arith, last, wait, few, more); act = step.fits };
       legal = first_of_act (limits_in shape) w (next_event shape w state) so.going forward early room ∙ step.legal w.groups w.triggers;
-      made = step.made;
       light = step.light;
       later = record {
         tasks = step.live w.groups;
@@ -91,7 +87,6 @@ end_goes shape shaped count all w so =
     record {
       fit = (record { at = omega (arith, last, few, all); act = tt }, tt);
       legal = (first_of_act (limits_in shape) w (record { at = w.last; act = act.End }) so.going (omega arith) early room, tt);
-      made = (refl, tt);
     }
 
 -- ---- all of them
@@ -102,7 +97,7 @@ unfolding events_from
 events_go shape shaped zero count all w so state = end_goes shape shaped count (omega (arith, all)) w so
 events_go shape shaped (suc left) count all w so state =
     let next = next_is shape shaped count (omega (arith, all)) w so state in
-    go_then (limits_in shape) w (next_event shape w state) _ next.fits next.legal next.made
+    go_then (limits_in shape) w (next_event shape w state) _ next.fits next.legal
     (events_go shape shaped left (count + 1) (omega (arith, all)) (after_event w (next_event shape w state)) next.later (next_drawn shape w.tasks state).state)
 
 -- the end is the last of them

@@ -2,7 +2,6 @@ pub mod Accepting
 pub mod Drawing
 pub mod FirstEvents
 pub mod Following
-pub mod InPieces
 pub mod Naming
 pub mod Sending
 pub mod Stepping

@@ -1,17 +1,27 @@
 -- The lines of a trace, sent one after another.
-use Rattle.std.proofs.Common.{◌≡◌, ℕ, List, [], ◌∷◌, ◌++◌, refl, ap, ◌∙◌, sym, append_assoc, true, Option, None, Some}
+use Rattle.std.proofs.Common.{◌≡◌, ℕ, List, [], ◌∷◌, ◌++◌, ◌≤◌, length, refl, ap, ◌∙◌, sym, append_assoc, Option, None, Some}
+use Rattle.std.specs.Prelude.{Result, Ok, Err}
 use Rattle.std.specs.Io.KnownBytes.{Appends, Keeps}
 use Rattle.std.proofs.lemmas.List.{append-nil}
 use Rattle.psi_base.specs.declared.event.Event.{Event}
-use Rattle.psi_base.specs.Outside.{AppendsFront}
-use Rattle.psi_base.proofs.Grows.{Appends-none, Appends-then, AppendsFront-then}
-use Rattle.psi_spec.specs.Grammar.{spelling}
-use Rattle.psi_spec.specs.Trace.{lines_of}
+use Rattle.psi_base.specs.Outside.{AppendsFront, PutsAll}
+use Rattle.psi_base.proofs.Grows.{Appends-none, Appends-then, AppendsFront-last, AppendsFront-then}
+use Rattle.psi_spec.proofs.GrammarReads.{spelled_in_line}
+use Rattle.psi_spec.specs.Grammar.{Fits, spelling}
+use Rattle.psi_spec.specs.Trace.{AllFit, lines_of}
 use Rattle.run_spec.specs.declared.command.Shape.{Shape}
 use Rattle.run_spec.specs.Generated.{generated}
 use Rattle.run_spec.specs.Words.{IsShape}
-use Rattle.trace_gen.specs.Generating.{AreMade, is_made}
 use Rattle.trace_gen.proofs.Accepting.{generated_go}
+
+-- what was sent first, and then all of the rest or a front of it
+pub PutsAll-behind : {T E : Type 0} → (old mid new : Option (List ℕ)) (result : Result T E) (xs ys : List ℕ) → Appends old mid xs → PutsAll mid new result ys → PutsAll old new result (xs ++ ys)
+PutsAll-behind old mid new (Ok value) xs ys first rest = Appends-then old mid new xs ys first rest
+PutsAll-behind old mid new (Err fault) xs ys first rest = AppendsFront-last old mid new xs ys first rest
+
+-- a line has at most 512 bytes
+pub line_short : (event : Event) → Fits event → length (spelling event) ≤ 512
+line_short event fits = (spelled_in_line event fits).short
 
 -- some of the lines were sent, and those of the events that are left are the rest
 pub record AreSent (old new : Option (List ℕ)) (left all : List Event) : Type 0 where
@@ -43,16 +53,16 @@ all_sent old new left all so none =
     let whole : so.sent ≡ lines_of all = sym (append-nil so.sent) ∙ ap (λ es. so.sent ++ lines_of es) (sym none) ∙ so.rest in
     rw (sym whole) so.grew
 
--- the first event has an act of generated traces, and so have those behind it
-pub first_made : (events : List Event) (event : Event) (left : List Event) → AreMade events → events ≡ event ∷ left → is_made event.act ≡ true
-first_made events event left made is = (rw is at made).0
+-- the first event may be spelled, and so may those behind it
+pub first_fits : (events : List Event) (event : Event) (left : List Event) → AllFit events → events ≡ event ∷ left → Fits event
+first_fits events event left fit is = (rw is at fit).0
 
-pub rest_made : (events : List Event) (event : Event) (left : List Event) → AreMade events → events ≡ event ∷ left → AreMade left
-rest_made events event left made is = (rw is at made).1
+pub rest_fit : (events : List Event) (event : Event) (left : List Event) → AllFit events → events ≡ event ∷ left → AllFit left
+rest_fit events event left fit is = (rw is at fit).1
 
--- so have all of a generated trace
-pub all_made : (shape : Shape) → IsShape shape → (events : List Event) → events ≡ (generated shape).events → AreMade events
-all_made shape shaped events is = rw is (generated_go shape shaped).made
+-- so may all of a generated trace
+pub all_fit : (shape : Shape) → IsShape shape → (events : List Event) → events ≡ (generated shape).events → AllFit events
+all_fit shape shaped events is = rw is (generated_go shape shaped).fit
 
 -- nothing was written
 pub keeps : (has : Option (List ℕ)) → Keeps has has

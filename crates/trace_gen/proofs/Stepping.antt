@@ -24,7 +24,7 @@ use Rattle.run_spec.specs.declared.command.Shape.{Shape}
 use Rattle.run_spec.specs.Generated.{Drawn, chosen, drawn, next_drawn, next_if, next_of, next_state, running_act, stall_turn, started, task_count, way_of, woken}
 use Rattle.run_spec.specs.Words.{IsShape}
 use Rattle.task_table.specs.Causes.{act_cause, takes_memory}
-use Rattle.trace_gen.specs.Generating.{AreLive, is_made}
+use Rattle.trace_gen.specs.Generating.{AreLive}
 
 -- ---- who runs on a processor
 
@@ -110,7 +110,6 @@ pub record IsStep (shape : Shape) (tasks : Tasks) (a : Act) : Type 0 where
   pub fits : ActFits a
   pub live : (groups : List GroupLife) → AreLive shape (tasks_after groups tasks a)
   pub goes : ends a ≡ false
-  pub made : is_made a ≡ true
   pub light : takes_memory a ≡ false
 
 -- a live task of a shape, by its number
@@ -152,7 +151,6 @@ wake_step shape tasks pid task it sleeps state =
       fits = (number_fits shape tasks pid task it, processor_fits shape it.shaped _ room);
       live = λ groups. change_live shape tasks it.are pid (readied (drawn (next_state state) shape.cpus)) (λ _ _. room);
       goes = refl;
-      made = refl;
       light = refl;
     }
 
@@ -185,7 +183,6 @@ start_step shape tasks pid task it ready how stays right =
       fits = (processor_fits shape it.shaped _ room, number_fits shape tasks pid task it);
       live = λ groups. switch_live shape tasks it.are task.cpu.0 room (Some (record { 0 = pid })) how stays;
       goes = refl;
-      made = refl;
       light = refl;
     }
 
@@ -210,7 +207,6 @@ leave_step shape tasks pid task it runs how stays right =
       fits = (processor_fits shape it.shaped _ room, tt);
       live = λ groups. switch_live shape tasks it.are task.cpu.0 room None how stays;
       goes = refl;
-      made = refl;
       light = refl;
     }
 
@@ -221,7 +217,6 @@ stall_step shape tasks pid task it runs calm = record {
   fits = number_fits shape tasks pid task it;
   live = λ groups. change_live shape tasks it.are pid (λ task. record task { stalled = true }) (λ _ room. room);
   goes = refl;
-  made = refl;
   light = refl;
 }
 
@@ -231,7 +226,6 @@ unstall_step shape tasks pid task it runs stalled = record {
   fits = number_fits shape tasks pid task it;
   live = λ groups. change_live shape tasks it.are pid (λ task. record task { stalled = false }) (λ _ room. room);
   goes = refl;
-  made = refl;
   light = refl;
 }
 

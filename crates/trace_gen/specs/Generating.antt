@@ -1,9 +1,6 @@
 -- What holds while a trace is generated, and the law of generated traces.
-use Rattle.std.specs.Prelude.{◌≡◌, ℕ, ◌+◌, ◌*◌, ◌≤◌, ◌<◌, List, [], ◌∷◌, length}
-use Rattle.std.specs.Prelude.{Bool, true, false, IfSome, IsSome}
-use Rattle.psi_base.specs.declared.event.Act.{Act}
-use Rattle.psi_base.specs.declared.event.Act.TheVariants as act
-use Rattle.psi_base.specs.declared.event.Event.{Event}
+use Rattle.std.specs.Prelude.{◌≡◌, ℕ, ◌+◌, ◌*◌, ◌≤◌, ◌<◌, length}
+use Rattle.std.specs.Prelude.{false, IfSome, IsSome}
 use Rattle.psi_spec.specs.Trace.{IsTrace, limits_of}
 use Rattle.psi_spec.specs.World.{Limits, Tasks, World, task_of}
 use Rattle.run_spec.specs.declared.command.Shape.{Shape}
@@ -37,22 +34,6 @@ pub record IsGenerating (shape : Shape) (count : ℕ) (w : World) : Type 0 where
   pub lines : w.lines ≡ first_count shape + count
   pub last : w.last ≤ 2000000 * count
   pub going : w.ended ≡ false
-
--- an act is one of those that generated traces have
-abbrev pub is_made : Act → Bool
-is_made (act.Group path) = true
-is_made (act.Fork pid path cpu) = true
-is_made (act.Wake pid cpu) = true
-is_made (act.Switch cpu next how) = true
-is_made (act.Stall pid) = true
-is_made (act.Unstall pid) = true
-is_made act.End = true
-is_made _ = false
-
--- each event has such an act
-abbrev pub AreMade : List Event → Type 0
-AreMade [] = Unit {0}
-AreMade (event ∷ events) = (is_made event.act ≡ true) × AreMade events
 
 -- ---- laws
 

@@ -8,8 +8,6 @@ mod draws;
 mod founding;
 mod generator;
 mod laws;
-mod line;
-mod lines;
 mod text;
 
 pub use generator::Generator;

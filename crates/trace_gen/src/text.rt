@@ -1,38 +1,71 @@
 //! The text of a generated trace.
-ghost use Rattle.std.specs.Prelude.{◌≡◌, ◌++◌, ◌∷◌, [], true};
+ghost use Rattle.std.specs.Prelude.{◌≡◌, ◌≤◌, ◌++◌, ◌∷◌, [], vec_capacity};
 ghost use Rattle.psi_base.specs.Outside.{HasCause, PutsAll, StaysOver};
-ghost use Rattle.psi_spec.specs.Grammar.{header, spelling};
-ghost use Rattle.psi_spec.specs.Trace.{lines_of};
+ghost use Rattle.psi_spec.specs.Grammar.{Fits, header, spelling};
+ghost use Rattle.psi_spec.specs.Trace.{AllFit, lines_of};
 ghost use Rattle.run_spec.specs.Generated.{gen_text, generated};
 ghost use Rattle.run_spec.specs.Words.{IsShape};
-ghost use Rattle.trace_gen.specs.Generating.{AreMade, is_made};
 ghost use Rattle.trace_gen.specs.Writing.{Writes, shape_by};
 
 use crate::generator::Generator;
-use crate::line::Line;
-use crate::lines::{write_event, write_header};
 use psi_base::{Event, Fault, Sink, WriteFailed, put_all};
+use psi_trace::{write_event, write_header};
 use run_spec::Shape;
 use std::alloc::Global;
 
-/// Writes the line of an event with an act that generated traces have.
-fn put_event<K: Sink>(event: Event, line: &mut Line, out: &mut K) -> Result<(), WriteFailed>
-    requires { is_made event.act ≡ true }
+/// How many bytes the line of an event has at most, with its newline.
+const ROOM: usize = 513;
+
+/// Makes the line the header for so many processors. It takes no memory, since there is room for it.
+#[tactic(auto, using(psi_trace::proofs::Headers::header_short))]
+fn make_header(cpus: u32, line: &mut Vec<u8>)
+    requires { 513 ≤ vec_capacity line.old }
+    ensures bytes { line.new.items ≡ header 1 cpus ++ 10 ∷ [] }
+    ensures room { 513 ≤ vec_capacity line.new }
+{
+    line.clear();
+    match write_header(cpus, line) {
+        Ok(()) => line.push_reserved(b'\n'),
+        Err(_) => unreachable!(),
+    }
+}
+
+/// Makes the line that of an event. It takes no memory, since there is room for each.
+#[tactic(auto, using(crate::proofs::Sending::line_short))]
+fn make_line(event: &Event, line: &mut Vec<u8>)
+    requires fits { Fits event.now }
+    requires room { 513 ≤ vec_capacity line.old }
+    ensures bytes { line.new.items ≡ spelling event.now ++ 10 ∷ [] }
+    ensures room { 513 ≤ vec_capacity line.new }
+{
+    line.clear();
+    match write_event(event, line) {
+        Ok(()) => line.push_reserved(b'\n'),
+        Err(_) => unreachable!(),
+    }
+}
+
+/// Writes the line of an event.
+fn put_event<K: Sink>(event: Event, line: &mut Vec<u8>, out: &mut K) -> Result<(), WriteFailed>
+    requires fits { Fits event }
+    requires room { 513 ≤ vec_capacity line.old }
+    ensures room { 513 ≤ vec_capacity line.new }
     ensures bytes { PutsAll (K.has out.old) (K.has out.new) result (spelling event ++ 10 ∷ []) }
     ensures cause { HasCause (K.faults out.old) (K.faults out.new) result }
     ensures below { StaysOver (K.below out.old) (K.below out.new) }
 {
-    write_event(line, &event);
-    put_all(out, line.bytes())
+    make_line(&event, line);
+    put_all(out, line)
 }
 
 /// Writes the lines of the events that a generator has left.
 fn put_events<K: Sink>(
     generator: &mut Generator,
-    line: &mut Line,
+    line: &mut Vec<u8>,
     out: &mut K,
 ) -> Result<(), WriteFailed>
-    requires { AreMade generator.old }
+    requires fit { AllFit generator.old }
+    requires room { 513 ≤ vec_capacity line.old }
     ensures bytes { PutsAll (K.has out.old) (K.has out.new) result (lines_of generator.old) }
     ensures cause { HasCause (K.faults out.old) (K.faults out.new) result }
     ensures below { StaysOver (K.below out.old) (K.below out.new) }
@@ -45,17 +78,22 @@ fn put_events<K: Sink>(
 
 /// Writes the header for so many processors, and the lines of the events that a generator has left.
 #[tactic(auto, using(psi_base::proofs::Grows::chain))]
-fn put_trace<K: Sink>(cpus: u32, generator: &mut Generator, out: &mut K) -> Result<(), WriteFailed>
-    requires { AreMade generator.old }
+fn put_trace<K: Sink>(
+    cpus: u32,
+    generator: &mut Generator,
+    line: &mut Vec<u8>,
+    out: &mut K,
+) -> Result<(), WriteFailed>
+    requires fit { AllFit generator.old }
+    requires room { 513 ≤ vec_capacity line.old }
     ensures bytes { PutsAll (K.has out.old) (K.has out.new) result
         (header 1 cpus ++ 10 ∷ lines_of generator.old) }
     ensures cause { HasCause (K.faults out.old) (K.faults out.new) result }
     ensures below { StaysOver (K.below out.old) (K.below out.new) }
 {
-    let mut line = Line::new();
-    write_header(&mut line, cpus);
-    put_all(out, line.bytes())?;
-    put_events(generator, &mut line, out)
+    make_header(cpus, line);
+    put_all(out, line)?;
+    put_events(generator, line, out)
 }
 
 /// Writes the text of the trace that is generated from these numbers: any seed, 1 to 64 processors, at most 1,000 groups
@@ -81,11 +119,15 @@ pub fn generate<K: Sink>(
         groups,
         events,
     };
+    let mut line = match Vec::with_capacity(alloc, ROOM) {
+        Ok(line) => line,
+        Err(_) => return Err(Fault::NoMemory),
+    };
     let mut generator = match Generator::make(alloc, shape) {
         Ok(generator) => generator,
         Err(_) => return Err(Fault::NoMemory),
     };
-    match put_trace(cpus, &mut generator, out) {
+    match put_trace(cpus, &mut generator, &mut line, out) {
         Ok(()) => Ok(()),
         Err(failed) => Err(Fault::Refused(failed)),
     }

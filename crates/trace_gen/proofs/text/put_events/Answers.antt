@@ -1,6 +1,6 @@
 use Rattle.std.proofs.Common.{rules}
 use Rattle.psi_base.proofs.Grows.{PutsAll-failed}
-use Rattle.trace_gen.proofs.Sending.{front_sent, one_sent, rest_made}
+use Rattle.trace_gen.proofs.Sending.{front_sent, one_sent, rest_fit}
 use Rattle.trace_gen.proofs.text.put_events.Goals as goal
 
 pub returns-in_err-put_event-clause-bytes : goal.returns-in_err-put_event-clause-bytes
@@ -10,7 +10,8 @@ returns-in_err-put_event-clause-bytes g c =
 
 pub events-preserved : goal.events-preserved
 events-preserved g c = record {
-  made = rest_made c.events.generator c.in-Some.event c.next.new.self c.events.invariant.made c.in-Some.ensures;
+  fit = rest_fit c.events.generator c.in-Some.event c.next.new.self c.events.invariant.fit c.in-Some.ensures;
+  room = search rules;
   sent = one_sent (g.K.Sink.has c.args.out.now) (g.K.Sink.has c.events.out) (g.K.Sink.has c.put_event.new.out) c.in-Some.event c.events.generator c.next.new.self c.args.generator.now c.events.invariant.sent c.in-Some.ensures c.in_ok-put_event.ensures.bytes;
   cause = search rules;
   below = search rules;

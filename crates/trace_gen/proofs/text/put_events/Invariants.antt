@@ -1,13 +1,14 @@
-use Rattle.std.proofs.Common.{length}
-use Rattle.std.specs.Prelude.{Ok}
+use Rattle.std.proofs.Common.{◌≤◌, length}
+use Rattle.std.specs.Prelude.{Ok, vec_capacity}
 use Rattle.psi_base.specs.Outside.{HasCause, StaysOver}
-use Rattle.trace_gen.specs.Generating.{AreMade}
+use Rattle.psi_spec.specs.Trace.{AllFit}
 use Rattle.trace_gen.proofs.Sending.{AreSent}
 use Rattle.trace_gen.proofs.text.put_events.Given as goal
 
 abbrev pub invariant-events : goal.invariant-events
 invariant-events g l = record {
-  made : AreMade l.generator;
+  fit : AllFit l.generator;
+  room : 513 ≤ vec_capacity l.line;
   sent : AreSent (g.K.Sink.has l.fn.out) (g.K.Sink.has l.out) l.generator l.fn.generator;
   cause : HasCause {T = Unit {0}} {E = Unit {0}} (g.K.Sink.faults l.fn.out) (g.K.Sink.faults l.out) (Ok tt);
   below : StaysOver (g.K.Sink.below l.fn.out) (g.K.Sink.below l.out);

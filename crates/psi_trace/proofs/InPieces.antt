@@ -1,0 +1,33 @@
+-- Lines in their pieces.
+use Rattle.std.proofs.Common.{◌≡◌, ◌<◌, ◌≤◌, ◌+◌, ℕ, List, [], ◌∷◌, ◌++◌, length, drop, length-drop, sym, ap, arith, append_assoc, true}
+use Rattle.std.specs.Prelude.{decimal}
+use Rattle.std.proofs.lemmas.List.{append-nil, nil_from_length}
+use Rattle.psi_base.specs.declared.event.Event.{Event}
+use Rattle.psi_base.specs.Path.{is_path}
+use Rattle.psi_spec.specs.Fields as kind
+use Rattle.psi_spec.specs.Grammar.{joined, act_words, spelling}
+use Rattle.psi_spec.proofs.GrammarWords.{word_short}
+use Rattle.psi_trace.proofs.Headers.{header-prefix}
+use Rattle.psi_trace.specs.Writes.{spaced}
+
+joined-spaced : (text : List ℕ) (words : List (List ℕ)) → joined (text ∷ words) ≡ text ++ spaced words
+joined-spaced text [] = sym (append-nil text)
+joined-spaced text (next ∷ words) = ap (λ bytes. text ++ 32 ∷ bytes) (joined-spaced next words)
+
+-- an event is spelled by its time, and behind it its words with a space ahead of each
+pub spelling-spaced : (event : Event) → spelling event ≡ decimal event.at ++ spaced (act_words event.act)
+unfolding spelling
+spelling-spaced event = joined-spaced (decimal event.at) (act_words event.act)
+
+-- a path has at most 255 bytes
+pub path_short : (path : List ℕ) → is_path path ≡ true → length path ≤ 255
+path_short path is = word_short kind.path path is
+
+-- for lines written piece by piece
+pub ruleset lines = (append_assoc, append-nil, spelling-spaced, header-prefix, path_short)
+
+-- ---- the bytes of a line
+
+-- how many there are
+pub behind : (bytes now : List ℕ) (room start : ℕ) → length bytes ≡ room → start ≤ room → drop start bytes ≡ now → length now + start ≡ room
+behind bytes now room start wide inside is = let left = length-drop start bytes in let same = ap length is in omega (arith, left, same, wide, inside)
