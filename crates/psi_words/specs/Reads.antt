@@ -1,12 +1,11 @@
 -- What a call returned, against what a definition reads.
-use Rattle.std.specs.Prelude.{◌≡◌, ℕ, List, filter, map, Result, Ok, Err, Option, Some, None}
+use Rattle.std.specs.Prelude.{◌≡◌, ℕ, List, map, Result, Ok, Err, Option, Some, None}
 use Rattle.std.specs.Prelude.{IfSome, IsUtf8, ⊤}
 use Rattle.std.specs.Borrow.{Bor}
 use Rattle.psi_base.specs.declared.event.Fault.{Fault}
 use Rattle.psi_base.specs.declared.event.Fault.TheVariants.{Refused, NoMemory}
 use Rattle.run_spec.specs.declared.command.Command.{Command}
 use Rattle.run_spec.specs.declared.command.Command.TheVariants.{Stall, Check, Replay, Gen, Stress}
-use Rattle.run_spec.specs.Words.{Form, is_built, spelled, with_built_options}
 
 -- the call returned what is read, or an error where nothing is
 abbrev pub Finds : {A E : Type 0} → Result A E → Option A → Type 0
@@ -19,13 +18,9 @@ Reads (Ok x) read = read ≡ Some x
 Reads (Err (Refused why)) read = read ≡ None
 Reads (Err NoMemory) read = ⊤
 
--- those of the names that are built
-abbrev pub built_in : List (Bor (List ℕ)) → List (List ℕ)
-built_in names = filter is_built (map (λ name. name.now) names)
-
--- the command of this form that the words behind its own spell, where its options are those built
-abbrev pub by_form : Form → List (List ℕ) → Option Command
-by_form form words = spelled (with_built_options form) words
+-- the names that a list of texts has
+abbrev pub names_in : List (Bor (List ℕ)) → List (List ℕ)
+names_in names = map (λ name. name.now) names
 
 -- the names of files in a command are texts
 abbrev pub HasTextNames : Command → Type 0

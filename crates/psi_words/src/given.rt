@@ -4,10 +4,9 @@ ghost use Rattle.std.specs.Str.{bytes_eq};
 ghost use Rattle.clap.specs.Words.{app_of, rule_of};
 ghost use Rattle.psi_words.specs.Clap.{option_rule, positional_rule, plain_app, plain_shape};
 ghost use Rattle.psi_words.specs.Clap.{positional_id};
-ghost use Rattle.psi_words.specs.Reads.{built_in, Reads};
+ghost use Rattle.psi_words.specs.Reads.{names_in, Reads};
 ghost use Rattle.run_spec.specs.Words.{is_among, parted, value_of};
 
-use crate::built::is_built;
 use crate::words::BadWords;
 use clap::error::ErrorKind;
 use clap::{Arg, ArgMatches, Command};
@@ -43,15 +42,13 @@ fn empty<'a>(alloc: Global) -> Command<'a>
         .disable_help_flag(true)
 }
 
-// A command of clap with those of the options that are built, and a positional.
+// A command of clap with options of these names, and a positional.
 fn command<'a>(alloc: Global, names: &[&'a str]) -> Result<Command<'a>, AllocError>
-    ensures { IfOk result (λ command. app_of command ≡ plain_app (built_in names.now)) }
+    ensures { IfOk result (λ command. app_of command ≡ plain_app (names_in names.now)) }
 {
     let mut command = empty(alloc);
     'options: for name in names {
-        if is_built(name) {
-            command = command.arg(option(alloc, name))?;
-        }
+        command = command.arg(option(alloc, name))?;
     }
     command.arg(positional(alloc))
 }
@@ -75,15 +72,15 @@ impl<'a> Model for Parsed<'a> {
 }
 
 impl<'a> Parsed<'a> {
-    /// What words say, where options have those of the names that are built.
+    /// What words say, where options have these names.
     pub(crate) fn read(
         alloc: Global,
         names: &[&'a str],
         words: &'a [String],
     ) -> Result<Parsed<'a>, Fault<BadWords>>
-        requires { is_among positional_id (built_in names.now) ≡ false }
+        requires { is_among positional_id (names_in names.now) ≡ false }
         ensures { let texts = map string_bytes words.entry.now in
-            Reads result (parted (built_in names.now) None texts) }
+            Reads result (parted (names_in names.now) None texts) }
     {
         let command = match command(alloc, names) {
             Ok(command) => command,

@@ -1,7 +1,6 @@
 //! The words of a command line as a command, each command over one simple `clap` command.
 #![tactic(auto)]
 
-mod built;
 mod given;
 mod tables;
 mod values;

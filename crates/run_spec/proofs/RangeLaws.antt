@@ -1,8 +1,8 @@
 -- What holds of every command that words spell.
 use Rattle.std.proofs.Common.{◌≡◌, ◌≢◌, ℕ, ◌<◌, ◌≤◌, ◌^◌, ◌-◌, ◌∷◌, ◌&&◌, List, [], Bool, true}
-use Rattle.std.proofs.Common.{false, not, Option, Some, None, map, nat_le, refl, sym, ap, subst}
+use Rattle.std.proofs.Common.{false, not, Option, Some, None, nat_le, refl, sym, ap, subst}
 use Rattle.std.proofs.Common.{◌∙◌, true≢false, arith, if◌then◌else◌}
-use Rattle.std.specs.Prelude.{filter, find, IfSome, codes, is_some, ⊤}
+use Rattle.std.specs.Prelude.{find, IfSome, codes, is_some, ⊤}
 use Rattle.std.specs.Str.{bytes_eq}
 use Rattle.std.proofs.lemmas.Slice.Eq.{bytes_eq-Decides}
 use Rattle.psi_base.specs.Number.{number_of}
@@ -15,9 +15,8 @@ use Rattle.std.proofs.Common.{lit≤}
 use Rattle.run_spec.specs.Words.{◌>>=◌, Given, parted, value_of, is_name, number_within, number_or}
 use Rattle.run_spec.specs.Words.{needed, trace_of, rules_of, live_of, tick_of, workers_of}
 use Rattle.run_spec.specs.Words.{options_of, shape_of, stall_of, check_of, replay_of, gen_of}
-use Rattle.run_spec.specs.Words.{stress_of, Form, forms, is_built, with_built_options, built_forms}
-use Rattle.run_spec.specs.Words.{command_of, IsWithin, AreOptions, IsShape, IsCommand}
-use Rattle.run_spec.specs.Words.{SpelledInRange}
+use Rattle.run_spec.specs.Words.{stress_of, Form, forms, command_of, IsWithin, AreOptions, IsShape}
+use Rattle.run_spec.specs.Words.{IsCommand, SpelledInRange}
 
 -- a step that found something had something before it
 pub bind_some : {A B : Type 0} (r : Option A) (f : A → Option B) (y : B) → r >>= f ≡ Some y
@@ -210,19 +209,6 @@ abbrev pub OfEach : ((Given → Option Command) → Type 0) → List Form → Ty
 OfEach P [] = ⊤
 OfEach P (form ∷ forms) = P form.command × OfEach P forms
 
-built_too : (P : (Given → Option Command) → Type 0) (form : Form) (forms : List Form) (b : Bool)
-    → is_built form.word ≡ b → P form.command
-    → OfEach P (map with_built_options (filter (λ form. is_built form.word) forms))
-    → OfEach P (map with_built_options (filter (λ form. is_built form.word) (form ∷ forms)))
-built_too P form forms true is here others = rw is (here, others)
-built_too P form forms false is here others = rw is others
-
-pub each_built : (P : (Given → Option Command) → Type 0) (forms : List Form) → OfEach P forms
-    → OfEach P (map with_built_options (filter (λ form. is_built form.word) forms))
-each_built P [] each = tt
-each_built P (form ∷ forms) each =
-    built_too P form forms (is_built form.word) refl each.0 (each_built P forms each.1)
-
 found_here : (P : (Given → Option Command) → Type 0) (other form : Form) (rest : Option Form)
     (b : Bool) → (if b then Some other else rest) ≡ Some form → P other.command
     → (rest ≡ Some form → P form.command) → P form.command
@@ -249,8 +235,6 @@ pub command_ranges : SpelledInRange
 unfolding command_of
 command_ranges [] command is = absurd (true≢false (sym (ap is_some is)))
 command_ranges (first ∷ words) command is =
-    let form =
-    bind_some (find (λ (form : Form). bytes_eq first form.word) built_forms) _ command is in
+    let form = bind_some (find (λ (form : Form). bytes_eq first form.word) forms) _ command is in
     let given = bind_some (parted form.0.options None words) _ command form.2 in
-    each_found GivesCommands first built_forms form.0 (each_built GivesCommands forms all_ranges)
-    form.1 given.0 command given.2
+    each_found GivesCommands first forms form.0 all_ranges form.1 given.0 command given.2

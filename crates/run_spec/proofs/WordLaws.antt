@@ -12,9 +12,9 @@ use Rattle.run_spec.specs.Words.{◌>>=◌, Word, assigned, opened, end, plain, 
 use Rattle.run_spec.specs.Words.{is_among, is_equals, option_of, word_of, Given, value_of}
 use Rattle.run_spec.specs.Words.{with_option, with_positional, positionals, then_word, parted}
 use Rattle.run_spec.specs.Words.{options_of, shape_of, stall_of, check_of, replay_of, gen_of}
-use Rattle.run_spec.specs.Words.{stress_of, Form, forms, built_forms, command_of, assigned_word}
+use Rattle.run_spec.specs.Words.{stress_of, Form, forms, command_of, assigned_word}
 use Rattle.run_spec.specs.Words.{HasNoEquals, OrderIsFree, ValueMayFollow}
-use Rattle.run_spec.proofs.RangeLaws.{OfEach, each_built, each_found}
+use Rattle.run_spec.proofs.RangeLaws.{OfEach, each_found}
 
 -- ---- texts
 
@@ -357,15 +357,15 @@ same_command : (first : List ℕ) (one other : List (List ℕ))
     → command_of (first ∷ one) ≡ command_of (first ∷ other)
 unfolding command_of
 same_command first one other same =
-    go (find (λ (form : Form). bytes_eq first form.word) built_forms) refl
+    go (find (λ (form : Form). bytes_eq first form.word) forms) refl
   where
-    go : (r : Option Form) → find (λ (form : Form). bytes_eq first form.word) built_forms ≡ r
+    go : (r : Option Form) → find (λ (form : Form). bytes_eq first form.word) forms ≡ r
         → (r >>= λ form. parted form.options None one >>= λ given. form.command given)
         ≡ (r >>= λ form. parted form.options None other >>= λ given. form.command given)
     go None is = refl
     go (Some form) is =
         same_read form.command (parted form.options None one) (parted form.options None other)
-        (each_found Respects first built_forms form (each_built Respects forms all_respect) is)
+        (each_found Respects first forms form all_respect is)
         (same form.options)
 
 pub order_is_free : OrderIsFree

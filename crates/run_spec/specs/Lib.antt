@@ -2,6 +2,7 @@ pub mod Lines
 pub mod Text
 pub mod Words
 pub mod Generated
+pub mod Live
 pub mod Replay
 pub mod Outputs
 pub mod Status

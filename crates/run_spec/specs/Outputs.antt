@@ -9,7 +9,8 @@ use Rattle.run_spec.specs.declared.status.Which.{Which}
 use Rattle.run_spec.specs.declared.status.Which.TheVariants.{RulesFile, TraceFile}
 use Rattle.run_spec.specs.Text.{check_text, stall_text}
 use Rattle.run_spec.specs.Generated.{generated}
-use Rattle.run_spec.specs.Replay.{Pace, replay_text, stress_text, with_rules}
+use Rattle.run_spec.specs.Live.{Watch}
+use Rattle.run_spec.specs.Replay.{IsReplayText, Pace, stress_text}
 
 -- the name of the trace that a command reads, if it reads one
 abbrev pub trace_name : Command → Option (List ℕ)
@@ -43,12 +44,22 @@ tick_length (Check trace tick_ms) = of_ms tick_ms
 tick_length (Replay trace options) = of_ms options.tick_ms
 tick_length _ = of_s 2
 
+-- what is watched, if there is a path
+abbrev pub watch_of_path : ℕ → Option (List ℕ) → Option Watch
+watch_of_path count None = None
+watch_of_path count (Some path) = Some (record { path = path; count = count })
+
+-- what options have watched
+abbrev pub watch_of : Options → Option Watch
+watch_of options = watch_of_path options.live_count options.live
+
 -- how options have a trace replayed
 abbrev pub pace_of : Options → Pace
 pace_of options = record {
   length = of_ms options.tick_ms;
   report = of_s options.report_s;
   interval = of_s options.interval_s;
+  watch = watch_of options;
 }
 
 -- with what options `stress` replays: the defaults, but for reports at the last tick alone, and its
@@ -64,13 +75,14 @@ stress_options workers = record {
   live_count = 1;
 }
 
--- A text is the whole output of a command for an accepted trace and rulesets. `gen` and `stress` read
--- no file: theirs is the trace that their shape gives.
+-- A text is the whole output of a command for an accepted trace and rulesets. Of `replay` there may be more than one where a
+-- group is watched, since each live sample may be of any change in its interval. `gen` and `stress` read no file: theirs is
+-- the trace that their shape gives.
 abbrev pub IsOutput : Command → Trace → List Rule → List ℕ → Type 0
 IsOutput (Stall name) trace rules text = text ≡ stall_text trace
 IsOutput (Check name tick_ms) trace rules text = text ≡ check_text trace
 IsOutput (Replay name options) trace rules text =
-    text ≡ replay_text trace (pace_of options) (with_rules rules)
+    IsReplayText trace (pace_of options) rules text
 IsOutput (Gen shape) trace rules text = (trace ≡ generated shape) × (text ≡ text_of trace)
 IsOutput (Stress shape workers) trace rules text =
     (trace ≡ generated shape) × (text ≡ stress_text trace (pace_of (stress_options workers)))

@@ -1,6 +1,6 @@
 -- What `replay` prints: at each tick the signals of triggers, where an evaluation is due the kills of rules, and where a
 -- report is due the pressure files of all live groups.
-use Rattle.std.specs.Prelude.{ℕ, ◌-◌, List, [], ◌++◌, length, sum_by, ◌==◌, Option, None, Some, if◌then◌else◌, slice_get, codes}
+use Rattle.std.specs.Prelude.{◌≡◌, ℕ, ◌-◌, ◌≤◌, List, [], ◌++◌, length, sum_by, ◌==◌, Option, None, Some, if◌then◌else◌, slice_get, codes}
 use Rattle.std.specs.List.{flat_map, range_with_len}
 use Rattle.psi_base.specs.declared.event.Event.{Event}
 use Rattle.psi_base.specs.declared.event.Res.{Res}
@@ -19,13 +19,15 @@ use Rattle.kill_spec.specs.Kills as deciding
 use Rattle.kill_spec.specs.Evaluations.{reading_at, readings_until}
 use Rattle.run_spec.specs.Lines.{end_line, event_line, kill_line, report_text}
 use Rattle.run_spec.specs.Text.{end_of}
+use Rattle.run_spec.specs.Live.{IsLiveText, Watch}
 
--- How a trace is replayed: the length of a tick (ns), the period of reports (ns), 0 for none, and the interval of evaluations
--- (ns).
+-- How a trace is replayed: the length of a tick (ns), the period of reports (ns), 0 for none, the interval of evaluations (ns),
+-- and which group is watched, if one is.
 pub record Pace : Type 0 where
   pub length : ℕ
   pub report : ℕ
   pub interval : ℕ
+  pub watch : Option Watch
 
 -- What a replay has beside its trace: the lines of live samples at the tick with a number, and rulesets.
 pub record Beside : Type 0 where
@@ -127,6 +129,12 @@ last_line trace pace beside =
 -- the text of `replay`
 unfoldable pub replay_text : Trace → Pace → Beside → List ℕ
 replay_text trace pace beside = ticks_text trace pace beside (tick_count trace pace) ++ last_line trace pace beside
+
+-- A text is the whole output of `replay`: at each tick it has live lines that the tick may have.
+abbrev pub IsReplayText : Trace → Pace → List Rule → List ℕ → Type 0
+IsReplayText trace pace rules text =
+    (live : ℕ → List ℕ) × ((i : ℕ) → 1 ≤ i → i ≤ tick_count trace pace → IsLiveText trace pace.length pace.watch i (live i))
+    × (text ≡ replay_text trace pace (record { live = live; rules = rules }))
 
 -- ---- the end alone
 

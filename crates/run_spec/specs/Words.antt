@@ -1,7 +1,7 @@
 -- The command that words spell: the words are parted into options and a positional, and then each
 -- command has one table.
 use Rattle.std.specs.Prelude.{◌≡◌, ◌≢◌, ℕ, ◌-◌, ◌^◌, ◌≤◌, ◌<◌, List, [], ◌∷◌, ◌++◌, length, drop}
-use Rattle.std.specs.Prelude.{map, filter, find, nat_eq, nat_lt, nat_le, ◌==◌, ◌&&◌, not, Bool}
+use Rattle.std.specs.Prelude.{find, nat_eq, nat_lt, nat_le, ◌==◌, ◌&&◌, not, Bool}
 use Rattle.std.specs.Prelude.{true, false, if◌then◌else◌, codes, Option, None, Some, IfSome}
 use Rattle.std.specs.Prelude.{option_map, is_some}
 use Rattle.std.specs.List.{list_any, before_first, after_first, starts_with}
@@ -274,18 +274,6 @@ stress_form = record { word = codes "stress"; options = stress_options; command 
 abbrev pub forms : List Form
 forms = stall_form ∷ check_form ∷ replay_form ∷ gen_form ∷ stress_form ∷ []
 
--- the option of this name is built: the two of live samples aren't yet
-abbrev pub is_built : List ℕ → Bool
-is_built name = not (is_among name (codes "live" ∷ codes "live-count" ∷ []))
-
--- a command with those of its options that are built: once all are, `forms` stands in its place
-abbrev pub with_built_options : Form → Form
-with_built_options form = record form { options = filter is_built form.options }
-
--- the commands with what is built of them
-abbrev pub built_forms : List Form
-built_forms = map with_built_options forms
-
 -- the command of this form that the words behind its own spell
 abbrev pub spelled : Form → List (List ℕ) → Option Command
 spelled form words = do
@@ -296,7 +284,7 @@ spelled form words = do
 unfoldable pub command_of : List (List ℕ) → Option Command
 command_of [] = None
 command_of (first ∷ words) = do
-  form ← find (λ form. bytes_eq first form.word) built_forms
+  form ← find (λ form. bytes_eq first form.word) forms
   spelled form words
 
 -- ---- what holds of every command that words spell

@@ -47,6 +47,15 @@ replay|été/1 => replay été/1 none 2000 5 10 64 none 1
 replay|X|--workers=2 => replay X none 2000 5 10 2 none 1
 replay|--workers|1|X => replay X none 2000 5 10 1 none 1
 replay|X|--workers|64|--tick-ms=9 => replay X none 9 5 10 64 none 1
+replay|X|--live|/ => replay X none 2000 5 10 64 / 1
+replay|--live=/a|X => replay X none 2000 5 10 64 /a 1
+replay|X|--live=/a/b|--live-count|16 => replay X none 2000 5 10 64 /a/b 16
+replay|--live-count=2|X|--live|/a.b/c-d => replay X none 2000 5 10 64 /a.b/c-d 2
+replay|--live-count|1|--live|/|--|X => replay X none 2000 5 10 64 / 1
+replay|X|--live-count|3 => replay X none 2000 5 10 64 none 3
+replay|--live-count=16|X => replay X none 2000 5 10 64 none 16
+replay|--live|/a|--rules|R|--live-count|4|X|--interval-s=6|--workers=2|--report-s=7|--tick-ms=9 => replay X R 9 6 7 2 /a 4
+replay|--tick-ms=9|--report-s=7|X|--workers=2|--live-count=4|--interval-s|6|--rules=R|--live=/a => replay X R 9 6 7 2 /a 4
 gen|--seed=0|--cpus=1|--groups=1|--events=1 => gen 0 1 1 1
 gen|--seed|7|--cpus|8|--groups|12|--events|200000 => gen 7 8 12 200000
 gen|--events=0|--groups=0|--cpus=1|--seed=0 => gen 0 1 0 0
@@ -162,11 +171,37 @@ replay|X|--workers=2|--workers=2
 replay|X|--worker=2
 stall|X|--workers=2
 check|X|--workers=2
+replay|--live|/
+replay|X|--live
 replay|X|--live|a
-replay|X|--live=/
-replay|X|--live|/
-replay|X|--live-count=1
-replay|X|--live-count|1
+replay|X|--live=a/b
+replay|X|--live|/a/
+replay|X|--live|//
+replay|X|--live=/a/../b
+replay|X|--live=/a b
+replay|X|--live|
+replay|X|--live=
+replay|X|--live|-
+replay|X|--live|--|/
+replay|X|--live|/|--live|/
+replay|X|--live=/a|--live=/b
+replay|X|--live|/|--live-count
+replay|X|--live|/|--live-count|
+replay|X|--live|/|--live-count|0
+replay|X|--live|/|--live-count=17
+replay|X|--live|/|--live-count|01
+replay|X|--live|/|--live-count=-1
+replay|X|--live-count=0
+replay|X|--live-count|17
+replay|X|--live-count=01
+replay|X|--live-count=1|--live-count=1
+replay|X|--live-counts=1
+replay|X|--lives=/
+replay|X|--liv=/
+stall|X|--live|/
+stall|X|--live-count=1
+check|X|--live|/
+check|X|--live-count|1
 replay|X|--drop-in|F
 gen
 gen|X
@@ -186,12 +221,16 @@ gen|--seed=0|--cpus=1|--groups=1|--events=1|-
 gen|--seed=0|--cpus=1|--groups=1|--events=1|--seed=0
 gen|--seed=0|--cpus=1|--groups=1|--events=1|--workers=2
 gen|--seed=0|--cpus=1|--groups=1|--events=1|--tick-ms=5
+gen|--seed=0|--cpus=1|--groups=1|--events=1|--live|/
+gen|--seed=0|--cpus=1|--groups=1|--events=1|--live-count=1
 stress
 stress|X
 stress|--cpus=1|--groups=1|--events=1|--workers=2
 stress|--seed=0|--cpus=1|--groups=1|--events=1|--workers=0
 stress|--seed=0|--cpus=1|--groups=1|--events=1|--workers=65
 stress|--seed=0|--cpus=1|--groups=1|--events=1|--report-s=5
+stress|--seed=0|--cpus=1|--groups=1|--events=1|--live|/
+stress|--seed=0|--cpus=1|--groups=1|--events=1|--live-count=1
 stress|--seed=0|--cpus=1|--groups=1|--events=1|--|X
 import|X
 rules|X
