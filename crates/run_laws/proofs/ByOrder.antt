@@ -1,8 +1,8 @@
 -- The reports of a tick by one order of all slots.
-use Rattle.std.proofs.Common.{◌≡◌, ℕ, List, [], ◌∷◌, ◌++◌, map, refl, sym, ap, ◌∙◌, Bool, true, false, cond}
+use Rattle.std.proofs.Common.{◌≡◌, ℕ, List, [], ◌∷◌, ◌++◌, map, refl, ap, ◌∙◌, Bool, true, false, cond}
 use Rattle.std.specs.Prelude.{filter, if◌then◌else◌}
 use Rattle.std.specs.List.{flat_map}
-use Rattle.psi_spec.specs.Groups.{is_live_at, path_at}
+use Rattle.psi_spec.specs.Groups.{is_live_at}
 use Rattle.pressure_spec.specs.Samples.{life_of}
 use Rattle.pressure_spec.specs.Ticks.{tick_moment}
 use Rattle.psi_laws.specs.Moments.{is_live_slot, with_path}

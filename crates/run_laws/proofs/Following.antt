@@ -1,7 +1,6 @@
 -- The ticks of legal events come one after another.
-use Rattle.std.proofs.Common.{◌≡◌, ℕ, zero, suc, ◌+◌, ◌-◌, ◌*◌, ◌<◌, ◌≤◌, List, [], ◌∷◌, ◌++◌, length, map, get_or, refl, sym, ap, ◌∙◌, subst, arith, ◌⊎◌, ⊎_elim, replicate}
+use Rattle.std.proofs.Common.{◌≡◌, ℕ, zero, suc, ◌+◌, ◌-◌, ◌<◌, ◌≤◌, List, [], ◌∷◌, ◌++◌, length, map, refl, sym, ap, ◌∙◌, subst, arith, ◌⊎◌, ⊎_elim, replicate}
 use Rattle.std.specs.Prelude.{slice_index, slice_index_or}
-use Rattle.std.specs.List.{range_with_len}
 use Rattle.std.proofs.lemmas.List.{get_or-replicate, get_or_past}
 use Rattle.std.proofs.lemmas.List.FromFn.{get_or-map-range_with_len, length-map-range_with_len}
 use Rattle.psi_base.specs.declared.event.Event.{Event}
@@ -11,7 +10,7 @@ use Rattle.psi_spec.specs.Refusal.{AreLegal}
 use Rattle.psi_spec.specs.Stall.{stall, states}
 use Rattle.psi_spec.specs.World.{Limits, after, first_world, up_to}
 use Rattle.psi_spec.specs.Trace.{last_moment, longest_tick}
-use Rattle.pressure_spec.specs.Ticks.{IsNextTick, Tick, last_tick, no_row, no_tick, row_until, table_until, tick_moment, tick_of, ticks_of, time_in, times_until}
+use Rattle.pressure_spec.specs.Ticks.{IsNextTick, Tick, last_tick, no_row, row_until, table_until, tick_moment, tick_of, ticks_of, time_in, times_until}
 use Rattle.psi_laws.proofs.MomentsStall.{stall_grows, stall_is_within}
 use Rattle.run_laws.specs.Ticking.{TicksFollow, before_ticks}
 use Rattle.run_laws.proofs.OneMore.{ticks_more}

@@ -1,11 +1,10 @@
 -- One tick more.
-use Rattle.std.proofs.Common.{◌≡◌, ℕ, zero, suc, ◌+◌, List, [], ◌∷◌, ◌++◌, length, map, refl, sym, ap, ◌∙◌, arith}
+use Rattle.std.proofs.Common.{◌≡◌, ℕ, zero, suc, ◌+◌, [], ◌∷◌, ◌++◌, length, map, refl, ap, ◌∙◌, arith}
 use Rattle.std.specs.Prelude.{sum_by}
 use Rattle.std.specs.List.{flat_map, range_with_len}
 use Rattle.std.proofs.lemmas.List.Sums.{sum_by-append}
 use Rattle.std.proofs.lemmas.List.{append-nil, map-append}
 use Rattle.std.proofs.lemmas.Grind.{flat_map-append}
-use Rattle.psi_base.specs.declared.event.Event.{Event}
 use Rattle.pressure_spec.specs.Ticks.{tick_of, ticks_of}
 use Rattle.run_spec.specs.Replay.{fired_in, kills_in, tick_text}
 use Rattle.run_laws.specs.Ticking.{KillsMore, SignalsMore, TextMore, TicksMore}

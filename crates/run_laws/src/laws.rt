@@ -1,4 +1,5 @@
 //! Laws of what a replay prints. Each function has an empty body: its contract is the law.
+ghost use Rattle.run_laws.specs.Live.{NoTextAtFirst, OneTextMore, OneTextUnwatched, SlotByLives, TextsGoOn, WholeText};
 ghost use Rattle.run_laws.specs.Reports.{ReportsByOrder};
 ghost use Rattle.run_laws.specs.Ticking.{KillsMore, SignalsMore, TextMore, TicksFollow, TicksMore};
 
@@ -18,4 +19,23 @@ pub fn law_one_tick_more()
 /// The reports of a tick are those of the slots that are live then, in one order of all slots by path.
 pub fn law_reports()
     ensures { ReportsByOrder }
+{}
+
+/// Which slot a path has at a moment is told by the lives of all groups.
+pub fn law_live_slot()
+    ensures { SlotByLives }
+{}
+
+/// Lines with live samples, tick by tick: a tick more, the end behind all ticks, an output that goes on from some ticks, and
+/// none before the first.
+pub fn law_live_texts()
+    ensures more { OneTextMore }
+    ensures whole { WholeText }
+    ensures on { TextsGoOn }
+    ensures none { NoTextAtFirst }
+{}
+
+/// Where no group is watched there is one output.
+pub fn law_unwatched()
+    ensures { OneTextUnwatched }
 {}

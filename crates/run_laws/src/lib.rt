@@ -3,4 +3,6 @@
 
 mod laws;
 
-pub use laws::{law_next_tick, law_one_tick_more, law_reports};
+pub use laws::{
+    law_live_slot, law_live_texts, law_next_tick, law_one_tick_more, law_reports, law_unwatched,
+};
