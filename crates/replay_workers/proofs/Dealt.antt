@@ -12,8 +12,9 @@ use Rattle.psi_laws.specs.Plan.{IsPlan, PlanView, changes_up_to, last_change, no
 use Rattle.proc_plan.specs.Clocks.{OnPlan}
 use Rattle.proc_plan.specs.Plans.{PlansView, plan_at}
 use Rattle.replay_workers.specs.declared.ticks.Ticks.{Ticks}
-use Rattle.replay_workers.specs.Crew.{AreAt, AreBehind, AreOnPlans, CrewView, IsRoom, clocks_at, last_of, moment_in, moments_of, times_by}
-use Rattle.replay_workers.specs.Lanes.{AreKept, AreNewBatches, HasGone, HaveAllGone, HaveGone, IsBatchOf, IsCrew, IsLaneOf, KeepsTicks, LaneView, MayAllGo, batch_at, clocks_of, crew_of, kept_at, lane_at, lane_of, no_lane, no_ticks}
+use Rattle.replay_workers.specs.Crew.{AreAt, AreBehind, AreOnPlans, CrewView, clocks_at, last_of, moment_in, moments_of, room_of, times_by}
+use Rattle.replay_workers.specs.Lanes.{AreKept, AreNewBatches, HasGone, HaveAllGone, HaveGone, IsBatchOf, AreLanes, IsLaneOf, KeepsTicks, LaneView, MayAllGo, batch_at, clocks_of, kept_at, lane_at, lane_of, no_lane, no_ticks}
+use Rattle.replay_workers.specs.Watches.{WatcherView, crew_of}
 use Rattle.replay_workers.proofs.Steps.{places_end}
 
 -- ---- places
@@ -31,12 +32,12 @@ lane_of_place batches worker k below =
     ∙ ap (lane_at (batch_at batches worker)) (div-mul-add k (length batches) worker below)
 
 -- the lane of each processor is there
-pub lane_there : (plans : PlansView) (batches : List (List LaneView)) (ticks : Ticks) (out room cpu : ℕ) → IsCrew plans batches ticks out room → cpu < length plans.plans → cpu / length batches < length (batch_at batches (cpu % length batches))
+pub lane_there : (plans : PlansView) (batches : List (List LaneView)) (ticks : Ticks) (out room cpu : ℕ) → AreLanes plans batches ticks out room → cpu < length plans.plans → cpu / length batches < length (batch_at batches (cpu % length batches))
 lane_there plans batches ticks out room cpu is below =
     (is.each (cpu % length batches) (mod-lt cpu is.some)).all (cpu / length batches) (subst (λ c. c < length plans.plans) (sym (place_is cpu (length batches))) below)
 
 -- it is the processor's
-pub lane_is : (plans : PlansView) (batches : List (List LaneView)) (ticks : Ticks) (out room cpu : ℕ) → IsCrew plans batches ticks out room → cpu < length plans.plans → IsLaneOf plans ticks room cpu (lane_of batches cpu)
+pub lane_is : (plans : PlansView) (batches : List (List LaneView)) (ticks : Ticks) (out room cpu : ℕ) → AreLanes plans batches ticks out room → cpu < length plans.plans → IsLaneOf plans ticks room cpu (lane_of batches cpu)
 lane_is plans batches ticks out room cpu is below =
     subst (λ c. IsLaneOf plans ticks room c (lane_of batches cpu)) (place_is cpu (length batches))
     ((is.each (cpu % length batches) (mod-lt cpu is.some)).each (cpu / length batches) (lane_there plans batches ticks out room cpu is below))
@@ -61,7 +62,7 @@ pub clocks_are : (batches : List (List LaneView)) (cpus cpu : ℕ) → cpu < cpu
 clocks_are batches cpus cpu below = get_or-map-range_with_len (λ cpu. (lane_of batches cpu).on) 0 cpus cpu cpu (record { plan = no_plan; made = 0 }) below (omega arith)
 
 -- the clocks of a crew are on the plans
-pub on_plans : (plans : PlansView) (batches : List (List LaneView)) (ticks : Ticks) (out room : ℕ) → IsCrew plans batches ticks out room → AreOnPlans plans (clocks_of batches (length plans.plans))
+pub on_plans : (plans : PlansView) (batches : List (List LaneView)) (ticks : Ticks) (out room : ℕ) → AreLanes plans batches ticks out room → AreOnPlans plans (clocks_of batches (length plans.plans))
 on_plans plans batches ticks out room is =
     let many = clocks_many batches (length plans.plans) in
     record {
@@ -75,7 +76,7 @@ on_plans plans batches ticks out room is =
 
 -- ---- before a fork
 
-batch_may_go : (plans : PlansView) (batches : List (List LaneView)) (old ticks : Ticks) (out room : ℕ) → IsCrew plans batches old out room → ticks.count ≤ room → AreBehind plans (clocks_of batches (length plans.plans)) ticks.first
+batch_may_go : (plans : PlansView) (batches : List (List LaneView)) (old ticks : Ticks) (out room : ℕ) → AreLanes plans batches old out room → ticks.count ≤ room → AreBehind plans (clocks_of batches (length plans.plans)) ticks.first
     → (worker : ℕ) → worker < length batches → MayAllGo ticks (batch_at batches worker)
 batch_may_go plans batches old ticks out room is within behind worker below = λ k inside.
     let lane = lane_at (batch_at batches worker) k in
@@ -91,7 +92,7 @@ batch_may_go plans batches old ticks out room is within behind worker below = λ
     }
 
 -- each lane of a crew may go over ticks, where no clock is ahead of the first
-pub may_go : (plans : PlansView) (batches : List (List LaneView)) (old ticks : Ticks) (out room : ℕ) → IsCrew plans batches old out room → ticks.count ≤ room → AreBehind plans (clocks_of batches (length plans.plans)) ticks.first
+pub may_go : (plans : PlansView) (batches : List (List LaneView)) (old ticks : Ticks) (out room : ℕ) → AreLanes plans batches old out room → ticks.count ≤ room → AreBehind plans (clocks_of batches (length plans.plans)) ticks.first
     → All (MayAllGo ticks) batches
 may_go plans batches old ticks out room is within behind = λ worker d below.
     subst (MayAllGo ticks) (get_or_default batches worker [] d below) (batch_may_go plans batches old ticks out room is within behind worker below)
@@ -118,7 +119,7 @@ batch_gone plans before ticks room workers worker old new is gone = record {
 }
 
 -- a crew whose batches went over ticks is one
-pub crew_gone : (plans : PlansView) (old new : List (List LaneView)) (before ticks : Ticks) (out room : ℕ) → IsCrew plans old before out room → ticks.count ≤ room → HaveAllGone ticks old new → IsCrew plans new ticks 0 room
+pub crew_gone : (plans : PlansView) (old new : List (List LaneView)) (before ticks : Ticks) (out room : ℕ) → AreLanes plans old before out room → ticks.count ≤ room → HaveAllGone ticks old new → AreLanes plans new ticks 0 room
 crew_gone plans old new before ticks out room is within gone = record {
   some = subst (λ n. 0 < n) (sym gone.many) is.some;
   roomy = is.roomy;
@@ -132,14 +133,14 @@ crew_gone plans old new before ticks out room is within gone = record {
 }
 
 -- so went the lane of each processor
-gone_there : (plans : PlansView) (old new : List (List LaneView)) (before ticks : Ticks) (out room cpu : ℕ) → IsCrew plans old before out room → HaveAllGone ticks old new → cpu < length plans.plans → HasGone ticks (lane_of old cpu) (lane_of new cpu)
+pub gone_there : (plans : PlansView) (old new : List (List LaneView)) (before ticks : Ticks) (out room cpu : ℕ) → AreLanes plans old before out room → HaveAllGone ticks old new → cpu < length plans.plans → HasGone ticks (lane_of old cpu) (lane_of new cpu)
 gone_there plans old new before ticks out room cpu is gone below =
     let there = lane_there plans old before out room cpu is below in
     let at_old = (gone.each (cpu % length old) (mod-lt cpu is.some)).each (cpu / length old) there in
     subst (λ n. HasGone ticks (lane_of old cpu) (lane_at (batch_at new (cpu % n)) (cpu / n))) (sym gone.many) at_old
 
 -- and all clocks are at the last tick
-pub gone_at : (plans : PlansView) (old new : List (List LaneView)) (before ticks : Ticks) (out room : ℕ) → IsCrew plans old before out room → ticks.count ≤ room → HaveAllGone ticks old new → AreAt plans (clocks_of new (length plans.plans)) (last_of ticks)
+pub gone_at : (plans : PlansView) (old new : List (List LaneView)) (before ticks : Ticks) (out room : ℕ) → AreLanes plans old before out room → ticks.count ≤ room → HaveAllGone ticks old new → AreAt plans (clocks_of new (length plans.plans)) (last_of ticks)
 gone_at plans old new before ticks out room is within gone =
     let cpus = length plans.plans in
     let many = clocks_many new cpus in
@@ -160,7 +161,7 @@ gone_at plans old new before ticks out room is within gone =
 -- ---- tables
 
 -- the times of all processors are kept for each tick that isn't handed out
-pub are_kept : (plans : PlansView) (batches : List (List LaneView)) (ticks : Ticks) (out room : ℕ) → IsCrew plans batches ticks out room → out < ticks.count → AreKept plans batches out (moment_in ticks out)
+pub are_kept : (plans : PlansView) (batches : List (List LaneView)) (ticks : Ticks) (out room : ℕ) → AreLanes plans batches ticks out room → out < ticks.count → AreKept plans batches out (moment_in ticks out)
 are_kept plans batches ticks out room is left = λ cpu below.
     let lane = lane_is plans batches ticks out room cpu is below in
     let within = is.within in
@@ -194,13 +195,14 @@ ready_less (suc out) (x ∷ xs) =
     ap (λ n. drop n (x ∷ xs)) next ∙ ready_less out xs
 
 -- a crew of which one table more was handed out, as contracts see it
-pub crew_less : (plans : PlansView) (batches : List (List LaneView)) (ticks : Ticks) (out room : ℕ) (old : CrewView) → crew_of plans batches ticks out room ≡ old → crew_of plans batches ticks (out + 1) room ≡ record old { ready = drop 1 old.ready }
-crew_less plans batches ticks out room old same =
-    ap (λ ready. let crew : CrewView = record { plans = plans; clocks = clocks_of batches (length plans.plans); ready = ready; room = room } in crew) (ready_less out (moments_of ticks))
+pub crew_less : (plans : PlansView) (batches : List (List LaneView)) (ticks : Ticks) (out room asked : ℕ) (watchers : List WatcherView) (old : CrewView) → crew_of plans batches ticks out room asked watchers ≡ old
+    → crew_of plans batches ticks (out + 1) room asked watchers ≡ record old { ready = drop 1 old.ready }
+crew_less plans batches ticks out room asked watchers old same =
+    ap (λ ready. let crew : CrewView = record (crew_of plans batches ticks out room asked watchers) { ready = ready } in crew) (ready_less out (moments_of ticks))
     ∙ ap (λ (view : CrewView). let crew : CrewView = record view { ready = drop 1 view.ready } in crew) same
 
 -- a crew of which one table more was handed out is one
-pub handed_out : (plans : PlansView) (batches : List (List LaneView)) (ticks : Ticks) (out room : ℕ) → IsCrew plans batches ticks out room → out < ticks.count → IsCrew plans batches ticks (out + 1) room
+pub handed_out : (plans : PlansView) (batches : List (List LaneView)) (ticks : Ticks) (out room : ℕ) → AreLanes plans batches ticks out room → out < ticks.count → AreLanes plans batches ticks (out + 1) room
 handed_out plans batches ticks out room is left = record {
   some = is.some;
   roomy = is.roomy;
@@ -213,7 +215,7 @@ handed_out plans batches ticks out room is left = record {
 -- ---- a new crew
 
 -- the batches of new workers are a crew
-pub crew_new : (plans : PlansView) (batches : List (List LaneView)) (workers room : ℕ) → AreNewBatches plans room workers batches → 0 < workers → 1 ≤ room → room < 2 ^ 32 → IsCrew plans batches no_ticks 0 room
+pub crew_new : (plans : PlansView) (batches : List (List LaneView)) (workers room : ℕ) → AreNewBatches plans room workers batches → 0 < workers → 1 ≤ room → room < 2 ^ 32 → AreLanes plans batches no_ticks 0 room
 crew_new plans batches workers room new some roomy countable = record {
   some = subst (λ n. 0 < n) (sym new.many) some;
   roomy = roomy;
@@ -248,21 +250,23 @@ new_lane plans room cpu number lane same below own on size whole slots =
 
 -- ---- room
 
--- so many ticks are room for, where so many bytes fit
-pub room_is : (cpus slots moments fits room : ℕ) → fits ≡ 64000000 / max (56 * (slots * cpus)) 1 → room ≡ max (min fits moments) 1 → IsRoom room cpus slots moments
-room_is cpus slots moments fits room few is =
+-- what is kept takes few bytes, or is that of one tick
+pub room_is : (cpus slots moments : ℕ) → (1 ≤ room_of cpus slots moments) × (room_of cpus slots moments ≤ max moments 1) × ((56 * (room_of cpus slots moments * slots * cpus) ≤ 64000000) ⊎ (room_of cpus slots moments ≡ 1))
+room_is cpus slots moments =
     let bytes = 56 * (slots * cpus) in
-    let case : (room ≡ 1) ⊎ (room ≤ fits) = grind (arith, is) in
-    record {
-      some = grind (arith, is);
-      within = grind (arith, is);
-      small = ⊎_elim (λ one. inr one)
+    let fits = 64000000 / max bytes 1 in
+    let room = room_of cpus slots moments in
+    let is : room ≡ max (min fits moments) 1 = refl in
+    let case : (room ≡ 1) ⊎ (room ≤ fits) = grind (arith, is) in (
+      grind (arith, is),
+      grind (arith, is),
+      ⊎_elim (λ one. inr one)
           (λ below.
-          let most : fits * max bytes 1 ≤ 64000000 = rw few (div-mul-le_self 64000000 (max bytes 1)) in
+          let most : fits * max bytes 1 ≤ 64000000 = div-mul-le_self 64000000 (max bytes 1) in
           let more : bytes ≤ max bytes 1 = grind arith in
           let one : room * bytes ≤ fits * bytes = mul-le-mul_right bytes below in
           let two : fits * bytes ≤ fits * max bytes 1 = mul-le-mul_left fits more in
           let same : 56 * (room * slots * cpus) ≡ room * bytes = grind arith in
           inl (omega (arith, most, one, two, same)))
-          case;
-    }
+          case,
+    )

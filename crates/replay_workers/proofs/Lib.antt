@@ -1,3 +1,5 @@
 pub mod Tables
 pub mod Steps
 pub mod Dealt
+mod Tries
+mod Watched

@@ -25,6 +25,20 @@ each_more P xs x d before here k below =
     (λ new. subst (P k) (sym (get_or_push xs x d k (sym new))) (subst (λ n. P n x) (sym new) here))
     case
 
+-- what holds of each before a place and of what is put there, next to how it was
+pub each_changed : {X : Type 0} → (R : ℕ → X → X → Type 0) (start now : List X) (place : ℕ) (x d : X) → place < length now → ((k : ℕ) → k < place → R k (get_or start k d) (get_or now k d)) → R place (get_or start place d) x
+    → (k : ℕ) → k < place + 1 → R k (get_or start k d) (get_or (set now place x) k d)
+each_changed R start now place x d inside before here k below =
+    let case : (k < place) ⊎ (k ≡ place) = grind (arith, below) in
+    ⊎_elim
+    (λ old. subst (R k (get_or start k d)) (sym (get_or-set_other now place k x d (λ same. omega (arith, same, old)))) (before k old))
+    (λ new. subst (λ n. R n (get_or start n d) (get_or (set now place x) n d)) (sym new) (subst (R place (get_or start place d)) (sym (get_or-set_same now place x d inside)) here))
+    case
+
+-- what stands behind the place is as it was
+pub left_changed : {X : Type 0} → (start now : List X) (place : ℕ) (x d : X) → ((k : ℕ) → place ≤ k → get_or now k d ≡ get_or start k d) → (k : ℕ) → place + 1 ≤ k → get_or (set now place x) k d ≡ get_or start k d
+left_changed start now place x d left k behind = get_or-set_other now place k x d (λ same. omega (arith, same, behind)) ∙ left k (omega (arith, behind))
+
 -- ---- changes
 
 one_change : (moment at later : ℕ) → at ≤ later → cond (nat_le moment at) 1 0 ≤ cond (nat_le moment later) 1 0

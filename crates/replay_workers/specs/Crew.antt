@@ -1,13 +1,19 @@
 -- The clocks of all processors, how far they came, and the table of times that they give at a moment.
-use Rattle.std.specs.Prelude.{◌≡◌, ◌⊎◌, ℕ, ◌+◌, ◌-◌, ◌*◌, ◌<◌, ◌≤◌, List, length, map, max, slice_index_or}
-use Rattle.std.specs.List.{range_with_len}
+use Rattle.std.specs.Prelude.{◌≡◌, ◌⊎◌, ℕ, ◌+◌, ◌-◌, ◌*◌, ◌/◌, ◌<◌, ◌≤◌, List, [], length, map, max, min, slice_index_or, Option, None, Some}
+use Rattle.std.specs.List.{All, range_with_len}
+use Rattle.psi_base.specs.declared.event.Slot.{Slot}
 use Rattle.psi_base.specs.declared.event.Event.{Event}
 use Rattle.psi_spec.specs.Refusal.{AreLegal}
 use Rattle.psi_spec.specs.World.{Limits, first_world}
-use Rattle.psi_laws.specs.Plan.{IsPlan, PlanView, changes_up_to, last_change, no_plan, planned}
+use Rattle.psi_spec.specs.Changes.{RiseWithin}
+use Rattle.psi_laws.specs.Plan.{IsClock, IsPlan, PlanView, changes_up_to, last_change, no_plan, planned}
 use Rattle.pressure_spec.specs.Ticks.{table_until}
 use Rattle.proc_plan.specs.Clocks.{OnPlan}
 use Rattle.proc_plan.specs.Plans.{PlansView, StandFor, plan_at}
+use Rattle.clock_row.specs.declared.reader.Sample.{Sample}
+use Rattle.clock_row.specs.declared.view.ReaderView.{ReaderView}
+use Rattle.clock_row.specs.Steps.{new_reader}
+use Rattle.clock_row.specs.Tries.{IsTried}
 use Rattle.aggregate.specs.Table.{HasSizes, times_at}
 use Rattle.replay_workers.specs.declared.ticks.Ticks.{Ticks}
 
@@ -27,24 +33,30 @@ last_of ticks = moment_in ticks (ticks.count - 1)
 
 -- ---- crews
 
--- A crew: the plans of a trace, the clocks of each processor, the moments (ns) whose tables are ready to be handed out, and
--- over how many ticks it may go at once.
+-- what is watched of a processor: the live samples of the last interval, and what the reader that takes them knows
+pub record WatchView : Type 0 where
+  pub samples : List Sample
+  pub reader : ReaderView
+
+-- A crew: the plans of a trace, the clocks of each processor, the moments (ns) whose tables are ready to be handed out, over
+-- how many ticks it may go at once, how many live samples it takes of a processor in an interval, and what is watched of each
+-- processor, where it takes any.
 pub record CrewView : Type 0 where
   pub plans : PlansView
   pub clocks : List OnPlan
   pub ready : List ℕ
   pub room : ℕ
+  pub asked : ℕ
+  pub watches : List WatchView
 
 -- the most bytes that the times take that are kept for ticks ahead, where they can be so few: 64 MB
 abbrev pub most_kept : ℕ
 most_kept = 64000000
 
--- A crew of so many processors and groups may go over so many ticks at once, where a trace is taken to so many moments: over
--- one at least, over no more than there are, and over no more than can be kept in 56 bytes a tick, group and processor.
-pub record IsRoom (room cpus slots moments : ℕ) : Type 0 where
-  pub some : 1 ≤ room
-  pub within : room ≤ max moments 1
-  pub small : (56 * (room * slots * cpus) ≤ most_kept) ⊎ (room ≡ 1)
+-- Over how many ticks a crew of so many processors and groups goes at once, where a trace is taken to so many moments: over as
+-- many as can be kept in 56 bytes a tick, group and processor, and no more than there are, but over one at least.
+abbrev pub room_of : ℕ → ℕ → ℕ → ℕ
+room_of cpus slots moments = max (min (most_kept / max (56 * (slots * cpus)) 1) moments) 1
 
 -- the clocks of a processor, by its number
 abbrev pub clocks_at : List OnPlan → ℕ → OnPlan
@@ -72,12 +84,48 @@ pub record AreAt (plans : PlansView) (clocks : List OnPlan) (at : ℕ) : Type 0 
 abbrev pub times_by : PlanView → ℕ → ℕ → List ℕ
 times_by plan slot at = planned plan slot (changes_up_to plan at) at
 
+-- ---- live samples
+
+-- what is watched of a processor, by its number; of one without a reader nothing is
+abbrev pub watch_at : List WatchView → ℕ → WatchView
+watch_at watches cpu = slice_index_or watches cpu (record { samples = []; reader = new_reader no_plan 0 })
+
+-- after how many changes samples were taken
+abbrev pub counts_of : List Sample → List ℕ
+counts_of samples = map (λ (sample : Sample). sample.count) samples
+
+-- A reader took so many samples of a slot's clocks on a processor, beside the changes from one number to another: each is the
+-- clock after its number of changes, these numbers never fall and lie between the two, and the reader took them by its own
+-- tries, the first of them after the writer's own clock.
+pub record IsSampled (plan : PlanView) (slot asked before now : ℕ) (old new : WatchView) : Type 0 where
+  pub many : length new.samples ≡ asked
+  pub clocks : All (λ (sample : Sample). IsClock sample.clock plan slot sample.count) new.samples
+  pub rise : RiseWithin before (counts_of new.samples) now
+  pub tried : IsTried (counts_of new.samples) before old.reader new.reader
+
+-- Where a slot is watched, so many samples of it were taken on each processor, beside the changes that were made; else there is
+-- none.
+abbrev pub AreSampled : Option Slot → CrewView → CrewView → Type 0
+AreSampled None old new = (cpu : ℕ) → (watch_at new.watches cpu).samples ≡ []
+AreSampled (Some slot) old new = (cpu : ℕ) → cpu < length old.plans.plans →
+    IsSampled (plan_at old.plans cpu) slot.0 old.asked (clocks_at old.clocks cpu).made (clocks_at new.clocks cpu).made
+    (watch_at old.watches cpu) (watch_at new.watches cpu)
+
+-- ---- tables
+
 -- A table of so many processors and slots has the times of each processor at a moment, by its plan.
 pub record IsTableAt (table : List (List (List ℕ))) (plans : PlansView) (at : ℕ) : Type 0 where
   pub sizes : HasSizes (length plans.plans) (length plans.lives) table
   pub times : (slot cpu : ℕ) → slot < length plans.lives → cpu < length plans.plans → times_at table slot cpu ≡ times_by (plan_at plans cpu) slot at
 
 -- ---- laws
+
+-- What a crew keeps takes at most 64 MB, or is that of one tick; and it goes over one tick at least, and over no more than there
+-- are.
+abbrev pub RoomIsSmall : Type 0
+RoomIsSmall = (cpus slots moments : ℕ) →
+    (1 ≤ room_of cpus slots moments) × (room_of cpus slots moments ≤ max moments 1)
+    × ((56 * (room_of cpus slots moments * slots * cpus) ≤ most_kept) ⊎ (room_of cpus slots moments ≡ 1))
 
 -- The table at a moment by the plans of legal events is the table of their stall times.
 abbrev pub TableIsOfEvents : Type 0

@@ -1,24 +1,35 @@
 -- The lanes of a crew, one for each processor, and how they are dealt to batches, one for each worker that has a lane.
-use Rattle.std.specs.Prelude.{◌≡◌, ◌≢◌, ℕ, ◌+◌, ◌*◌, ◌/◌, ◌%◌, ◌^◌, ◌<◌, ◌≤◌, List, [], drop, length, map, slice_index_or}
+use Rattle.std.specs.Prelude.{◌≡◌, ◌≢◌, ℕ, ◌+◌, ◌*◌, ◌/◌, ◌%◌, ◌^◌, ◌<◌, ◌≤◌, List, [], length, map, slice_index_or}
 use Rattle.std.specs.List.{range_with_len}
 use Rattle.psi_laws.specs.Plan.{IsPlan, PlanView, changes_up_to, last_change, no_plan}
+use Rattle.atomic_table.specs.Seated.{TableId}
 use Rattle.proc_plan.specs.Clocks.{OnPlan}
 use Rattle.proc_plan.specs.Plans.{PlansView, plan_at}
+use Rattle.clock_row.specs.Ends.{WriterEnd}
 use Rattle.aggregate.specs.Table.{times_at}
 use Rattle.replay_workers.specs.declared.ticks.Ticks.{Ticks}
-use Rattle.replay_workers.specs.Crew.{CrewView, last_of, moment_in, moments_of, times_by}
+use Rattle.replay_workers.specs.Crew.{last_of, moment_in, times_by}
 
 -- ---- one processor
 
--- A lane: a processor's number, its clocks, and the times (ns) that it keeps, tick by tick and slot by slot.
+-- the clocks of the writer of a row
+abbrev pub on_of : WriterEnd → OnPlan
+on_of writer = record { plan = writer.knows.plan; made = writer.knows.count }
+
+-- A lane: a processor's number, the row of its clocks, these, and the times (ns) that it keeps, tick by tick and slot by slot.
 pub record LaneView : Type 0 where
   pub cpu : ℕ
+  pub row : TableId
   pub on : OnPlan
   pub kept : List (List ℕ)
 
+-- no row
+abbrev pub no_row : TableId
+no_row = record { words = 0; slots = 0; views_name = 0; atom = 0; block = 0; offset = 0; slot_names = [] }
+
 -- no lane
 abbrev pub no_lane : LaneView
-no_lane = record { cpu = 0; on = record { plan = no_plan; made = 0 }; kept = [] }
+no_lane = record { cpu = 0; row = no_row; on = record { plan = no_plan; made = 0 }; kept = [] }
 
 -- the times (ns) of a slot that are kept for a tick with a number from 0
 abbrev pub kept_at : List (List ℕ) → ℕ → ℕ → ℕ → List ℕ
@@ -49,6 +60,7 @@ pub record MayGo (ticks : Ticks) (lane : LaneView) : Type 0 where
 -- A lane went over ticks: its clocks made the changes up to the last, and no others, and the times at each are kept.
 pub record HasGone (ticks : Ticks) (old new : LaneView) : Type 0 where
   pub cpu : new.cpu ≡ old.cpu
+  pub row : new.row ≡ old.row
   pub plan : new.on.plan ≡ old.on.plan
   pub made : new.on.made ≡ changes_up_to old.on.plan (last_of ticks)
   pub past : last_change old.on.plan (changes_up_to old.on.plan (last_of ticks)) ≤ last_of ticks
@@ -135,20 +147,12 @@ pub record AreNewBatches (plans : PlansView) (room workers : ℕ) (batches : Lis
   pub many : length batches ≡ workers
   pub each : (worker : ℕ) → worker < workers → IsNewBatch plans room workers worker (batch_at batches worker)
 
--- A crew has a batch for each of some workers, and handed out so many of the ticks that its lanes went over.
-pub record IsCrew (plans : PlansView) (batches : List (List LaneView)) (ticks : Ticks) (out room : ℕ) : Type 0 where
+-- The lanes of a crew: there is a batch for each of some workers, and so many of the ticks that its lanes went over were handed
+-- out.
+pub record AreLanes (plans : PlansView) (batches : List (List LaneView)) (ticks : Ticks) (out room : ℕ) : Type 0 where
   pub some : 0 < length batches
   pub roomy : 1 ≤ room
   pub countable : room < 2 ^ 32
   pub within : ticks.count ≤ room
   pub out_within : out ≤ ticks.count
   pub each : (worker : ℕ) → worker < length batches → IsBatchOf plans ticks room (length batches) worker (batch_at batches worker)
-
--- a crew of these parts
-abbrev pub crew_of : PlansView → List (List LaneView) → Ticks → ℕ → ℕ → CrewView
-crew_of plans batches ticks out room = record {
-  plans = plans;
-  clocks = clocks_of batches (length plans.plans);
-  ready = drop out (moments_of ticks);
-  room = room;
-}

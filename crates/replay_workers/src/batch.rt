@@ -76,7 +76,8 @@ pub(crate) fn go_all<R: Threads + Sync, G: Gate>(
         batches,
         threads,
         &|_: usize, batch: &mut Batch<'_>|
-            requires { (0 < ticks.count) × (last_of ticks ≤ last_moment) × MayAllGo ticks batch.now }
+            requires { (0 < ticks.count) × (last_of ticks ≤ last_moment)
+                × MayAllGo ticks batch.now }
             ensures { HaveGone ticks batch.old batch.new }
         { batch.go_over(ticks, gate) },
     );

@@ -27,6 +27,7 @@ pub fn make_until<C: ProcClocks, G: Gate>(clocks: &mut C, cpu: Cpu, changes: u64
     requires within { C.made clocks.old ≤ changes }
     ensures plan { C.plan clocks.new ≡ C.plan clocks.old }
     ensures made { C.made clocks.new ≡ changes }
+    ensures home { C.home clocks.new ≡ C.home clocks.old }
 {
     'changes: while clocks.count() < changes {
         clocks.apply();

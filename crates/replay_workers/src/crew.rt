@@ -1,29 +1,34 @@
 //! The clocks of all processors of a trace, which go over ticks in the threads of workers.
-ghost use Rattle.std.specs.Prelude.{◌≡◌, ◌<◌, ◌≤◌, ℕ, ◌∷◌, [], drop, length, slice_get, IfOk, Some};
+ghost use Rattle.std.specs.Prelude.{◌≡◌, ◌<◌, ◌≤◌, ℕ, ◌∷◌, [], drop, length, slice_get, IfOk, IfSome, None, Some};
 ghost use Rattle.psi_laws.specs.Plan.{IsClock};
 ghost use Rattle.psi_spec.specs.Trace.{last_moment};
 ghost use Rattle.aggregate.specs.Table.{HasSizes};
 ghost use Rattle.proc_plan.specs.Plans.{plan_at};
-ghost use Rattle.replay_workers.specs.Crew.{AreAt, AreBehind, AreOnPlans, IsRoom, IsTableAt, clocks_at, last_of, moments_of};
+ghost use Rattle.replay_workers.specs.Crew.{AreAt, AreBehind, AreOnPlans, AreSampled, IsTableAt, clocks_at, last_of, moments_of, room_of, watch_at};
 
 use crate::batch::{Batch, go_all};
+use crate::beside::{clear, go_beside, watch};
 use crate::deal::{deal, room_for};
 use crate::fill::{fill, lane_in};
 use crate::ticks::Ticks;
+use crate::watch::Watcher;
 use aggregate::Rows;
+use clock_row::Sample;
 use cpu_clock::Clock;
 use proc_plan::Plans;
 use psi_base::{Cpu, Gate, NoMemory, Ns, Slot};
 use std::alloc::Global;
 use std::marker::Model;
+use std::mem;
 use std::thread::Threads;
 
 /// The clocks of all processors, which make the changes of a trace over some ticks at a time, each worker those of its own
-/// processors. They keep the times of all groups at each of these ticks, until [`Crew::fill`] hands them out. Contracts see the
-/// plans, how many changes each processor's clocks made, the moments whose times are ready, and over how many ticks the crew
-/// goes at once.
+/// processors. They keep the times of all groups at each of these ticks, until [`Crew::fill`] hands them out. Beside the changes
+/// of an interval live samples of one group can be taken. Contracts see the plans, how many changes each processor's clocks
+/// made, the moments whose times are ready, over how many ticks the crew goes at once, and what is watched.
 #[derive(Drop)]
 pub struct Crew<'a> {
+    alloc: Global,
     plans: &'a Plans,
     /// By worker: processor `c` is that of worker `c mod workers`.
     batches: Vec<Batch<'a>>,
@@ -33,43 +38,59 @@ pub struct Crew<'a> {
     out: u32,
     /// Over how many the lanes can go.
     room: u32,
+    /// How many live samples of a processor are taken in an interval.
+    asked: u32,
+    /// By processor, where samples are taken.
+    watchers: Vec<Watcher>,
 }
 
 impl<'a> Model for Crew<'a> {
     ghost use Rattle.replay_workers.specs.Crew.{CrewView};
-    ghost use Rattle.replay_workers.specs.Lanes.{IsCrew, crew_of};
+    ghost use Rattle.replay_workers.specs.Watches.{IsCrew, crew_of};
 
     ghost Value = { CrewView };
 
-    ghost view = { λ c. crew_of c.plans.now c.batches.items c.ticks c.out c.room };
+    ghost view = { λ c.
+        crew_of c.plans.now c.batches.items c.ticks c.out c.room c.asked c.watchers.items };
 
-    ghost invariant = { λ c. IsCrew c.plans.now c.batches.items c.ticks c.out c.room };
+    ghost invariant = { λ c.
+        IsCrew c.plans.now c.batches.items c.ticks c.out c.room c.asked c.watchers.items };
 }
 
 impl<'a> Crew<'a> {
     /// The clocks of all processors before the first change, for 1 to 64 workers. A trace is to be taken to so many moments; they
-    /// bound what is kept. It takes all the memory that a crew needs.
+    /// bound what is kept. So many live samples of a processor are taken in an interval in which a group is watched. It takes
+    /// all the memory that a crew needs.
     pub fn make(
         alloc: Global,
         plans: &'a Plans,
         workers: u32,
         moments: u64,
+        live: u32,
     ) -> Result<Crew<'a>, NoMemory>
         requires some { 1 ≤ workers }
         requires few { workers ≤ 64 }
         ensures plans { IfOk result (λ crew. crew.plans ≡ plans.now) }
         ensures on { IfOk result (λ crew. AreOnPlans crew.plans crew.clocks) }
         ensures fresh { IfOk result (λ crew.
-            (cpu : ℕ) → cpu < length crew.plans.plans → (clocks_at crew.clocks cpu).made ≡ 0) }
+            (cpu : ℕ) → cpu < length crew.plans.plans →
+            (clocks_at crew.clocks cpu).made ≡ 0) }
         ensures none { IfOk result (λ crew. crew.ready ≡ []) }
-        ensures room { IfOk result (λ crew.
-            IsRoom crew.room (length crew.plans.plans) (length crew.plans.lives) moments) }
+        ensures room { IfOk result (λ crew. crew.room
+            ≡ room_of (length crew.plans.plans) (length crew.plans.lives) moments) }
+        ensures asked { IfOk result (λ crew. crew.asked ≡ live) }
+        ensures unwatched { IfOk result (λ crew.
+            (cpu : ℕ) → (watch_at crew.watches cpu).samples ≡ []) }
     {
         let cpus = plans.cpus();
         let room = room_for(cpus, plans.groups().len() as u32, moments);
+        let mut batches = deal(alloc, plans, workers.min(cpus), room)?;
+        let watched = if live > 0 { cpus } else { 0 };
+        let watchers = watch(alloc, &mut batches, watched, live)?;
         Ok(Crew {
+            alloc,
             plans,
-            batches: deal(alloc, plans, workers.min(cpus), room)?,
+            batches,
             ticks: Ticks {
                 first: 0,
                 length: 0,
@@ -77,6 +98,8 @@ impl<'a> Crew<'a> {
             },
             out: 0,
             room,
+            asked: live,
+            watchers,
         })
     }
 
@@ -96,7 +119,8 @@ impl<'a> Crew<'a> {
     }
 
     /// Goes over ticks: each worker makes the changes of its processors up to each tick, those at the tick among them, and keeps
-    /// the times of all groups there. What was ready before isn't any more. Takes no memory.
+    /// the times of all groups there. What was ready before isn't any more. Nothing is watched, and the samples of before are
+    /// gone. Takes no memory.
     pub fn intervals<R: Threads + Sync, G: Gate>(&mut self, rt: &R, ticks: Ticks, gate: &G)
         requires some { 0 < ticks.count }
         requires within { ticks.count ≤ self.old.room }
@@ -104,23 +128,65 @@ impl<'a> Crew<'a> {
         requires early { last_of ticks ≤ last_moment }
         ensures plans { self.new.plans ≡ self.old.plans }
         ensures room { self.new.room ≡ self.old.room }
+        ensures asked { self.new.asked ≡ self.old.asked }
         ensures there { AreAt self.new.plans self.new.clocks (last_of ticks) }
         ensures ready { self.new.ready ≡ moments_of ticks }
+        ensures live { AreSampled None self.old self.new }
     {
         go_all(rt, &mut self.batches, ticks, gate);
+        clear(&mut self.watchers);
+        self.ticks = ticks;
+        self.out = 0;
+    }
+
+    // Goes over ticks as `intervals` does, while beside the changes live samples of a slot are taken.
+    fn intervals_beside<R: Threads + Sync, G: Gate>(
+        &mut self,
+        rt: &R,
+        ticks: Ticks,
+        slot: Slot,
+        gate: &G,
+    )
+        requires some { 0 < ticks.count }
+        requires within { ticks.count ≤ self.old.room }
+        requires behind { AreBehind self.old.plans self.old.clocks ticks.first }
+        requires early { last_of ticks ≤ last_moment }
+        requires slot { slot.0 < length self.old.plans.lives }
+        ensures plans { self.new.plans ≡ self.old.plans }
+        ensures room { self.new.room ≡ self.old.room }
+        ensures asked { self.new.asked ≡ self.old.asked }
+        ensures there { AreAt self.new.plans self.new.clocks (last_of ticks) }
+        ensures ready { self.new.ready ≡ moments_of ticks }
+        ensures live { AreSampled (Some slot) self.old self.new }
+    {
+        let batches = mem::replace(&mut self.batches, Vec::new(self.alloc));
+        let watchers = mem::replace(&mut self.watchers, Vec::new(self.alloc));
+        let (batches, watchers) = go_beside(rt, batches, watchers, ticks, slot, gate);
+        self.batches = batches;
+        self.watchers = watchers;
         self.ticks = ticks;
         self.out = 0;
     }
 
     /// Makes the changes of all processors up to a moment (ns), those at the moment among them, and keeps the times of all groups
-    /// there. Takes no memory.
-    pub fn interval<R: Threads + Sync, G: Gate>(&mut self, rt: &R, until: Ns, gate: &G)
+    /// there. Where a slot is watched and the crew takes samples, so many of its clock are taken on each processor beside the
+    /// changes; the samples of before are gone. Takes no memory.
+    pub fn interval<R: Threads + Sync, G: Gate>(
+        &mut self,
+        rt: &R,
+        until: Ns,
+        watched: Option<Slot>,
+        gate: &G,
+    )
         requires behind { AreBehind self.old.plans self.old.clocks until }
         requires early { until ≤ last_moment }
+        requires watched { IfSome watched (λ slot. slot.0 < length self.old.plans.lives) }
         ensures plans { self.new.plans ≡ self.old.plans }
         ensures room { self.new.room ≡ self.old.room }
+        ensures asked { self.new.asked ≡ self.old.asked }
         ensures there { AreAt self.new.plans self.new.clocks until }
         ensures ready { self.new.ready ≡ until ∷ [] }
+        ensures live { AreSampled watched self.old self.new }
     {
         let _room_for_one = self.room;
         let ticks = Ticks {
@@ -128,7 +194,20 @@ impl<'a> Crew<'a> {
             length: 0,
             count: 1,
         };
-        self.intervals(rt, ticks, gate);
+        match watched {
+            None => self.intervals(rt, ticks, gate),
+            Some(slot) => self.intervals_beside(rt, ticks, slot, gate),
+        }
+    }
+
+    /// The live samples of a processor in the last interval, in the order in which they were taken.
+    pub fn live(&self, cpu: Cpu) -> &[Sample]
+        ensures { result.now ≡ (watch_at self.now.watches cpu.0).samples }
+    {
+        match self.watchers.get(cpu.0 as usize) {
+            Some(watcher) => watcher.samples(),
+            None => &[],
+        }
     }
 
     /// Puts the times (ns) of all groups on all processors into a table, at the first moment that is ready. Takes no memory.

@@ -1,6 +1,6 @@
 //! How processors are dealt to workers.
 ghost use Rattle.std.specs.Prelude.{◌≡◌, ◌<◌, ◌≤◌, length, IfOk};
-ghost use Rattle.replay_workers.specs.Crew.{IsRoom};
+ghost use Rattle.replay_workers.specs.Crew.{room_of};
 ghost use Rattle.replay_workers.specs.Lanes.{AreNewBatches, IsNewBatch};
 
 use crate::batch::Batch;
@@ -19,7 +19,8 @@ const TIMES_BYTES: u64 = 56;
 /// at least.
 pub(crate) fn room_for(cpus: u32, slots: u32, moments: u64) -> u32
     requires { cpus ≤ 64 }
-    ensures { IsRoom result cpus slots moments }
+    ensures room { result ≡ room_of cpus slots moments }
+    ensures some { 1 ≤ result }
 {
     let bytes = TIMES_BYTES * (u64::from(slots) * u64::from(cpus));
     let fits = MOST_KEPT / bytes.max(1);

@@ -30,7 +30,8 @@ fn fill_processor(rows: &mut Rows, cpus: u32, slots: u32, cpu: Cpu, tick: u32, k
     requires room { tick * slots + slots ≤ length kept.now }
     ensures sizes { HasSizes cpus slots rows.new }
     ensures filled { (plan : PlanView) (at : ℕ) →
-        ((slot : ℕ) → slot < slots → kept_at kept.now slots tick slot ≡ times_by plan slot at) →
+        ((slot : ℕ) → slot < slots →
+        kept_at kept.now slots tick slot ≡ times_by plan slot at) →
         FillsProcessor rows.old rows.new slots cpu.0 plan at }
 {
     let start = tick as usize * slots as usize;
@@ -44,7 +45,8 @@ fn fill_processor(rows: &mut Rows, cpus: u32, slots: u32, cpu: Cpu, tick: u32, k
 pub(crate) fn fill(plans: &Plans, batches: &[Batch<'_>], tick: u32, rows: &mut Rows)
     requires sizes { HasSizes (length plans.now.plans) (length plans.now.lives) rows.old }
     requires kept { (at : ℕ) × AreKept plans.now batches.now tick at }
-    ensures { (at : ℕ) → AreKept plans.now batches.now tick at → IsTableAt rows.new plans.now at }
+    ensures { (at : ℕ) → AreKept plans.now batches.now tick at →
+        IsTableAt rows.new plans.now at }
 {
     let slots = plans.groups().len() as u32;
     let cpus = plans.cpus();

@@ -5,35 +5,43 @@ ghost use Rattle.psi_spec.specs.Trace.{last_moment};
 ghost use Rattle.proc_plan.specs.Plans.{plan_at};
 ghost use Rattle.replay_workers.specs.Crew.{last_of, moment_in};
 ghost use Rattle.replay_workers.specs.Lanes.{HasGone, KeepsTick, KeepsTicks, MayGo};
+ghost use Rattle.replay_workers.specs.Watches.{HasMet, IsNewWatcher};
 
 use crate::clocks::make_until;
 use crate::ticks::Ticks;
+use crate::watch::Watcher;
+use clock_row::{ClockWriter, Row};
 use cpu_clock::Clock;
-use proc_plan::{PlainClocks, Plan, Plans, ProcClocks};
+use proc_plan::{Plan, Plans, ProcClocks};
 use psi_base::{Cpu, Gate, NoMemory, Ns, Slot};
 use std::alloc::Global;
 use std::marker::Model;
 
-/// The clocks of one processor, and the times of all groups there at the ticks that they went over last. Contracts see the
-/// processor, how many changes of which plan were made, and what is kept.
+/// The clocks of one processor, in a row that can be read beside its changes, and the times of all groups there at the ticks that
+/// they went over last. Contracts see the processor, the row, how many changes of which plan were made, and what is kept.
 #[derive(Drop)]
 pub(crate) struct Lane<'a> {
     cpu: Cpu,
     plan: &'a Plan,
     slots: u32,
-    clocks: PlainClocks<'a>,
+    clocks: ClockWriter<'a>,
     /// Tick by tick, `slots` a tick.
     kept: Vec<[u64; 7]>,
 }
 
 impl<'a> Model for Lane<'a> {
-    ghost use Rattle.replay_workers.specs.Lanes.{IsLane, LaneView};
+    ghost use Rattle.replay_workers.specs.Lanes.{IsLane, LaneView, on_of};
 
     ghost Value = { LaneView };
 
-    ghost view = { λ l. record { cpu = l.cpu.0; on = l.clocks; kept = l.kept.items } };
+    ghost view = { λ l. record {
+      cpu = l.cpu.0;
+      row = l.clocks.row;
+      on = on_of l.clocks;
+      kept = l.kept.items;
+    } };
 
-    ghost invariant = { λ l. IsLane l.plan.now l.slots l.clocks };
+    ghost invariant = { λ l. IsLane l.plan.now l.slots (on_of l.clocks) };
 }
 
 // So many places for times.
@@ -57,6 +65,7 @@ fn keep_tick<C: ProcClocks>(clocks: &mut C, slots: u32, tick: u32, at: Ns, kept:
     requires room { tick * slots + slots ≤ length kept.old }
     ensures plan { C.plan clocks.new ≡ C.plan clocks.old }
     ensures made { C.made clocks.new ≡ C.made clocks.old }
+    ensures home { C.home clocks.new ≡ C.home clocks.old }
     ensures keeps { KeepsTick kept.old kept.new tick (C.plan clocks.old) at }
 {
     let start = tick as usize * slots as usize;
@@ -84,6 +93,7 @@ fn go_over<C: ProcClocks, G: Gate>(
     requires early { last_of ticks ≤ last_moment }
     ensures plan { C.plan clocks.new ≡ plan.now }
     ensures made { C.made clocks.new ≡ changes_up_to plan.now (last_of ticks) }
+    ensures home { C.home clocks.new ≡ C.home clocks.old }
     ensures past { last_change plan.now (changes_up_to plan.now (last_of ticks)) ≤ last_of ticks }
     ensures size { length kept.new ≡ length kept.old }
     ensures keeps { KeepsTicks kept.new plan.now ticks ticks.count }
@@ -119,7 +129,7 @@ impl<'a> Lane<'a> {
             cpu,
             plan,
             slots,
-            clocks: PlainClocks::make(alloc, plan, slots)?,
+            clocks: Row::make(alloc, plan, slots)?,
             kept: places(alloc, room as usize * slots as usize)?,
         })
     }
@@ -150,6 +160,36 @@ impl<'a> Lane<'a> {
         ensures { result.now ≡ self.now.kept }
     {
         &self.kept
+    }
+
+    /// A watcher of the processor, which is to take so many samples in an interval. It takes all the memory that it needs.
+    pub(crate) fn watcher(&mut self, alloc: Global, asked: u32) -> Result<Watcher, NoMemory>
+        ensures same { self.new ≡ self.old }
+        ensures new { IfOk result
+            (IsNewWatcher self.old.cpu asked self.old.row self.old.on.plan) }
+    {
+        Watcher::make(alloc, self.cpu, &mut self.clocks, asked)
+    }
+
+    /// Meets the processor's watcher: it learns how many changes were made, and what the clock of a slot is after them.
+    pub(crate) fn meet(&mut self, watcher: &mut Watcher, slot: Slot)
+        requires row { watcher.old.row ≡ self.old.row }
+        requires plan { watcher.old.knows.plan ≡ self.old.on.plan }
+        requires slot { slot.0 < length self.old.on.plan.parents }
+        ensures same { self.new ≡ self.old }
+        ensures met { HasMet slot.0 self.old.on watcher.old watcher.new }
+    {
+        watcher.meet(&mut self.clocks, slot);
+    }
+
+    /// Settles with the processor's watcher: it has seen no more changes than were made.
+    pub(crate) fn settle(&mut self, watcher: &mut Watcher)
+        requires { watcher.old.row ≡ self.old.row }
+        ensures lane { self.new ≡ self.old }
+        ensures same { watcher.new ≡ watcher.old }
+        ensures seen { watcher.old.knows.seen ≤ self.old.on.made }
+    {
+        watcher.settle(&mut self.clocks);
     }
 
     /// Makes the changes up to each tick, and keeps the times of all groups there.

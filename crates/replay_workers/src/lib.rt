@@ -2,6 +2,7 @@
 #![tactic(auto)]
 
 mod batch;
+mod beside;
 mod clocks;
 mod crew;
 mod deal;
@@ -9,8 +10,10 @@ mod fill;
 mod lane;
 mod laws;
 mod ticks;
+mod watch;
 
+pub use clock_row::Sample;
 pub use clocks::{first_clocks, make_until};
 pub use crew::Crew;
-pub use laws::law_tables;
+pub use laws::{law_room, law_tables};
 pub use ticks::Ticks;

@@ -20,6 +20,7 @@ ticks-preserved g c =
     let past : last_change plan (changes_up_to plan (moment_in ticks j)) ≤ moment_in ticks j = subst (λ n. last_change plan n ≤ moment_in ticks j) count (subst (λ at. last_change plan c.until.result ≤ at) moment c.until.ensures.past) in
     record {
       plan = c.keep_tick.ensures.plan ∙ same;
+      home = c.keep_tick.ensures.home ∙ c.make_until.ensures.home ∙ i.home;
       behind = omega (arith, made, later);
       there = λ _. made ∙ ap (λ n. changes_up_to plan (moment_in ticks n)) back;
       past = λ _. subst (λ n. last_change plan (changes_up_to plan (moment_in ticks n)) ≤ moment_in ticks n) back past;

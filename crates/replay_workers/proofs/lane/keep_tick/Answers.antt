@@ -22,5 +22,6 @@ slots-preserved g c =
     record {
       plan = c.own.ensures.plan ∙ i.plan;
       made = c.own.ensures.made ∙ i.made;
+      home = c.own.ensures.home ∙ i.home;
       kept = kept_more c.args.kept.now c.slots.kept c.args.slots c.args.tick c.slots.slot plan c.args.at (c.args.tick * c.args.slots + c.slots.slot) c.opened.result i.kept (omega (arith, c.slots-test.true)) c.requires.room refl times;
     }

@@ -9,7 +9,7 @@ pub lane_in-requires-clause-place : goal.lane_in-requires-clause-place
 lane_in-requires-clause-place c =
     let crew = c.self.inside in
     let below = subst (λ (view : CrewView). c.args.cpu.0 < length view.plans.plans) (sym c.self.view_is) c.requires in
-    rw c.deref.ensures.value (lane_there crew.plans.now crew.batches.items crew.ticks crew.out crew.room c.args.cpu.0 c.self.invariant below)
+    rw c.deref.ensures.value (lane_there crew.plans.now crew.batches.items crew.ticks crew.out crew.room c.args.cpu.0 c.self.invariant.lanes below)
 
 pub returns : goal.returns
 returns c =

@@ -1,9 +1,10 @@
-use Rattle.std.proofs.Common.{◌≡◌, ◌≤◌, ◌++◌, ap, arith, drop, length, subst, sym, take}
+use Rattle.std.proofs.Common.{◌≡◌, ◌≤◌, ◌++◌, List, [], ℕ, ap, arith, drop, length, map, subst, sym, take}
 use Rattle.std.specs.Prelude.{All}
-use Rattle.std.proofs.Math.Seq.{take-append_seam}
-use Rattle.replay_workers.specs.Crew.{AreAt, AreBehind, CrewView, last_of}
-use Rattle.replay_workers.specs.Lanes.{HaveAllGone, IsCrew, MayAllGo, clocks_of}
+use Rattle.replay_workers.specs.Crew.{AreAt, AreBehind, CrewView, last_of, watch_at}
+use Rattle.replay_workers.specs.Lanes.{HaveAllGone, LaneView, MayAllGo, clocks_of}
+use Rattle.replay_workers.specs.Watches.{HaveCleared, IsCrew, WatcherView, watch_of}
 use Rattle.replay_workers.proofs.Dealt.{crew_gone, gone_at, may_go}
+use Rattle.replay_workers.proofs.Watched.{none_sampled, watchers_stay, written_back}
 use Rattle.replay_workers.proofs.crew.Crew.intervals.Goals as goal
 
 pub go_all-requires-clause-may : goal.go_all-requires-clause-may
@@ -11,25 +12,39 @@ go_all-requires-clause-may g c =
     let crew = c.self.inside in
     let within = subst (λ (view : CrewView). c.args.ticks.count ≤ view.room) (sym c.self.view_is) c.requires.within in
     let behind = subst (λ (view : CrewView). AreBehind view.plans view.clocks c.args.ticks.first) (sym c.self.view_is) c.requires.behind in
-    let all = subst (All (MayAllGo c.args.ticks)) (sym c.deref_mut.ensures.value) (may_go crew.plans.now crew.batches.items crew.ticks c.args.ticks crew.out crew.room c.self.invariant within behind) in
+    let all = subst (All (MayAllGo c.args.ticks)) (sym c.deref_mut.ensures.value) (may_go crew.plans.now crew.batches.items crew.ticks c.args.ticks crew.out crew.room c.self.invariant.lanes within behind) in
     λ _ _. all
 
 pub invariant_of-self : goal.invariant_of-self
 invariant_of-self g c =
     let crew = c.self.inside in
+    let lanes = c.go_all.new.batches in
+    let watchers = c.clear.new.watchers in
     let within = subst (λ (view : CrewView). c.args.ticks.count ≤ view.room) (sym c.self.view_is) c.requires.within in
-    let size : crew.batches.len ≡ length c.go_all.new.batches = omega (arith, c.go_all.ensures.many, c.deref_mut.ensures.len, ap length c.deref_mut.ensures.value) in
-    let whole : take crew.batches.len (c.go_all.new.batches ++ drop (length c.go_all.new.batches) crew.batches.items) ≡ c.go_all.new.batches = rw size (take-append_seam c.go_all.new.batches (drop (length c.go_all.new.batches) crew.batches.items)) in
-    let gone = subst (λ batches. HaveAllGone c.args.ticks batches c.go_all.new.batches) c.deref_mut.ensures.value c.go_all.ensures in
-    subst (λ batches. IsCrew crew.plans.now batches c.args.ticks 0 crew.room) (sym whole)
-    (crew_gone crew.plans.now crew.batches.items c.go_all.new.batches crew.ticks c.args.ticks crew.out crew.room c.self.invariant within gone)
+    let whole = written_back crew.batches.items lanes crew.batches.len (omega (arith, c.go_all.ensures.many, c.deref_mut.ensures.len, ap length c.deref_mut.ensures.value)) in
+    let gone = subst (λ (batches : List (List LaneView)). HaveAllGone c.args.ticks batches lanes) c.deref_mut.ensures.value c.go_all.ensures in
+    let cleared = subst (λ (old : List WatcherView). HaveCleared old watchers) c.deref_mut-2.ensures.value c.clear.ensures in
+    let watched_whole = written_back crew.watchers.items watchers crew.watchers.len (omega (arith, cleared.many, c.deref_mut-2.ensures.len, ap length c.deref_mut-2.ensures.value)) in
+    subst (λ (batches : List (List LaneView)). IsCrew crew.plans.now batches c.args.ticks 0 crew.room crew.asked (take crew.watchers.len (watchers ++ drop (length watchers) crew.watchers.items))) (sym whole)
+    (subst (λ (new : List WatcherView). IsCrew crew.plans.now lanes c.args.ticks 0 crew.room crew.asked new) (sym watched_whole) (record {
+      lanes = crew_gone crew.plans.now crew.batches.items lanes crew.ticks c.args.ticks crew.out crew.room c.self.invariant.lanes within gone;
+      watched = watchers_stay crew.plans.now crew.batches.items lanes crew.ticks c.args.ticks crew.out crew.room crew.asked crew.watchers.items watchers c.self.invariant.lanes gone c.self.invariant.watched cleared.many (λ k below. (cleared.each k below).same);
+    }))
 
 pub returns-clause-there : goal.returns-clause-there
 returns-clause-there g c =
     let crew = c.self.inside in
+    let lanes = c.go_all.new.batches in
     let within = subst (λ (view : CrewView). c.args.ticks.count ≤ view.room) (sym c.self.view_is) c.requires.within in
-    let size : crew.batches.len ≡ length c.go_all.new.batches = omega (arith, c.go_all.ensures.many, c.deref_mut.ensures.len, ap length c.deref_mut.ensures.value) in
-    let whole : take crew.batches.len (c.go_all.new.batches ++ drop (length c.go_all.new.batches) crew.batches.items) ≡ c.go_all.new.batches = rw size (take-append_seam c.go_all.new.batches (drop (length c.go_all.new.batches) crew.batches.items)) in
-    let gone = subst (λ batches. HaveAllGone c.args.ticks batches c.go_all.new.batches) c.deref_mut.ensures.value c.go_all.ensures in
-    subst (λ batches. AreAt crew.plans.now (clocks_of batches (length crew.plans.now.plans)) (last_of c.args.ticks)) (sym whole)
-    (gone_at crew.plans.now crew.batches.items c.go_all.new.batches crew.ticks c.args.ticks crew.out crew.room c.self.invariant within gone)
+    let whole = written_back crew.batches.items lanes crew.batches.len (omega (arith, c.go_all.ensures.many, c.deref_mut.ensures.len, ap length c.deref_mut.ensures.value)) in
+    let gone = subst (λ (batches : List (List LaneView)). HaveAllGone c.args.ticks batches lanes) c.deref_mut.ensures.value c.go_all.ensures in
+    subst (λ (batches : List (List LaneView)). AreAt crew.plans.now (clocks_of batches (length crew.plans.now.plans)) (last_of c.args.ticks)) (sym whole)
+    (gone_at crew.plans.now crew.batches.items lanes crew.ticks c.args.ticks crew.out crew.room c.self.invariant.lanes within gone)
+
+pub returns-clause-live : goal.returns-clause-live
+returns-clause-live g c =
+    let crew = c.self.inside in
+    let watchers = c.clear.new.watchers in
+    let cleared = subst (λ (old : List WatcherView). HaveCleared old watchers) c.deref_mut-2.ensures.value c.clear.ensures in
+    let whole = written_back crew.watchers.items watchers crew.watchers.len (omega (arith, cleared.many, c.deref_mut-2.ensures.len, ap length c.deref_mut-2.ensures.value)) in
+    subst (λ (new : List WatcherView). (cpu : ℕ) → (watch_at (map watch_of new) cpu).samples ≡ []) (sym whole) (none_sampled crew.watchers.items watchers cleared)

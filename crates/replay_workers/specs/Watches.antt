@@ -1,0 +1,175 @@
+-- Watchers, which take samples of the lanes of a crew, and the crew with its watchers.
+use Rattle.std.specs.Prelude.{◌≡◌, ℕ, ◌/◌, ◌%◌, ◌<◌, ◌≤◌, List, [], drop, length, map, slice_index_or}
+use Rattle.std.specs.List.{All}
+use Rattle.atomic_table.specs.Seated.{TableId}
+use Rattle.psi_laws.specs.Clock.{zero_clock}
+use Rattle.psi_laws.specs.Plan.{IsClock, PlanView, no_plan}
+use Rattle.psi_spec.specs.Changes.{RiseWithin}
+use Rattle.proc_plan.specs.Clocks.{OnPlan}
+use Rattle.proc_plan.specs.Plans.{PlansView, plan_at}
+use Rattle.clock_row.specs.declared.reader.Sample.{Sample}
+use Rattle.clock_row.specs.declared.view.ReaderView.{ReaderView}
+use Rattle.clock_row.specs.Steps.{new_reader}
+use Rattle.clock_row.specs.Tries.{IsTried}
+use Rattle.replay_workers.specs.declared.ticks.Ticks.{Ticks}
+use Rattle.replay_workers.specs.Crew.{CrewView, IsSampled, WatchView, counts_of, moments_of}
+use Rattle.replay_workers.specs.Lanes.{AreLanes, LaneView, batch_at, clocks_of, lane_of, no_row}
+
+-- ---- one watcher
+
+-- A watcher: a processor's number, the row of its clocks and what is known of it, the last sample, those of the last interval,
+-- and how many it takes in one.
+pub record WatcherView : Type 0 where
+  pub cpu : ℕ
+  pub row : TableId
+  pub knows : ReaderView
+  pub last : Sample
+  pub samples : List Sample
+  pub asked : ℕ
+
+-- no watcher
+abbrev pub no_watcher : WatcherView
+no_watcher = record { cpu = 0; row = no_row; knows = new_reader no_plan 0; last = record { count = 0; clock = zero_clock }; samples = []; asked = 0 }
+
+-- a watcher, by its place
+abbrev pub watcher_at : List WatcherView → ℕ → WatcherView
+watcher_at watchers k = slice_index_or watchers k no_watcher
+
+-- what callers see of a watcher
+abbrev pub watch_of : WatcherView → WatchView
+watch_of watcher = record { samples = watcher.samples; reader = watcher.knows }
+
+-- it is the same watcher: of the same processor and row, with the same plan, and takes as many samples
+pub record IsSameWatcher (old new : WatcherView) : Type 0 where
+  pub cpu : new.cpu ≡ old.cpu
+  pub row : new.row ≡ old.row
+  pub plan : new.knows.plan ≡ old.knows.plan
+  pub asked : new.asked ≡ old.asked
+
+-- A new watcher of a lane's row has no sample.
+pub record IsNewWatcher (cpu asked : ℕ) (row : TableId) (plan : PlanView) (watcher : WatcherView) : Type 0 where
+  pub cpu_is : watcher.cpu ≡ cpu
+  pub row_is : watcher.row ≡ row
+  pub plan_is : watcher.knows.plan ≡ plan
+  pub asked_is : watcher.asked ≡ asked
+  pub none : watcher.samples ≡ []
+
+-- A watcher may take samples of a slot: its last one is the slot's clock after as many changes as it has seen.
+pub record MaySample (slot : ℕ) (watcher : WatcherView) : Type 0 where
+  pub slot_is : slot < length watcher.knows.plan.parents
+  pub clock : IsClock watcher.last.clock watcher.knows.plan slot watcher.last.count
+  pub seen : watcher.last.count ≡ watcher.knows.seen
+
+-- A watcher met the writer, whose clocks these are: it has seen its changes, and has its clock of a slot as the last sample. It
+-- tried nothing.
+pub record HasMet (slot : ℕ) (on : OnPlan) (old new : WatcherView) : Type 0 where
+  pub same : IsSameWatcher old new
+  pub got : new.knows.got ≡ old.knows.got
+  pub met : new.knows.met ≡ old.knows.met
+  pub seen : new.knows.seen ≡ on.made
+  pub count : new.last.count ≡ on.made
+  pub clock : IsClock new.last.clock on.plan slot on.made
+
+-- A watcher took its samples of a slot after its last one, by its own tries, up to what it has seen now.
+pub record HasSampled (slot : ℕ) (old new : WatcherView) : Type 0 where
+  pub same : IsSameWatcher old new
+  pub many : length new.samples ≡ old.asked
+  pub clocks : All (λ (sample : Sample). IsClock sample.clock old.knows.plan slot sample.count) new.samples
+  pub rise : RiseWithin old.last.count (counts_of new.samples) new.knows.seen
+  pub tried : IsTried (counts_of new.samples) old.last.count old.knows new.knows
+
+-- A watcher took its samples of a slot beside the changes of a lane.
+pub record HasWatched (slot : ℕ) (lane_old lane_new : LaneView) (old new : WatcherView) : Type 0 where
+  pub same : IsSameWatcher old new
+  pub sampled : IsSampled old.knows.plan slot old.asked lane_old.on.made lane_new.on.made (watch_of old) (watch_of new)
+
+-- A watcher put its samples away.
+pub record HasCleared (old new : WatcherView) : Type 0 where
+  pub same : IsSameWatcher old new
+  pub none : new.samples ≡ []
+
+-- ---- the watchers of all processors, in their order
+
+-- the lane of a processor is there
+pub record IsThere (batches : List (List LaneView)) (cpu : ℕ) : Type 0 where
+  pub some : 0 < length batches
+  pub place : cpu / length batches < length (batch_at batches (cpu % length batches))
+
+-- A watcher is that of a processor whose lane is there: it has its row, and its plan.
+pub record IsWatching (batches : List (List LaneView)) (cpu : ℕ) (watcher : WatcherView) : Type 0 where
+  pub there : IsThere batches cpu
+  pub cpu_is : watcher.cpu ≡ cpu
+  pub row : watcher.row ≡ (lane_of batches cpu).row
+  pub plan : watcher.knows.plan ≡ (lane_of batches cpu).on.plan
+
+-- so is each of them
+abbrev pub AreWatching : List (List LaneView) → List WatcherView → Type 0
+AreWatching batches watchers = (k : ℕ) → k < length watchers → IsWatching batches k (watcher_at watchers k)
+
+-- the plan of each has this slot
+abbrev pub HaveSlot : ℕ → List WatcherView → Type 0
+HaveSlot slot watchers = (k : ℕ) → k < length watchers → slot < length (watcher_at watchers k).knows.plan.parents
+
+-- each may take samples of a slot
+abbrev pub MayAllSample : ℕ → List WatcherView → Type 0
+MayAllSample slot watchers = (k : ℕ) → k < length watchers → MaySample slot (watcher_at watchers k)
+
+-- each met the lane of its processor
+pub record HaveMet (slot : ℕ) (batches : List (List LaneView)) (old new : List WatcherView) : Type 0 where
+  pub many : length new ≡ length old
+  pub each : (k : ℕ) → k < length old → HasMet slot (lane_of batches k).on (watcher_at old k) (watcher_at new k)
+
+-- each took its samples of a slot
+pub record HaveSampled (slot : ℕ) (old new : List WatcherView) : Type 0 where
+  pub many : length new ≡ length old
+  pub each : (k : ℕ) → k < length old → HasSampled slot (watcher_at old k) (watcher_at new k)
+
+-- none has seen more changes than the lane of its processor made
+abbrev pub AreSettled : List (List LaneView) → List WatcherView → Type 0
+AreSettled batches watchers = (k : ℕ) → k < length watchers → (watcher_at watchers k).knows.seen ≤ (lane_of batches k).on.made
+
+-- each took its samples of a slot beside the changes of its lane
+pub record HaveWatched (slot : ℕ) (batches_old batches_new : List (List LaneView)) (old new : List WatcherView) : Type 0 where
+  pub many : length new ≡ length old
+  pub each : (k : ℕ) → k < length old → HasWatched slot (lane_of batches_old k) (lane_of batches_new k) (watcher_at old k) (watcher_at new k)
+
+-- each put its samples away
+pub record HaveCleared (old new : List WatcherView) : Type 0 where
+  pub many : length new ≡ length old
+  pub each : (k : ℕ) → k < length old → HasCleared (watcher_at old k) (watcher_at new k)
+
+-- New watchers of so many processors, which take so many samples.
+pub record AreNewWatchers (batches : List (List LaneView)) (cpus asked : ℕ) (watchers : List WatcherView) : Type 0 where
+  pub many : length watchers ≡ cpus
+  pub each : (cpu : ℕ) → cpu < length watchers → IsNewWatcher cpu asked (lane_of batches cpu).row (lane_of batches cpu).on.plan (watcher_at watchers cpu)
+
+-- ---- crews
+
+-- A watcher of a crew is that of a processor: it has the row of its lane, and its plan, and takes so many samples.
+pub record IsWatcherOf (plans : PlansView) (batches : List (List LaneView)) (asked cpu : ℕ) (watcher : WatcherView) : Type 0 where
+  pub cpu_is : watcher.cpu ≡ cpu
+  pub row : watcher.row ≡ (lane_of batches cpu).row
+  pub plan : watcher.knows.plan ≡ plan_at plans cpu
+  pub asked_is : watcher.asked ≡ asked
+
+-- The watchers of a crew are those of all processors, where it takes samples.
+pub record AreWatchers (plans : PlansView) (batches : List (List LaneView)) (asked : ℕ) (watchers : List WatcherView) : Type 0 where
+  pub none : asked ≡ 0 → length watchers ≡ 0
+  pub all : 0 < asked → length watchers ≡ length plans.plans
+  pub each : (cpu : ℕ) → cpu < length watchers → IsWatcherOf plans batches asked cpu (watcher_at watchers cpu)
+
+-- A crew has lanes, and watchers of these.
+pub record IsCrew (plans : PlansView) (batches : List (List LaneView)) (ticks : Ticks) (out room asked : ℕ) (watchers : List WatcherView) : Type 0 where
+  pub lanes : AreLanes plans batches ticks out room
+  pub watched : AreWatchers plans batches asked watchers
+
+-- a crew of these parts
+abbrev pub crew_of : PlansView → List (List LaneView) → Ticks → ℕ → ℕ → ℕ → List WatcherView → CrewView
+crew_of plans batches ticks out room asked watchers = record {
+  plans = plans;
+  clocks = clocks_of batches (length plans.plans);
+  ready = drop out (moments_of ticks);
+  room = room;
+  asked = asked;
+  watches = map watch_of watchers;
+}

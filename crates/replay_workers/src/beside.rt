@@ -1,0 +1,188 @@
+//! Samples of all processors, beside their changes.
+ghost use Rattle.std.specs.Prelude.{◌≡◌, ◌<◌, ◌≤◌, ℕ, length, IfOk};
+ghost use Rattle.std.specs.List.{All};
+ghost use Rattle.std.specs.Thread.{IsSync};
+ghost use Rattle.psi_spec.specs.Trace.{last_moment};
+ghost use Rattle.replay_workers.specs.Crew.{last_of};
+ghost use Rattle.replay_workers.specs.Lanes.{HaveAllGone, MayAllGo, lane_of};
+ghost use Rattle.replay_workers.specs.Watches.{AreNewWatchers, AreSettled, AreWatching, HasMet, HaveCleared, HaveMet, HaveSampled, HaveSlot, HaveWatched, IsNewWatcher, IsThere, IsWatching, MayAllSample};
+
+use crate::batch::{Batch, go_all};
+use crate::ticks::Ticks;
+use crate::watch::Watcher;
+use psi_base::{Cpu, Gate, NoMemory, Slot};
+use std::alloc::Global;
+use std::thread::{Threads, join};
+
+// A watcher of a processor's lane.
+fn watcher_of(
+    alloc: Global,
+    batches: &mut [Batch<'_>],
+    cpu: Cpu,
+    asked: u32,
+) -> Result<Watcher, NoMemory>
+    requires { IsThere batches.old cpu.0 }
+    ensures same { batches.new ≡ batches.old }
+    ensures new { IfOk result (IsNewWatcher (lane_of batches.old cpu.0).cpu asked
+        (lane_of batches.old cpu.0).row (lane_of batches.old cpu.0).on.plan) }
+{
+    let workers = batches.len();
+    let batch = &mut batches[cpu.0 as usize % workers];
+    batch.lanes[cpu.0 as usize / workers].watcher(alloc, asked)
+}
+
+/// Watchers of the lanes of so many processors, each of which is to take so many samples in an interval. They take all the
+/// memory that they need.
+pub(crate) fn watch(
+    alloc: Global,
+    batches: &mut [Batch<'_>],
+    cpus: u32,
+    asked: u32,
+) -> Result<Vec<Watcher>, NoMemory>
+    requires there { (cpu : ℕ) → cpu < cpus → IsThere batches.old cpu }
+    requires own { (cpu : ℕ) → cpu < cpus → (lane_of batches.old cpu).cpu ≡ cpu }
+    ensures same { batches.new ≡ batches.old }
+    ensures new { IfOk result (λ watchers.
+        AreNewWatchers batches.old cpus asked watchers.items) }
+{
+    let mut watchers = Vec::new(alloc);
+    'cpus: for cpu in 0..cpus {
+        watchers.push(watcher_of(alloc, batches, Cpu(cpu), asked)?)?;
+    }
+    Ok(watchers)
+}
+
+/// All watchers put their samples away.
+pub(crate) fn clear(watchers: &mut [Watcher])
+    ensures { HaveCleared watchers.old watchers.new }
+{
+    'watchers: for watcher in watchers.iter_mut() {
+        watcher.clear();
+    }
+}
+
+// The lane of a watcher's processor meets it.
+fn meet(batches: &mut [Batch<'_>], watcher: &mut Watcher, slot: Slot)
+    requires pair { IsWatching batches.old watcher.old.cpu watcher.old }
+    requires slot { slot.0 < length watcher.old.knows.plan.parents }
+    ensures same { batches.new ≡ batches.old }
+    ensures met { HasMet slot.0 (lane_of batches.old watcher.old.cpu).on
+        watcher.old watcher.new }
+{
+    let cpu = watcher.cpu().0 as usize;
+    let workers = batches.len();
+    let batch = &mut batches[cpu % workers];
+    batch.lanes[cpu / workers].meet(watcher, slot);
+}
+
+// Each lane meets the watcher of its processor.
+fn meet_all(batches: &mut [Batch<'_>], watchers: &mut [Watcher], slot: Slot)
+    requires pairs { AreWatching batches.old watchers.old }
+    requires slot { HaveSlot slot.0 watchers.old }
+    ensures same { batches.new ≡ batches.old }
+    ensures met { HaveMet slot.0 batches.old watchers.old watchers.new }
+{
+    'watchers: for watcher in watchers.iter_mut() {
+        meet(batches, watcher, slot);
+    }
+}
+
+// The lane of a watcher's processor settles with it.
+fn settle(batches: &mut [Batch<'_>], watcher: &mut Watcher)
+    requires { IsWatching batches.old watcher.old.cpu watcher.old }
+    ensures lanes { batches.new ≡ batches.old }
+    ensures same { watcher.new ≡ watcher.old }
+    ensures settled { watcher.old.knows.seen
+        ≤ (lane_of batches.old watcher.old.cpu).on.made }
+{
+    let cpu = watcher.cpu().0 as usize;
+    let workers = batches.len();
+    let batch = &mut batches[cpu % workers];
+    batch.lanes[cpu / workers].settle(watcher);
+}
+
+// Each lane settles with the watcher of its processor.
+fn settle_all(batches: &mut [Batch<'_>], watchers: &mut [Watcher])
+    requires { AreWatching batches.old watchers.old }
+    ensures lanes { batches.new ≡ batches.old }
+    ensures same { watchers.new ≡ watchers.old }
+    ensures settled { AreSettled batches.old watchers.old }
+{
+    'watchers: for watcher in watchers.iter_mut() {
+        settle(batches, watcher);
+    }
+}
+
+// The batches, after the changes up to each tick.
+fn gone<'a, R: Threads + Sync, G: Gate>(
+    rt: &R,
+    mut batches: Vec<Batch<'a>>,
+    ticks: Ticks,
+    gate: &G,
+) -> Vec<Batch<'a>>
+    requires any { 0 < length batches.items }
+    requires some { 0 < ticks.count }
+    requires early { last_of ticks ≤ last_moment }
+    requires may { All (MayAllGo ticks) batches.items }
+    ensures { HaveAllGone ticks batches.entry.items result.items }
+{
+    go_all(rt, &mut batches, ticks, gate);
+    batches
+}
+
+// The watchers, after all their samples, one watcher after the other.
+fn sampled<G: Gate>(mut watchers: Vec<Watcher>, slot: Slot, gate: &G) -> Vec<Watcher>
+    requires { MayAllSample slot.0 watchers.items }
+    ensures { HaveSampled slot.0 watchers.items result.items }
+{
+    'watchers: for watcher in watchers.iter_mut() {
+        watcher.sample(slot, gate);
+    }
+    watchers
+}
+
+/// Makes the changes of all batches up to each tick, as [`go_all`] does, while in a thread beside them all watchers take their
+/// samples of a slot, each after it met its lane and before it settles with it. Where there is no watcher, no thread of theirs
+/// is started.
+pub(crate) fn go_beside<'a, R: Threads + Sync, G: Gate>(
+    rt: &R,
+    batches: Vec<Batch<'a>>,
+    watchers: Vec<Watcher>,
+    ticks: Ticks,
+    slot: Slot,
+    gate: &G,
+) -> (Vec<Batch<'a>>, Vec<Watcher>)
+    requires any { 0 < length batches.items }
+    requires some { 0 < ticks.count }
+    requires early { last_of ticks ≤ last_moment }
+    requires may { All (MayAllGo ticks) batches.items }
+    requires pairs { AreWatching batches.items watchers.items }
+    requires slot { HaveSlot slot.0 watchers.items }
+    ensures gone { HaveAllGone ticks batches.entry.items result.0.items }
+    ensures watched { HaveWatched slot.0 batches.entry.items result.0.items
+        watchers.items result.1.items }
+{
+    if watchers.is_empty() {
+        return (gone(rt, batches, ticks, gate), watchers);
+    }
+    let mut batches = batches;
+    let mut watchers = watchers;
+    meet_all(&mut batches, &mut watchers, slot);
+    let (mut batches, mut watchers) = join(
+        rt,
+        || -> Vec<Batch>
+            requires sync { IsSync R.row }
+            requires any { 0 < length batches.items }
+            requires some { 0 < ticks.count }
+            requires early { last_of ticks ≤ last_moment }
+            requires may { All (MayAllGo ticks) batches.items }
+            ensures { HaveAllGone ticks batches.entry.items result.items }
+        { gone(rt, batches, ticks, gate) },
+        || -> Vec<Watcher>
+            requires { MayAllSample slot.0 watchers.items }
+            ensures { HaveSampled slot.0 watchers.items result.items }
+        { sampled(watchers, slot, gate) },
+    );
+    settle_all(&mut batches, &mut watchers);
+    (batches, watchers)
+}

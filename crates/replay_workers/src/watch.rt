@@ -1,0 +1,180 @@
+//! A watcher, which takes live samples of one processor.
+ghost use Rattle.std.specs.Prelude.{◌≡◌, ◌<◌, ◌≤◌, [], length, vec_capacity, vec_len, IfOk};
+ghost use Rattle.std.specs.List.{All};
+ghost use Rattle.psi_laws.specs.Plan.{IsClock};
+ghost use Rattle.psi_spec.specs.Changes.{RiseWithin};
+ghost use Rattle.clock_row.specs.declared.reader.Sample.{Sample};
+ghost use Rattle.clock_row.specs.Tries.{IsTried};
+ghost use Rattle.replay_workers.specs.Crew.{counts_of};
+ghost use Rattle.replay_workers.specs.Lanes.{on_of};
+ghost use Rattle.replay_workers.specs.Watches.{HasCleared, HasMet, HasSampled, IsNewWatcher, MaySample};
+
+use clock_row::{ClockReader, ClockWriter, Sample};
+use cpu_clock::Clock;
+use proc_plan::ProcClocks;
+use psi_base::{Cpu, Gate, NoMemory, Slot};
+use std::alloc::Global;
+use std::marker::Model;
+
+/// A reader of one processor's row, and the samples that it took in the last interval. Contracts see the processor, the row,
+/// what the reader knows, and the samples.
+#[derive(Drop)]
+pub(crate) struct Watcher {
+    cpu: Cpu,
+    reader: ClockReader,
+    /// The one before the first of an interval: the writer's own clock.
+    last: Sample,
+    samples: Vec<Sample>,
+    /// How many it takes in an interval.
+    asked: u32,
+}
+
+impl Model for Watcher {
+    ghost use Rattle.std.specs.Prelude.{◌≤◌, vec_capacity};
+    ghost use Rattle.replay_workers.specs.Watches.{WatcherView};
+
+    ghost Value = { WatcherView };
+
+    ghost view = { λ w. record {
+      cpu = w.cpu.0;
+      row = w.reader.row;
+      knows = w.reader.knows;
+      last = w.last;
+      samples = w.samples.items;
+      asked = w.asked;
+    } };
+
+    ghost invariant = { λ w. w.asked ≤ vec_capacity w.samples };
+}
+
+// Takes so many samples of a slot after the last one, and tells the gate of each. There is room for them.
+fn sample_on<G: Gate>(
+    reader: &mut ClockReader,
+    samples: &mut Vec<Sample>,
+    cpu: Cpu,
+    slot: Slot,
+    last: &Sample,
+    asked: u32,
+    gate: &G,
+)
+    requires slot { slot.0 < length reader.old.knows.plan.parents }
+    requires last { IsClock last.now.clock reader.old.knows.plan slot.0 last.now.count }
+    requires seen { last.now.count ≡ reader.old.knows.seen }
+    requires none { samples.old.items ≡ [] }
+    requires room { asked ≤ vec_capacity samples.old }
+    ensures row { reader.new.row ≡ reader.old.row }
+    ensures plan { reader.new.knows.plan ≡ reader.old.knows.plan }
+    ensures room { asked ≤ vec_capacity samples.new }
+    ensures many { vec_len samples.new ≡ asked }
+    ensures clocks { All (λ (sample : Sample).
+        IsClock sample.clock reader.old.knows.plan slot.0 sample.count) samples.new.items }
+    ensures rise { RiseWithin last.now.count (counts_of samples.new.items)
+        reader.new.knows.seen }
+    ensures tried { IsTried (counts_of samples.new.items) last.now.count
+        reader.old.knows reader.new.knows }
+{
+    let mut newest = *last;
+    'samples: for index in 0..asked {
+        gate.before_sample(cpu, index);
+        newest = reader.sample_or(slot, &newest);
+        gate.sampled(cpu, newest.count);
+        let Ok(()) = samples.push(newest) else {
+            unreachable!()
+        };
+    }
+}
+
+impl Watcher {
+    /// A watcher of a writer's row, which is to take so many samples of it in an interval. It takes all the memory that it
+    /// needs.
+    pub(crate) fn make(
+        alloc: Global,
+        cpu: Cpu,
+        writer: &mut ClockWriter<'_>,
+        asked: u32,
+    ) -> Result<Watcher, NoMemory>
+        ensures same { writer.new ≡ writer.old }
+        ensures new { IfOk result
+            (IsNewWatcher cpu.0 asked writer.old.row writer.old.knows.plan) }
+    {
+        let reader = writer.reader()?;
+        Ok(Watcher {
+            cpu,
+            reader,
+            last: Sample {
+                count: 0,
+                clock: Clock::zero(),
+            },
+            samples: Vec::with_capacity(alloc, asked as usize)?,
+            asked,
+        })
+    }
+
+    /// The processor.
+    pub(crate) fn cpu(&self) -> Cpu
+        ensures { result.0 ≡ self.now.cpu }
+    {
+        self.cpu
+    }
+
+    /// The samples of the last interval.
+    pub(crate) fn samples(&self) -> &[Sample]
+        ensures { result.now ≡ self.now.samples }
+    {
+        &self.samples
+    }
+
+    /// Puts the samples away.
+    pub(crate) fn clear(&mut self)
+        ensures { HasCleared self.old self.new }
+    {
+        self.samples.clear();
+    }
+
+    /// Learns from the writer how many changes it made, and what its clock of a slot is then.
+    pub(crate) fn meet(&mut self, writer: &mut ClockWriter<'_>, slot: Slot)
+        requires row { self.old.row ≡ writer.old.row }
+        requires plan { self.old.knows.plan ≡ writer.old.knows.plan }
+        requires slot { slot.0 < length writer.old.knows.plan.parents }
+        ensures row { writer.new.row ≡ writer.old.row }
+        ensures on { on_of writer.new ≡ on_of writer.old }
+        ensures met { HasMet slot.0 (on_of writer.old) self.old self.new }
+    {
+        // Both are always Ok.
+        let _told = writer.settle(&mut self.reader);
+        let _met = writer.meet(&mut self.reader);
+        self.last = Sample {
+            count: writer.count(),
+            clock: writer.own(slot),
+        };
+    }
+
+    /// Tells the writer what it has seen: no more than the writer made.
+    pub(crate) fn settle(&mut self, writer: &mut ClockWriter<'_>)
+        requires { self.old.row ≡ writer.old.row }
+        ensures same { self.new ≡ self.old }
+        ensures row { writer.new.row ≡ writer.old.row }
+        ensures on { on_of writer.new ≡ on_of writer.old }
+        ensures seen { self.old.knows.seen ≤ writer.old.knows.count }
+    {
+        // It is always Ok.
+        let _told = writer.settle(&mut self.reader);
+    }
+
+    /// Takes its samples of a slot, and tells the gate of each. Takes no memory, and ends after eight tries for each.
+    pub(crate) fn sample<G: Gate>(&mut self, slot: Slot, gate: &G)
+        requires { MaySample slot.0 self.old }
+        ensures { HasSampled slot.0 self.old self.new }
+    {
+        self.samples.clear();
+        sample_on(
+            &mut self.reader,
+            &mut self.samples,
+            self.cpu,
+            slot,
+            &self.last,
+            self.asked,
+            gate,
+        );
+    }
+}
