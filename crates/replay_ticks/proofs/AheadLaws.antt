@@ -1,5 +1,5 @@
 -- A crew that goes over many ticks at once, and hands out their tables one after another.
-use Rattle.std.proofs.Common.{◌≡◌, ℕ, zero, suc, ◌+◌, ◌-◌, ◌*◌, ◌/◌, ◌<◌, ◌≤◌, ◌^◌, List, drop, length, map, refl, sym, ap, ◌∙◌, subst, arith}
+use Rattle.std.proofs.Common.{◌≡◌, ℕ, zero, suc, ◌+◌, ◌-◌, ◌*◌, ◌/◌, ◌<◌, ◌≤◌, ◌^◌, List, [], ◌∷◌, drop, length, map, refl, sym, ap, ◌∙◌, subst, arith}
 use Rattle.std.specs.Prelude.{Some, min, slice_get}
 use Rattle.std.specs.List.{range_with_len}
 use Rattle.std.proofs.Math.Nat.{le-div_iff_mul-le}
@@ -152,6 +152,45 @@ next_ready ticks plans crew new pacing trace pace i is roomy next same ready the
         behind = subst (AreBehind plans new.clocks) end here;
       };
       some = omega (arith, many, some);
+    }
+
+-- ---- going to the next tick alone
+
+-- its moment is early
+pub tick_early : (plans : PlansView) (crew : CrewView) (pacing : Pacing) (trace : Trace) (pace : Pace) (i at : ℕ) → IsToGo plans crew pacing trace pace i → at ≡ tick_moment pacing.length (i + 1) → at ≤ last_moment
+tick_early plans crew pacing trace pace i at is moment =
+    let left = is.left in
+    let early = moment_early plans trace pace (i + 1) is.planned (omega (arith, left)) in
+    let same = ap (λ l. tick_moment l (i + 1)) is.paced.length in
+    omega (arith, early, same, moment)
+
+-- no clock is past it, where no table is ready
+pub tick_behind : (plans : PlansView) (crew : CrewView) (pacing : Pacing) (trace : Trace) (pace : Pace) (i at : ℕ) → IsToGo plans crew pacing trace pace i → length crew.ready ≡ 0 → at ≡ tick_moment pacing.length (i + 1) → AreBehind crew.plans crew.clocks at
+tick_behind plans crew pacing trace pace i at is none moment =
+    let here : i + length crew.ready ≡ i = omega (arith, none) in
+    let same : at ≡ tick_moment pace.length (i + 1) = moment ∙ ap (λ l. tick_moment l (i + 1)) is.paced.length in
+    let apart : tick_moment pace.length (i + 1) ≡ tick_moment pace.length i + pace.length = grind arith in
+    let behind = subst (λ n. AreBehind plans crew.clocks (tick_moment pace.length n)) here is.ahead.behind in
+    subst (λ p. AreBehind p crew.clocks at) (sym is.ahead.same)
+    (behind_later plans crew.clocks (tick_moment pace.length i) at (omega (arith, same, apart)) behind)
+
+-- a crew that went to it has its table ready
+pub tick_ready : (plans : PlansView) (crew new : CrewView) (pacing : Pacing) (trace : Trace) (pace : Pace) (i at : ℕ) → IsToGo plans crew pacing trace pace i → at ≡ tick_moment pacing.length (i + 1) → new.plans ≡ crew.plans → new.ready ≡ at ∷ [] → AreAt new.plans new.clocks at
+    → IsReady plans new trace pace i
+tick_ready plans crew new pacing trace pace i at is moment same ready there =
+    let left = is.left in
+    let here : at ≡ tick_moment pace.length (i + 1) = moment ∙ ap (λ l. tick_moment l (i + 1)) is.paced.length in
+    let many : length new.ready ≡ 1 = ap length ready in
+    let own : new.plans ≡ plans = same ∙ is.ahead.same in
+    let next : i + 1 ≡ i + length new.ready = omega (arith, many) in
+    record {
+      ahead = record {
+        same = own;
+        ready = ready ∙ ap (λ m. m ∷ []) here ∙ ap (moments_behind pace.length i) (sym many);
+        within = omega (arith, many, left);
+        behind = subst (AreBehind plans new.clocks) (here ∙ ap (tick_moment pace.length) next) (at_is_behind plans new.clocks at (subst (λ p. AreAt p new.clocks at) own there));
+      };
+      some = omega (arith, many);
     }
 
 -- ---- one table

@@ -1,5 +1,6 @@
 pub mod AheadLaws
 pub mod KillLaws
+pub mod LiveLaws
 pub mod Pieces
 pub mod PutLaws
 pub mod ReportLaws

@@ -31,7 +31,7 @@ use Rattle.tick_engine.specs.Engine.{EngineView, averages_in, totals_in}
 use Rattle.tick_engine.specs.declared.group.Group.{Group}
 use Rattle.replay_ticks.specs.declared.pacing.Pacing.{Pacing}
 use Rattle.replay_rules.specs.Planned.{HasTicked, IsPlanned, numbers_of}
-use Rattle.replay_ticks.specs.Replays.{IsPaced, IsToPut, due_text}
+use Rattle.replay_ticks.specs.Replays.{IsPaced, IsToPut, due_text, tick_lines}
 use Rattle.replay_ticks.proofs.Pieces.{front_of_both, front_then, puts_then}
 use Rattle.replay_ticks.proofs.StartLaws.{latest_within, triggers_within}
 
@@ -147,6 +147,15 @@ pub text_is : (trace : Trace) (pace : Pace) (rules : List Rule) (number : ℕ) �
     tick_text trace pace (with_rules rules) number ≡ signals_text trace pace number ++ (kills_text trace pace rules number ++ due_text trace pace number)
 unfolding tick_text
 text_is trace pace rules number = append_assoc (signals_text trace pace number) (kills_text trace pace rules number) (due_text trace pace number)
+
+-- live lines stand in front of the others
+pub lines_split : (trace : Trace) (pace : Pace) (rules : List Rule) (number : ℕ) (live : List ℕ) → live ++ tick_text trace pace (with_rules rules) number ≡ tick_lines trace pace rules number live
+unfolding tick_text
+lines_split trace pace rules number live =
+    let signals = signals_text trace pace number in
+    let kills = kills_text trace pace rules number in
+    sym (append_assoc live (signals ++ kills) (due_text trace pace number))
+    ∙ ap (λ text. text ++ due_text trace pace number) (sym (append_assoc live signals kills))
 
 due_true : (b : Bool) (text : List ℕ) → b ≡ true → (if b then text else []) ≡ text
 due_true b text is = rw is refl

@@ -16,16 +16,12 @@ use Rattle.psi_spec.specs.declared.machine.GroupLife.{GroupLife}
 use Rattle.psi_spec.specs.Fields.{resources}
 use Rattle.psi_spec.specs.Groups.{path_at}
 use Rattle.kill_spec.specs.declared.kill.Kill.{Kill}
+use Rattle.run_laws.proofs.Pieces.{taken_more}
 use Rattle.run_spec.specs.Lines.{event_line, kill_line}
 use Rattle.run_spec.specs.Replay.{signal_line}
 use Rattle.replay_rules.specs.Planned.{numbers_of}
 
 -- ---- one piece after another
-
--- the pieces before one, and that piece
-pub taken_more : {X : Type 0} → (f : X → List ℕ) (xs : List X) (i : ℕ) (d : X) → i < length xs → flat_map f (take (i + 1) xs) ≡ flat_map f (take i xs) ++ f (get_or xs i d)
-taken_more f xs i d inside =
-    ap (flat_map f) (take_more xs i d inside) ∙ flat_map-append f (take i xs) (get_or xs i d ∷ []) ∙ ap (λ t. flat_map f (take i xs) ++ t) (append-nil (f (get_or xs i d)))
 
 -- the pieces of slots before one, and of that one
 pub numbers_more : (f : ℕ → List ℕ) (slots : List Slot) (i : ℕ) (d : Slot) → i < length slots → flat_map f (numbers_of (take (i + 1) slots)) ≡ flat_map f (numbers_of (take i slots)) ++ f (get_or slots i d).0

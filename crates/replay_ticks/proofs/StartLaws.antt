@@ -22,7 +22,7 @@ use Rattle.ruleset_json.specs.declared.types.Rule.{Rule}
 use Rattle.ruleset_json.specs.RuleRanges.{FitsRules}
 use Rattle.replay_rules.specs.Planned.{HasTicked, IsPlanned, numbers_of}
 use Rattle.replay_rules.specs.Judged.{HasJudged}
-use Rattle.replay_ticks.specs.Replays.{IsPaced, IsReplay, ReplayView}
+use Rattle.replay_ticks.specs.Replays.{IsPaced, IsReplay, IsWatching, ReplayView}
 
 -- ---- lives and triggers
 
@@ -89,8 +89,8 @@ pub replay_new : (replay : ReplayView) (trace : Trace) (pace : Pace) (rules : Li
     ((cpu : ℕ) → cpu < length replay.crew.plans.plans → (clocks_at replay.crew.clocks cpu).made ≡ 0) →
     replay.rows ≡ new_table (length replay.plans.plans) (length replay.plans.lives) →
     StandsFor replay.engine (length replay.plans.plans) replay.plans.lives replay.plans.triggers [] →
-    IsPathOrder replay.plans.lives (numbers_of replay.order) → IsPaced replay.pacing trace pace → HasJudged replay.judge trace pace rules 0 → FitsRules rules → replay.made ≡ 0 → replay.signals ≡ 0 → replay.kills ≡ 0 → IsReplay replay trace pace rules 0
-replay_new replay trace pace rules planned same on none fresh rows stands order paced judged fits made signals kills =
+    IsPathOrder replay.plans.lives (numbers_of replay.order) → IsPaced replay.pacing trace pace → HasJudged replay.judge trace pace rules 0 → FitsRules rules → IsWatching replay.crew replay.live trace pace 0 → replay.made ≡ 0 → replay.signals ≡ 0 → replay.kills ≡ 0 → IsReplay replay trace pace rules 0
+replay_new replay trace pace rules planned same on none fresh rows stands order paced judged fits watching made signals kills =
     let here = subst (λ plans. AreOnPlans plans replay.crew.clocks) same on in
     record {
       planned = planned;
@@ -106,6 +106,7 @@ replay_new replay trace pace rules planned same on none fresh rows stands order 
           behind = λ cpu below. omega (arith, fresh cpu (omega (arith, below, on.each)));
         };
       };
+      watching = watching;
       sizes = rw rows (keeps_sizes.new (length replay.plans.plans) (length replay.plans.lives));
       engine = engine_new replay.plans replay.engine trace pace planned stands;
       judge = judged;

@@ -1,5 +1,5 @@
 -- What one tick more makes of a replay.
-use Rattle.std.proofs.Common.{◌≡◌, ℕ, zero, suc, ◌+◌, ◌-◌, ◌*◌, ◌<◌, ◌≤◌, ◌^◌, List, [], ◌∷◌, ◌++◌, length, sym, ap, ◌∙◌, subst, arith}
+use Rattle.std.proofs.Common.{◌≡◌, ℕ, zero, suc, ◌+◌, ◌-◌, ◌*◌, ◌<◌, ◌≤◌, ◌^◌, List, [], ◌∷◌, ◌++◌, length, refl, sym, ap, ◌∙◌, subst, arith}
 use Rattle.std.specs.Prelude.{Bool, Err, IsErr, true, Ok, Option, Result}
 use Rattle.std.specs.List.{range_with_len}
 use Rattle.std.proofs.Math.Nat.{mul-le-mul_left}
@@ -19,7 +19,9 @@ use Rattle.tick_engine.specs.Engine.{EngineView, StandsFor, Takes}
 use Rattle.tick_engine.specs.Tables.{tick_at}
 use Rattle.replay_workers.specs.Crew.{CrewView, IsTableAt}
 use Rattle.replay_workers.proofs.Tables.{table_is_of_events}
+use Rattle.std.specs.Io.KnownBytes.{Appends}
 use Rattle.psi_base.specs.Outside.{AppendsFront}
+use Rattle.psi_base.proofs.Grows.{Appends-then}
 use Rattle.psi_base.specs.declared.event.Slot.{Slot}
 use Rattle.psi_spec.specs.Groups.{IsPathOrder}
 use Rattle.replay_ticks.specs.declared.replay.TickFault.{TickFault}
@@ -27,7 +29,10 @@ use Rattle.ruleset_json.specs.declared.types.Rule.{Rule}
 use Rattle.kill_spec.specs.declared.kill.Kill.{Kill}
 use Rattle.replay_rules.specs.Planned.{HasTicked, IsPlanned, numbers_of}
 use Rattle.replay_rules.specs.Judged.{HasJudged, IsToJudge, JudgeView, kills_of}
-use Rattle.replay_ticks.specs.Replays.{HasPlaces, IsAhead, IsReady, IsReplay, IsSampled, IsToGo, IsToPut, IsToSample, Passes, ReplayView, TickGives}
+use Rattle.replay_ticks.specs.Replays.{AreInTime, HasPlaces, IsAhead, IsReady, IsLiveTick, IsReplay, IsSampled, IsToGo, IsToPut, IsToSample, IsWatching, Passes, ReplayView, TickGives, tick_lines, watches_text}
+use Rattle.replay_ticks.proofs.Pieces.{front_of_both, front_then}
+use Rattle.replay_ticks.proofs.PutLaws.{lines_split}
+use Rattle.run_spec.specs.Live.{IsLiveText}
 use Rattle.replay_ticks.proofs.AheadLaws.{moment_early}
 
 -- ---- one tick
@@ -137,6 +142,7 @@ ticked_replay old crew rows engine judge = record {
   judge = judge;
   order = old.order;
   pacing = old.pacing;
+  live = old.live;
   made = old.made + 1;
   signals = old.signals + length engine.fired;
   kills = old.kills + length (kills_of judge);
@@ -234,9 +240,9 @@ kills_are judge trace pace rules number found judged same = same ∙ judged.kill
 
 -- one tick more was made
 pub is_ticked : (replay : ReplayView) (crew : CrewView) (rows : List (List (List ℕ))) (engine : EngineView) (judge : JudgeView) (trace : Trace) (pace : Pace) (rules : List Rule) (i : ℕ) → IsReplay replay trace pace rules i
-    → (replay.made ≡ replay.pacing.last → ⊥) → IsSampled replay.plans crew rows engine trace pace (i + 1)
+    → (replay.made ≡ replay.pacing.last → ⊥) → IsSampled replay.plans crew rows engine trace pace (i + 1) → IsWatching crew replay.live trace pace (i + 1)
     → HasJudged judge trace pace rules (i + 1) → IsReplay (ticked_replay replay crew rows engine judge) trace pace rules (i + 1)
-is_ticked replay crew rows engine judge trace pace rules i is open_ sampled judged =
+is_ticked replay crew rows engine judge trace pace rules i is open_ sampled watching judged =
     let left = one_left replay trace pace rules i is open_ in
     let more = kills_more trace pace rules i in
     let found = ap length judged.kills in
@@ -246,6 +252,7 @@ is_ticked replay crew rows engine judge trace pace rules i is open_ sampled judg
       made = ap (λ n. n + 1) is.made;
       within = omega (arith, left);
       ahead = sampled.ahead;
+      watching = watching;
       sizes = sampled.sizes;
       engine = sampled.ticked;
       judge = judged;
@@ -264,11 +271,51 @@ pub text_is : (replay : ReplayView) (trace : Trace) (pace : Pace) (rules : List 
 text_is replay trace pace rules i is = ap (tick_text trace pace (with_rules rules)) is.made
 
 -- a tick was made
-pub passed : (trace : Trace) (pace : Pace) (rules : List Rule) (i : ℕ) (old new : ReplayView) (result : Bool) → Passes trace pace rules i old new result → result ≡ true → (i < tick_count trace pace) × IsReplay new trace pace rules (i + 1)
+pub passed : (trace : Trace) (pace : Pace) (rules : List Rule) (i : ℕ) (old new : ReplayView) (result : Bool) → Passes trace pace rules i old new result → result ≡ true → (i < tick_count trace pace) × IsReplay new trace pace rules (i + 1) × IsLiveTick old.crew new.crew trace pace (i + 1)
 passed trace pace rules i old new result given made = subst (Passes trace pace rules i old new) made given
 
+-- all is there to watch at the ticks that come next
+pub to_watch : (replay : ReplayView) (trace : Trace) (pace : Pace) (rules : List Rule) (i : ℕ) → IsReplay replay trace pace rules i → IsWatching replay.crew replay.live trace pace replay.made
+to_watch replay trace pace rules i is = subst (IsWatching replay.crew replay.live trace pace) (sym is.made) is.watching
+
+-- the moment of the tick that was made last fits
+pub made_fits : (replay : ReplayView) (trace : Trace) (pace : Pace) (rules : List Rule) (i : ℕ) → IsReplay replay trace pace rules (i + 1) → tick_moment replay.pacing.length replay.made < 2 ^ 64
+made_fits replay trace pace rules i is =
+    let early = moment_early replay.plans trace pace (i + 1) is.planned is.within in
+    let same : tick_moment replay.pacing.length replay.made ≡ tick_moment pace.length (i + 1) = ap (λ length. tick_moment length replay.made) is.paced.length ∙ ap (tick_moment pace.length) is.made in
+    omega (arith, early, same)
+
+-- the lines of its samples are those of the tick
+pub live_is : (replay : ReplayView) (trace : Trace) (pace : Pace) (rules : List Rule) (i at cpus : ℕ) → IsReplay replay trace pace rules (i + 1) → at ≡ tick_moment replay.pacing.length replay.made → cpus ≡ length replay.plans.plans
+    → watches_text at cpus replay.crew.watches ≡ watches_text (tick_moment pace.length (i + 1)) trace.cpus replay.crew.watches
+live_is replay trace pace rules i at cpus is moment many =
+    let here : at ≡ tick_moment pace.length (i + 1) = moment ∙ ap (λ length. tick_moment length replay.made) is.paced.length ∙ ap (tick_moment pace.length) is.made in
+    ap (λ m. watches_text m cpus replay.crew.watches) here ∙ ap (λ n. watches_text (tick_moment pace.length (i + 1)) n replay.crew.watches) (many ∙ is.planned.stand.each)
+
+-- the clocks of its samples may be opened
+pub live_in_time : (replay : ReplayView) (trace : Trace) (pace : Pace) (rules : List Rule) (i at cpus : ℕ) → IsReplay replay trace pace rules (i + 1) → at ≡ tick_moment replay.pacing.length replay.made → cpus ≡ length replay.plans.plans
+    → AreInTime trace.cpus replay.crew.watches (tick_moment pace.length (i + 1)) → AreInTime cpus replay.crew.watches at
+live_in_time replay trace pace rules i at cpus is moment many are =
+    let here : at ≡ tick_moment pace.length (i + 1) = moment ∙ ap (λ length. tick_moment length replay.made) is.paced.length ∙ ap (tick_moment pace.length) is.made in
+    subst (AreInTime cpus replay.crew.watches) (sym here) (subst (λ n. AreInTime n replay.crew.watches (tick_moment pace.length (i + 1))) (sym (many ∙ is.planned.stand.each)) are)
+
+-- the lines of a tick, live lines first
+pub lines_put : (trace : Trace) (pace : Pace) (rules : List Rule) (i : ℕ) (live : List ℕ) (had mid has : Option (List ℕ)) → Appends had mid live → Appends mid has (tick_text trace pace (with_rules rules) i) → Appends had has (tick_lines trace pace rules i live)
+lines_put trace pace rules i live had mid has first rest =
+    subst (Appends had has) (lines_split trace pace rules i live) (Appends-then had mid has live (tick_text trace pace (with_rules rules) i) first rest)
+
+-- a front of them, where the live lines fail
+pub live_front : (trace : Trace) (pace : Pace) (rules : List Rule) (i : ℕ) (live : List ℕ) (had has : Option (List ℕ)) → AppendsFront had has live → AppendsFront had has (tick_lines trace pace rules i live)
+live_front trace pace rules i live had has front =
+    subst (AppendsFront had has) (lines_split trace pace rules i live) (front_of_both had has live (tick_text trace pace (with_rules rules) i) front)
+
+-- or where the others do
+pub lines_front : (trace : Trace) (pace : Pace) (rules : List Rule) (i : ℕ) (live : List ℕ) (had mid has : Option (List ℕ)) → Appends had mid live → AppendsFront mid has (tick_text trace pace (with_rules rules) i) → AppendsFront had has (tick_lines trace pace rules i live)
+lines_front trace pace rules i live had mid has first rest =
+    subst (AppendsFront had has) (lines_split trace pace rules i live) (front_then had mid has live (tick_text trace pace (with_rules rules) i) first rest)
+
 -- the next tick gives a front of its lines, where it fails
-pub gives_front : (trace : Trace) (pace : Pace) (rules : List Rule) (i : ℕ) (new : ReplayView) (had has : Option (List ℕ)) (result : Result Bool TickFault) → IsErr result → i < tick_count trace pace
-    → AppendsFront had has (tick_text trace pace (with_rules rules) (i + 1)) → TickGives trace pace rules i new had has result
-gives_front trace pace rules i new had has (Ok x) failed left front = absurd (let no : ⊥ = cc in no)
-gives_front trace pace rules i new had has (Err fault) failed left front = (left, front)
+pub gives_front : (trace : Trace) (pace : Pace) (rules : List Rule) (i : ℕ) (old new : ReplayView) (live : List ℕ) (had has : Option (List ℕ)) (result : Result Bool TickFault) → IsErr result → i < tick_count trace pace
+    → IsLiveText trace pace.length pace.watch (i + 1) live → AppendsFront had has (tick_lines trace pace rules (i + 1) live) → TickGives trace pace rules i old new had has result
+gives_front trace pace rules i old new live had has (Ok x) failed left is_live front = absurd (let no : ⊥ = cc in no)
+gives_front trace pace rules i old new live had has (Err fault) failed left is_live front = (left, (live, is_live, front))

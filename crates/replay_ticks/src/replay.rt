@@ -2,21 +2,22 @@
 ghost use Rattle.std.specs.Prelude.{◌≡◌, ◌+◌, ◌≤◌, ◌<◌, ℕ, List, IfOk};
 ghost use Rattle.psi_base.specs.Outside.{HasCause, PutsAll, StaysOver};
 ghost use Rattle.psi_spec.specs.Trace.{Trace};
-ghost use Rattle.run_spec.specs.Outputs.{pace_of};
+ghost use Rattle.run_spec.specs.Outputs.{pace_of, watch_of};
 ghost use Rattle.run_spec.specs.Words.{IsWithin};
 ghost use Rattle.run_spec.specs.Replay.{Pace, kills_in, last_line, tick_count, tick_text, with_rules};
 ghost use Rattle.ruleset_json.specs.declared.types.Rule.{Rule};
 ghost use Rattle.ruleset_json.specs.RuleRanges.{FitsRules};
 ghost use Rattle.replay_rules.specs.Judged.{rules_in};
 ghost use Rattle.replay_rules.specs.Planned.{IsPlanned};
-ghost use Rattle.replay_ticks.specs.Replays.{IsReady, IsReplay, IsSampled, IsSomeReplay, IsToGo, IsToPut, IsToPutRoot, IsToSample, Passes, TickGives, due_text, root_report};
+ghost use Rattle.replay_ticks.specs.Replays.{IsReached, IsReady, IsReplay, IsSampled, IsSomeReplay, IsToGo, IsToPut, IsToPutRoot, IsToSample, IsWatching, Passes, TickGives, asked_by, due_text, handed, path_of, root_report};
 
+use crate::live::{put_live, watched_slot};
 use crate::pacing::Pacing;
 use crate::reports::{put_files, put_kills, put_reports, put_signals};
 use aggregate::Rows;
 use pressure_text::write_end;
 use proc_plan::Plans;
-use psi_base::{Gate, NoMemory, Ns, Sink, Slot, WriteFailed};
+use psi_base::{Gate, NoMemory, Ns, Path, Sink, Slot, WriteFailed};
 use replay_rules::{Judge, Kill};
 use replay_workers::{Crew, Ticks};
 use ruleset_json::Rules;
@@ -64,6 +65,8 @@ pub struct Replay<'a> {
     /// All slots, in the byte order of their paths.
     order: Vec<Slot>,
     pacing: Pacing,
+    /// The path whose group is watched.
+    live: Option<Path>,
     /// How many ticks were made.
     made: u64,
     /// How many signals there were.
@@ -85,6 +88,7 @@ impl<'a> Model for Replay<'a> {
       judge = r.judge;
       order = r.order.items;
       pacing = r.pacing;
+      live = r.live;
       made = r.made;
       signals = r.signals;
       kills = r.kills;
@@ -92,37 +96,53 @@ impl<'a> Model for Replay<'a> {
 }
 
 // Makes the changes up to the ticks behind the first so many, where the table of none is ready: over as many ticks at once as are
-// left and as the crew can go over.
+// left and as the crew can go over, and up to the next alone where a path is watched, whose slot may be another at each.
 fn look_ahead<R: Threads + Sync, G: Gate>(
     rt: &R,
     crew: &mut Crew<'_>,
+    plans: &Plans,
+    live: &Option<Path>,
     pacing: Pacing,
     made: u64,
     gate: &G,
 )
-    requires { (trace : Trace) × (pace : Pace)
-        × IsToGo crew.old.plans crew.old pacing trace pace made }
+    requires plans { plans.now ≡ crew.old.plans }
+    requires go { (trace : Trace) × (pace : Pace)
+        × IsToGo crew.old.plans crew.old pacing trace pace made
+        × IsWatching crew.old live.now trace pace made }
     ensures { (trace : Trace) (pace : Pace) →
         IsToGo crew.old.plans crew.old pacing trace pace made →
-        IsReady crew.old.plans crew.new trace pace made }
+        IsWatching crew.old live.now trace pace made →
+        IsReady crew.old.plans crew.new trace pace made
+        × IsReached crew.old crew.new trace pace made }
 {
     if crew.ready() > 0 {
         return;
     }
-    let left = pacing.last - made;
-    let ticks = Ticks {
-        first: pacing.moment(made + 1),
-        length: pacing.length,
-        count: left.min(u64::from(crew.room())) as u32,
-    };
-    crew.intervals(rt, ticks, gate);
+    let next = pacing.moment(made + 1);
+    match live {
+        Some(path) => {
+            let slot = watched_slot(plans.lives(), path, next);
+            crew.interval(rt, next, slot, gate);
+        }
+        None => {
+            let left = pacing.last - made;
+            let ticks = Ticks {
+                first: next,
+                length: pacing.length,
+                count: left.min(u64::from(crew.room())) as u32,
+            };
+            crew.intervals(rt, ticks, gate);
+        }
+    }
 }
 
 // Samples all groups at the next tick (ns), whose table is ready: the engine takes their times.
 fn sample(crew: &mut Crew<'_>, rows: &mut Rows, engine: &mut Engine, at: Ns)
     requires { (trace : Trace) × (pace : Pace) × (i : ℕ)
         × IsToSample crew.old.plans crew.old rows.old engine.old trace pace i at }
-    ensures { (trace : Trace) (pace : Pace) (i : ℕ) →
+    ensures handed { crew.new ≡ handed crew.old }
+    ensures sampled { (trace : Trace) (pace : Pace) (i : ℕ) →
         IsToSample crew.old.plans crew.old rows.old engine.old trace pace i at →
         IsSampled crew.old.plans crew.new rows.new engine.new trace pace (i + 1) }
 {
@@ -204,6 +224,17 @@ fn put_root<K: Sink>(
     put_files(out, at, path, ROOT, totals, engine.averages(ROOT))
 }
 
+// The path that options have watched, if they name one, and how many samples they have taken of a processor in an interval.
+fn watched(alloc: Global, options: &Options) -> Result<(Option<Path>, u32), NoMemory>
+    ensures path { IfOk result (λ watched. watched.0 ≡ path_of (watch_of options.now)) }
+    ensures asked { IfOk result (λ watched. watched.1 ≡ asked_by (watch_of options.now)) }
+{
+    match &options.live {
+        Some(path) => Ok((Some(path.copy(alloc)?), options.live_count)),
+        None => Ok((None, 0)),
+    }
+}
+
 /// A replay of the trace that the plans stand for, with rules if there are some, before its first tick: a trace that is
 /// accepted at the options' length of a tick. It takes all memory that the replay needs.
 pub fn prepare<'a>(
@@ -224,9 +255,12 @@ pub fn prepare<'a>(
     let length = Ns::from(options.tick_ms) * MILLISECOND;
     let interval = Ns::from(options.interval_s) * SECOND;
     let last = plans.finish() / length;
+    let (live, asked) = watched(alloc, options)?;
+    // Where a path is watched the crew goes tick by tick.
+    let ahead = if live.is_some() { 1 } else { last };
     Ok(Replay {
         plans,
-        crew: Crew::make(alloc, plans, options.workers, last)?,
+        crew: Crew::make(alloc, plans, options.workers, ahead, asked)?,
         rows: Rows::make(alloc, plans.cpus(), slots)?,
         engine: Engine::make(alloc, plans.lives(), plans.triggers(), plans.cpus())?,
         judge: Judge::make(alloc, plans, rules, length, interval)?,
@@ -236,6 +270,7 @@ pub fn prepare<'a>(
             report: Ns::from(options.report_s) * SECOND,
             last,
         },
+        live,
         made: 0,
         signals: 0,
         kills: 0,
@@ -253,7 +288,15 @@ impl<'a> Replay<'a> {
         if self.made == self.pacing.last {
             return false;
         }
-        look_ahead(rt, &mut self.crew, self.pacing, self.made, gate);
+        look_ahead(
+            rt,
+            &mut self.crew,
+            self.plans,
+            &self.live,
+            self.pacing,
+            self.made,
+            gate,
+        );
         self.made += 1;
         let at = self.pacing.moment(self.made);
         sample(&mut self.crew, &mut self.rows, &mut self.engine, at);
@@ -275,13 +318,15 @@ impl<'a> Replay<'a> {
         requires { IsSomeReplay self.old }
         ensures tick { (trace : Trace) (pace : Pace) (rules : List Rule) (i : ℕ) →
             IsReplay self.old trace pace rules i →
-            TickGives trace pace rules i self.new (K.has out.old) (K.has out.new) result }
+            TickGives trace pace rules i self.old self.new (K.has out.old) (K.has out.new) result }
         ensures cause { HasCause (K.faults out.old) (K.faults out.new) result }
         ensures below { StaysOver (K.below out.old) (K.below out.new) }
     {
         if !self.pass(rt, gate) {
             return Ok(false);
         }
+        let at = self.pacing.moment(self.made);
+        put_live(out, at, &self.crew, self.plans.cpus())?;
         put_tick(
             out,
             self.plans,

@@ -3,7 +3,6 @@ ghost use Rattle.std.specs.Prelude.{◌≡◌, ◌<◌, ◌≤◌, ℕ, length, 
 ghost use Rattle.std.specs.List.{All};
 ghost use Rattle.psi_base.specs.Outside.{HasCause, PutsAll, StaysOver};
 ghost use Rattle.psi_base.specs.declared.event.TriggerSpec.{TriggerSpec};
-ghost use Rattle.psi_spec.specs.Groups.{is_live_at};
 ghost use Rattle.run_spec.specs.Replay.{files_text, signal_lines};
 ghost use Rattle.run_laws.specs.Reports.{slot_report, slot_reports};
 ghost use Rattle.tick_engine.specs.Engine.{averages_in, totals_in};
@@ -15,19 +14,8 @@ use fixed_average::Averages;
 use pressure_text::{write_fired, write_kill, write_report};
 use psi_base::{Ns, Path, Res, Sink, Slot, TriggerSpec, WriteFailed};
 use psi_spec::GroupLife;
-use replay_rules::Kill;
+use replay_rules::{Kill, is_live_at};
 use tick_engine::Engine;
-
-/// Whether a group is live at a moment (ns): it was made by then, and hasn't gone by then.
-fn is_live_at(life: &GroupLife, at: Ns) -> bool
-    ensures { result ≡ is_live_at life.now at }
-{
-    let is_gone = match life.gone {
-        Some(gone) => gone <= at,
-        None => false,
-    };
-    life.made <= at && !is_gone
-}
 
 /// Writes the lines of the triggers that signalled at a tick (ns), by their numbers.
 #[tactic(auto, using(psi_base::proofs::Grows::growth))]

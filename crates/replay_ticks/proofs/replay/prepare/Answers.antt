@@ -6,6 +6,8 @@ use Rattle.run_spec.specs.Replay.{tick_count}
 use Rattle.run_spec.specs.Outputs.{pace_of}
 use Rattle.replay_rules.specs.Planned.{numbers_of}
 use Rattle.replay_rules.specs.Judged.{IsToBegin, rules_in}
+use Rattle.proc_plan.specs.Plans.{PlansView}
+use Rattle.replay_ticks.proofs.LiveLaws.{watching_new}
 use Rattle.replay_ticks.proofs.StartLaws.{lives_within, replay_new, triggers_within}
 use Rattle.replay_ticks.proofs.replay.prepare.Goals as goal
 
@@ -25,7 +27,9 @@ returns c = λ trace planned.
     let last : c.finish.result / (c.from-length.result * 1000000) ≡ tick_count trace (pace_of c.args.options.now) = ap (λ n. n / (c.from-length.result * 1000000)) (c.finish.ensures ∙ planned.stand.finish) ∙ rw c.from-length.ensures refl in
     let begins : IsToBegin plans trace (pace_of c.args.options.now) (c.from-length.result * 1000000) (c.from-interval.result * 1000000000) = record { planned = planned; tick_is = rw c.from-length.ensures refl; interval_is = rw c.from-interval.ensures refl } in
     let judged = c.in_ok-make-4.ensures.judged trace (pace_of c.args.options.now) begins in
-    replay_new _ trace (pace_of c.args.options.now) (rules_in c.args.rules) planned c.in_ok-make.ensures.plans c.in_ok-make.ensures.on c.in_ok-make.ensures.none c.in_ok-make.ensures.fresh rows engine order (record { length = rw c.from-length.ensures refl; report = rw c.from.ensures refl; last = last }) judged c.requires.fit refl refl refl
+    let watching = watching_new c.in_ok-make.field-0 c.in_ok-live.live trace (pace_of c.args.options.now) c.in_ok-live.ensures.path (c.in_ok-make.ensures.asked ∙ c.in_ok-live.ensures.asked) c.in_ok-make.ensures.none c.in_ok-make.ensures.unwatched
+    (λ cpu below. c.in_ok-make.ensures.fresh cpu (let many = ap (λ (p : PlansView). length p.plans) c.in_ok-make.ensures.plans in omega (arith, below, many, planned.stand.each))) in
+    replay_new _ trace (pace_of c.args.options.now) (rules_in c.args.rules) planned c.in_ok-make.ensures.plans c.in_ok-make.ensures.on c.in_ok-make.ensures.none c.in_ok-make.ensures.fresh rows engine order (record { length = rw c.from-length.ensures refl; report = rw c.from.ensures refl; last = last }) judged c.requires.fit watching refl refl refl
 
 pub overflow_mul-interval : goal.overflow_mul-interval
 overflow_mul-interval c = grind (arith, c.from-interval.ensures, c.requires.often)

@@ -12,8 +12,8 @@ tick-requires-clause-next c =
     let is = c.requires.3 in
     laws.tick_next c.args.crew.now.plans c.args.engine.now c.requires.0 c.requires.1 c.requires.2 c.args.at c.fill.new.rows is.planned is.left is.at_is is.ticked c.fill.ensures.table
 
-pub returns : goal.returns
-returns c = λ trace pace i is.
+pub returns-clause-sampled : goal.returns-clause-sampled
+returns-clause-sampled c = λ trace pace i is.
     let after = ahead.handed_out c.args.crew.now.plans c.args.crew.now c.fill.new.self trace pace i is.ready c.fill.ensures.kept in
     laws.is_sampled c.args.crew.now.plans c.fill.new.self c.fill.new.rows c.args.engine.now c.tick.new.self trace pace i c.args.at
     is.planned is.at_is is.ticked after c.fill.ensures.table c.tick.ensures.stands

@@ -5,7 +5,8 @@ use Rattle.psi_spec.specs.Groups.{path_at}
 use Rattle.psi_base.proofs.Grows.{Appends-then, AppendsFront-then, PutsAll-failed, flat_map-at}
 use Rattle.kill_spec.specs.declared.kill.Kill.{Kill}
 use Rattle.run_spec.specs.Lines.{kill_line}
-use Rattle.replay_ticks.proofs.ReportLaws.{kill_is, taken_more}
+use Rattle.run_laws.proofs.Pieces.{taken_more}
+use Rattle.replay_ticks.proofs.ReportLaws.{kill_is}
 use Rattle.replay_ticks.proofs.reports.put_kills.Goals as goal
 
 pub returns-in_err-write_kill-clause-bytes : goal.returns-in_err-write_kill-clause-bytes

@@ -7,7 +7,8 @@ use Rattle.psi_base.specs.declared.event.Res.TheVariants.{Io}
 use Rattle.psi_base.specs.declared.event.Level.TheVariants.{SomeStalled}
 use Rattle.psi_base.proofs.Grows.{Appends-then, AppendsFront-then, PutsAll-failed, flat_map-at}
 use Rattle.run_spec.specs.Replay.{signal_line}
-use Rattle.replay_ticks.proofs.ReportLaws.{signal_is, taken_more}
+use Rattle.run_laws.proofs.Pieces.{taken_more}
+use Rattle.replay_ticks.proofs.ReportLaws.{signal_is}
 use Rattle.replay_ticks.proofs.reports.put_signals.Goals as goal
 
 pub returns-in_err-write_fired-clause-bytes : goal.returns-in_err-write_fired-clause-bytes

@@ -1,0 +1,392 @@
+-- What the samples of a crew tell of a trace: their lines are live lines that the tick may have.
+use Rattle.std.proofs.Common.{◌≡◌, ℕ, zero, suc, ◌+◌, ◌-◌, ◌*◌, ◌<◌, ◌≤◌, List, [], ◌∷◌, ◌++◌, drop, length, map, get_or, refl, sym, ap, ◌∙◌, subst, arith, Option, None, Some}
+use Rattle.std.specs.Prelude.{nat_le}
+use Rattle.std.specs.List.{All, flat_map, range_with_len}
+use Rattle.std.proofs.lemmas.List.{length-drop}
+use Rattle.std.proofs.lemmas.List.Sums.{count_by-le-length, length-filter}
+use Rattle.psi_base.specs.declared.event.Slot.{Slot}
+use Rattle.psi_base.specs.declared.event.Event.{Event}
+use Rattle.psi_spec.specs.Changes.{RiseWithin, changes_of, count_at, times_after}
+use Rattle.psi_spec.specs.declared.machine.GroupLife.{GroupLife}
+use Rattle.psi_spec.specs.Stall.{number_of_slot}
+use Rattle.psi_spec.specs.Trace.{Trace, last_moment, limits_of}
+use Rattle.psi_laws.specs.declared.changes.Change.{Change}
+use Rattle.psi_laws.specs.Clock.{ClockView, IsInTime, opened, opened_time}
+use Rattle.psi_laws.specs.Plan.{AreInOrder, IsClock, IsPlan, PlanView, changes_up_to, last_change, plan_of, planned_time}
+use Rattle.psi_laws.proofs.ClockLaws.{map_states}
+use Rattle.psi_laws.proofs.PlanClocks.{clock_is_in_time}
+use Rattle.psi_laws.proofs.PlanLaws.{changes_are_numbered}
+use Rattle.psi_laws.proofs.PlanPlanned.{planned_after}
+use Rattle.psi_laws.proofs.PlanUpTo.{counts_by_plan}
+use Rattle.pressure_spec.specs.Ticks.{tick_moment}
+use Rattle.run_spec.specs.Lines.{live_line}
+use Rattle.run_spec.specs.Live.{AreCounts, IsLiveOf, IsLiveText, Watch, changes_until, live_lines, sample_lines, slot_at}
+use Rattle.run_spec.specs.Replay.{Pace, tick_count}
+use Rattle.run_laws.specs.Live.{live_slot}
+use Rattle.run_laws.proofs.LiveSlots.{slot_by_lives}
+use Rattle.proc_plan.specs.Plans.{PlansView, plan_at}
+use Rattle.proc_plan.proofs.Finishing.{standing_plans}
+use Rattle.clock_row.specs.declared.reader.Sample.{Sample}
+use Rattle.replay_workers.specs.Crew.{AreAt, AreSampled, CrewView, IsSampled, WatchView, clocks_at, counts_of, watch_at}
+use Rattle.replay_rules.specs.Planned.{IsPlanned}
+use Rattle.replay_ticks.specs.declared.pacing.Pacing.{Pacing}
+use Rattle.replay_ticks.specs.Replays.{AreIdle, AreInTime, GoesByTick, IsAhead, IsLiveTick, IsPaced, IsReached, IsWatching, asked_by, path_of, handed, samples_text, watched_at, watches_text}
+
+-- ---- numbers that never fall
+
+-- they reach their end
+rise_ends : (low high : ℕ) (numbers : List ℕ) → RiseWithin low numbers high → low ≤ high
+rise_ends low high [] rise = rise
+rise_ends low high (number ∷ numbers) rise =
+    let first = rise.0 in
+    let rest = rise_ends number high numbers rise.1 in
+    omega (arith, first, rest)
+
+-- from and to the same numbers
+rise_between : (low high down up : ℕ) (numbers : List ℕ) → low ≡ down → high ≡ up → RiseWithin low numbers high → RiseWithin down numbers up
+rise_between low high down up numbers from to rise = subst (λ n. RiseWithin down numbers n) to (subst (λ n. RiseWithin n numbers high) from rise)
+
+-- ---- moments of changes
+
+-- the moments of a plan's changes never fall, however far apart
+rises : (plan : PlanView) → AreInOrder plan → (k n : ℕ) → k + n ≤ length plan.changes → last_change plan k ≤ last_change plan (k + n)
+rises plan order k zero within =
+    let same : k ≡ k + 0 = omega arith in
+    subst (λ m. last_change plan k ≤ last_change plan m) same (omega arith)
+rises plan order k (suc n) within =
+    let before = rises plan order k n (omega (arith, within)) in
+    let one = order (k + n) (omega (arith, within)) in
+    let same : k + n + 1 ≡ k + suc n = omega arith in
+    subst (λ m. last_change plan k ≤ last_change plan m) same (omega (arith, before, one))
+
+-- so a change that isn't behind one up to a moment comes up to it
+early_enough : (plan : PlanView) (k last at : ℕ) → AreInOrder plan → k ≤ last → last ≤ length plan.changes → last_change plan last ≤ at → last_change plan k ≤ at
+early_enough plan k last at order low within past =
+    let same : k + (last - k) ≡ last = omega (arith, low) in
+    let far = rises plan order k (last - k) (omega (arith, low, within)) in
+    let there : last_change plan (k + (last - k)) ≡ last_change plan last = ap (last_change plan) same in
+    omega (arith, far, there, past)
+
+-- ---- one sample
+
+-- a clock after some changes of a trace opens to the times after them
+clock_times : (plans : PlansView) (trace : Trace) (pace : Pace) (clock : ClockView) (slot cpu k at : ℕ) → IsPlanned plans trace pace → cpu < trace.cpus → IsClock clock (plan_at plans cpu) slot k → last_change (plan_at plans cpu) k ≤ at
+    → opened clock at ≡ times_after cpu slot trace.events k at
+clock_times plans trace pace clock slot cpu k at planned below is past =
+    let plan_is = standing_plans plans trace.cpus trace.events planned.stand cpu below in
+    let own : IsClock clock (plan_of cpu trace.events) slot k = subst (λ plan. IsClock clock plan slot k) plan_is is in
+    let there : last_change (plan_of cpu trace.events) k ≤ at = subst (λ plan. last_change plan k ≤ at) plan_is past in
+    let many = (changes_are_numbered cpu trace.events).2 in
+    let within : k ≤ length (changes_of cpu trace.events) = omega (arith, own.within, many) in
+    map_states (opened_time clock at) (λ state. planned_time state (plan_of cpu trace.events) slot k at) (λ state. own.times state at there)
+    ∙ planned_after (limits_of pace.length trace.cpus) trace.events planned.accepted.legal cpu slot k at within there
+
+-- what the samples of a processor are taken beside: the changes of its plan up to a moment
+pub record AreBeside (plans : PlansView) (slot cpu low high at : ℕ) (samples : List Sample) : Type 0 where
+  pub clocks : All (λ (sample : Sample). IsClock sample.clock (plan_at plans cpu) slot sample.count) samples
+  pub rise : RiseWithin low (counts_of samples) high
+  pub whole : IsPlan (plan_at plans cpu)
+  pub within : high ≤ length (plan_at plans cpu).changes
+  pub past : last_change (plan_at plans cpu) high ≤ at
+
+beside_rest : (plans : PlansView) (slot cpu low high at : ℕ) (sample : Sample) (samples : List Sample) → AreBeside plans slot cpu low high at (sample ∷ samples) → AreBeside plans slot cpu sample.count high at samples
+beside_rest plans slot cpu low high at sample samples are = record {
+  clocks = λ k d below. are.clocks (suc k) d (omega (arith, below));
+  rise = are.rise.1;
+  whole = are.whole;
+  within = are.within;
+  past = are.past;
+}
+
+-- the first of them comes up to the moment
+first_past : (plans : PlansView) (slot cpu low high at : ℕ) (sample : Sample) (samples : List Sample) → AreBeside plans slot cpu low high at (sample ∷ samples) → last_change (plan_at plans cpu) sample.count ≤ at
+first_past plans slot cpu low high at sample samples are =
+    early_enough (plan_at plans cpu) sample.count high at are.whole.order (rise_ends sample.count high (counts_of samples) are.rise.1) are.within are.past
+
+-- their lines are those of their counts
+sampled_text : (plans : PlansView) (trace : Trace) (pace : Pace) (slot cpu low high at : ℕ) (samples : List Sample) → IsPlanned plans trace pace → cpu < trace.cpus → AreBeside plans slot cpu low high at samples
+    → samples_text at cpu samples ≡ sample_lines trace slot at cpu (counts_of samples)
+sampled_text plans trace pace slot cpu low high at [] planned below are = refl
+sampled_text plans trace pace slot cpu low high at (sample ∷ samples) planned below are =
+    let past = first_past plans slot cpu low high at sample samples are in
+    let times = clock_times plans trace pace sample.clock slot cpu sample.count at planned below (are.clocks zero sample (omega arith)) past in
+    let rest = sampled_text plans trace pace slot cpu sample.count high at samples planned below (beside_rest plans slot cpu low high at sample samples are) in
+    ap (λ seven. live_line at cpu sample.count seven ++ samples_text at cpu samples) times
+    ∙ ap (λ text. live_line at cpu sample.count (times_after cpu slot trace.events sample.count at) ++ text) rest
+
+-- a clock that may be opened, and others
+in_time_cons : (at : ℕ) (sample : Sample) (samples : List Sample) → IsInTime sample.clock at → All (λ (sample : Sample). IsInTime sample.clock at) samples → All (λ (sample : Sample). IsInTime sample.clock at) (sample ∷ samples)
+in_time_cons at sample samples first rest = λ k d below. by_place k d below
+  where
+    by_place : (k : ℕ) (d : Sample) → k < length (sample ∷ samples) → IsInTime (get_or (sample ∷ samples) k d).clock at
+    by_place zero d below = first
+    by_place (suc k) d below = rest k d (omega (arith, below))
+
+-- their clocks may be opened at the moment
+sampled_in_time : (plans : PlansView) (slot cpu low high at : ℕ) (samples : List Sample) → at ≤ last_moment → AreBeside plans slot cpu low high at samples → All (λ (sample : Sample). IsInTime sample.clock at) samples
+sampled_in_time plans slot cpu low high at [] early are = λ k d below. absurd (omega (arith, below))
+sampled_in_time plans slot cpu low high at (sample ∷ samples) early are =
+    in_time_cons at sample samples
+    (clock_is_in_time sample.clock (plan_at plans cpu) slot sample.count at are.whole (are.clocks zero sample (omega arith)) (first_past plans slot cpu low high at sample samples are) early)
+    (sampled_in_time plans slot cpu sample.count high at samples early (beside_rest plans slot cpu low high at sample samples are))
+
+-- ---- all processors
+
+-- no more changes come up to a moment than there are
+up_to_within : (plan : PlanView) (at : ℕ) → changes_up_to plan at ≤ length plan.changes
+up_to_within plan at =
+    let passed = length-filter (λ (change : Change). nat_le change.at at) plan.changes in
+    let most = count_by-le-length (λ (change : Change). nat_le change.at at) plan.changes in
+    omega (arith, passed, most)
+
+-- the samples of a processor were taken beside its changes up to the moment that a crew reached
+beside_cpu : (plans : PlansView) (old new : CrewView) (slot cpu asked low at : ℕ) → IsSampled (plan_at plans cpu) slot asked low (clocks_at new.clocks cpu).made (watch_at old.watches cpu) (watch_at new.watches cpu) → AreAt plans new.clocks at → cpu < length new.clocks
+    → AreBeside plans slot cpu low (clocks_at new.clocks cpu).made at (watch_at new.watches cpu).samples
+beside_cpu plans old new slot cpu asked low at is there below =
+    let plan = plan_at plans cpu in
+    let made = there.there cpu below in
+    record {
+      clocks = is.clocks;
+      rise = is.rise;
+      whole = there.on_plans.whole cpu below;
+      within = subst (λ k. k ≤ length plan.changes) (sym made) (up_to_within plan at);
+      past = subst (λ k. last_change plan k ≤ at) (sym made) (there.past cpu below);
+    }
+
+-- pieces that are the same
+same_pieces : (f g : ℕ → List ℕ) (from count : ℕ) → ((i : ℕ) → from ≤ i → i < from + count → f i ≡ g i) → flat_map f (range_with_len from count) ≡ flat_map g (range_with_len from count)
+same_pieces f g from zero same = refl
+same_pieces f g from (suc count) same =
+    ap (λ text. text ++ flat_map f (range_with_len (from + 1) count)) (same from (omega arith) (omega arith))
+    ∙ ap (λ text. g from ++ text) (same_pieces f g (from + 1) count (λ i low high. same i (omega (arith, low)) (omega (arith, high))))
+
+-- pieces of which each is empty
+no_pieces : (f : ℕ → List ℕ) (from count : ℕ) → ((i : ℕ) → f i ≡ []) → flat_map f (range_with_len from count) ≡ []
+no_pieces f from zero none = refl
+no_pieces f from (suc count) none = ap (λ text. text ++ flat_map f (range_with_len (from + 1) count)) (none from) ∙ no_pieces f (from + 1) count none
+
+-- ---- a slot is watched
+
+-- What is known where a crew reached the tick behind the first so many, at which a slot is watched.
+pub record HasReached (plans : PlansView) (old new : CrewView) (trace : Trace) (pace : Pace) (i at : ℕ) : Type 0 where
+  pub planned : IsPlanned plans trace pace
+  pub left : i < tick_count trace pace
+  pub same : old.plans ≡ plans
+  pub at_is : at ≡ tick_moment pace.length (i + 1)
+  pub there : AreAt plans new.clocks at
+  pub ready : new.ready ≡ at ∷ []
+  pub asked : new.asked ≡ old.asked
+
+-- how many changes of a processor come up to the tick
+made_now : (plans : PlansView) (old new : CrewView) (trace : Trace) (pace : Pace) (i at cpu : ℕ) → HasReached plans old new trace pace i at → cpu < trace.cpus → (clocks_at new.clocks cpu).made ≡ changes_until trace pace.length cpu (i + 1)
+made_now plans old new trace pace i at cpu is below =
+    let inside : cpu < length new.clocks = omega (arith, below, is.planned.stand.each, is.there.on_plans.each) in
+    let next : i + 1 ≡ suc i = omega arith in
+    let plan_is = standing_plans plans trace.cpus trace.events is.planned.stand cpu below in
+    let count = (counts_by_plan (limits_of pace.length trace.cpus) trace.events is.planned.accepted.legal cpu at).0 in
+    let here : count_at cpu trace.events at ≡ changes_until trace pace.length cpu (i + 1) =
+    ap (count_at cpu trace.events) (is.at_is ∙ ap (tick_moment pace.length) next) ∙ ap (changes_until trace pace.length cpu) (sym next) in
+    is.there.there cpu inside ∙ ap (λ plan. changes_up_to plan at) plan_is ∙ sym count ∙ here
+
+length-counts : (samples : List Sample) → length (counts_of samples) ≡ length samples
+length-counts [] = refl
+length-counts (sample ∷ samples) = ap (λ n. suc n) (length-counts samples)
+
+-- the samples of a slot at a tick are of numbers of changes that they may be of
+counts_allowed : (plans : PlansView) (old new : CrewView) (trace : Trace) (pace : Pace) (i at slot cpu asked : ℕ) → HasReached plans old new trace pace i at → cpu < trace.cpus →
+    (clocks_at old.clocks cpu).made ≡ changes_until trace pace.length cpu i →
+    IsSampled (plan_at plans cpu) slot asked (clocks_at old.clocks cpu).made (clocks_at new.clocks cpu).made (watch_at old.watches cpu) (watch_at new.watches cpu) →
+    AreCounts trace pace.length (i + 1) cpu asked (counts_of (watch_at new.watches cpu).samples)
+counts_allowed plans old new trace pace i at slot cpu asked is below before sampled =
+    let back : i ≡ i + 1 - 1 = omega arith in
+    record {
+      many = length-counts (watch_at new.watches cpu).samples ∙ sampled.many;
+      rise = rise_between (clocks_at old.clocks cpu).made (clocks_at new.clocks cpu).made (changes_until trace pace.length cpu (i + 1 - 1)) (changes_until trace pace.length cpu (i + 1)) (counts_of (watch_at new.watches cpu).samples) (before ∙ ap (changes_until trace pace.length cpu) back) (made_now plans old new trace pace i at cpu is below) sampled.rise;
+    }
+
+-- their lines are live lines of the slot
+slot_lines : (plans : PlansView) (old new : CrewView) (trace : Trace) (pace : Pace) (watch : Watch) (i at : ℕ) (slot : Slot) → HasReached plans old new trace pace i at → GoesByTick (Some watch) 0 old trace pace.length i → old.asked ≡ watch.count → AreSampled (Some slot) old new →
+    IsLiveOf trace pace.length (i + 1) watch.count (Some slot.0) (watches_text (tick_moment pace.length (i + 1)) trace.cpus new.watches)
+slot_lines plans old new trace pace watch i at slot is by_tick asked sampled =
+    let own : (cpu : ℕ) → cpu < trace.cpus → IsSampled (plan_at plans cpu) slot.0 watch.count (clocks_at old.clocks cpu).made (clocks_at new.clocks cpu).made (watch_at old.watches cpu) (watch_at new.watches cpu) = λ cpu below.
+    subst (λ n. IsSampled (plan_at plans cpu) slot.0 n (clocks_at old.clocks cpu).made (clocks_at new.clocks cpu).made (watch_at old.watches cpu) (watch_at new.watches cpu)) asked
+    (subst (λ (p : PlansView). IsSampled (plan_at p cpu) slot.0 old.asked (clocks_at old.clocks cpu).made (clocks_at new.clocks cpu).made (watch_at old.watches cpu) (watch_at new.watches cpu)) is.same
+    (sampled cpu (let each = ap (λ (p : PlansView). length p.plans) is.same in omega (arith, below, each, is.planned.stand.each)))) in
+    let counts : ℕ → List ℕ = λ cpu. counts_of (watch_at new.watches cpu).samples in
+    let text = same_pieces (λ cpu. samples_text at cpu (watch_at new.watches cpu).samples) (λ cpu. sample_lines trace slot.0 at cpu (counts cpu)) 0 trace.cpus
+    (λ cpu _ below.
+    let inside : cpu < length new.clocks = omega (arith, below, is.planned.stand.each, is.there.on_plans.each) in
+    let there : cpu < trace.cpus = omega (arith, below) in
+    sampled_text plans trace pace slot.0 cpu (clocks_at old.clocks cpu).made (clocks_at new.clocks cpu).made at (watch_at new.watches cpu).samples is.planned there (beside_cpu plans old new slot.0 cpu watch.count (clocks_at old.clocks cpu).made at (own cpu there) is.there inside)) in (
+      counts,
+      λ cpu below. counts_allowed plans old new trace pace i at slot.0 cpu watch.count is below (by_tick.1 cpu below) (own cpu below),
+      subst (λ m. watches_text m trace.cpus new.watches ≡ live_lines trace slot.0 m counts) is.at_is text,
+    )
+
+-- their clocks may be opened at the tick
+slot_in_time : (plans : PlansView) (old new : CrewView) (trace : Trace) (pace : Pace) (i at : ℕ) (slot : Slot) → HasReached plans old new trace pace i at → at ≤ last_moment → AreSampled (Some slot) old new → AreInTime trace.cpus new.watches at
+slot_in_time plans old new trace pace i at slot is early sampled = λ cpu below.
+    let inside : cpu < length new.clocks = omega (arith, below, is.planned.stand.each, is.there.on_plans.each) in
+    let own = subst (λ (p : PlansView). IsSampled (plan_at p cpu) slot.0 old.asked (clocks_at old.clocks cpu).made (clocks_at new.clocks cpu).made (watch_at old.watches cpu) (watch_at new.watches cpu)) is.same
+    (sampled cpu (let each = ap (λ (p : PlansView). length p.plans) is.same in omega (arith, below, each, is.planned.stand.each))) in
+    sampled_in_time plans slot.0 cpu (clocks_at old.clocks cpu).made (clocks_at new.clocks cpu).made at (watch_at new.watches cpu).samples early (beside_cpu plans old new slot.0 cpu old.asked (clocks_at old.clocks cpu).made at own is.there inside)
+
+-- ---- nothing is watched
+
+-- where there are no samples there is no line
+pub idle_text : (watches : List WatchView) (at cpus : ℕ) → AreIdle watches → watches_text at cpus watches ≡ []
+idle_text watches at cpus idle = no_pieces (λ cpu. samples_text at cpu (watch_at watches cpu).samples) 0 cpus (λ cpu. ap (samples_text at cpu) (idle cpu))
+
+no_samples : (samples : List Sample) (at : ℕ) → samples ≡ [] → All (λ (sample : Sample). IsInTime sample.clock at) samples
+no_samples samples at none = λ k d below. absurd (let no = ap length none in omega (arith, below, no))
+
+pub idle_in_time : (watches : List WatchView) (at cpus : ℕ) → AreIdle watches → AreInTime cpus watches at
+idle_in_time watches at cpus idle = λ cpu below. no_samples (watch_at watches cpu).samples at (idle cpu)
+
+-- ---- the tick
+
+-- a crew that went on with nothing watched reached the tick
+pub reached_unwatched : (old new : CrewView) (trace : Trace) (pace : Pace) (i : ℕ) → pace.watch ≡ None → AreIdle new.watches → new.asked ≡ old.asked → IsReached old new trace pace i
+reached_unwatched old new trace pace i none idle asked = record {
+  live = record {
+    watched = None;
+    slot = rw none refl;
+    sampled = idle;
+    text = subst (λ watch. IsLiveText trace pace.length watch (i + 1) (watches_text (tick_moment pace.length (i + 1)) trace.cpus new.watches)) (sym none) (idle_text new.watches (tick_moment pace.length (i + 1)) trace.cpus idle);
+    in_time = idle_in_time new.watches (tick_moment pace.length (i + 1)) trace.cpus idle;
+  };
+  asked = asked;
+  by_tick = subst (λ watch. GoesByTick watch 1 new trace pace.length (i + 1)) (sym none) idle;
+}
+
+-- the live lines of a slot that may be watched
+lines_of : (plans : PlansView) (old new : CrewView) (trace : Trace) (pace : Pace) (watch : Watch) (i at : ℕ) (slot : Option Slot) → HasReached plans old new trace pace i at → GoesByTick (Some watch) 0 old trace pace.length i → old.asked ≡ watch.count → AreSampled slot old new →
+    IsLiveOf trace pace.length (i + 1) watch.count (number_of_slot slot) (watches_text (tick_moment pace.length (i + 1)) trace.cpus new.watches)
+lines_of plans old new trace pace watch i at None is by_tick asked sampled = idle_text new.watches (tick_moment pace.length (i + 1)) trace.cpus sampled
+lines_of plans old new trace pace watch i at (Some slot) is by_tick asked sampled = slot_lines plans old new trace pace watch i at slot is by_tick asked sampled
+
+times_of : (plans : PlansView) (old new : CrewView) (trace : Trace) (pace : Pace) (i at : ℕ) (slot : Option Slot) → HasReached plans old new trace pace i at → at ≤ last_moment → AreSampled slot old new → AreInTime trace.cpus new.watches at
+times_of plans old new trace pace i at None is early sampled = idle_in_time new.watches at trace.cpus sampled
+times_of plans old new trace pace i at (Some slot) is early sampled = slot_in_time plans old new trace pace i at slot is early sampled
+
+-- a crew that went to the tick with a path watched reached it
+pub reached_watched : (plans : PlansView) (old new : CrewView) (trace : Trace) (pace : Pace) (watch : Watch) (i at : ℕ) (slot : Option Slot) → pace.watch ≡ Some watch → HasReached plans old new trace pace i at → at ≤ last_moment →
+    number_of_slot slot ≡ live_slot 0 plans.lives watch.path at → GoesByTick (Some watch) 0 old trace pace.length i → old.asked ≡ watch.count → AreSampled slot old new → IsReached old new trace pace i
+reached_watched plans old new trace pace watch i at slot watches is early found by_tick asked sampled =
+    let by_lives = slot_by_lives (limits_of pace.length trace.cpus) trace.events is.planned.accepted.legal watch.path at in
+    let here : number_of_slot slot ≡ slot_at trace.events watch.path (tick_moment pace.length (i + 1)) =
+    found ∙ ap (λ lives. live_slot 0 lives watch.path at) is.planned.stand.lives ∙ sym by_lives ∙ ap (slot_at trace.events watch.path) is.at_is in
+    let lines = subst (λ s. IsLiveOf trace pace.length (i + 1) watch.count s (watches_text (tick_moment pace.length (i + 1)) trace.cpus new.watches)) here (lines_of plans old new trace pace watch i at slot is by_tick asked sampled) in
+    record {
+      live = record {
+        watched = slot;
+        slot = here ∙ ap (λ w. watched_at trace (path_of w) (tick_moment pace.length (i + 1))) (sym watches);
+        sampled = sampled;
+        text = subst (λ w. IsLiveText trace pace.length w (i + 1) (watches_text (tick_moment pace.length (i + 1)) trace.cpus new.watches)) (sym watches) lines;
+        in_time = subst (AreInTime trace.cpus new.watches) is.at_is (times_of plans old new trace pace i at slot is early sampled);
+      };
+      asked = is.asked;
+      by_tick = subst (λ w. GoesByTick w 1 new trace pace.length (i + 1)) (sym watches)
+          (ap length is.ready, λ cpu below. made_now plans old new trace pace i at cpu is below);
+    }
+
+-- ---- the table is handed out
+
+sampled_kept : (watched : Option Slot) (old new : CrewView) → AreSampled watched old new → AreSampled watched old (handed new)
+sampled_kept None old new sampled = sampled
+sampled_kept (Some slot) old new sampled = sampled
+
+live_kept : (old new : CrewView) (trace : Trace) (pace : Pace) (i : ℕ) → IsLiveTick old new trace pace i → IsLiveTick old (handed new) trace pace i
+live_kept old new trace pace i is = record {
+  watched = is.watched;
+  slot = is.slot;
+  sampled = sampled_kept is.watched old new is.sampled;
+  text = is.text;
+  in_time = is.in_time;
+}
+
+by_tick_kept : (watch : Option Watch) (crew : CrewView) (trace : Trace) (tick i : ℕ) → GoesByTick watch 1 crew trace tick i → GoesByTick watch 0 (handed crew) trace tick i
+by_tick_kept None crew trace tick i is = is
+by_tick_kept (Some watch) crew trace tick i is = (length-drop 1 crew.ready ∙ ap (λ n. n - 1) is.0, is.1)
+
+-- a crew that reached a tick and handed out its table took its samples
+pub live_next : (old mid new : CrewView) (trace : Trace) (pace : Pace) (i : ℕ) → IsReached old mid trace pace i → new ≡ handed mid → IsLiveTick old new trace pace (i + 1)
+live_next old mid new trace pace i is same = subst (λ (crew : CrewView). IsLiveTick old crew trace pace (i + 1)) (sym same) (live_kept old mid trace pace (i + 1) is.live)
+
+-- and watches on
+pub watching_next : (old mid new : CrewView) (live : Option (List ℕ)) (trace : Trace) (pace : Pace) (i : ℕ) → IsWatching old live trace pace i → IsReached old mid trace pace i → new ≡ handed mid → IsWatching new live trace pace (i + 1)
+watching_next old mid new live trace pace i was is same =
+    subst (λ (crew : CrewView). IsWatching crew live trace pace (i + 1)) (sym same)
+    (record {
+      path = was.path;
+      asked = is.asked ∙ was.asked;
+      by_tick = by_tick_kept pace.watch mid trace pace.length (i + 1) is.by_tick;
+    })
+
+-- ---- before the first tick
+
+by_tick_new : (watch : Option Watch) (crew : CrewView) (trace : Trace) (tick : ℕ) → crew.ready ≡ [] → AreIdle crew.watches → ((cpu : ℕ) → cpu < trace.cpus → (clocks_at crew.clocks cpu).made ≡ 0) → GoesByTick watch 0 crew trace tick 0
+by_tick_new None crew trace tick none idle fresh = idle
+by_tick_new (Some watch) crew trace tick none idle fresh = (ap length none, fresh)
+
+-- a new crew watches what is asked for
+pub watching_new : (crew : CrewView) (live : Option (List ℕ)) (trace : Trace) (pace : Pace) → live ≡ path_of pace.watch → crew.asked ≡ asked_by pace.watch → crew.ready ≡ [] → AreIdle crew.watches →
+    ((cpu : ℕ) → cpu < trace.cpus → (clocks_at crew.clocks cpu).made ≡ 0) → IsWatching crew live trace pace 0
+watching_new crew live trace pace path asked none idle fresh = record {
+  path = path;
+  asked = asked;
+  by_tick = by_tick_new pace.watch crew trace pace.length none idle fresh;
+}
+
+-- ---- what a crew goes on from
+
+-- a path that is watched is that of what is watched
+pub watch_is : (crew : CrewView) (live : Option (List ℕ)) (path : List ℕ) (trace : Trace) (pace : Pace) (i : ℕ) → live ≡ Some path → IsWatching crew live trace pace i → (watch : Watch) × (pace.watch ≡ Some watch) × (watch.path ≡ path)
+watch_is crew live path trace pace i named is = by_watch pace.watch refl
+  where
+    by_watch : (watch : Option Watch) → pace.watch ≡ watch → (found : Watch) × (pace.watch ≡ Some found) × (found.path ≡ path)
+    by_watch None none = absurd (let is_none = sym named ∙ is.path ∙ ap path_of none in let no : ⊥ = cc in no)
+    by_watch (Some watch) some = (watch, some, let paths = sym (is.path ∙ ap path_of some) ∙ named in cc)
+
+-- where none is, nothing is watched
+pub watch_none : (crew : CrewView) (live : Option (List ℕ)) (trace : Trace) (pace : Pace) (i : ℕ) → live ≡ None → IsWatching crew live trace pace i → pace.watch ≡ None
+watch_none crew live trace pace i none is = by_watch pace.watch refl
+  where
+    by_watch : (watch : Option Watch) → pace.watch ≡ watch → pace.watch ≡ None
+    by_watch None is_none = is_none
+    by_watch (Some watch) some = absurd (let is_some = sym none ∙ is.path ∙ ap path_of some in let no : ⊥ = cc in no)
+
+-- no table is ready where something is watched
+pub unwatched_ready : (crew : CrewView) (live : Option (List ℕ)) (trace : Trace) (pace : Pace) (i : ℕ) → 0 < length crew.ready → IsWatching crew live trace pace i → pace.watch ≡ None
+unwatched_ready crew live trace pace i some is = by_watch pace.watch refl
+  where
+    by_watch : (watch : Option Watch) → pace.watch ≡ watch → pace.watch ≡ None
+    by_watch None is_none = is_none
+    by_watch (Some watch) is_some = absurd (let by_tick = subst (λ w. GoesByTick w 0 crew trace pace.length i) is_some is.by_tick in omega (arith, some, by_tick.0))
+
+-- nothing was sampled where nothing is watched
+pub idle_unwatched : (crew : CrewView) (live : Option (List ℕ)) (trace : Trace) (pace : Pace) (i : ℕ) → pace.watch ≡ None → IsWatching crew live trace pace i → AreIdle crew.watches
+idle_unwatched crew live trace pace i none is = subst (λ watch. GoesByTick watch 0 crew trace pace.length i) none is.by_tick
+
+-- how many samples are asked for by what is watched
+pub asked_is : (crew : CrewView) (live : Option (List ℕ)) (trace : Trace) (pace : Pace) (i : ℕ) (watch : Watch) → pace.watch ≡ Some watch → IsWatching crew live trace pace i → crew.asked ≡ watch.count
+asked_is crew live trace pace i watch some is = is.asked ∙ ap asked_by some
+
+-- and how the crew goes then
+pub by_tick_is : (crew : CrewView) (live : Option (List ℕ)) (trace : Trace) (pace : Pace) (i : ℕ) (watch : Watch) → pace.watch ≡ Some watch → IsWatching crew live trace pace i → GoesByTick (Some watch) 0 crew trace pace.length i
+by_tick_is crew live trace pace i watch some is = subst (λ w. GoesByTick w 0 crew trace pace.length i) some is.by_tick
+
+-- the moment of the next tick, by how a replay is paced
+pub moment_same : (pacing : Pacing) (trace : Trace) (pace : Pace) (i : ℕ) → IsPaced pacing trace pace → tick_moment pacing.length (i + 1) ≡ tick_moment pace.length (i + 1)
+moment_same pacing trace pace i paced = ap (λ length. tick_moment length (i + 1)) paced.length
+
+-- all clocks of a crew are at a moment
+abbrev pub AreThere : PlansView → CrewView → ℕ → Type 0
+AreThere plans crew at = AreAt plans crew.clocks at
+
+pub lives_same : (one other : PlansView) → one ≡ other → one.lives ≡ other.lives
+lives_same one other same = ap (λ (plans : PlansView). plans.lives) same
+
+-- the slot that was looked for is that of what is watched
+pub slot_found : (plans : PlansView) (lives : List GroupLife) (watch : Watch) (path : List ℕ) (at : ℕ) (slot : Option Slot) → lives ≡ plans.lives → watch.path ≡ path → number_of_slot slot ≡ live_slot 0 lives path at → number_of_slot slot ≡ live_slot 0 plans.lives watch.path at
+slot_found plans lives watch path at slot same named found = found ∙ ap (λ groups. live_slot 0 groups path at) same ∙ ap (λ bytes. live_slot 0 plans.lives bytes at) (sym named)

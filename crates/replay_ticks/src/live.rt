@@ -1,0 +1,72 @@
+//! Live samples: which slot is watched, and the lines of what was sampled.
+ghost use Rattle.std.specs.Prelude.{◌≡◌, ◌<◌, ◌≤◌, ◌^◌, length, IfSome};
+ghost use Rattle.std.specs.List.{All};
+ghost use Rattle.psi_base.specs.Outside.{HasCause, PutsAll, StaysOver};
+ghost use Rattle.psi_base.specs.declared.event.Slot.{Slot};
+ghost use Rattle.psi_spec.specs.Stall.{number_of_slot};
+ghost use Rattle.psi_laws.specs.Clock.{IsInTime};
+ghost use Rattle.run_laws.specs.Live.{live_slot};
+ghost use Rattle.clock_row.specs.declared.reader.Sample.{Sample};
+ghost use Rattle.replay_ticks.specs.Replays.{AreInTime, samples_text, watches_text};
+
+use pressure_text::write_live;
+use psi_base::{Cpu, Ns, Path, Sink, Slot, WriteFailed};
+use psi_spec::GroupLife;
+use replay_rules::is_live_at;
+use replay_workers::{Crew, Sample};
+
+/// The slot of the group with a path that is live at a moment (ns), if there is one.
+pub(crate) fn watched_slot(lives: &[GroupLife], path: &Path, at: Ns) -> Option<Slot>
+    requires few { length lives.now < 2 ^ 32 }
+    ensures slot { number_of_slot result ≡ live_slot 0 lives.now path.now at }
+    ensures made { IfSome result (λ (slot : Slot). slot.0 < length lives.now) }
+{
+    'lives: for slot in 0..lives.len() {
+        let life = &lives[slot];
+        if is_live_at(life, at) && life.path == *path {
+            return Some(Slot(slot as u32));
+        }
+    }
+    None
+}
+
+// Writes the lines of the samples of a processor at a tick (ns).
+#[tactic(auto, using(psi_base::proofs::Grows::growth))]
+fn put_samples<K: Sink>(
+    out: &mut K,
+    at: Ns,
+    cpu: Cpu,
+    samples: &[Sample],
+) -> Result<(), WriteFailed>
+    requires { All (λ (sample : Sample). IsInTime sample.clock at) samples.now }
+    ensures bytes { PutsAll (K.has out.old) (K.has out.new) result
+        (samples_text at cpu.0 samples.now) }
+    ensures cause { HasCause (K.faults out.old) (K.faults out.new) result }
+    ensures below { StaysOver (K.below out.old) (K.below out.new) }
+{
+    'samples: for sample in samples {
+        let seven = sample.clock.opened(at);
+        write_live(out, at, cpu, sample.count, seven)?;
+    }
+    Ok(())
+}
+
+/// Writes the lines of the samples that a crew took last, of so many processors, at a tick (ns).
+#[tactic(auto, using(psi_base::proofs::Grows::growth))]
+pub(crate) fn put_live<K: Sink>(
+    out: &mut K,
+    at: Ns,
+    crew: &Crew<'_>,
+    cpus: u32,
+) -> Result<(), WriteFailed>
+    requires { AreInTime cpus crew.now.watches at }
+    ensures bytes { PutsAll (K.has out.old) (K.has out.new) result
+        (watches_text at cpus crew.now.watches) }
+    ensures cause { HasCause (K.faults out.old) (K.faults out.new) result }
+    ensures below { StaysOver (K.below out.old) (K.below out.new) }
+{
+    'cpus: for cpu in 0..cpus {
+        put_samples(out, at, Cpu(cpu), crew.live(Cpu(cpu)))?;
+    }
+    Ok(())
+}
