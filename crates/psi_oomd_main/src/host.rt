@@ -220,6 +220,7 @@ impl<W: Write> Sink for HostSink<W> {
 
 // A cursor over bytes is such a stream as reading at a place speaks of.
 fn law_cursors_leave_from_place<T: AsBytes>()
-    ensures { LeavesFromPlace ⟦<Cursor<T> as Read>⟧.remaining ⟦<Cursor<T> as Seek>⟧.stream_position
+    ensures { LeavesFromPlace ⟦<Cursor<T> as Read>⟧.remaining
+        ⟦<Cursor<T> as Seek>⟧.stream_position
         ⟦<Cursor<T> as Seek>⟧.stream_bytes }
 {}

@@ -24,7 +24,8 @@ pub fn words_of(alloc: Global, given: io::Result<Args>) -> Result<Vec<String>, N
     ensures none { IfErr given (λ error. IfOk result (λ words. words.items ≡ [])) }
     ensures memory { IfErr given (λ error.
         error_kind error ≡ ErrorKind.OutOfMemory → IsErr result) }
-    ensures other { IfErr given (λ error. error_kind error ≢ ErrorKind.OutOfMemory → IsOk result) }
+    ensures other { IfErr given (λ error. error_kind error ≢ ErrorKind.OutOfMemory →
+        IsOk result) }
 {
     match given {
         Ok(words) => Ok(behind_the_name(alloc, words)?),

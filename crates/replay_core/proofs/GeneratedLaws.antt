@@ -172,6 +172,17 @@ end_made old new trace pace true false so some over given =
     let all = all_passed old new trace pace true so given in
     (all.0, omega (arith, so.some refl, given.0))
 
+-- where none is left and there was none, the trace has none
+pub none_made : (old new : ReplayView) (trace : Trace) (pace : Pace) (ticked left : Bool)
+    → HasPassed old trace pace ticked → ticked ≡ false → left ≡ false
+    → Passes trace pace [] old.made old new left
+    → IsReplay new trace pace [] (tick_count trace pace) × (tick_count trace pace ≡ 0)
+none_made old new trace pace true left so none over given = absurd (true≢false none)
+none_made old new trace pace false true so none over given = absurd (true≢false over)
+none_made old new trace pace false false so none over given =
+    let all = all_passed old new trace pace false so given in
+    (all.0, sym given.0 ∙ so.none refl)
+
 -- plans of a generated trace may be replayed as `stress` does
 pub planned_generated : (planner : PlannerView) (plans : PlansView) (shape : Shape) (workers : ℕ)
     → IsShape shape → IsWithin 1 64 workers

@@ -21,7 +21,8 @@ use Rattle.psi_spec.specs.Refusal.{AreLegal}
 use Rattle.psi_spec.specs.Stall.{stall}
 use Rattle.psi_spec.specs.Groups.{path_at}
 use Rattle.psi_laws.specs.Clock.{ClockView, opened, opened_time}
-use Rattle.psi_laws.specs.Plan.{IsClock, PlanView, last_change, plan_of, planned_time, until_change}
+use Rattle.psi_laws.specs.Plan.{IsClock, PlanView, last_change, plan_of, planned_time}
+use Rattle.psi_spec.specs.Changes.{until_change}
 use Rattle.run_spec.specs.Text.{end_of, stall_lines, stall_text, stall_times}
 use Rattle.run_spec.specs.Lines.{stall_line}
 use Rattle.psi_spec.specs.Groups.{in_order, live_from, live_groups}
@@ -36,34 +37,6 @@ use Rattle.proc_plan.proofs.Finishing.{standing_plans}
 use Rattle.replay_core.specs.Lines.{all_lines, plan_line, plan_lines, plan_times}
 
 -- ---- texts in pieces
-
--- the pieces before one, and that piece
-pub taken_more : {X : Type 0} → (f : X → List ℕ) (xs : List X) (i : ℕ) (d : X) → i < length xs → flat_map f (take (i + 1) xs) ≡ flat_map f (take i xs) ++ f (get_or xs i d)
-taken_more f xs i d inside =
-    ap (flat_map f) (take_more xs i d inside) ∙ flat_map-append f (take i xs) (get_or xs i d ∷ []) ∙ ap (λ t. flat_map f (take i xs) ++ t) (append-nil (f (get_or xs i d)))
-
-pub range_parts : (a m k : ℕ) → range_with_len a (m + k) ≡ range_with_len a m ++ range_with_len (a + m) k
-range_parts a zero k = let e : a + 0 ≡ a = omega arith in
-    let n : 0 + k ≡ k = omega arith in
-    rw (e, n) refl
-range_parts a (suc m) k =
-    let e : a + suc m ≡ a + 1 + m = omega arith in
-    let n : suc m + k ≡ suc (m + k) = omega arith in
-    rw (e, n) (ap (λ ns. a ∷ ns) (range_parts (a + 1) m k))
-
--- the pieces before one, that piece, and those behind it
-pub pieces_at : (f : ℕ → List ℕ) (n i : ℕ) → i < n → flat_map f (range_with_len 0 n) ≡ flat_map f (range_with_len 0 i) ++ (f i ++ flat_map f (range_with_len (i + 1) (n - (i + 1))))
-pieces_at f n i inside =
-    let whole : n ≡ i + suc (n - (i + 1)) = omega (arith, inside) in
-    let behind : 0 + i ≡ i = omega arith in
-    ap (λ m. flat_map f (range_with_len 0 m)) whole ∙ ap (flat_map f) (range_parts 0 i (suc (n - (i + 1))) ∙ ap (λ j. range_with_len 0 i ++ range_with_len j (suc (n - (i + 1)))) behind) ∙ flat_map-append f (range_with_len 0 i) (range_with_len i (suc (n - (i + 1))))
-    ∙ ap (λ t. flat_map f (range_with_len 0 i) ++ t) (flat_map-cons f i (range_with_len (i + 1) (n - (i + 1))))
-
--- one piece more
-pub piece_more : (f : ℕ → List ℕ) (i next : ℕ) → next ≡ i + 1 → flat_map f (range_with_len 0 next) ≡ flat_map f (range_with_len 0 i) ++ f i
-piece_more f i next is =
-    let none : next - (i + 1) ≡ 0 = omega (arith, is) in
-    pieces_at f next i (omega (arith, is)) ∙ ap (λ m. flat_map f (range_with_len 0 i) ++ (f i ++ flat_map f (range_with_len (i + 1) m))) none ∙ ap (λ t. flat_map f (range_with_len 0 i) ++ t) (append-nil (f i))
 
 -- ---- the slots of live groups
 

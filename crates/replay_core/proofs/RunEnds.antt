@@ -15,8 +15,9 @@ use Rattle.run_spec.specs.declared.command.Command.TheVariants.{Replay}
 use Rattle.run_spec.specs.declared.command.Options.{Options}
 use Rattle.run_spec.specs.declared.status.Which.{Which}
 use Rattle.run_spec.specs.declared.status.Which.TheVariants.{RulesFile, TraceFile}
-use Rattle.run_spec.specs.Outputs.{pace_of, rules_name, tick_length, trace_name}
-use Rattle.run_spec.specs.Replay.{replay_text, with_rules}
+use Rattle.run_spec.specs.Outputs.{pace_of, rules_name, tick_length, trace_name, watch_of_path}
+use Rattle.run_spec.specs.Replay.{IsReplayText, replay_text, with_rules}
+use Rattle.run_laws.proofs.LiveTexts.{one_text_unwatched}
 use Rattle.run_spec.specs.Run.{CountsTell, Ends, IsOfMissing, IsTold, RulesTold, RunCounts, Runs, TakesRules}
 use Rattle.ruleset_json.specs.Rules.{rules_of}
 use Rattle.ruleset_json.specs.declared.fault.RulesFault.{RulesFault}
@@ -129,15 +130,24 @@ no_missed command files rules had has tells ends =
 none_told : (command : Command) (files : Option Files) (bytes : List ℕ) (had has : Option (List ℕ)) → IsTold command TraceFile files bytes → Ends command files had has (status.NoFile TraceFile) → ⊥
 none_told command files bytes had has tells ends = one_told files tells.0 ends.2.0 bytes (trace_name command) tells.1 ends.2.1 tells.2 ends.2.2
 
--- where a replay is done, its output is that of its trace and its rules
+-- where a replay is done, its output is one of its trace and its rules
 pub headlined : (name : List ℕ) (options : Options) (files : Option Files) (before now : RunCounts) (had has : Option (List ℕ)) → Runs (Replay name options) files before now had has status.Done
     → (bytes : List ℕ) (rules : List Rule) → IsTold (Replay name options) TraceFile files bytes → RulesTold (Replay name options) files rules
-    → (trace : Trace) × (trace_of (tick_length (Replay name options)) bytes ≡ Ok trace) × Appends had has (replay_text trace (pace_of options) (with_rules rules))
+    → (trace : Trace) × (trace_of (tick_length (Replay name options)) bytes ≡ Ok trace)
+    × ((text : List ℕ) × IsReplayText trace (pace_of options) rules text × Appends had has text)
 headlined name options files before now had has runs bytes rules tells rules_told =
     let ends = runs.ends in
     let same = same_rules (Replay name options) files ends.1 rules ends.3 rules_told in
-    let text : ends.4.0 ≡ replay_text ends.0 (pace_of options) (with_rules rules) = ends.4.1 ∙ ap (λ r. replay_text ends.0 (pace_of options) (with_rules r)) same in
-    (ends.0, ends.2.read bytes tells, subst (Appends had has) text ends.4.2)
+    (ends.0, ends.2.read bytes tells, (ends.4.0, subst (λ r. IsReplayText ends.0 (pace_of options) r ends.4.0) same ends.4.1, ends.4.2))
+
+-- and where no group is watched there is one
+pub headlined_alone : (name : List ℕ) (options : Options) (files : Option Files) (before now : RunCounts) (had has : Option (List ℕ)) → Runs (Replay name options) files before now had has status.Done
+    → (bytes : List ℕ) (rules : List Rule) → options.live ≡ None → IsTold (Replay name options) TraceFile files bytes → RulesTold (Replay name options) files rules
+    → (trace : Trace) × (trace_of (tick_length (Replay name options)) bytes ≡ Ok trace) × Appends had has (replay_text trace (pace_of options) (with_rules rules))
+headlined_alone name options files before now had has runs bytes rules none tells rules_told =
+    let found = headlined name options files before now had has runs bytes rules tells rules_told in
+    let text = found.2 in
+    (found.0, found.1, subst (Appends had has) (one_text_unwatched found.0 (pace_of options) rules text.0 (ap (watch_of_path options.live_count) none) text.1) text.2)
 
 -- an accepted trace is done, where its rules are accepted, nothing failed and memory was there
 pub completes : (command : Command) (files : Option Files) (before now : RunCounts) (had has : Option (List ℕ)) (result : Status) → Runs command files before now had has result

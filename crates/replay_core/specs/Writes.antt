@@ -1,7 +1,7 @@
 -- What reading and writing come to as the status of a run.
-use Rattle.std.specs.Prelude.{◌≡◌, ◌≤◌, ℕ, List, Option}
+use Rattle.std.specs.Prelude.{◌≡◌, ◌≤◌, ℕ, List, Option, Result}
 use Rattle.std.specs.Io.KnownBytes.{Appends, Keeps}
-use Rattle.psi_base.specs.Outside.{AppendsFront, Rose}
+use Rattle.psi_base.specs.Outside.{AppendsFront, PutsAll, Rose}
 use Rattle.psi_base.specs.declared.event.Event.{Event}
 use Rattle.psi_spec.specs.Trace.{IsAccepted, limits_of}
 use Rattle.psi_spec.specs.World.{Limits}
@@ -22,6 +22,14 @@ WritesText text before now had has status.Done = Appends had has text × (now �
 WritesText text before now had has status.WriteFault = AppendsFront had has text × Rose before now
 WritesText text before now had has status.NoMemory = Keeps had has × (now ≡ before)
 WritesText text before now had has _ = ⊥
+
+-- What writing some text of a kind gave: one of them was to be written.
+abbrev pub WritesSome : (List ℕ → Type 0) → ℕ → ℕ → Option (List ℕ) → Option (List ℕ) → Status → Type 0
+WritesSome IsSo before now had has result = (text : List ℕ) × IsSo text × WritesText text before now had has result
+
+-- so it is as far as the text itself goes
+abbrev pub PutsSome : {T E : Type 0} → (List ℕ → Type 0) → Option (List ℕ) → Option (List ℕ) → Result T E → Type 0
+PutsSome IsSo had has result = (text : List ℕ) × IsSo text × PutsAll had has result text
 
 -- the status of a trace that can't be read
 abbrev pub IsStatusOf : TraceFault → Status → Type 0

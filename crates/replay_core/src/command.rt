@@ -72,7 +72,8 @@ fn run_stall<R: Threads + Sync, S: Shelf, K: Sink>(
     ensures kept { S.holds shelf.new ≡ S.holds shelf.old }
     ensures runs { Runs (Command.Stall name.now) (S.holds shelf.old)
         (run_counts (S.faults shelf.old) (S.absent shelf.old) (K.faults out.old))
-        (run_counts (S.faults shelf.new) (S.absent shelf.new) (K.faults out.new)) (K.has out.old) (K.has out.new) result }
+        (run_counts (S.faults shelf.new) (S.absent shelf.new) (K.faults out.new))
+        (K.has out.old) (K.has out.new) result }
     ensures below { StaysOver (K.below out.old) (K.below out.new) }
 {
     match play_trace::<S, Planner>(alloc, name, shelf, TICK) {
@@ -85,7 +86,8 @@ fn run_stall<R: Threads + Sync, S: Shelf, K: Sink>(
 fn write_line<K: Sink>(table: &Table, out: &mut K) -> Status
     ensures writes { (limits : Limits) (events : List Event) →
         IsPlayed table.now.limits table.now.world limits events →
-        WritesText (check_text (plain_trace limits.cpus events)) (K.faults out.old) (K.faults out.new) (K.has out.old) (K.has out.new) result }
+        WritesText (check_text (plain_trace limits.cpus events))
+        (K.faults out.old) (K.faults out.new) (K.has out.old) (K.has out.new) result }
     ensures below { StaysOver (K.below out.old) (K.below out.new) }
 {
     match put_check(table, out) {
@@ -106,7 +108,8 @@ fn run_check<S: Shelf, K: Sink>(
     ensures kept { S.holds shelf.new ≡ S.holds shelf.old }
     ensures runs { Runs (Command.Check name.now tick_ms) (S.holds shelf.old)
         (run_counts (S.faults shelf.old) (S.absent shelf.old) (K.faults out.old))
-        (run_counts (S.faults shelf.new) (S.absent shelf.new) (K.faults out.new)) (K.has out.old) (K.has out.new) result }
+        (run_counts (S.faults shelf.new) (S.absent shelf.new) (K.faults out.new))
+        (K.has out.old) (K.has out.new) result }
     ensures below { StaysOver (K.below out.old) (K.below out.new) }
 {
     match play_trace::<S, Table>(alloc, name, shelf, Ns::from(tick_ms) * MILLISECOND) {
@@ -134,7 +137,8 @@ fn run_replay<R: Threads + Sync, S: Shelf, K: Sink, G: Gate>(
     ensures kept { S.holds shelf.new ≡ S.holds shelf.old }
     ensures runs { Runs (Command.Replay name.now options.now) (S.holds shelf.old)
         (run_counts (S.faults shelf.old) (S.absent shelf.old) (K.faults out.old))
-        (run_counts (S.faults shelf.new) (S.absent shelf.new) (K.faults out.new)) (K.has out.old) (K.has out.new) result }
+        (run_counts (S.faults shelf.new) (S.absent shelf.new) (K.faults out.new))
+        (K.has out.old) (K.has out.new) result }
     ensures below { StaysOver (K.below out.old) (K.below out.new) }
 {
     let rules = match read_rules(alloc, options.rules.as_ref(), shelf) {
@@ -173,7 +177,8 @@ pub(crate) fn run_command<R: Threads + Sync, S: Shelf, K: Sink, G: Gate>(
     ensures kept { S.holds shelf.new ≡ S.holds shelf.old }
     ensures runs { Runs command.now (S.holds shelf.old)
         (run_counts (S.faults shelf.old) (S.absent shelf.old) (K.faults out.old))
-        (run_counts (S.faults shelf.new) (S.absent shelf.new) (K.faults out.new)) (K.has out.old) (K.has out.new) result }
+        (run_counts (S.faults shelf.new) (S.absent shelf.new) (K.faults out.new))
+        (K.has out.old) (K.has out.new) result }
     ensures below { StaysOver (K.below out.old) (K.below out.new) }
 {
     match command {

@@ -8,7 +8,7 @@ ghost use Rattle.psi_words.specs.Reads.{HasTextNames};
 ghost use Rattle.run_spec.specs.declared.command.Command.{Command};
 ghost use Rattle.run_spec.specs.declared.command.Options.{Options};
 ghost use Rattle.run_spec.specs.Outputs.{pace_of, rules_name, tick_length, trace_name};
-ghost use Rattle.run_spec.specs.Replay.{replay_text, with_rules};
+ghost use Rattle.run_spec.specs.Replay.{IsReplayText, replay_text, with_rules};
 ghost use Rattle.run_spec.specs.Run.{CountsTell, IsTold, RulesTold, Runs, run_counts};
 ghost use Rattle.run_spec.specs.declared.status.Which.TheVariants.{TraceFile};
 ghost use Rattle.ruleset_json.specs.Rules.{rules_of};
@@ -39,7 +39,8 @@ fn run_buffered<R: Threads + Sync, S: Shelf, K: Sink, G: Gate>(
     ensures kept { S.holds shelf.new ≡ S.holds shelf.old }
     ensures runs { Runs command.now (S.holds shelf.old)
         (run_counts (S.faults shelf.old) (S.absent shelf.old) (K.faults out.old))
-        (run_counts (S.faults shelf.new) (S.absent shelf.new) (K.faults out.new)) (K.has out.old) (K.has out.new) result }
+        (run_counts (S.faults shelf.new) (S.absent shelf.new) (K.faults out.new))
+        (K.has out.old) (K.has out.new) result }
 {
     let Ok(mut pending) = Pending::new(alloc) else {
         return Status::NoMemory;
@@ -75,15 +76,28 @@ pub fn run<R: Threads + Sync, S: Shelf, K: Sink, N: Sink, G: Gate>(
         (result ≡ Status.Usage) ⊎ (result ≡ Status.NoMemory) }
 
     // What each status says of the command's files and of the output, and which counts of failures rose.
-    ensures runs { (command : Command) → command_of (map string_bytes words.now) ≡ Some command →
+    ensures runs { (command : Command) →
+        command_of (map string_bytes words.now) ≡ Some command →
         Runs command (S.holds shelf.old)
         (run_counts (S.faults shelf.old) (S.absent shelf.old) (K.faults out.old))
-        (run_counts (S.faults shelf.new) (S.absent shelf.new) (K.faults out.new)) (K.has out.old) (K.has out.new) result }
+        (run_counts (S.faults shelf.new) (S.absent shelf.new) (K.faults out.new))
+        (K.has out.old) (K.has out.new) result }
 
-    // The headline: where a replay is done, the output grew by exactly the text that the definitions give for its trace and
-    // its rules.
+    // The headline: where a replay is done, the output grew by exactly a text that the definitions give for its trace and its
+    // rules. With `--live` each live line may be of any of its processor's changes in the interval.
     ensures headline { (name bytes : List ℕ) (options : Options) (rules : List Rule) →
         command_of (map string_bytes words.now) ≡ Some (Command.Replay name options) →
+        IsTold (Command.Replay name options) TraceFile (S.holds shelf.old) bytes →
+        RulesTold (Command.Replay name options) (S.holds shelf.old) rules →
+        result ≡ Status.Done →
+        (trace : Trace) × (trace_of (tick_length (Command.Replay name options)) bytes ≡ Ok trace)
+        × ((text : List ℕ) × IsReplayText trace (pace_of options) rules text
+        × Appends (K.has out.old) (K.has out.new) text) }
+
+    // Without `--live` there is one such text.
+    ensures alone { (name bytes : List ℕ) (options : Options) (rules : List Rule) →
+        command_of (map string_bytes words.now) ≡ Some (Command.Replay name options) →
+        options.live ≡ None →
         IsTold (Command.Replay name options) TraceFile (S.holds shelf.old) bytes →
         RulesTold (Command.Replay name options) (S.holds shelf.old) rules →
         result ≡ Status.Done →
@@ -92,7 +106,8 @@ pub fn run<R: Threads + Sync, S: Shelf, K: Sink, N: Sink, G: Gate>(
         (replay_text trace (pace_of options) (with_rules rules)) }
 
     // An accepted trace and accepted rules give the whole output, unless a count of faults rose or memory was wanting.
-    ensures complete { (command : Command) (rules : List Rule) (bytes : List ℕ) (trace : Trace) →
+    ensures complete { (command : Command) (rules : List Rule) (bytes : List ℕ)
+        (trace : Trace) →
         command_of (map string_bytes words.now) ≡ Some command →
         RulesTold command (S.holds shelf.old) rules →
         IsTold command TraceFile (S.holds shelf.old) bytes →
@@ -120,7 +135,8 @@ pub fn run<R: Threads + Sync, S: Shelf, K: Sink, N: Sink, G: Gate>(
         (result ≡ Status.Trace line why) ⊎ (result ≡ Status.NoMemory) }
 
     // A command that reads no file ends with its whole output, unless a count of failed writes rose or memory was wanting.
-    ensures made { (command : Command) → command_of (map string_bytes words.now) ≡ Some command →
+    ensures made { (command : Command) →
+        command_of (map string_bytes words.now) ≡ Some command →
         trace_name command ≡ None →
         (Rose (K.faults out.old) (K.faults out.new) → ⊥) →
         (result ≡ Status.Done) ⊎ (result ≡ Status.NoMemory) }

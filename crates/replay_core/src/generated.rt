@@ -49,7 +49,8 @@ pub(crate) fn write_generated<K: Sink>(alloc: Global, shape: Shape, out: &mut K)
 // Has a planner take an event that is legal behind those that it has taken.
 fn take_legal(planner: &mut Planner, event: Event) -> Result<(), NoMemory>
     requires fits { Fits event }
-    requires legal { (limits : Limits) × (events : List Event) × HasTaken planner.old limits events
+    requires legal { (limits : Limits) × (events : List Event)
+        × HasTaken planner.old limits events
         × (cause_of limits (after events) event ≡ None) }
     ensures { OnOk result ((limits : Limits) (events : List Event) →
         HasTaken planner.old limits events →

@@ -1,17 +1,17 @@
 //! The output of `replay`.
 ghost use Rattle.std.specs.Prelude.{◌≡◌, ℕ, List};
-ghost use Rattle.psi_base.specs.Outside.{HasCause, PutsAll, StaysOver};
+ghost use Rattle.psi_base.specs.Outside.{HasCause, StaysOver};
 ghost use Rattle.psi_base.specs.declared.event.Event.{Event};
 ghost use Rattle.psi_spec.specs.Trace.{Trace};
 ghost use Rattle.psi_spec.specs.World.{Limits};
 ghost use Rattle.run_spec.specs.Outputs.{pace_of};
 ghost use Rattle.ruleset_json.specs.declared.types.Rule.{Rule};
 ghost use Rattle.ruleset_json.specs.RuleRanges.{FitsRules};
-ghost use Rattle.run_spec.specs.Replay.{Pace, replay_text, with_rules};
+ghost use Rattle.run_spec.specs.Replay.{IsReplayText, Pace};
 ghost use Rattle.replay_ticks.specs.Replays.{IsReplay};
 ghost use Rattle.replay_core.specs.Reads.{plain_trace};
 ghost use Rattle.replay_rules.specs.Judged.{rules_in};
-ghost use Rattle.replay_core.specs.Writes.{IsToReplay, WritesText};
+ghost use Rattle.replay_core.specs.Writes.{IsToReplay, PutsSome, WritesSome};
 
 use proc_plan::Planner;
 use psi_base::{Gate, Sink, WriteFailed};
@@ -32,7 +32,7 @@ fn put_replay<R: Threads + Sync, K: Sink, G: Gate>(
         × IsReplay replay.old trace pace rules 0 }
     ensures bytes { (trace : Trace) (pace : Pace) (rules : List Rule) →
         IsReplay replay.old trace pace rules 0 →
-        PutsAll (K.has out.old) (K.has out.new) result (replay_text trace pace (with_rules rules)) }
+        PutsSome (IsReplayText trace pace rules) (K.has out.old) (K.has out.new) result }
     ensures cause { HasCause (K.faults out.old) (K.faults out.new) result }
     ensures below { StaysOver (K.below out.old) (K.below out.new) }
 {
@@ -45,7 +45,8 @@ fn put_replay<R: Threads + Sync, K: Sink, G: Gate>(
     }
 }
 
-/// Writes the output of `replay` for a trace that was taken apart, with rules if there are some. Where memory is wanting, nothing is written.
+/// Writes the output of `replay` for a trace that was taken apart, with rules if there are some. Where memory is wanting,
+/// nothing is written.
 pub(crate) fn write_replay<R: Threads + Sync, K: Sink, G: Gate>(
     rt: &R,
     alloc: Global,
@@ -60,7 +61,9 @@ pub(crate) fn write_replay<R: Threads + Sync, K: Sink, G: Gate>(
     requires fit { FitsRules (rules_in rules) }
     ensures writes { (limits : Limits) (events : List Event) →
         IsToReplay planner options.now limits events →
-        WritesText (replay_text (plain_trace limits.cpus events) (pace_of options.now) (with_rules (rules_in rules))) (K.faults out.old) (K.faults out.new) (K.has out.old) (K.has out.new) result }
+        WritesSome (IsReplayText (plain_trace limits.cpus events) (pace_of options.now)
+        (rules_in rules)) (K.faults out.old) (K.faults out.new)
+        (K.has out.old) (K.has out.new) result }
     ensures below { StaysOver (K.below out.old) (K.below out.new) }
 {
     let Ok(plans) = planner.finish(alloc) else {

@@ -58,7 +58,8 @@ pub(crate) fn write_stalls<R: Threads + Sync, K: Sink>(
 ) -> Status
     requires { HasTrace planner }
     ensures writes { (limits : Limits) (events : List Event) → HasTaken planner limits events →
-        WritesText (stall_text (plain_trace limits.cpus events)) (K.faults out.old) (K.faults out.new) (K.has out.old) (K.has out.new) result }
+        WritesText (stall_text (plain_trace limits.cpus events))
+        (K.faults out.old) (K.faults out.new) (K.has out.old) (K.has out.new) result }
     ensures below { StaysOver (K.below out.old) (K.below out.new) }
 {
     let Ok(plans) = planner.finish(alloc) else {

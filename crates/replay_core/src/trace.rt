@@ -174,7 +174,8 @@ fn play_next<S: Shelf, P: Player>(
 // Looks behind the end, where nothing may stand, with at most one read.
 fn close<S: Shelf>(lines: &mut Lines, shelf: &mut S, line: u32) -> Result<(), TraceFault>
     ensures kept { S.holds shelf.new ≡ S.holds shelf.old }
-    ensures content { (bytes : List ℕ) → told (S.holds shelf.old) lines.old.name ≡ Some bytes →
+    ensures content { (bytes : List ℕ) →
+        told (S.holds shelf.old) lines.old.name ≡ Some bytes →
         TailGives line (left lines.old bytes) result }
     ensures missed { IsErrOf result TraceFault.NoFile →
         told (S.holds shelf.old) lines.old.name ≡ None }
@@ -229,7 +230,8 @@ fn read_cpus<S: Shelf>(lines: &mut Lines, shelf: &mut S, tick: Ns) -> Result<u32
     ensures name { lines.new.name ≡ lines.old.name }
     ensures number { OnOk result (lines.new.number ≡ 2) }
     ensures counted { IfOk result IsCpuCount }
-    ensures content { (bytes : List ℕ) → told (S.holds shelf.old) lines.old.name ≡ Some bytes →
+    ensures content { (bytes : List ℕ) →
+        told (S.holds shelf.old) lines.old.name ≡ Some bytes →
         HeadGives tick (left lines.old bytes) (left lines.new bytes) result }
     ensures missing { lines.old.held ≡ [] → Lacks (S.holds shelf.old) lines.old.name →
         TellsNothing result }
@@ -265,7 +267,8 @@ pub(crate) fn play_trace<S: Shelf, P: Player + Drop>(
         (λ player. TracePlayed (P.Played player) tick (told (S.holds shelf.old) name.now))
         (λ fault. TraceRefused fault tick (told (S.holds shelf.old) name.now)) }
     ensures missing { Lacks (S.holds shelf.old) name.now → TellsNothing result }
-    ensures missed { IsErrOf result TraceFault.NoFile → told (S.holds shelf.old) name.now ≡ None }
+    ensures missed { IsErrOf result TraceFault.NoFile →
+        told (S.holds shelf.old) name.now ≡ None }
     ensures cause { CausesTraceFault (counts_of (S.faults shelf.old) (S.absent shelf.old))
         (counts_of (S.faults shelf.new) (S.absent shelf.new)) result }
 {

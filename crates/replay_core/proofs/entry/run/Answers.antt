@@ -3,7 +3,7 @@ use Rattle.run_spec.specs.Outputs.{trace_name}
 use Rattle.run_spec.specs.declared.command.Command.TheVariants.{Replay}
 use Rattle.replay_core.proofs.GeneratedLaws.{makes, without_rules}
 use Rattle.replay_core.proofs.Pieces.{front_of_puts}
-use Rattle.replay_core.proofs.RunEnds.{completes, faults, headlined, refuses}
+use Rattle.replay_core.proofs.RunEnds.{completes, faults, headlined, headlined_alone, refuses}
 use Rattle.replay_core.proofs.entry.run.Goals as goal
 
 pub returns-in-Ok-clause-headline : goal.returns-in-Ok-clause-headline
@@ -11,6 +11,12 @@ returns-in-Ok-clause-headline g c = λ name bytes options rules is tells given d
     let same : c.in-Ok.command ≡ Replay name options = cc (c.in-Ok.ensures.exact, is) in
     let runs = rw (same, done) at c.run_buffered-status.ensures.runs in
     headlined name options (g.S.Shelf.holds c.args.shelf.now) _ _ _ _ runs bytes rules tells given
+
+pub returns-in-Ok-clause-alone : goal.returns-in-Ok-clause-alone
+returns-in-Ok-clause-alone g c = λ name bytes options rules is none tells given done.
+    let same : c.in-Ok.command ≡ Replay name options = cc (c.in-Ok.ensures.exact, is) in
+    let runs = rw (same, done) at c.run_buffered-status.ensures.runs in
+    headlined_alone name options (g.S.Shelf.holds c.args.shelf.now) _ _ _ _ runs bytes rules none tells given
 
 pub returns-in-Ok-clause-complete : goal.returns-in-Ok-clause-complete
 returns-in-Ok-clause-complete g c = λ command rules bytes trace is.

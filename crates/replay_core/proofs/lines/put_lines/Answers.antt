@@ -8,7 +8,7 @@ use Rattle.psi_laws.specs.Plan.{IsPlan, no_plan}
 use Rattle.proc_plan.specs.Clocks.{OnPlan}
 use Rattle.proc_plan.specs.Plans.{plan_at}
 use Rattle.replay_core.specs.Lines.{HasMadeAll, plan_lines}
-use Rattle.replay_core.proofs.LineTexts.{piece_more, pieces_at}
+use Rattle.run_laws.proofs.Pieces.{piece_more, pieces_at}
 use Rattle.replay_core.proofs.lines.put_lines.Goals as goal
 
 pub put_processor-requires-clause-whole : goal.put_processor-requires-clause-whole

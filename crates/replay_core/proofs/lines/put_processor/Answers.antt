@@ -2,7 +2,7 @@ use Rattle.std.proofs.Common.{arith, subst, sym, ◌∙◌}
 use Rattle.std.specs.Io.KnownBytes.{Appends}
 use Rattle.psi_base.proofs.Grows.{Appends-then, AppendsFront-then, PutsAll-failed, flat_map-at}
 use Rattle.replay_core.specs.Lines.{plan_line}
-use Rattle.replay_core.proofs.LineTexts.{taken_more}
+use Rattle.run_laws.proofs.Pieces.{taken_more}
 use Rattle.replay_core.proofs.lines.put_processor.Goals as goal
 
 pub returns-in_err-put_group-clause-bytes : goal.returns-in_err-put_group-clause-bytes

@@ -1,7 +1,9 @@
+use Rattle.std.proofs.Common.{refl}
 use Rattle.run_spec.specs.Outputs.{pace_of}
 use Rattle.replay_rules.specs.Judged.{rules_in}
 use Rattle.replay_core.specs.Reads.{plain_trace}
-use Rattle.replay_core.proofs.ReplayLaws.{planned}
+use Rattle.replay_core.proofs.ReplayLaws.{planned, some_text}
+use Rattle.replay_core.proofs.RunLaws.{keeps_same}
 use Rattle.replay_core.proofs.replay.write_replay.Goals as goal
 
 pub prepare-requires-clause-planned : goal.prepare-requires-clause-planned
@@ -9,6 +11,16 @@ prepare-requires-clause-planned g c =
     let limits = c.requires.taken.0 in
     let events = c.requires.taken.1 in
     (plain_trace limits.cpus events, planned c.args.planner c.in-Ok.plans c.args.options.now limits events c.requires.taken.2 c.in-Ok.ensures)
+
+pub returns-in_default-clause-writes : goal.returns-in_default-clause-writes
+returns-in_default-clause-writes g c = λ limits events to_replay.
+    let some = some_text c.args.planner c.args.options.now limits events (rules_in c.args.rules) to_replay in
+    (some.0, some.1, (keeps_same (g.K.Sink.has c.args.out.now), refl))
+
+pub returns-in_default-prepare-clause-writes : goal.returns-in_default-prepare-clause-writes
+returns-in_default-prepare-clause-writes g c = λ limits events to_replay.
+    let some = some_text c.args.planner c.args.options.now limits events (rules_in c.args.rules) to_replay in
+    (some.0, some.1, (keeps_same (g.K.Sink.has c.args.out.now), refl))
 
 pub put_replay-requires-after_bounds : goal.put_replay-requires-after_bounds
 put_replay-requires-after_bounds g c κs within =
@@ -21,13 +33,15 @@ pub returns-in-Ok-put_replay-clause-writes : goal.returns-in-Ok-put_replay-claus
 returns-in-Ok-put_replay-clause-writes g c = λ limits events to_replay.
     let trace = plain_trace limits.cpus events in
     let fresh = c.in-Ok-prepare.ensures trace (planned c.args.planner c.in-Ok.plans c.args.options.now limits events to_replay c.in-Ok.ensures) in
-    (c.in-Ok-put_replay.ensures.bytes trace (pace_of c.args.options.now) (rules_in c.args.rules) fresh, c.in-Ok-put_replay.ensures.cause.same)
+    let put = c.in-Ok-put_replay.ensures.bytes trace (pace_of c.args.options.now) (rules_in c.args.rules) fresh in
+    (put.0, put.1, (put.2, c.in-Ok-put_replay.ensures.cause.same))
 
 pub returns-clause-writes : goal.returns-clause-writes
 returns-clause-writes g c = λ limits events to_replay.
     let trace = plain_trace limits.cpus events in
     let fresh = c.in-Ok-prepare.ensures trace (planned c.args.planner c.in-Ok.plans c.args.options.now limits events to_replay c.in-Ok.ensures) in
-    (c.in-Err.ensures.bytes trace (pace_of c.args.options.now) (rules_in c.args.rules) fresh, c.in-Err.ensures.cause.failed)
+    let put = c.in-Err.ensures.bytes trace (pace_of c.args.options.now) (rules_in c.args.rules) fresh in
+    (put.0, put.1, (put.2, c.in-Err.ensures.cause.failed))
 
 pub prepare-requires-clause-often : goal.prepare-requires-clause-often
 prepare-requires-clause-often g c = c.requires.taken.2.often
