@@ -1,14 +1,32 @@
-//! Two workers that run at one time: a gate holds each of them until it has met the other.
+//! Threads that run at one time: a gate holds each of them until it has met another.
 
-use crate::runs::{NO_FAULT, is_run, run_gated};
+use crate::runs::{NO_FAULT, is_run, run_failing, run_gated};
 use psi_base::{Cpu, Gate};
 use replay_core::Status;
 use std::sync::atomic::AtomicBool;
 use std::sync::atomic::Ordering::SeqCst;
 use std::test::Fail;
+use std::thread::Threads;
 
-/// How often a worker looks for the other one before it gives up.
+/// How often a thread looks for another one before it gives up.
 const TURNS: u32 = 200_000_000;
+
+/// A task runs on the one processor, waits for IO for a second, and is ready to the end.
+pub const ONE_PROCESSOR: &str = "psitrace 1 cpus=1\n\
+    0 fork 1 / 0\n\
+    0 switch 0 1 idle\n\
+    500000000 switch 0 0 iowait\n\
+    1500000000 wake 1 0\n\
+    2000000000 end\n";
+
+/// What a live line may say of it, by how many of its changes were made.
+pub const LIVE_LINES: [&str; 5] = [
+    "live 2000000000 cpu=0 count=0 0 0 0 0 0 0 0",
+    "live 2000000000 cpu=0 count=1 0 0 0 0 2000000000 2000000000 2000000000",
+    "live 2000000000 cpu=0 count=2 0 0 0 0 0 0 2000000000",
+    "live 2000000000 cpu=0 count=3 1500000000 1500000000 0 0 0 0 2000000000",
+    "live 2000000000 cpu=0 count=4 1000000000 1000000000 0 0 500000000 500000000 2000000000",
+];
 
 /// One processor waits for IO, and a task runs on another for a second.
 const TWO_PROCESSORS: &str = "psitrace 1 cpus=2\n\
@@ -40,15 +58,14 @@ struct Meeting {
     is_missed: AtomicBool,
 }
 
-impl Meeting {
-    fn wait_for(&self, other: &AtomicBool) {
-        for _ in 0..TURNS {
-            if other.load(SeqCst) {
-                return;
-            }
+/// Waits until another thread has come, and tells of it where it didn't.
+fn wait_for(other: &AtomicBool, is_missed: &AtomicBool) {
+    for _ in 0..TURNS {
+        if other.load(SeqCst) {
+            return;
         }
-        self.is_missed.store(true, SeqCst);
     }
+    is_missed.store(true, SeqCst);
 }
 
 impl Gate for Meeting {
@@ -58,10 +75,10 @@ impl Gate for Meeting {
         }
         if cpu.0 == 0 {
             self.first.store(true, SeqCst);
-            self.wait_for(&self.second);
+            wait_for(&self.second, &self.is_missed);
         } else {
             self.second.store(true, SeqCst);
-            self.wait_for(&self.first);
+            wait_for(&self.first, &self.is_missed);
         }
     }
 
@@ -81,5 +98,122 @@ fn workers_meet(rt: HostRuntime) -> Result<(), Fail> {
     assert!(rt; is_run(&ran, Status::Done, REPORTED, ""));
     assert!(rt; gate.first.load(SeqCst) && gate.second.load(SeqCst));
     assert!(rt; !gate.is_missed.load(SeqCst), "a worker waited in vain");
+    Ok(())
+}
+
+/// A gate at which a change of a processor and the first sample there wait for one another: the sample is taken once the change
+/// is made, and the next change is made once it is taken.
+#[derive(Drop)]
+struct Between {
+    cpu: Cpu,
+    count: u64,
+    is_moved: AtomicBool,
+    is_sampled: AtomicBool,
+    is_missed: AtomicBool,
+}
+
+impl Between {
+    fn new(cpu: u32, count: u64) -> Between {
+        Between {
+            cpu: Cpu(cpu),
+            count,
+            is_moved: AtomicBool::new(false),
+            is_sampled: AtomicBool::new(false),
+            is_missed: AtomicBool::new(false),
+        }
+    }
+}
+
+impl Gate for Between {
+    fn moved(&self, cpu: Cpu, count: u64) {
+        if cpu == self.cpu && count == self.count {
+            self.is_moved.store(true, SeqCst);
+            wait_for(&self.is_sampled, &self.is_missed);
+        }
+    }
+
+    fn before_sample(&self, cpu: Cpu, index: u32) {
+        if cpu == self.cpu && index == 0 {
+            wait_for(&self.is_moved, &self.is_missed);
+        }
+    }
+
+    fn sampled(&self, cpu: Cpu, _count: u64) {
+        if cpu == self.cpu {
+            self.is_sampled.store(true, SeqCst);
+        }
+    }
+}
+
+/// The line with a number from 0.
+fn line_of(text: &[u8], number: usize) -> &[u8] {
+    text.split(|byte| *byte == b'\n')
+        .nth(number)
+        .unwrap_or(b"".as_slice())
+}
+
+/// A command line over a trace prints this line at this place, where the first sample of a processor is taken behind so many of
+/// its changes.
+fn samples_between<R: Threads + AllocGlobal + Sync>(
+    rt: &R,
+    line: &str,
+    trace: &str,
+    gate: &Between,
+    number: usize,
+    live: &str,
+) -> Result<bool, Fail> {
+    let ran = run_gated(rt, line, trace, 65536, NO_FAULT, gate)?;
+    let is_met = gate.is_sampled.load(SeqCst) && !gate.is_missed.load(SeqCst);
+    Ok(is_met && ran.status == Status::Done && line_of(&ran.output, number) == live.as_bytes())
+}
+
+#[test]
+fn samples_while_workers_run(rt: HostRuntime) -> Result<(), Fail> {
+    let third = Between::new(0, 3);
+    let line = "replay t --live /";
+    assert!(rt; samples_between(&rt, line, ONE_PROCESSOR, &third, 0, LIVE_LINES[3])?);
+    let other = "live 2000000000 cpu=1 count=2 0 0 0 0 0 0 2000000000";
+    for line in [
+        "replay t --live / --workers 1",
+        "replay t --live / --workers 64",
+    ] {
+        let second = Between::new(1, 2);
+        assert!(rt;
+            samples_between(&rt, line, TWO_PROCESSORS, &second, 1, other)?,
+            "{line}"
+        );
+    }
+    Ok(())
+}
+
+/// The place of a line among those that a live line may be, from one on.
+fn place_from(line: &[u8], from: usize) -> Option<usize> {
+    let place = LIVE_LINES.iter().position(|live| live.as_bytes() == line)?;
+    if place < from { None } else { Some(place) }
+}
+
+/// Whether an output begins with so many live lines, none of which is of fewer changes than the one before, and ends as another
+/// output does.
+fn begins_live(output: &[u8], count: usize, end: &[u8]) -> bool {
+    let mut from = 0;
+    for number in 0..count {
+        match place_from(line_of(output, number), from) {
+            Some(place) => from = place,
+            None => return false,
+        }
+    }
+    output.ends_with(end) && line_of(output, count) == line_of(end, 0)
+}
+
+#[test]
+fn samples_any_change(rt: HostRuntime) -> Result<(), Fail> {
+    let plain = run_failing(&rt, "replay t", ONE_PROCESSOR, 65536, NO_FAULT)?;
+    let one = run_failing(&rt, "replay t --live /", ONE_PROCESSOR, 65536, NO_FAULT)?;
+    assert!(rt; begins_live(&one.output, 1, &plain.output));
+    let line = "replay t --live / --live-count 16";
+    let many = run_failing(&rt, line, ONE_PROCESSOR, 65536, NO_FAULT)?;
+    assert!(rt; begins_live(&many.output, 16, &plain.output));
+    let nope = run_failing(&rt, "replay t --live /nope", ONE_PROCESSOR, 65536, NO_FAULT)?;
+    assert!(rt; nope.output == plain.output);
     Ok(())
 }

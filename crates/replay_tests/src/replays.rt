@@ -5,7 +5,7 @@ use replay_core::Status;
 use std::test::Fail;
 
 /// The one tick of the trace, which ends with it.
-const REPLAYED: &str = "report 2000000000 / io\n\
+pub const REPLAYED: &str = "report 2000000000 / io\n\
     some avg10=18.11 avg60=3.27 avg300=0.68 total=2000000\n\
     full avg10=18.11 avg60=3.27 avg300=0.68 total=2000000\n\
     report 2000000000 / memory\n\

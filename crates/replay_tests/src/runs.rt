@@ -1,6 +1,6 @@
-//! Running words over one trace in memory.
+//! Running words over one trace, and at most one rules file, in memory.
 
-use psi_base::{Gate, MemShelf, MemSink, OpenGate, Text};
+use psi_base::{Cause, Gate, MemShelf, MemSink, OpenGate, Text};
 use replay_core::{Status, run};
 use std::test::Fail;
 use std::thread::Threads;
@@ -48,12 +48,19 @@ pub const ONE_WAIT: &str = "psitrace 1 cpus=1\n\
     0 switch 0 0 iowait\n\
     2000000000 end\n";
 
-/// Runs a command line over a shelf with the one file `t`, where some calls fail, and threads are held by a gate. The shelf and
-/// both sinks move at most so many bytes a call.
-pub fn run_gated<R: Threads + AllocGlobal + Sync, G: Gate>(
+/// What the shelf holds: a trace by the name `t`, and rules by the name `r`.
+#[derive(Clone, Copy)]
+pub struct Files<'a> {
+    pub trace: &'a [u8],
+    pub rules: &'a str,
+}
+
+/// Runs a command line over a shelf, where some calls fail, and threads are held by a gate. The shelf and both sinks move at most
+/// so many bytes a call.
+fn run_over<R: Threads + AllocGlobal + Sync, G: Gate>(
     rt: &R,
     line: &str,
-    trace: &str,
+    files: Files,
     most: usize,
     failing: Failing,
     gate: &G,
@@ -61,9 +68,10 @@ pub fn run_gated<R: Threads + AllocGlobal + Sync, G: Gate>(
     let alloc = rt.alloc();
     let words = words_of(rt, line)?;
     let files = vec![in alloc;
+        (Text::make(alloc, b"t")?, Text::make(alloc, files.trace)?),
         (
-            Text::make(alloc, b"t")?,
-            Text::make(alloc, trace.as_bytes())?
+            Text::make(alloc, b"r")?,
+            Text::make(alloc, files.rules.as_bytes())?
         ),
     ]?;
     let most = most.max(1);
@@ -78,7 +86,34 @@ pub fn run_gated<R: Threads + AllocGlobal + Sync, G: Gate>(
     })
 }
 
-/// Runs a command line over a shelf with the one file `t`, where some calls fail.
+/// Runs a command line over these files, where some calls fail.
+pub fn run_files<R: Threads + AllocGlobal + Sync>(
+    rt: &R,
+    line: &str,
+    files: Files,
+    most: usize,
+    failing: Failing,
+) -> Result<Ran, Fail> {
+    run_over(rt, line, files, most, failing, &OpenGate)
+}
+
+/// Runs a command line over this trace and no rules, where some calls fail, and threads are held by a gate.
+pub fn run_gated<R: Threads + AllocGlobal + Sync, G: Gate>(
+    rt: &R,
+    line: &str,
+    trace: &str,
+    most: usize,
+    failing: Failing,
+    gate: &G,
+) -> Result<Ran, Fail> {
+    let files = Files {
+        trace: trace.as_bytes(),
+        rules: "",
+    };
+    run_over(rt, line, files, most, failing, gate)
+}
+
+/// Runs a command line over this trace and no rules, where some calls fail.
 pub fn run_failing<R: Threads + AllocGlobal + Sync>(
     rt: &R,
     line: &str,
@@ -145,4 +180,23 @@ pub fn prints_front<R: Threads + AllocGlobal + Sync>(
     let is_front = ran.output.len() < output.len() && output.as_bytes().starts_with(&ran.output);
     let is_told = ran.note.as_slice() == b"write fault\n".as_slice();
     Ok(ran.status == Status::WriteFault && is_front && is_told)
+}
+
+/// A command line over this trace is refused at this line for this cause, which the note names so.
+pub fn is_refused<R: Threads + AllocGlobal + Sync>(
+    rt: &R,
+    line: &str,
+    trace: &[u8],
+    number: u32,
+    cause: Cause,
+    name: &str,
+) -> Result<bool, Fail> {
+    let files = Files { trace, rules: "" };
+    let ran = run_files(rt, line, files, 65536, NO_FAULT)?;
+    let status = Status::Trace {
+        line: number,
+        cause,
+    };
+    let note = format!(in rt.alloc(); "trace line {number}: {name}\n")?;
+    Ok(is_run(&ran, status, "", &note))
 }

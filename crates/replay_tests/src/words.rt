@@ -9,7 +9,7 @@ const NO_FILE: Status = Status::NoFile {
     which: Which::TraceFile,
 };
 
-// The shelf in memory holds the file `t` alone, and nothing by the name `-`.
+// The shelf in memory holds nothing by the names `u` and `-`.
 #[test]
 fn words_and_names(rt: HostRuntime) -> Result<(), Fail> {
     let usage = "usage: psi_oomd stall or check or replay or gen or stress\n";
