@@ -86,6 +86,15 @@ class Machine:
             return f"mem {self.draw.choice(self.homes)} {self.draw.randrange(1 << 30)} 0 {self.draw.randrange(1 << 20)}"
         return None
 
+    def line(self, tasks):
+        """Any line, of any processor."""
+        cpu = self.draw.randrange(self.cpus)
+        line = self.rare(cpu, tasks) if self.draw.randrange(8) == 0 else None
+        if line is not None:
+            return line
+        sleeps = self.asleep and (not self.ready[cpu] or self.draw.randrange(2))
+        return self.wake() if sleeps else self.switch(cpu)
+
 
 def lines(events, tasks, cpus, groups, depth, seed):
     draw = random.Random(seed)
@@ -99,12 +108,7 @@ def lines(events, tasks, cpus, groups, depth, seed):
     at = 0
     for _ in range(events - tasks - len(paths) - 1):
         at += draw.randrange(2000)
-        cpu = draw.randrange(cpus)
-        line = machine.rare(cpu, tasks) if draw.randrange(8) == 0 else None
-        if line is None:
-            sleeps = machine.asleep and (not machine.ready[cpu] or draw.randrange(2))
-            line = machine.wake() if sleeps else machine.switch(cpu)
-        yield f"{at} {line}"
+        yield f"{at} {machine.line(tasks)}"
     yield f"{at} end"
 
 
@@ -120,4 +124,5 @@ def main():
     sys.stdout.write("\n".join(out) + "\n")
 
 
-main()
+if __name__ == "__main__":
+    main()

@@ -49,6 +49,7 @@ def main():
             ("stall", ["stall", trace.name]),
             ("replay", ["replay", trace.name]),
             ("replay, one worker", ["replay", trace.name, "--workers", "1"]),
+            ("replay, watched", ["replay", trace.name, "--live", "/"]),
             ("gen", ["gen", *shape]),
             ("stress", ["stress", *shape]),
         ]:
