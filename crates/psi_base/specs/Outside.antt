@@ -1,5 +1,5 @@
 -- What the calls of a shelf and a sink answer, and what they do to what these hold.
-use Rattle.std.specs.Prelude.{◌≡◌, ◌⊎◌, ℕ, ◌+◌, ◌-◌, ◌^◌, ◌≤◌, ◌<◌, min, List, [], ◌∷◌, ◌++◌, length, take, drop, Option, None, Some, Result, OnOk, OnErr, MatchResult, ⊤, if◌then◌else◌}
+use Rattle.std.specs.Prelude.{◌≡◌, ◌⊎◌, ℕ, ◌+◌, ◌-◌, ◌^◌, ◌≤◌, ◌<◌, min, List, [], ◌∷◌, ◌++◌, length, take, drop, Option, None, Some, Result, Ok, Err, OnOk, OnErr, MatchResult, ⊤, if◌then◌else◌}
 use Rattle.std.specs.Str.{bytes_eq}
 use Rattle.std.specs.Io.KnownBytes.{Appends}
 
@@ -47,6 +47,11 @@ pub record ReadsBytes (bytes : List ℕ) (at n : ℕ) (before into : List ℕ) :
   pub inside : n ≤ length bytes - at
   pub end : n ≡ 0 → 0 < length into → length bytes ≤ at
   pub rest : drop n into ≡ drop n before
+
+-- how many bytes a read gave: as many as its answer says, and none where it has a fault
+abbrev pub given_by : {E : Type 0} → Result ℕ E → ℕ
+given_by (Ok n) = n
+given_by (Err fault) = 0
 
 -- the counts of a shelf: reads that failed, and names that weren't there
 pub record ShelfCounts : Type 0 where

@@ -1,11 +1,12 @@
 //! A shelf and a sink in memory that are honest: they fail only for want of room. Their clauses say each answer exactly.
-ghost use Rattle.std.specs.Prelude.{◌≡◌, ◌⊎◌, ◌-◌, ◌<◌, ◌≤◌, ℕ, List, Result, Some, None, length, take, min, IfOk, IsErr, vec_capacity, vec_len, IsErrOf, ◌↔◌, []};
+ghost use Rattle.std.specs.Prelude.{◌≡◌, ◌⊎◌, ◌+◌, ◌-◌, ◌<◌, ◌≤◌, ℕ, List, Result, Some, None, length, take, min, IfOk, IsErr, vec_capacity, vec_len, IsErrOf, ◌↔◌, []};
 ghost use Rattle.std.specs.Io.{WritesAtMost};
 ghost use Rattle.std.specs.Io.KnownBytes.{WriteAppends};
-ghost use Rattle.psi_base.specs.Outside.{CountsWhere, HasCause, HasCauses, Lacks, ReadsBytes, StaysOver, bytes_of, counts_of, nothing_below, told};
+ghost use Rattle.psi_base.specs.Outside.{CountsWhere, HasCause, HasCauses, Lacks, ReadsBytes, StaysOver, bytes_of, counts_of, given_by, nothing_below, told};
 
 use crate::memory::{copy_part, find, finds_no_room, take_part};
 use crate::outside::{Shelf, ShelfFault, Sink, WriteFailed};
+use crate::tally::Tally;
 use crate::text::{NoMemory, Text};
 use std::alloc::Global;
 
@@ -18,6 +19,8 @@ pub struct HonestShelf {
     pub most: usize,
     /// How many calls named a file that isn't held.
     pub absent: u64,
+    /// How many bytes its calls gave.
+    pub given: Tally,
     ghost gives: { 0 < most },
 }
 
@@ -25,12 +28,14 @@ impl HonestShelf {
     /// A shelf of these files, before its first call.
     pub fn new(files: Vec<(Text, Text)>, most: usize) -> HonestShelf
         requires { 0 < most }
-        ensures { (result.files ≡ files) × (result.most ≡ most) × (result.absent ≡ 0) }
+        ensures { (result.files ≡ files) × (result.most ≡ most) × (result.absent ≡ 0)
+            × (result.given.count ≡ 0) }
     {
         HonestShelf {
             files,
             most,
             absent: 0,
+            given: Tally::new(),
         }
     }
 }
@@ -42,6 +47,8 @@ impl Shelf for HonestShelf {
 
     ghost absent = { λ s. s.absent };
 
+    ghost given = { λ s. s.given.count };
+
     /// A name that isn't held is `NoFile`, and of one that is held come as many bytes as there are from `at` on, at
     /// most `most` and the length of `into`.
     fn read_at(&mut self, name: &str, at: u64, into: &mut [u8]) -> Result<usize, ShelfFault>
@@ -52,6 +59,7 @@ impl Shelf for HonestShelf {
             → IfOk result (λ n. ReadsBytes bytes at n into.old into.new) }
         ensures cause { HasCauses (counts_of 0 self.old.absent) (counts_of 0 self.new.absent)
             (IsErrOf result ShelfFault.Failed) (IsErrOf result ShelfFault.NoFile) }
+        ensures given { self.new.given.count ≡ self.old.given.count + given_by result }
         ensures missed { IsErrOf result ShelfFault.NoFile
             → told (Some self.old.files.items) name.now ≡ None }
         ensures lacking { Lacks (Some self.old.files.items) name.now
@@ -64,7 +72,11 @@ impl Shelf for HonestShelf {
             (IsErrOf result ShelfFault.NoFile) self.old.absent self.new.absent }
     {
         match find(&self.files, name.as_bytes()) {
-            Some(bytes) => Ok(copy_part(bytes, at, self.most, into)),
+            Some(bytes) => {
+                let count = copy_part(bytes, at, self.most, into);
+                self.given = self.given.and(count);
+                Ok(count)
+            }
             None => {
                 self.absent = self.absent.saturating_add(1);
                 Err(ShelfFault::NoFile)

@@ -2,9 +2,10 @@
 ghost use Rattle.std.specs.Prelude.{◌≡◌, ◌⊎◌, ◌+◌, ◌-◌, ◌<◌, ◌≤◌, ℕ, List, Option, Result, Some, None, length, take, drop, min, IfOk, IsErr, IsTrue, MatchOption, vec_capacity, vec_len, Contains, IsErrOf, ◌↔◌, [], ◌++◌};
 ghost use Rattle.std.specs.Io.{WritesAtMost};
 ghost use Rattle.std.specs.Io.KnownBytes.{WriteAppends};
-ghost use Rattle.psi_base.specs.Outside.{CountsWhere, HasCause, HasCauses, Lacks, ReadsBytes, StaysOver, bytes_of, counts_of, nothing_below, one_more, told};
+ghost use Rattle.psi_base.specs.Outside.{CountsWhere, HasCause, HasCauses, Lacks, ReadsBytes, StaysOver, bytes_of, counts_of, given_by, nothing_below, one_more, told};
 
 use crate::outside::{Shelf, ShelfFault, Sink, WriteFailed};
+use crate::tally::Tally;
 use crate::text::{NoMemory, Text};
 use std::alloc::Global;
 
@@ -81,6 +82,8 @@ pub struct MemShelf {
     pub faults: u64,
     /// How many calls named a file that isn't held.
     pub absent: u64,
+    /// How many bytes its calls gave.
+    pub given: Tally,
     ghost gives: { 0 < most },
 }
 
@@ -89,7 +92,8 @@ impl MemShelf {
     pub fn new(files: Vec<(Text, Text)>, most: usize, fails: Vec<u64>) -> MemShelf
         requires { 0 < most }
         ensures { (result.files ≡ files) × (result.most ≡ most) × (result.fails ≡ fails)
-            × (result.calls ≡ 0) × (result.faults ≡ 0) × (result.absent ≡ 0) }
+            × (result.calls ≡ 0) × (result.faults ≡ 0) × (result.absent ≡ 0)
+            × (result.given.count ≡ 0) }
     {
         MemShelf {
             files,
@@ -98,6 +102,7 @@ impl MemShelf {
             calls: 0,
             faults: 0,
             absent: 0,
+            given: Tally::new(),
         }
     }
 }
@@ -108,6 +113,8 @@ impl Shelf for MemShelf {
     ghost faults = { λ s. s.faults };
 
     ghost absent = { λ s. s.absent };
+
+    ghost given = { λ s. s.given.count };
 
     /// A call whose number is in `fails` fails. Else a name that isn't held is `NoFile`, and of one that is held come
     /// as many bytes as there are from `at` on, at most `most` and the length of `into`.
@@ -121,6 +128,7 @@ impl Shelf for MemShelf {
         ensures cause { HasCauses (counts_of self.old.faults self.old.absent)
             (counts_of self.new.faults self.new.absent)
             (IsErrOf result ShelfFault.Failed) (IsErrOf result ShelfFault.NoFile) }
+        ensures given { self.new.given.count ≡ self.old.given.count + given_by result }
         ensures missed { IsErrOf result ShelfFault.NoFile
             → told (Some self.old.files.items) name.now ≡ None }
         ensures lacking { Lacks (Some self.old.files.items) name.now
@@ -145,7 +153,11 @@ impl Shelf for MemShelf {
             return Err(ShelfFault::Failed);
         }
         match find(&self.files, name.as_bytes()) {
-            Some(bytes) => Ok(copy_part(bytes, at, self.most, into)),
+            Some(bytes) => {
+                let count = copy_part(bytes, at, self.most, into);
+                self.given = self.given.and(count);
+                Ok(count)
+            }
             None => {
                 self.absent = self.absent.saturating_add(1);
                 Err(ShelfFault::NoFile)

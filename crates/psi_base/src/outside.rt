@@ -1,8 +1,8 @@
 //! The outside: files by name, places to write to, and points at which a run can be held.
-ghost use Rattle.std.specs.Prelude.{◌≡◌, ◌⊎◌, ℕ, List, Option, Some, None, length, IfOk, IsErrOf, ◌<◌, ◌≤◌};
+ghost use Rattle.std.specs.Prelude.{◌≡◌, ◌⊎◌, ◌+◌, ℕ, List, Option, Some, None, length, IfOk, IsErrOf, ◌<◌, ◌≤◌};
 ghost use Rattle.std.specs.Io.KnownBytes.{WriteAppends};
 ghost use Rattle.std.specs.Io.{WritesAtMost};
-ghost use Rattle.psi_base.specs.Outside.{Below, Files, HasCause, HasCauses, Lacks, ReadsBytes, StaysOver, counts_of, nothing_below, told};
+ghost use Rattle.psi_base.specs.Outside.{Below, Files, HasCause, HasCauses, Lacks, ReadsBytes, StaysOver, counts_of, given_by, nothing_below, told};
 
 use crate::event::Cpu;
 
@@ -19,8 +19,9 @@ pub enum ShelfFault {
 #[derive(Clone, Copy, Debug, PartialEq, Eq)]
 pub struct WriteFailed;
 
-/// Files that are read by their names. What they hold never changes. Each of the two counts has 64 bits, starts at 0,
-/// never falls, and stops at its last value.
+/// Files that are read by their names. What they hold never changes. Each of the two counts `faults` and `absent` has
+/// 64 bits, starts at 0, never falls, and stops at its last value. The count `given` stands in proofs alone, and has no
+/// greatest value.
 pub trait Shelf {
     /// The names with their bytes, where the shelf tells them: of two pairs with one name the first counts.
     ghost holds: { Self → Option Files };
@@ -30,6 +31,9 @@ pub trait Shelf {
 
     /// How many times a name wasn't there.
     ghost absent: { Self → ℕ };
+
+    /// How many bytes its reads have given in all.
+    ghost given: { Self → ℕ };
 
     /// Reads the name's bytes from the place `at` (in bytes, from 0) on into the front of `into`, and says how many.
     /// No byte for a buffer that isn't empty is the end of the input.
@@ -44,6 +48,7 @@ pub trait Shelf {
         ensures cause { HasCauses (counts_of (faults self.old) (absent self.old))
             (counts_of (faults self.new) (absent self.new))
             (IsErrOf result ShelfFault.Failed) (IsErrOf result ShelfFault.NoFile) }
+        ensures given { given self.new ≡ given self.old + given_by result }
         ensures missed { IsErrOf result ShelfFault.NoFile →
             told (holds self.old) name.now ≡ None }
         ensures lacking { Lacks (holds self.old) name.now → IsErrOf result ShelfFault.NoFile
