@@ -13,22 +13,22 @@ abbrev pub left : Reader → List ℕ → List ℕ
 left reader bytes = reader.held ++ drop reader.at bytes
 
 -- no newline among the first n bytes
-abbrev pub NoNewline : List ℕ → ℕ → Type 0
-NoNewline bytes n = (k : ℕ) → k < n → slice_index bytes k ≢ 10
+abbrev pub HasNoNewline : List ℕ → ℕ → Type 0
+HasNoNewline bytes n = (k : ℕ) → k < n → slice_index bytes k ≢ 10
 
 -- the bytes begin with a line of at most 512 bytes and its newline
 pub record BeginsWithLine (bytes line after : List ℕ) : Type 0 where
   pub whole : bytes ≡ line ++ 10 ∷ after
   pub short : length line ≤ 512
-  pub one : NoNewline line (length line)
+  pub one : HasNoNewline line (length line)
 
 -- 513 bytes without a newline
 pub record IsTooLong (bytes : List ℕ) : Type 0 where
   pub long : 513 ≤ length bytes
-  pub none : NoNewline bytes 513
+  pub none : HasNoNewline bytes 513
 
 -- a line that the input cuts short
 pub record IsCut (bytes : List ℕ) : Type 0 where
   pub some : 0 < length bytes
   pub short : length bytes ≤ 512
-  pub none : NoNewline bytes (length bytes)
+  pub none : HasNoNewline bytes (length bytes)

@@ -1,7 +1,7 @@
 -- What reading the next line gives.
-use Rattle.std.specs.Prelude.{◌≡◌, ℕ, ◌+◌, List, [], ◌++◌, drop, take, length, ◌<◌, ◌≤◌, slice_index, Option, None, Some, Result, Ok, Err, IsErrOf, ⊤}
+use Rattle.std.specs.Prelude.{◌≡◌, ℕ, ◌+◌, ◌-◌, ◌*◌, List, [], ◌++◌, drop, take, length, ◌<◌, ◌≤◌, slice_index, Option, None, Some, Result, Ok, Err, IsErrOf, ⊤}
 use Rattle.psi_base.specs.Outside.{ShelfCounts, HasCauses}
-use Rattle.psi_lines.specs.Lines.{Reader, NoNewline, left, BeginsWithLine, IsTooLong, IsCut}
+use Rattle.psi_lines.specs.Lines.{Reader, HasNoNewline, left, BeginsWithLine, IsTooLong, IsCut}
 use Rattle.psi_lines.specs.declared.lines.Line.{Line}
 use Rattle.psi_lines.specs.declared.lines.LineFault.{LineFault}
 use Rattle.psi_lines.specs.declared.lines.LineFault.TheVariants.{TooLong, Cut, NoFile, ReadFault, NoMemory}
@@ -55,12 +55,17 @@ pub record ReadsOn (held : List ℕ) (at : ℕ) (held_now : List ℕ) (at_now : 
   pub front : take (length held) held_now ≡ held
   pub place : at_now + length held ≡ at + length held_now
 
+-- the furthest place of a reader at the line with this number: the lines before it have at most 513 bytes each, with
+-- their newlines, and behind them it holds at most 66,048
+abbrev pub furthest : ℕ → ℕ
+furthest number = 513 * (number - 1) + 66048
+
 -- what is found at the front of the held bytes: how many bytes the line with this number has, or why there is none
 abbrev pub FindsLine : ℕ → List ℕ → Result (Option ℕ) LineFault → Type 0
-FindsLine number held (Ok (Some count)) = (count < length held) × (count ≤ 512) × (slice_index held count ≡ 10) × NoNewline held count
+FindsLine number held (Ok (Some count)) = (count < length held) × (count ≤ 512) × (slice_index held count ≡ 10) × HasNoNewline held count
 FindsLine number held (Ok None) = held ≡ []
-FindsLine number held (Err (TooLong n)) = (n ≡ number) × (513 ≤ length held) × NoNewline held 513
-FindsLine number held (Err (Cut n)) = (n ≡ number) × (0 < length held) × (length held ≤ 512) × NoNewline held (length held)
+FindsLine number held (Err (TooLong n)) = (n ≡ number) × (513 ≤ length held) × HasNoNewline held 513
+FindsLine number held (Err (Cut n)) = (n ≡ number) × (0 < length held) × (length held ≤ 512) × HasNoNewline held (length held)
 FindsLine number held (Err NoFile) = ⊤
 FindsLine number held (Err ReadFault) = ⊤
 FindsLine number held (Err NoMemory) = ⊥

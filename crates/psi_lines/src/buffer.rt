@@ -1,6 +1,6 @@
 //! The bytes that were read and not handed out.
 ghost use Rattle.std.specs.Prelude.{◌≡◌, ◌+◌, ◌-◌, ◌<◌, ◌≤◌, ◌⊎◌, [], ℕ, List, length, drop, take, IfOk, OnErr, IsErrOf, Some, None};
-ghost use Rattle.psi_base.specs.Outside.{told, Lacks, ReadsBytes, counts_of};
+ghost use Rattle.psi_base.specs.Outside.{told, Lacks, ReadsBytes, counts_of, given_by};
 ghost use Rattle.psi_lines.specs.Next.{CausesFault, FillsBytes, IsReadFault};
 
 use crate::lines::LineFault;
@@ -44,6 +44,7 @@ fn read_behind<S: Shelf>(
         → IfOk result (λ n. ReadsBytes all at n (drop held bytes.old) (drop held bytes.new)) }
     ensures cause { CausesFault (counts_of (S.faults shelf.old) (S.absent shelf.old))
         (counts_of (S.faults shelf.new) (S.absent shelf.new)) result }
+    ensures given { S.given shelf.new ≡ S.given shelf.old + given_by result }
     ensures missed { IsErrOf result LineFault.NoFile →
         told (S.holds shelf.old) name.now ≡ None }
     ensures lacking { Lacks (S.holds shelf.old) name.now → IsErrOf result LineFault.NoFile
@@ -132,6 +133,7 @@ impl Buffer {
         ensures err { OnErr result (self.new ≡ self.old) }
         ensures cause { CausesFault (counts_of (S.faults shelf.old) (S.absent shelf.old))
             (counts_of (S.faults shelf.new) (S.absent shelf.new)) result }
+        ensures given { S.given shelf.new ≡ S.given shelf.old + given_by result }
         ensures missed { IsErrOf result LineFault.NoFile
             → told (S.holds shelf.old) name.now ≡ None }
         ensures lacking { Lacks (S.holds shelf.old) name.now → IsErrOf result LineFault.NoFile

@@ -1,8 +1,8 @@
 //! Lines of a name's bytes, however the shelf cuts them.
 ghost use Rattle.std.specs.Prelude.{◌≡◌, ◌≢◌, ◌+◌, ◌-◌, ◌*◌, ◌<◌, ◌≤◌, ◌^◌, ◌↔◌, ◌⊎◌, [], ◌++◌, ℕ, List, length, drop, take, IfOk, OnErr, IsErrOf, IsTrue, MatchOption, slice_index, Ok, Some, None, false};
 ghost use Rattle.psi_base.specs.Outside.{told, Lacks, counts_of};
-ghost use Rattle.psi_lines.specs.Lines.{NoNewline, Reader, left};
-ghost use Rattle.psi_lines.specs.Next.{CausesFault, EndsAt, FindsLine, IsMissing, IsNumbered, IsReadFault, IsShortLine, NextOf, ReadsOn, number_after};
+ghost use Rattle.psi_lines.specs.Lines.{HasNoNewline, Reader, left};
+ghost use Rattle.psi_lines.specs.Next.{CausesFault, EndsAt, FindsLine, IsMissing, IsNumbered, IsReadFault, IsShortLine, NextOf, ReadsOn, furthest, number_after};
 
 use crate::buffer::{Buffer, LINE, ROOM};
 use memchr::memchr;
@@ -78,15 +78,15 @@ impl Model for Lines {
     ghost view = { λ l.
         record { name = string_bytes l.name; number = l.number; held = l.held; at = l.at } };
 
-    ghost invariant = { λ l. (l.number ≤ 2 ^ 32) × (l.at ≤ 513 * l.number + length l.held)
-        × (length l.held ≤ 66048) };
+    ghost invariant = { λ l. (l.number ≤ 2 ^ 32)
+        × (l.at + 513 ≤ 513 * l.number + length l.held) × (length l.held ≤ 66048) };
 }
 
 // Where the first newline stands among the bytes that a line and its newline can have.
 fn newline_in(held: &[u8]) -> Option<usize>
     ensures { MatchOption result ((k : ℕ) → k < length held.now → k < LINE
         → slice_index held.now k ≢ 10) (λ i. (i < length held.now) × (i < LINE)
-        × (slice_index held.now i ≡ 10) × NoNewline held.now i) }
+        × (slice_index held.now i ≡ 10) × HasNoNewline held.now i) }
 {
     memchr(b'\n', &held[..held.len().min(LINE)])
 }
@@ -112,6 +112,7 @@ fn find_line<S: Shelf>(
         → EndsAt bytes at.new result }
     ensures cause { CausesFault (counts_of (S.faults shelf.old) (S.absent shelf.old))
         (counts_of (S.faults shelf.new) (S.absent shelf.new)) result }
+    ensures given { S.given shelf.new + at.old ≡ S.given shelf.old + at.new }
     ensures missed { IsErrOf result LineFault.NoFile →
         told (S.holds shelf.old) name.now ≡ None }
     ensures missing { held.old ≡ [] → Lacks (S.holds shelf.old) name.now → (held.new ≡ [])
@@ -161,6 +162,8 @@ impl Lines {
     /// The bytes up to the next newline, without it; the reader then stands behind it. None exactly at the end of the
     /// input, with no byte of a further line.
     ///
+    /// It reads no further than a whole buffer behind the lines that were handed out, each with its newline.
+    ///
     /// `TooLong` exactly where 513 bytes stand without a newline, `Cut` exactly where the input ends inside a line of
     /// at most 512 bytes. `NoFile` and `ReadFault` only where the shelf counted an absent name or a fault in this call.
     pub fn next<S: Shelf>(&mut self, shelf: &mut S) -> Result<Option<Line>, LineFault>
@@ -175,6 +178,8 @@ impl Lines {
         ensures fault { OnErr result (ReadsOn self.old.held self.old.at self.new.held self.new.at) }
         ensures cause { CausesFault (counts_of (S.faults shelf.old) (S.absent shelf.old))
             (counts_of (S.faults shelf.new) (S.absent shelf.new)) result }
+        ensures given { S.given shelf.new + self.old.at ≡ S.given shelf.old + self.new.at }
+        ensures place { self.new.at ≤ furthest self.old.number }
         ensures missed { IsErrOf result LineFault.NoFile
             → told (S.holds shelf.old) self.old.name ≡ None }
         ensures missing { self.old.held ≡ [] → Lacks (S.holds shelf.old) self.old.name
@@ -202,8 +207,8 @@ impl Lines {
     pub fn next_bytes<S: Shelf>(&mut self, shelf: &mut S) -> Result<Option<&[u8]>, LineFault>
         requires { self.old.number < 2 ^ 32 }
         ensures kept { S.holds shelf.new ≡ S.holds shelf.old }
-        ensures* rest { sem 𝓛 (Rests the_row self.entry (λ new. LendsLine
-            (S.holds shelf.old) self.old new result)) }
+        ensures* rest { sem 𝓛 (Rests the_row self.entry (λ new. LendsLine (S.holds shelf.old)
+            (S.given shelf.old) (S.given shelf.new) self.old new result)) }
         ensures numbered { IsNumbered self.old.number (lent_line self.old.number result) }
         ensures short { IsShortLine (lent_line self.old.number result) }
         ensures cause { CausesFault (counts_of (S.faults shelf.old) (S.absent shelf.old))
@@ -244,7 +249,8 @@ impl Lines {
         requires number { self.old.number < 2 ^ 32 }
         requires inside { count < length self.old.held }
         requires short { count ≤ 512 }
-        ensures { self.new ≡ record {
+        ensures place { self.new.at ≤ furthest self.old.number }
+        ensures rest { self.new ≡ record {
           name = self.old.name;
           number = self.old.number + 1;
           held = drop (count + 1) self.old.held;
@@ -270,6 +276,8 @@ impl Lines {
         ensures faults { IsReadFault result }
         ensures cause { CausesFault (counts_of (S.faults shelf.old) (S.absent shelf.old))
             (counts_of (S.faults shelf.new) (S.absent shelf.new)) result }
+        ensures given { S.given shelf.new + self.old.at ≡ S.given shelf.old + self.new.at }
+        ensures place { self.new.at ≤ furthest self.old.number }
         ensures missed { IsErrOf result LineFault.NoFile
             → told (S.holds shelf.old) self.old.name ≡ None }
         ensures missing { self.old.held ≡ [] → Lacks (S.holds shelf.old) self.old.name

@@ -1,4 +1,4 @@
-use Rattle.std.proofs.Common.{◌≡◌, ℕ, ◌-◌, ◌≤◌, [], length, List, ◌++◌, drop}
+use Rattle.std.proofs.Common.{◌≡◌, ℕ, ◌+◌, ◌-◌, ◌≤◌, [], length, List, ◌++◌, drop}
 use Rattle.std.specs.Prelude.{Some}
 use Rattle.psi_base.specs.Outside.{told, Lacks}
 use Rattle.psi_lines.specs.Next.{ReadsOn}
@@ -12,6 +12,7 @@ invariant-reads g l = record {
   left : (bytes : List ℕ) → told (g.S.Shelf.holds l.fn.shelf) l.fn.name ≡ Some bytes → l.held ++ drop l.at bytes ≡ l.fn.held ++ drop l.fn.at bytes;
   faults : g.S.Shelf.faults l.shelf ≡ g.S.Shelf.faults l.fn.shelf;
   absent : g.S.Shelf.absent l.shelf ≡ g.S.Shelf.absent l.fn.shelf;
+  given : g.S.Shelf.given l.shelf + l.fn.at ≡ g.S.Shelf.given l.fn.shelf + l.at;
   missing : l.fn.held ≡ [] → Lacks (g.S.Shelf.holds l.fn.shelf) l.fn.name → l.held ≡ [];
 }
 
