@@ -1,6 +1,6 @@
 //! The front of a file, however the shelf's reads cut it.
 ghost use Rattle.std.specs.Prelude.{◌≡◌, ◌+◌, ◌<◌, ◌≤◌, ◌⊎◌, ℕ, List, length, drop, take, IfOk, IsErrOf, Some, None};
-ghost use Rattle.psi_base.specs.Outside.{Lacks, ReadsBytes, counts_of, told};
+ghost use Rattle.psi_base.specs.Outside.{Lacks, ReadsBytes, counts_of, given_by, told};
 ghost use Rattle.file_reader.specs.Front.{CausesFileFault, TellsNothing};
 
 use psi_base::{Shelf, ShelfFault};
@@ -44,6 +44,7 @@ fn read_behind<S: Shelf>(
         → IfOk result (λ n. ReadsBytes whole held n (drop held bytes.old) (drop held bytes.new)) }
     ensures cause { CausesFileFault (counts_of (S.faults shelf.old) (S.absent shelf.old))
         (counts_of (S.faults shelf.new) (S.absent shelf.new)) result }
+    ensures given { S.given shelf.new ≡ S.given shelf.old + given_by result }
     ensures missed { IsErrOf result FileFault.NoFile →
         told (S.holds shelf.old) name.now ≡ None }
     ensures lacking { Lacks (S.holds shelf.old) name.now → TellsNothing result }
@@ -65,6 +66,7 @@ fn fill<S: Shelf>(shelf: &mut S, name: &str, bytes: &mut [u8]) -> Result<usize, 
         IfOk result (λ n. take n bytes.new ≡ take (length bytes.new) whole) }
     ensures cause { CausesFileFault (counts_of (S.faults shelf.old) (S.absent shelf.old))
         (counts_of (S.faults shelf.new) (S.absent shelf.new)) result }
+    ensures given { S.given shelf.new ≤ S.given shelf.old + length bytes.new }
     ensures missed { IsErrOf result FileFault.NoFile →
         told (S.holds shelf.old) name.now ≡ None }
     ensures lacking { Lacks (S.holds shelf.old) name.now → TellsNothing result }
@@ -81,7 +83,7 @@ fn fill<S: Shelf>(shelf: &mut S, name: &str, bytes: &mut [u8]) -> Result<usize, 
 }
 
 /// The bytes of a name, or the first `most` of them where it has more. It takes the memory for `most` bytes before it
-/// reads, and reads no byte behind them. `NoFile` and `ReadFault` come from the shelf, which counts them.
+/// reads, and reads no more bytes than these, also where it fails. `NoFile` and `ReadFault` come from the shelf, which counts them.
 pub fn read_front<S: Shelf>(
     alloc: Global,
     shelf: &mut S,
@@ -95,6 +97,7 @@ pub fn read_front<S: Shelf>(
     ensures short { IfOk result (λ bytes. length bytes.items ≤ most) }
     ensures cause { CausesFileFault (counts_of (S.faults shelf.old) (S.absent shelf.old))
         (counts_of (S.faults shelf.new) (S.absent shelf.new)) result }
+    ensures given { S.given shelf.new ≤ S.given shelf.old + most }
     ensures missed { IsErrOf result FileFault.NoFile →
         told (S.holds shelf.old) name.now ≡ None }
     ensures lacking { Lacks (S.holds shelf.old) name.now → TellsNothing result }

@@ -18,5 +18,6 @@ reads-preserved g c =
       front = λ whole tells. front_grows whole _ c.reads.bytes c.read_behind.new.bytes c.reads.held c.in-Ok.count c.in-Ok.ensures.front (i.front whole tells) (c.in-Ok.ensures.bytes whole (rw i.kept tells));
       faults = cause.faults_same (λ failed. cc failed) ∙ i.faults;
       absent = cause.absent_same (λ missed. cc missed) ∙ i.absent;
+      given = omega (arith, c.in-Ok.ensures.given, i.given);
       missing = λ lacks. absurd (c.in-Ok.ensures.lacking (rw i.kept lacks));
     }

@@ -1,4 +1,4 @@
-use Rattle.std.proofs.Common.{◌-◌, ◌≡◌, ◌≤◌, ℕ, List, length, take, Some}
+use Rattle.std.proofs.Common.{◌+◌, ◌-◌, ◌≡◌, ◌≤◌, ℕ, List, length, take, Some}
 use Rattle.psi_base.specs.Outside.{Lacks, told}
 use Rattle.file_reader.proofs.front.fill.Given as goal
 
@@ -10,6 +10,7 @@ invariant-reads g l = record {
   front : (whole : List ℕ) → told (g.S.Shelf.holds l.fn.shelf) l.fn.name ≡ Some whole → take l.held l.bytes ≡ take l.held whole;
   faults : g.S.Shelf.faults l.shelf ≡ g.S.Shelf.faults l.fn.shelf;
   absent : g.S.Shelf.absent l.shelf ≡ g.S.Shelf.absent l.fn.shelf;
+  given : g.S.Shelf.given l.shelf ≡ g.S.Shelf.given l.fn.shelf + l.held;
   missing : Lacks (g.S.Shelf.holds l.fn.shelf) l.fn.name → l.held ≡ 0;
 }
 
