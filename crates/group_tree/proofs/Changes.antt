@@ -7,7 +7,7 @@ use Rattle.std.proofs.lemmas.List.{length-append, length-map, append-nil, drop_a
 use Rattle.psi_base.specs.declared.event.Slot.{Slot}
 use Rattle.psi_base.specs.declared.event.Cause.TheVariants as cause
 use Rattle.psi_spec.specs.declared.machine.GroupLife.{GroupLife}
-use Rattle.psi_spec.specs.World.{root, is_live, is_root, slot_of, as_slot, parent_path, new_group, without}
+use Rattle.psi_spec.specs.World.{root, is_live, is_root, slot_of, as_slot, parent_path, new_group, marked_removed}
 use Rattle.psi_spec.specs.Refusal.{is_slot}
 use Rattle.psi_spec.specs.Stall.{number_of_slot, parents_of}
 use Rattle.psi_spec.specs.Groups.{AreOlder, IsOneLive, AreGroups}
@@ -153,7 +153,7 @@ pub found_made : (groups : List GroupLife) (path : List ℕ) (slot : ℕ) → sl
 found_made groups path slot found = let below = found_below 0 groups path slot found in omega (arith, below.1)
 
 -- a group that stays
-stays : (groups : List GroupLife) (path : List ℕ) (at place k : ℕ) (group : GroupLife) → IsOneLive groups → slot_of groups path ≡ Some place → slice_get groups k ≡ Some group → k ≢ place → without path at group ≡ group
+stays : (groups : List GroupLife) (path : List ℕ) (at place k : ℕ) (group : GroupLife) → IsOneLive groups → slot_of groups path ≡ Some place → slice_get groups k ≡ Some group → k ≢ place → marked_removed path at group ≡ group
 stays groups path at place k group one found got differs =
     elim (is_live group && bytes_eq group.path path) as (λ b. (is_live group && bytes_eq group.path path) ≡ b → (if b then record group { gone = Some at } else group) ≡ group) [
       | true ↦ λ is.
@@ -166,9 +166,9 @@ stays groups path at place k group one found got differs =
     ] refl
 
 -- the moment put into the found group's place is the removal
-pub ended_is : (groups : List GroupLife) (path : List ℕ) (at place : ℕ) (group : GroupLife) → IsOneLive groups → slot_of groups path ≡ Some place → slice_get groups place ≡ Some group → slice_set groups place (record group { gone = Some at }) ≡ map (without path at) groups
+pub ended_is : (groups : List GroupLife) (path : List ℕ) (at place : ℕ) (group : GroupLife) → IsOneLive groups → slot_of groups path ≡ Some place → slice_get groups place ≡ Some group → slice_set groups place (record group { gone = Some at }) ≡ map (marked_removed path at) groups
 ended_is groups path at place group one found got =
-    set_is_map (without path at) groups place (record group { gone = Some at })
+    set_is_map (marked_removed path at) groups place (record group { gone = Some at })
     (λ g is.
     let same : group ≡ g = cc (got, is) in
     let test = found_group 0 groups path place place g found (omega arith) is in
@@ -176,7 +176,7 @@ ended_is groups path at place group one found got =
     (λ k g is differs. stays groups path at place k g one found is differs)
 
 -- a path finds nothing, or what it found
-found_less : (groups : List GroupLife) (path : List ℕ) (at : ℕ) (find : List ℕ → Option Slot) → ((path : List ℕ) → find path ≡ as_slot (slot_of groups path)) → (other : List ℕ) → (if bytes_eq path other then None else find other) ≡ as_slot (slot_of (map (without path at) groups) other)
+found_less : (groups : List GroupLife) (path : List ℕ) (at : ℕ) (find : List ℕ → Option Slot) → ((path : List ℕ) → find path ≡ as_slot (slot_of groups path)) → (other : List ℕ) → (if bytes_eq path other then None else find other) ≡ as_slot (slot_of (map (marked_removed path at) groups) other)
 found_less groups path at find found other =
     elim (bytes_eq path other) as (λ b. (if b then None else find other) ≡ as_slot (if b then None else slot_of groups other)) [
       | true ↦ refl
@@ -193,7 +193,7 @@ pub tree_less : (groups : List GroupLife) (path : List ℕ) (at : ℕ) (slot : S
     → ((other : List ℕ) → later other ≡ (if bytes_eq path other then None else find other))
     → length counts ≡ length children
     → ((n : ℕ) → slice_index_or counts n 0 + (if is_slot (Some n) group.parent then 1 else 0) ≡ slice_index_or children n 0)
-    → IsTree (map (without path at) groups) later counts
+    → IsTree (map (marked_removed path at) groups) later counts
 tree_less groups path at slot group find later children counts tree found root got finds len each =
     let same = tree.each in
     let ended : GroupLife = record group { gone = Some at } in
@@ -201,14 +201,14 @@ tree_less groups path at slot group find later children counts tree found root g
     record {
       legal = groups_removed groups path at root tree.legal;
       found = λ other. finds other ∙ found_less groups path at find tree.found other;
-      each = let all : length (map (without path at) groups) ≡ length groups = length-map groups (without path at) in omega (arith, all, len, same);
+      each = let all : length (map (marked_removed path at) groups) ≡ length groups = length-map groups (marked_removed path at) in omega (arith, all, len, same);
       counted = λ n.
           let set = count_set groups slot.0 group ended n got in
-          let is : count_children (map (without path at) groups) n + (if is_slot (Some n) group.parent then 1 else 0) ≡ count_children groups n + 0 =
+          let is : count_children (map (marked_removed path at) groups) n + (if is_slot (Some n) group.parent then 1 else 0) ≡ count_children groups n + 0 =
           ap (λ gs. count_children gs n + (if is_slot (Some n) group.parent then 1 else 0)) (sym (ended_is groups path at slot.0 group tree.legal.one_live found got))
           ∙ ap (λ k. count_children (slice_set groups slot.0 ended) n + k) (sym (live_one n group live))
           ∙ set in
-          one_less (slice_index_or children n 0) (count_children groups n) (slice_index_or counts n 0) (count_children (map (without path at) groups) n) (if is_slot (Some n) group.parent then 1 else 0) (each n) (tree.counted n) is;
+          one_less (slice_index_or children n 0) (count_children groups n) (slice_index_or counts n 0) (count_children (map (marked_removed path at) groups) n) (if is_slot (Some n) group.parent then 1 else 0) (each n) (tree.counted n) is;
     }
 
 -- a number is itself

@@ -1,7 +1,7 @@
 //! How groups are made and removed: the parts of a tree change together.
 ghost use Rattle.std.specs.Prelude.{◌≡◌, ◌+◌, ◌<◌, ◌≤◌, ◌++◌, [], ◌∷◌, ℕ, length, map, None, Some, IfOk, OnOk, OnErr, IfSome, slice_index_or, string_bytes, true, false, if◌then◌else◌};
 ghost use Rattle.std.specs.HashMap.{get_by_text};
-ghost use Rattle.psi_spec.specs.World.{slot_of, without, is_root, is_live};
+ghost use Rattle.psi_spec.specs.World.{slot_of, marked_removed, is_root, is_live};
 ghost use Rattle.psi_spec.specs.Refusal.{is_slot};
 ghost use Rattle.psi_spec.specs.Groups.{AreGroups};
 ghost use Rattle.group_tree.specs.Tree.{IsTree};
@@ -84,7 +84,7 @@ pub(crate) fn end_group(
     requires found { slot_of lives.old.items path.now ≡ Some slot.0 }
     requires other { is_root path.now ≡ false }
     ensures tree { IsTree lives.new.items (get_by_text slots.new) children.new.items }
-    ensures lives { lives.new.items ≡ map (without path.now at) lives.old.items }
+    ensures lives { lives.new.items ≡ map (marked_removed path.now at) lives.old.items }
 {
     let life = &mut lives[slot.0 as usize];
     life.gone = Some(at);

@@ -1,6 +1,6 @@
 //! The tree of groups.
 ghost use Rattle.std.specs.Prelude.{◌≡◌, ◌<◌, ◌≤◌, ◌++◌, [], ◌∷◌, length, map, slice_index_or, None, Some, IfOk, IfErr, IfSome, OnOk, OnErr, MatchResult, ◌↔◌};
-ghost use Rattle.psi_spec.specs.World.{root, slot_of, as_slot, parent_path, new_group, without};
+ghost use Rattle.psi_spec.specs.World.{root, slot_of, as_slot, parent_path, new_group, marked_removed};
 ghost use Rattle.psi_spec.specs.Stall.{number_of_slot, parents_of, is_under};
 ghost use Rattle.psi_spec.specs.Refusal.{has_child};
 ghost use Rattle.psi_spec.specs.Groups.{AreGroups, IsPathOrder};
@@ -218,7 +218,7 @@ impl Tree {
     /// [`Tree::remove_cause`], and nothing changes then. It takes no memory.
     pub fn remove(&mut self, path: &Path, at: Ns) -> Result<Slot, Cause>
         ensures legal { OnOk result (remove_cause self.old path.now ≡ None) }
-        ensures groups { OnOk result (self.new ≡ map (without path.now at) self.old) }
+        ensures groups { OnOk result (self.new ≡ map (marked_removed path.now at) self.old) }
         ensures slot { IfOk result (λ slot. slot_of self.old path.now ≡ Some slot.0) }
         ensures cause { IfErr result (λ cause. remove_cause self.old path.now ≡ Some cause) }
         ensures err { OnErr result (self.new ≡ self.old) }

@@ -87,11 +87,11 @@ told_below : (touch : Touch) (cpus cpu : ℕ) → AllTouched (λ cpu change. cpu
 told_below touch cpus cpu all some = told_or cpus cpu touch.first (told_first cpu touch.second None) all.0 (told_or cpus cpu touch.second None all.1 (λ none. cc none)) some
 
 -- there is room for what a legal event changes, where there is for its act
-pub room_for : (w : World) (event : Event) (touch : Touch) (task : Option Task) (changes : List ChangesView) (cpus : ℕ) → task ≡ before w.tasks event.act → IsTouch w event touch → AllTouched (λ cpu change. cpu < cpus) touch → length changes ≡ cpus → HasRoomFor event.act task changes
+pub room_for : (w : World) (event : Event) (touch : Touch) (task : Option Task) (changes : List ChangesView) (cpus : ℕ) → task ≡ before w.tasks event.act → IsTouch cpus w event touch → AllTouched (λ cpu change. cpu < cpus) touch → length changes ≡ cpus → HasRoomFor event.act task changes
     → (cpu : ℕ) → IsSome (told_of touch cpu) → HasRoom changes cpu
 room_for w event touch task changes cpus same is all each room cpu some =
     let below = told_below touch cpus cpu all some in
-    let here = touched_here w event cpu (subst (λ (o : Option Change). IsSome o) (is.told cpu) some) in
+    let here = touched_here w event cpu (subst (λ (o : Option Change). IsSome o) (is.told cpu below) some) in
     room cpu (ap (λ t. touched event.act t cpu) same ∙ here) (omega (arith, below, each))
 
 -- ---- one step
@@ -103,7 +103,7 @@ pub record HasStepped (old new : PlannerView) (event : Event) (touch : Touch) (t
   pub legal : cause_of old.table.limits old.table.world event ≡ None
   pub world : new.table.world ≡ after_event old.table.world event
   pub few : new.table.world.lines ≤ 4000000
-  pub told : IsTouch old.table.world event touch
+  pub told : IsTouch old.table.limits.cpus old.table.world event touch
   pub changes : (cpu : ℕ) → changes_at new cpu ≡ changes_at old cpu ++ with_change (told_of touch cpu) []
   pub trigger_is : listed trigger ≡ trigger_by event.at old.table.world.groups event.act
   pub triggers : new.triggers ≡ old.triggers ++ listed trigger
@@ -126,7 +126,7 @@ taken_more old new event touch trigger first second limits events step taken =
         world = world;
         changes = λ cpu below.
             step.changes cpu
-            ∙ ap (λ o. changes_at old cpu ++ with_change o []) (step.told.told cpu ∙ ap (λ w. change_of w event cpu) taken.world)
+            ∙ ap (λ o. changes_at old cpu ++ with_change o []) (step.told.told cpu (subst (λ n. cpu < n) (sym (ap (λ (l : Limits). l.cpus) taken.limits_are)) below) ∙ ap (λ w. change_of w event cpu) taken.world)
             ∙ ap (λ changes. changes ++ with_change (change_of (after events) event cpu) []) (taken.changes cpu below)
             ∙ sym (changes_from-push cpu first_world events event);
         triggers =

@@ -1,7 +1,8 @@
 //! What an event adds to a planner: room for it first, and then itself.
 
 ghost use Rattle.std.specs.Prelude.{◌≡◌, ◌++◌, ◌+◌, ◌≤◌, ℕ, length, IfSome, IsSome, None, OnOk, vec_capacity, vec_len};
-ghost use Rattle.psi_spec.specs.Refusal.{cause_of, named_cpu};
+ghost use Rattle.psi_spec.specs.Names.{names};
+ghost use Rattle.psi_spec.specs.Refusal.{cause_of};
 ghost use Rattle.psi_spec.specs.Told.{listed};
 ghost use Rattle.psi_laws.specs.Touch.{AllTouched, IsBeside, IsOfOne, told_first, told_of};
 ghost use Rattle.group_tree.specs.Tree.{IsFault};
@@ -19,7 +20,7 @@ use task_table::Table;
 
 // The number of the processor that an act names, if it names one.
 fn named_cpu(act: &Act) -> Option<u32>
-    ensures { result ≡ named_cpu act.now }
+    ensures { result ≡ (names act.now).cpu }
 {
     match act {
         Act::Fork { cpu, .. }

@@ -7,12 +7,12 @@ use Rattle.psi_base.specs.declared.event.State.{State}
 use Rattle.psi_base.specs.declared.event.State.TheVariants.{IoSome, IoFull, MemSome, MemFull, CpuSome, CpuFull, Nonidle}
 use Rattle.psi_base.specs.declared.event.Event.{Event}
 use Rattle.std.proofs.lemmas.List.{length-map}
-use Rattle.psi_spec.specs.Stall.{number_of, states, stall, stall_after}
+use Rattle.psi_spec.specs.Stall.{state_number, states, stall, stall_after}
 use Rattle.psi_laws.specs.Counts.{mask_holds}
 use Rattle.psi_laws.specs.Clock.{ClockView, zero_clock, opened_time, opened, advanced, SameClock, MaskChange, clock_from, change_time, held_after, held_time, ClockTells, SameMaskIsNoChange, SameAfterChange, WordsTellClock, LeavesOut, AreChangesOf, ClockTellsStall, NoLongerThanClock}
 
 -- a time stands at its state's number
-pub opened_at : (clock : ClockView) (at : ℕ) (state : State) → slice_index (opened clock at) (number_of state) ≡ opened_time clock at state
+pub opened_at : (clock : ClockView) (at : ℕ) (state : State) → slice_index (opened clock at) (state_number state) ≡ opened_time clock at state
 opened_at clock at IoSome = refl
 opened_at clock at IoFull = refl
 opened_at clock at MemSome = refl
@@ -100,7 +100,7 @@ no_longer true time start at from within = omega arith
 no_longer false time start at from within = omega arith
 
 pub no_longer_than_clock : NoLongerThanClock
-no_longer_than_clock clock at state from within = no_longer (mask_holds clock.mask state) (slice_index clock.times (number_of state)) clock.start at from within
+no_longer_than_clock clock at state from within = no_longer (mask_holds clock.mask state) (slice_index clock.times (state_number state)) clock.start at from within
 
 -- ---- equal clocks
 
@@ -115,7 +115,7 @@ pub same_mask_is_no_change : SameMaskIsNoChange
 same_mask_is_no_change clock at from = record {
   mask = refl;
   opened = λ later to _. map_states (opened_time (advanced clock at clock.mask) later) (opened_time clock later)
-      (λ state. advanced_time clock at clock.mask later state ∙ joined_time (mask_holds clock.mask state) (slice_index clock.times (number_of state)) clock.start at later from to);
+      (λ state. advanced_time clock at clock.mask later state ∙ joined_time (mask_holds clock.mask state) (slice_index clock.times (state_number state)) clock.start at later from to);
 }
 
 pub same_after_change : SameAfterChange

@@ -17,7 +17,7 @@ use Rattle.psi_laws.specs.declared.changes.Change.{Change}
 use Rattle.psi_laws.specs.declared.changes.Counts.{Counts}
 use Rattle.psi_spec.specs.declared.machine.GroupLife.{GroupLife}
 use Rattle.psi_spec.specs.World.{World, Limits, Tasks, after, after_from, first_world, task_of, test_task, task_part, running_on, is_trigger, tasks_after, after_event}
-use Rattle.psi_spec.specs.Refusal.{cause_of, stands, order, AreLegal}
+use Rattle.psi_spec.specs.Refusal.{cause_of, applies, cause_order, AreLegal}
 use Rattle.psi_spec.specs.Stall.{is_under, is_in, parents_of, number_of_slot, tasks_in}
 use Rattle.psi_laws.specs.Counts.{counts_among, how_many}
 use Rattle.psi_laws.specs.Touch.{changed, left_if, AreWithin, Follows, change_of, change_on, no_counts, on_chain, part, after_of}
@@ -74,7 +74,7 @@ few_act limits w at (act.Remove path) h few = few
 few_act limits w at (act.Prefer path preference) h few = few
 few_act limits w at (act.Fork pid path cpu) h few =
     let event : Event = record { at = at; act = act.Fork pid path cpu } in
-    let room = room_for_one (fin.len w.tasks) (passed (λ why. stands why limits w event) order 5 cause.TooManyTasks h refl) in
+    let room = room_for_one (fin.len w.tasks) (passed (λ why. applies why limits w event) cause_order 5 cause.TooManyTasks h refl) in
     let by = counted_act always (λ t ready. refl) limits w at (act.Fork pid path cpu) h in
     let goal : counted always (tasks_after w.groups w.tasks (act.Fork pid path cpu)) ≤ 65536 = omega (arith, by, room, counted_all w.tasks) in goal
 few_act limits w at (act.Wake pid cpu) h few = not_more _ _ _ _ 65536 (counted_act always (λ t ready. refl) limits w at (act.Wake pid cpu) h) (changed_not_more _ (task_of w.tasks pid.0)) few
@@ -138,9 +138,9 @@ legal_kept limits w event legal world = record {
   within = wider limits.cpus (length w.groups) (length (after_event w event).groups) (more_groups w event) (after_event w event).tasks (within_kept limits w event legal world.within);
   once = runs_once_kept limits w event legal world.once;
   few_tasks = omega (arith, few_act limits w event.at event.act legal (omega (arith, counted_all w.tasks, world.few_tasks)), counted_all (after_event w event).tasks);
-  few_triggers = one_trigger (is_trigger event.act) w.triggers (passed (λ why. stands why limits w event) order 6 cause.TooManyTriggers legal refl) world.few_triggers;
-  few_lines = one_line w.lines (passed (λ why. stands why limits w event) order 3 cause.TooManyEvents legal refl);
-  early = in_time limits.latest event.at (passed (λ why. stands why limits w event) order 2 cause.TimeTooLate legal refl);
+  few_triggers = one_trigger (is_trigger event.act) w.triggers (passed (λ why. applies why limits w event) cause_order 6 cause.TooManyTriggers legal refl) world.few_triggers;
+  few_lines = one_line w.lines (passed (λ why. applies why limits w event) cause_order 3 cause.TooManyEvents legal refl);
+  early = in_time limits.latest event.at (passed (λ why. applies why limits w event) cause_order 2 cause.TimeTooLate legal refl);
 }
 
 -- ---- tasks that count

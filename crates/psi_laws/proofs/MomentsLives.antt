@@ -14,7 +14,7 @@ use Rattle.psi_base.specs.declared.event.Act.{Act}
 use Rattle.psi_base.specs.declared.event.Act.TheVariants as act
 use Rattle.psi_base.specs.declared.event.Event.{Event}
 use Rattle.psi_spec.specs.declared.machine.GroupLife.{GroupLife}
-use Rattle.psi_spec.specs.World.{World, Limits, root, is_live, new_group, without, groups_after, after, after_event, after_from, first_world, up_to}
+use Rattle.psi_spec.specs.World.{World, Limits, root, is_live, new_group, marked_removed, groups_after, after, after_event, after_from, first_world, up_to}
 use Rattle.psi_spec.specs.Refusal.{AreLegal}
 use Rattle.psi_spec.specs.Stall.{number_of_slot}
 use Rattle.psi_spec.specs.Groups.{is_gone_by, is_live_at, is_live_in, test_life}
@@ -30,9 +30,9 @@ use Rattle.psi_laws.proofs.MomentsEvents.{by_legal, last-push, after_others, com
 
 -- a part that stays where a group is removed
 abbrev Stays : {X : Type 0} → (GroupLife → X) → Type 0
-Stays {X} part = (path : List ℕ) (at : ℕ) (life : GroupLife) → part (without path at life) ≡ part life
+Stays {X} part = (path : List ℕ) (at : ℕ) (life : GroupLife) → part (marked_removed path at life) ≡ part life
 
-stays_all : {X : Type 0} (part : GroupLife → X) → Stays part → (path : List ℕ) (at : ℕ) (groups : List GroupLife) → map part (map (without path at) groups) ≡ map part groups
+stays_all : {X : Type 0} (part : GroupLife → X) → Stays part → (path : List ℕ) (at : ℕ) (groups : List GroupLife) → map part (map (marked_removed path at) groups) ≡ map part groups
 stays_all part stays path at [] = refl
 stays_all part stays path at (life ∷ groups) =
     let here = stays path at life in
@@ -74,7 +74,7 @@ front_from part stays w (event ∷ events) = front_more _ _ _ (front_act part st
 -- ---- a group that may be removed
 
 -- what holds of a group as it is and where it went holds of it where one was removed
-pub without_is : (P : GroupLife → Type 0) (path : List ℕ) (at : ℕ) (life : GroupLife) → P life → P (record life { gone = Some at }) → P (without path at life)
+pub without_is : (P : GroupLife → Type 0) (path : List ℕ) (at : ℕ) (life : GroupLife) → P life → P (record life { gone = Some at }) → P (marked_removed path at life)
 without_is P path at life same ended = elim (is_live life && bytes_eq life.path path) as (λ b. P (if b then record life { gone = Some at } else life)) [ true ↦ ended | false ↦ same ]
 
 path_stays : Stays (λ (life : GroupLife). life.path)
@@ -120,7 +120,7 @@ gone_later made last at low (Some gone) is = (is.0, omega (arith, is.1, low))
 life_later : (last at : ℕ) → last ≤ at → (life : GroupLife) → IsLife last life → IsLife at life
 life_later last at low life is = record { made = omega (arith, is.made, low); gone = gone_later life.made last at low life.gone is.gone }
 
-life_without : (last at : ℕ) → last ≤ at → (path : List ℕ) (life : GroupLife) → IsLife last life → IsLife at (without path at life)
+life_without : (last at : ℕ) → last ≤ at → (path : List ℕ) (life : GroupLife) → IsLife last life → IsLife at (marked_removed path at life)
 life_without last at low path life is =
     let made : life.made ≤ at = omega (arith, is.made, low) in
     without_is (IsLife at) path at life (life_later last at low life is) (record { made = made; gone = (made, omega arith) })
@@ -139,11 +139,11 @@ turn_behind last at low groups life made live are = record {
   each = All-push (IsLife at) groups life (turn_later last at low groups are).each (record { made = omega (arith, made); gone = subst (λ o. IfSome o (λ gone. (life.made ≤ gone) × (gone ≤ at))) (sym live) tt });
 }
 
-turn_without : (last at : ℕ) → last ≤ at → (path : List ℕ) (groups : List GroupLife) → InTurn last groups → InTurn at (map (without path at) groups)
+turn_without : (last at : ℕ) → last ≤ at → (path : List ℕ) (groups : List GroupLife) → InTurn last groups → InTurn at (map (marked_removed path at) groups)
 turn_without last at low path groups are =
-    let len = length-map groups (without path at) in
-    let made : (i : ℕ) (d : GroupLife) → i < length groups → (slice_index_or (map (without path at) groups) i d).made ≡ (slice_index_or groups i d).made = λ i d room.
-    ap (λ (l : GroupLife). l.made) (get_or-map (without path at) groups i d d room) ∙ made_stays path at (slice_index_or groups i d) in
+    let len = length-map groups (marked_removed path at) in
+    let made : (i : ℕ) (d : GroupLife) → i < length groups → (slice_index_or (map (marked_removed path at) groups) i d).made ≡ (slice_index_or groups i d).made = λ i d room.
+    ap (λ (l : GroupLife). l.made) (get_or-map (marked_removed path at) groups i d d room) ∙ made_stays path at (slice_index_or groups i d) in
     record {
       order = λ i j d low high.
           let there : j < length groups = omega (arith, high, len) in
@@ -151,7 +151,7 @@ turn_without last at low path groups are =
           let second = made j d there in
           let are_so = are.order i j d low there in
           omega (arith, first, second, are_so);
-      each = All-map (IsLife at) (without path at) groups (All-weaker (IsLife last) (λ life. IsLife at (without path at life)) (life_without last at low path) groups are.each);
+      each = All-map (IsLife at) (marked_removed path at) groups (All-weaker (IsLife last) (λ life. IsLife at (marked_removed path at life)) (life_without last at low path) groups are.each);
     }
 
 turn_act : (last at : ℕ) → last ≤ at → (groups : List GroupLife) → InTurn last groups → (a : Act) → InTurn at (groups_after at groups a)
@@ -228,21 +228,21 @@ still_there : (at moment : ℕ) → at < moment → (o : Option ℕ) → not (is
 still_there at moment past None live = ap not (to_come at moment past)
 still_there at moment past (Some gone) live = absurd (cc live)
 
-removed_not_yet : (at moment : ℕ) → at < moment → (path : List ℕ) (life : GroupLife) → is_live_at (without path moment life) at ≡ is_live_at life at
+removed_not_yet : (at moment : ℕ) → at < moment → (path : List ℕ) (life : GroupLife) → is_live_at (marked_removed path moment life) at ≡ is_live_at life at
 removed_not_yet at moment past path life =
     elim (is_live life && bytes_eq life.path path) as (λ b. (is_live life && bytes_eq life.path path) ≡ b → is_live_at (if b then record life { gone = Some moment } else life) at ≡ is_live_at life at) [
       | true ↦ λ it. ap (λ b. nat_le life.made at && b) (still_there at moment past life.gone (first_true (is_live life) (bytes_eq life.path path) it))
       | false ↦ λ _. refl
     ] refl
 
-removed_or_none : (at moment : ℕ) → at < moment → (path : List ℕ) (o : Option GroupLife) → test_life (option_map (without path moment) o) (λ l. is_live_at l at) ≡ test_life o (λ l. is_live_at l at)
+removed_or_none : (at moment : ℕ) → at < moment → (path : List ℕ) (o : Option GroupLife) → test_life (option_map (marked_removed path moment) o) (λ l. is_live_at l at) ≡ test_life o (λ l. is_live_at l at)
 removed_or_none at moment past path None = refl
 removed_or_none at moment past path (Some life) = removed_not_yet at moment past path life
 
 -- an act changes nothing of what was live before it
 live_before : (at moment : ℕ) → at < moment → (groups : List GroupLife) (slot : ℕ) (a : Act) → test_life (slice_get (groups_after moment groups a) slot) (λ l. is_live_at l at) ≡ test_life (slice_get groups slot) (λ l. is_live_at l at)
 live_before at moment past groups slot (act.Group path) = behind_not_yet at groups (new_group groups path moment) slot (ap (λ b. b && not (is_gone_by None at)) (to_come at moment past))
-live_before at moment past groups slot (act.Remove path) = ap (λ o. test_life o (λ l. is_live_at l at)) (slice_get-map (without path moment) groups slot) ∙ removed_or_none at moment past path (slice_get groups slot)
+live_before at moment past groups slot (act.Remove path) = ap (λ o. test_life o (λ l. is_live_at l at)) (slice_get-map (marked_removed path moment) groups slot) ∙ removed_or_none at moment past path (slice_get groups slot)
 live_before at moment past groups slot (act.Prefer path preference) = refl
 live_before at moment past groups slot (act.Fork pid path cpu) = refl
 live_before at moment past groups slot (act.Wake pid cpu) = refl

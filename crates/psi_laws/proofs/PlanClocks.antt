@@ -3,7 +3,7 @@ use Rattle.std.proofs.Common.{◌≡◌, ℕ, ◌+◌, ◌-◌, ◌≤◌, refl,
 use Rattle.std.specs.Prelude.{if◌then◌else◌, slice_index}
 use Rattle.psi_base.specs.declared.event.State.{State}
 use Rattle.psi_base.specs.declared.event.State.TheVariants.{IoSome, IoFull, MemSome, MemFull, CpuSome, CpuFull, Nonidle}
-use Rattle.psi_spec.specs.Stall.{number_of}
+use Rattle.psi_spec.specs.Stall.{state_number}
 use Rattle.psi_laws.specs.Counts.{mask_holds}
 use Rattle.psi_laws.specs.Clock.{ClockFollows, ClockView, zero_clock, opened_time}
 use Rattle.psi_laws.specs.Plan.{AreInOrder, ClockIsInTime, PlanView, holds_after, last_change, planned_time, FollowedIsClock, KeptIsClock, ZeroIsClock}
@@ -58,7 +58,7 @@ parted false time start at later from to = omega arith
 pub clock_stays : (clock : ClockView) (at : ℕ) → clock.start ≤ at → ClockFollows clock at clock
 clock_stays clock at from = record {
   start = from;
-  times = λ state later to. parted (mask_holds clock.mask state) (slice_index clock.times (number_of state)) clock.start at later from to;
+  times = λ state later to. parted (mask_holds clock.mask state) (slice_index clock.times (state_number state)) clock.start at later from to;
 }
 
 pub kept_is_clock : KeptIsClock
@@ -84,7 +84,7 @@ planned_within state plan slot (suc k) at order room from =
     omega (arith, same, step, all)
 
 -- the time at the start is part of the time at a moment
-start_time : (clock : ClockView) (at : ℕ) (state : State) → slice_index clock.times (number_of state) ≤ opened_time clock at state
+start_time : (clock : ClockView) (at : ℕ) (state : State) → slice_index clock.times (state_number state) ≤ opened_time clock at state
 start_time clock at state = omega arith
 
 pub clock_is_in_time : ClockIsInTime

@@ -11,7 +11,7 @@ use Rattle.psi_base.specs.declared.event.Cause.TheVariants as cause
 use Rattle.psi_spec.specs.declared.machine.Task.{Task}
 use Rattle.psi_laws.specs.declared.changes.Change.{Change}
 use Rattle.psi_spec.specs.World.{World, Limits, after, after_event, after_from, first_world, root}
-use Rattle.psi_spec.specs.Refusal.{cause_of, stands, order, AreLegal}
+use Rattle.psi_spec.specs.Refusal.{cause_of, applies, cause_order, AreLegal}
 use Rattle.psi_spec.specs.Stall.{holds, holds_of, is_in, parents_of, stall}
 use Rattle.psi_laws.specs.Legal.{changes_from}
 use Rattle.psi_laws.specs.Plan.{AreInOrder, PlanView, holds_after, last_change, plan_of, planned_after, planned_time, PlannedIsStall, StallByOwnChanges}
@@ -32,7 +32,7 @@ not_before last at off = grind (arith, nat_tests)
 -- a legal event isn't before the last
 pub in_turn : (limits : Limits) (w : World) (event : Event) → cause_of limits w event ≡ None → w.last ≤ event.at
 unfolding cause_of
-in_turn limits w event legal = not_before w.last event.at (passed (λ why. stands why limits w event) order 1 cause.TimeBack legal refl)
+in_turn limits w event legal = not_before w.last event.at (passed (λ why. applies why limits w event) cause_order 1 cause.TimeBack legal refl)
 
 last_rises : (limits : Limits) (w : World) (events : List Event) → AreLegal limits w events → w.last ≤ (after_from w events).last
 last_rises limits w [] legal = omega arith

@@ -1,12 +1,13 @@
 -- Planned time by changes, and as stall time.
-use Rattle.std.proofs.Common.{◌≡◌, ℕ, suc, ◌+◌, ◌-◌, ◌≤◌, ◌<◌, List, length, map, take, refl, sym, ap, ◌∙◌, arith, ◌⊎◌, ⊎_elim}
-use Rattle.std.specs.Prelude.{slice_index_or, if◌then◌else◌, sum}
-use Rattle.std.specs.List.{range_with_len}
+use Rattle.std.proofs.Common.{◌≡◌, ℕ, suc, ◌+◌, ◌-◌, ◌≤◌, ◌<◌, List, [], ◌∷◌, length, map, take, cond, refl, sym, ap, ◌∙◌, arith, ◌⊎◌, ⊎_elim}
+use Rattle.std.specs.Prelude.{slice_index_or, if◌then◌else◌, nat_le, sum}
+use Rattle.std.specs.List.{count_by, range_with_len}
 use Rattle.std.proofs.lemmas.List.{length-map, length-take-le, take-map, get_or_default, get_or_past, get_or-take}
 use Rattle.std.proofs.lemmas.List.FromFn.{sum_by-map-range_with_len_more}
+use Rattle.std.proofs.lemmas.List.Sums.{length-filter, sum_by-cons}
 use Rattle.psi_base.specs.declared.event.State.{State}
 use Rattle.psi_laws.specs.declared.changes.Change.{Change}
-use Rattle.psi_laws.specs.Plan.{PlanView, change_moment, holds_after, last_change, planned_after, planned_time, PlannedByChange}
+use Rattle.psi_laws.specs.Plan.{PlanView, changes_up_to, change_moment, holds_after, last_change, planned_after, planned_time, PlannedByChange}
 use Rattle.psi_spec.proofs.StallLaws.{map_same}
 
 -- ---- planned time, change by change
@@ -68,3 +69,25 @@ planned_by_change state plan slot k at room =
     let front : sum (map (planned_after state plan slot (k + 1) at) (range_with_len 1 k)) ≡ sum (map (planned_after state plan slot k (last_change plan (k + 1))) (range_with_len 1 k)) = ap sum same in
     let goal : sum (map (planned_after state plan slot (k + 1) at) (range_with_len 1 (k + 1))) ≡ sum (map (planned_after state plan slot (k + 1) at) (range_with_len 1 k)) + planned_after state plan slot (k + 1) at (1 + k) = more in
     goal ∙ ap (λ n. n + planned_after state plan slot (k + 1) at (1 + k)) front ∙ ap (λ n. sum (map (planned_after state plan slot k (last_change plan (k + 1))) (range_with_len 1 k)) + n) last
+
+-- ---- changes up to a moment
+
+one_change : (moment at later : ℕ) → at ≤ later → cond (nat_le moment at) 1 0 ≤ cond (nat_le moment later) 1 0
+one_change moment at later forward = grind arith
+
+counts_more : (at later : ℕ) → at ≤ later → (changes : List Change) → count_by (λ (change : Change). nat_le change.at at) changes ≤ count_by (λ (change : Change). nat_le change.at later) changes
+counts_more at later forward [] = omega arith
+counts_more at later forward (change ∷ changes) =
+    let before = sum_by-cons (λ (change : Change). cond (nat_le change.at at) 1 0) change changes in
+    let behind = sum_by-cons (λ (change : Change). cond (nat_le change.at later) 1 0) change changes in
+    let one = one_change change.at at later forward in
+    let others = counts_more at later forward changes in
+    omega (arith, before, behind, one, others)
+
+-- no fewer changes come up to a later moment
+pub changes_more : (plan : PlanView) (at later : ℕ) → at ≤ later → changes_up_to plan at ≤ changes_up_to plan later
+changes_more plan at later forward =
+    let few = length-filter (λ (change : Change). nat_le change.at at) plan.changes in
+    let more = length-filter (λ (change : Change). nat_le change.at later) plan.changes in
+    let counts = counts_more at later forward plan.changes in
+    omega (arith, few, more, counts)

@@ -19,10 +19,11 @@ use Rattle.psi_laws.specs.declared.changes.Counts.{Counts}
 use Rattle.psi_spec.specs.declared.machine.Mode.TheVariants.{Running}
 use Rattle.psi_spec.specs.declared.machine.GroupLife.{GroupLife}
 use Rattle.psi_spec.specs.World.{World, Limits, Tasks, task_of, test_task, task_part, placed, change_to, leave, left_by, start, running_on, is_running_on, is_running, tasks_after, after_event, new_task, readied, slot_of}
-use Rattle.psi_spec.specs.Refusal.{cause_of, named_cpu}
+use Rattle.psi_spec.specs.Names.{names}
+use Rattle.psi_spec.specs.Refusal.{cause_of}
 use Rattle.psi_spec.specs.Stall.{tasks_in, waits, stalls, is_up}
 use Rattle.psi_laws.specs.Counts.{how_many, counts_among, is_up_stalled, IsRunningTold}
-use Rattle.psi_laws.specs.Touch.{changed, left_if, after_of, part, shown, change_on, change_of, told_first, IsBeside, IsTouch, AllTouched, HasSlotsBelow, AreAtMost, IsOfOne, AreWithin, WithinFirst, WithinKept, ChangesAreWithin, on_chain, Follows, is_current_in, is_current_stalled, ChangeTells, TouchesItsOwn}
+use Rattle.psi_laws.specs.Touch.{changed, left_if, after_of, part, shown, change_on, change_of, told_first, told_of, IsBeside, AllTouched, HasSlotsBelow, AreAtMost, IsOfOne, AreWithin, WithinFirst, WithinKept, ChangesAreWithin, on_chain, Follows, is_current_in, is_current_stalled, ChangeTells, TouchesItsOwn}
 use Rattle.psi_spec.specs.Changes.{before, is_at, touched}
 use Rattle.psi_laws.proofs.CountLaws.{one, how_many-cons}
 use Rattle.psi_spec.proofs.TaskLaws.{itself, task_placed}
@@ -267,9 +268,9 @@ second_so IsSo of (Some f) (Some s) beside told so =
     so s.0.0 s.1 (sym (told s.0.0) ∙ ap (λ b. if b then Some f.1 else told_first s.0.0 (Some s) None) (others_differ f.0 s.0 beside) ∙ ap (λ b. if b then Some s.1 else None) (itself s.0.0))
 
 -- so it is of each
-pub all_touched : (IsSo : ℕ → Change → Type 0) (w : World) (event : Event) (touch : Touch) → IsTouch w event touch → ((cpu : ℕ) (change : Change) → change_of w event cpu ≡ Some change → IsSo cpu change) → AllTouched IsSo touch
-all_touched IsSo w event touch is so =
-    (first_so IsSo (change_of w event) touch.first touch.second is.told so, second_so IsSo (change_of w event) touch.first touch.second is.beside is.told so)
+pub all_touched : (IsSo : ℕ → Change → Type 0) (w : World) (event : Event) (touch : Touch) → ((cpu : ℕ) → told_of touch cpu ≡ change_of w event cpu) → IsBeside touch.first touch.second → ((cpu : ℕ) (change : Change) → change_of w event cpu ≡ Some change → IsSo cpu change) → AllTouched IsSo touch
+all_touched IsSo w event touch told beside so =
+    (first_so IsSo (change_of w event) touch.first touch.second told so, second_so IsSo (change_of w event) touch.first touch.second beside told so)
 
 -- ---- what a change tells
 
@@ -303,7 +304,7 @@ or_second true b is = refl
 or_second false b is = is
 
 -- the processor that an act names
-touches_named : (w : World) (a : Act) (cpu : ℕ) → named_cpu a ≡ Some cpu → touched a (before w.tasks a) cpu ≡ true
+touches_named : (w : World) (a : Act) (cpu : ℕ) → (names a).cpu ≡ Some cpu → touched a (before w.tasks a) cpu ≡ true
 touches_named w (act.Group path) cpu is = cc is
 touches_named w (act.Remove path) cpu is = cc is
 touches_named w (act.Prefer path preference) cpu is = cc is

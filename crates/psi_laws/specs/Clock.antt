@@ -5,7 +5,7 @@ use Rattle.psi_base.specs.declared.event.State.{State}
 use Rattle.psi_base.specs.declared.event.Event.{Event}
 use Rattle.psi_spec.specs.World.{after}
 use Rattle.psi_spec.specs.Trace.{last_moment}
-use Rattle.psi_spec.specs.Stall.{number_of, states, holds, stall}
+use Rattle.psi_spec.specs.Stall.{state_number, states, holds, stall}
 use Rattle.psi_laws.specs.Counts.{mask_holds, IsMask}
 
 -- A clock: the times (ns) in the order of the states, as they stood at its start, and the mask of the states that hold
@@ -21,7 +21,7 @@ zero_clock = record { times = map (λ _. 0) states; mask = 0; start = 0 }
 
 -- the time (ns) of a state at a moment: the time at the start, and the open time since then where the state holds
 abbrev pub opened_time : ClockView → ℕ → State → ℕ
-opened_time clock at state = slice_index clock.times (number_of state) + (if mask_holds clock.mask state then at - clock.start else 0)
+opened_time clock at state = slice_index clock.times (state_number state) + (if mask_holds clock.mask state then at - clock.start else 0)
 
 -- the times (ns) at a moment, in the order of the states
 abbrev pub opened : ClockView → ℕ → List ℕ
@@ -36,7 +36,7 @@ advanced clock at mask = record { times = opened clock at; mask = mask; start = 
 pub record IsInTime (clock : ClockView) (at : ℕ) : Type 0 where
   pub started : clock.start ≤ at
   pub moment : at ≤ last_moment
-  pub times : (state : State) → slice_index clock.times (number_of state) ≤ last_moment
+  pub times : (state : State) → slice_index clock.times (state_number state) ≤ last_moment
 
 -- ---- words
 
@@ -104,7 +104,7 @@ ClockTells = (changes : List MaskChange) (at : ℕ) (state : State) → opened_t
 
 -- No state holds for longer than the clock runs, if none did up to its start.
 abbrev pub NoLongerThanClock : Type 0
-NoLongerThanClock = (clock : ClockView) (at : ℕ) (state : State) → clock.start ≤ at → slice_index clock.times (number_of state) ≤ clock.start → opened_time clock at state ≤ at
+NoLongerThanClock = (clock : ClockView) (at : ℕ) (state : State) → clock.start ≤ at → slice_index clock.times (state_number state) ≤ clock.start → opened_time clock at state ≤ at
 
 -- Advancing with the mask that a clock has changes nothing of what it tells.
 abbrev pub SameMaskIsNoChange : Type 0

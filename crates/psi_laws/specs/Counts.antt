@@ -6,7 +6,7 @@ use Rattle.psi_base.specs.declared.event.State.{State}
 use Rattle.psi_base.specs.declared.event.State.TheVariants.{IoSome, IoFull, MemSome, MemFull, CpuSome, CpuFull, Nonidle}
 use Rattle.psi_spec.specs.declared.machine.Task.{Task}
 use Rattle.psi_laws.specs.declared.changes.Counts.{Counts}
-use Rattle.psi_spec.specs.Stall.{holds_of, waits, runs, is_up, stalls, number_of}
+use Rattle.psi_spec.specs.Stall.{holds_of, waits, runs, is_up, stalls, state_number}
 
 -- ---- counts
 
@@ -59,7 +59,7 @@ IsMask mask = mask < 128
 
 -- a mask holds a state: it has the bit at the state's number
 abbrev pub mask_holds : ℕ → State → Bool
-mask_holds mask state = bit_at mask (number_of state) == 1
+mask_holds mask state = bit_at mask (state_number state) == 1
 
 -- Masks that hold the same states are equal.
 abbrev pub MasksAreTheirStates : Type 0

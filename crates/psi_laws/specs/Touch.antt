@@ -5,15 +5,16 @@ use Rattle.psi_base.specs.declared.event.Cpu.{Cpu}
 use Rattle.psi_base.specs.declared.event.Slot.{Slot}
 use Rattle.psi_base.specs.declared.event.How.{How}
 use Rattle.psi_base.specs.declared.event.Act.{Act}
-use Rattle.psi_base.specs.declared.event.Act.TheVariants as act
 use Rattle.psi_base.specs.declared.event.Event.{Event}
 use Rattle.psi_spec.specs.declared.machine.Task.{Task}
 use Rattle.psi_laws.specs.declared.changes.Counts.{Counts}
 use Rattle.psi_laws.specs.declared.changes.Change.{Change}
 use Rattle.psi_laws.specs.declared.changes.Touch.{Touch}
 use Rattle.psi_spec.specs.declared.machine.GroupLife.{GroupLife}
+use Rattle.psi_spec.specs.Names.{names}
+use Rattle.psi_spec.specs.World.{Effect, forks, moves, none, readies, stalls, switches, effect_of}
 use Rattle.psi_spec.specs.World.{World, Limits, Tasks, no_tasks, task_of, test_task, task_part, running_on, is_running_on, new_task, readied, left_by, slot_of, tasks_after, after_event}
-use Rattle.psi_spec.specs.Refusal.{cause_of, named_cpu}
+use Rattle.psi_spec.specs.Refusal.{cause_of}
 use Rattle.psi_spec.specs.Stall.{is_under, tasks_in}
 use Rattle.psi_spec.specs.Changes.{before, is_at, touched}
 use Rattle.psi_laws.specs.Counts.{how_many, counts_among, IsRunningTold}
@@ -30,22 +31,18 @@ abbrev pub left_if : How → Option Task → Option Task
 left_if how None = None
 left_if how (Some task) = left_by how task
 
+-- the task whose counts an effect changes, after it
+abbrev pub after_effect : List GroupLife → Tasks → Effect → Option Task
+after_effect groups tasks none = None
+after_effect groups tasks (forks pid path cpu) = Some (new_task groups path cpu.0)
+after_effect groups tasks (readies pid cpu) = changed (readied cpu.0) (task_of tasks pid.0)
+after_effect groups tasks (stalls pid stalled) = changed (λ task. record task { stalled = stalled }) (task_of tasks pid.0)
+after_effect groups tasks (moves pid path) = changed (λ task. record task { slot = record { 0 = unwrap_or (slot_of groups path) 0 } }) (task_of tasks pid.0)
+after_effect groups tasks (switches cpu next how) = left_if how (task_part (running_on tasks cpu.0))
+
 -- the task whose counts an act changes, after it
 abbrev pub after_of : List GroupLife → Tasks → Act → Option Task
-after_of groups tasks (act.Group path) = None
-after_of groups tasks (act.Remove path) = None
-after_of groups tasks (act.Prefer path preference) = None
-after_of groups tasks (act.Fork pid path cpu) = Some (new_task groups path cpu.0)
-after_of groups tasks (act.Wake pid cpu) = changed (readied cpu.0) (task_of tasks pid.0)
-after_of groups tasks (act.Switch cpu next how) = left_if how (task_part (running_on tasks cpu.0))
-after_of groups tasks (act.Stall pid) = changed (λ task. record task { stalled = true }) (task_of tasks pid.0)
-after_of groups tasks (act.Unstall pid) = changed (λ task. record task { stalled = false }) (task_of tasks pid.0)
-after_of groups tasks (act.Migrate pid cpu) = changed (readied cpu.0) (task_of tasks pid.0)
-after_of groups tasks (act.Move pid path) = changed (λ task. record task { slot = record { 0 = unwrap_or (slot_of groups path) 0 } }) (task_of tasks pid.0)
-after_of groups tasks (act.Mem path current swap scan) = None
-after_of groups tasks (act.Host mem_total swap_total swap_free) = None
-after_of groups tasks (act.Trigger path res level threshold_us window_us) = None
-after_of groups tasks act.End = None
+after_of groups tasks act = after_effect groups tasks (effect_of act)
 
 -- ---- changes
 
@@ -88,9 +85,9 @@ IsBeside first None = Unit {0}
 IsBeside None (Some second) = ⊥
 IsBeside (Some first) (Some second) = first.0 ≢ second.0
 
--- a touch tells of each processor the change by the event, and of none two
-pub record IsTouch (w : World) (event : Event) (touch : Touch) : Type 0 where
-  pub told : (cpu : ℕ) → told_of touch cpu ≡ change_of w event cpu
+-- a touch tells of each of so many processors the change by the event, and of none two
+pub record IsTouch (cpus : ℕ) (w : World) (event : Event) (touch : Touch) : Type 0 where
+  pub told : (cpu : ℕ) → cpu < cpus → told_of touch cpu ≡ change_of w event cpu
   pub beside : IsBeside touch.first touch.second
 
 -- each change in a touch is so, with its processor
@@ -182,7 +179,7 @@ ChangeTells =
 -- An act touches the processor that it names, and the one on which the task that it changes is, before it and after it.
 abbrev pub TouchesItsOwn : Type 0
 TouchesItsOwn = (w : World) (event : Event) (cpu : ℕ) →
-    (named_cpu event.act ≡ Some cpu → touched event.act (before w.tasks event.act) cpu ≡ true)
+    ((names event.act).cpu ≡ Some cpu → touched event.act (before w.tasks event.act) cpu ≡ true)
     × (test_task (before w.tasks event.act) (is_at cpu) ≡ true → touched event.act (before w.tasks event.act) cpu ≡ true)
     × (test_task (after_of w.groups w.tasks event.act) (is_at cpu) ≡ true → touched event.act (before w.tasks event.act) cpu ≡ true)
 

@@ -8,7 +8,7 @@ use Rattle.psi_base.proofs.NumberLaws.{number_of-decimal, decimal-number_of}
 use Rattle.psi_base.specs.declared.event.Event.{Event}
 use Rattle.psi_base.specs.declared.event.Cause.{Cause}
 use Rattle.psi_base.specs.declared.event.Cause.TheVariants as cause
-use Rattle.psi_spec.specs.Fields.{Kind, Value, InRange, word, value_of}
+use Rattle.psi_spec.specs.Fields.{IsAmong, Kind, Value, InRange, word, value_of}
 use Rattle.psi_spec.specs.Fields as kind
 use Rattle.psi_spec.specs.Grammar.{Verb, form_of, verb_word, kinds_of, ◌>>=◌, or_bad, field, values_from, act_from, verb_of, act_in, act_at, event_in, event_at, event_of, Spells, IsGood, IsBad, IsFirstBad, HasTime, HasVerb, HasBadField, IsCause, FindsCauses}
 use Rattle.psi_spec.proofs.GrammarFields.{value_spells, value_again}
@@ -119,46 +119,47 @@ act_from_err verb words why is =
       | inr none ↦ absurd cc (none.1.1)
     ]
 
-unknown : (text : List ℕ) → verb_of text ≡ None → (verb : Verb) → text ≡ verb_word verb → ⊥
-unknown text none verb is = let some = ap verb_of is ∙ verb_again verb in cc
+unknown : (verbs : List Verb) (text : List ℕ) → verb_of verbs text ≡ None → (verb : Verb) → IsAmong verb verbs → text ≡ verb_word verb → ⊥
+unknown verbs text none verb among is = let some = ap (verb_of verbs) is ∙ verb_again verbs verb among in cc
 
 some_same : (a b : List ℕ) → Some a ≡ Some b → a ≡ b
 some_same a b is = cc
 
-act_in_err : (time text : List ℕ) (read : Option Verb) (words : List (List ℕ)) (why : Cause) → Spells kind.number time → verb_of text ≡ read → act_in read words ≡ Err why → IsCause (time ∷ text ∷ words) why
-act_in_err time text None words why timed found is =
-    subst (λ w. IsCause (time ∷ text ∷ words) w) (err_same cause.BadVerb why is) (timed, λ verb has. unknown text found verb (some_same text (verb_word verb) has))
-act_in_err time text (Some verb) words why timed found is =
+act_in_err : (verbs : List Verb) (time text : List ℕ) (read : Option Verb) (words : List (List ℕ)) (why : Cause) → Spells kind.number time → verb_of verbs text ≡ read → act_in read words ≡ Err why → IsCause verbs (time ∷ text ∷ words) why
+act_in_err verbs time text None words why timed found is =
+    subst (λ w. IsCause verbs (time ∷ text ∷ words) w) (err_same cause.BadVerb why is) (timed, λ verb has. unknown verbs text found verb has.0 (some_same text (verb_word verb) has.1))
+act_in_err verbs time text (Some verb) words why timed found is =
     let bad = act_from_err verb words why is in
-    subst (λ w. IsCause (time ∷ text ∷ words) w) (sym bad.is) record {
+    let spells = verb_spells verbs text verb found in
+    subst (λ w. IsCause verbs (time ∷ text ∷ words) w) (sym bad.is) record {
       time = timed;
       verb = verb;
-      has_verb = ap (λ t. Some t) (verb_spells text verb found);
+      has_verb = (spells.1, ap (λ t. Some t) spells.0);
       at = bad.at;
       is_number = omega arith;
       first = bad.first;
     }
 
-act_at_err : (time : List ℕ) (words : List (List ℕ)) (why : Cause) → Spells kind.number time → act_at words ≡ Err why → IsCause (time ∷ words) why
+act_at_err : (verbs : List Verb) (time : List ℕ) (words : List (List ℕ)) (why : Cause) → Spells kind.number time → act_at verbs words ≡ Err why → IsCause verbs (time ∷ words) why
 unfolding act_at
-act_at_err time [] why timed is =
-    subst (λ w. IsCause (time ∷ []) w) (err_same cause.BadVerb why is) (timed, λ verb has. cc)
-act_at_err time (text ∷ words) why timed is = act_in_err time text (verb_of text) words why timed refl is
+act_at_err verbs time [] why timed is =
+    subst (λ w. IsCause verbs (time ∷ []) w) (err_same cause.BadVerb why is) (timed, λ verb has. let none = has.1 in cc)
+act_at_err verbs time (text ∷ words) why timed is = act_in_err verbs time text (verb_of verbs text) words why timed refl is
 
-event_in_err : (time : List ℕ) (read : Option ℕ) (words : List (List ℕ)) (why : Cause) → number_of time ≡ read → event_in read words ≡ Err why → IsCause (time ∷ words) why
-event_in_err time None words why found is =
-    subst (λ w. IsCause (time ∷ words) w) (err_same cause.BadTime why is) (λ spells. let some = ap number_of spells.1.1 ∙ number_of-decimal spells.0 spells.1.0 in cc)
-event_in_err time (Some at) words why found is =
+event_in_err : (verbs : List Verb) (time : List ℕ) (read : Option ℕ) (words : List (List ℕ)) (why : Cause) → number_of time ≡ read → event_in verbs read words ≡ Err why → IsCause verbs (time ∷ words) why
+event_in_err verbs time None words why found is =
+    subst (λ w. IsCause verbs (time ∷ words) w) (err_same cause.BadTime why is) (λ spells. let some = ap number_of spells.1.1 ∙ number_of-decimal spells.0 spells.1.0 in cc)
+event_in_err verbs time (Some at) words why found is =
     let number = decimal-number_of time at found in
-    elim (bind_err (act_at words) _ why is) [
-      | inl bad ↦ act_at_err time words why (at, (number.1, number.0)) bad
+    elim (bind_err (act_at verbs words) _ why is) [
+      | inl bad ↦ act_at_err verbs time words why (at, (number.1, number.0)) bad
       | inr none ↦ absurd cc (none.1.1)
     ]
 
-event_at_err : (parts : List (List ℕ)) (why : Cause) → event_at parts ≡ Err why → IsCause parts why
+event_at_err : (verbs : List Verb) (parts : List (List ℕ)) (why : Cause) → event_at verbs parts ≡ Err why → IsCause verbs parts why
 unfolding event_at
-event_at_err [] why is = subst (λ w. IsCause [] w) (err_same cause.BadTime why is) (λ has. has)
-event_at_err (time ∷ words) why is = event_in_err time (number_of time) words why refl is
+event_at_err verbs [] why is = subst (λ w. IsCause verbs [] w) (err_same cause.BadTime why is) (λ has. has)
+event_at_err verbs (time ∷ words) why is = event_in_err verbs time (number_of time) words why refl is
 
 -- The other way round: what is wrong first is what is answered.
 
@@ -168,51 +169,51 @@ no_time time (Some at) found bad =
     let number = decimal-number_of time at found in
     absurd (bad (at, (number.1, number.0)))
 
-no_verb : (text : List ℕ) (read : Option Verb) → verb_of text ≡ read → ((verb : Verb) → text ≡ verb_word verb → ⊥) → read ≡ None
-no_verb text None found bad = refl
-no_verb text (Some verb) found bad = absurd (bad verb (verb_spells text verb found))
+no_verb : (verbs : List Verb) (text : List ℕ) (read : Option Verb) → verb_of verbs text ≡ read → ((verb : Verb) → IsAmong verb verbs → text ≡ verb_word verb → ⊥) → read ≡ None
+no_verb verbs text None found bad = refl
+no_verb verbs text (Some verb) found bad = let spells = verb_spells verbs text verb found in absurd (bad verb spells.1 spells.0)
 
-timed_event : (time : List ℕ) (words : List (List ℕ)) (why : Cause) → Spells kind.number time → act_at words ≡ Err why → event_at (time ∷ words) ≡ Err why
+timed_event : (verbs : List Verb) (time : List ℕ) (words : List (List ℕ)) (why : Cause) → Spells kind.number time → act_at verbs words ≡ Err why → event_at verbs (time ∷ words) ≡ Err why
 unfolding event_at
-timed_event time words why spells bad =
-    ap (λ t. event_in t words) (ap number_of spells.1.1 ∙ number_of-decimal spells.0 spells.1.0)
+timed_event verbs time words why spells bad =
+    ap (λ t. event_in verbs t words) (ap number_of spells.1.1 ∙ number_of-decimal spells.0 spells.1.0)
     ∙ ap (λ r. r >>= λ what. let e : Result Event Cause = Ok (record { at = spells.0; act = what }) in e) bad
 
-bad_time : (parts : List (List ℕ)) → (HasTime parts → ⊥) → event_at parts ≡ Err cause.BadTime
+bad_time : (verbs : List Verb) (parts : List (List ℕ)) → (HasTime parts → ⊥) → event_at verbs parts ≡ Err cause.BadTime
 unfolding event_at
-bad_time [] bad = refl
-bad_time (time ∷ words) bad = ap (λ t. event_in t words) (no_time time (number_of time) refl bad)
+bad_time verbs [] bad = refl
+bad_time verbs (time ∷ words) bad = ap (λ t. event_in verbs t words) (no_time time (number_of time) refl bad)
 
-verbless_act : (words : List (List ℕ)) → ((verb : Verb) → slice_get words 0 ≡ Some (verb_word verb) → ⊥) → act_at words ≡ Err cause.BadVerb
+verbless_act : (verbs : List Verb) (words : List (List ℕ)) → ((verb : Verb) → IsAmong verb verbs → slice_get words 0 ≡ Some (verb_word verb) → ⊥) → act_at verbs words ≡ Err cause.BadVerb
 unfolding act_at
-verbless_act [] bad = refl
-verbless_act (text ∷ words) bad =
-    ap (λ v. act_in v words) (no_verb text (verb_of text) refl (λ verb is. bad verb (ap (λ t. Some t) is)))
+verbless_act verbs [] bad = refl
+verbless_act verbs (text ∷ words) bad =
+    ap (λ v. act_in v words) (no_verb verbs text (verb_of verbs text) refl (λ verb among is. bad verb among (ap (λ t. Some t) is)))
 
-bad_verb : (parts : List (List ℕ)) → HasTime parts → ((verb : Verb) → HasVerb parts verb → ⊥) → event_at parts ≡ Err cause.BadVerb
-bad_verb [] has bad = absurd has
-bad_verb (time ∷ words) has bad = timed_event time words cause.BadVerb has (verbless_act words bad)
+bad_verb : (verbs : List Verb) (parts : List (List ℕ)) → HasTime parts → ((verb : Verb) → HasVerb verbs parts verb → ⊥) → event_at verbs parts ≡ Err cause.BadVerb
+bad_verb verbs [] has bad = absurd has
+bad_verb verbs (time ∷ words) has bad = timed_event verbs time words cause.BadVerb has (verbless_act verbs words (λ verb among is. bad verb (among, is)))
 
-fieldless_act : (verb : Verb) (text : List ℕ) (words : List (List ℕ)) (at : ℕ) → text ≡ verb_word verb → IsFirstBad (kinds_of verb) words at → act_at (text ∷ words) ≡ Err (cause.BadField (1 + at))
+fieldless_act : (verbs : List Verb) (verb : Verb) (text : List ℕ) (words : List (List ℕ)) (at : ℕ) → IsAmong verb verbs → text ≡ verb_word verb → IsFirstBad (kinds_of verb) words at → act_at verbs (text ∷ words) ≡ Err (cause.BadField (1 + at))
 unfolding act_at act_from
-fieldless_act verb text words at is first =
-    ap (λ v. act_in v words) (ap verb_of is ∙ verb_again verb)
+fieldless_act verbs verb text words at among is first =
+    ap (λ v. act_in v words) (ap (verb_of verbs) is ∙ verb_again verbs verb among)
     ∙ ap (λ r. r >>= λ values. Ok ((form_of verb).act values)) (bad_values 1 (kinds_of verb) words at first)
 
-bad_event : (parts : List (List ℕ)) (number : ℕ) → HasBadField parts number → event_at parts ≡ Err (cause.BadField number)
-bad_event [] number bad = absurd bad.time
-bad_event (time ∷ []) number bad = let none = bad.has_verb in absurd cc
-bad_event (time ∷ text ∷ words) number bad =
-    timed_event time (text ∷ words) (cause.BadField (1 + bad.at)) bad.time
-    (fieldless_act bad.verb text words bad.at (some_same text (verb_word bad.verb) bad.has_verb) bad.first)
+bad_event : (verbs : List Verb) (parts : List (List ℕ)) (number : ℕ) → HasBadField verbs parts number → event_at verbs parts ≡ Err (cause.BadField number)
+bad_event verbs [] number bad = absurd bad.time
+bad_event verbs (time ∷ []) number bad = let none = bad.has_verb.1 in absurd cc
+bad_event verbs (time ∷ text ∷ words) number bad =
+    timed_event verbs time (text ∷ words) (cause.BadField (1 + bad.at)) bad.time
+    (fieldless_act verbs bad.verb text words bad.at bad.has_verb.0 (some_same text (verb_word bad.verb) bad.has_verb.1) bad.first)
     ∙ same_number (1 + bad.at) number _ (omega (arith, bad.is_number))
 
-cause_event : (parts : List (List ℕ)) (why : Cause) → IsCause parts why → event_at parts ≡ Err why
-cause_event parts cause.BadTime is = bad_time parts is
-cause_event parts cause.BadVerb is = bad_verb parts is.0 is.1
-cause_event parts (cause.BadField number) is = bad_event parts number is
-cause_event parts _ is = absurd is
+cause_event : (verbs : List Verb) (parts : List (List ℕ)) (why : Cause) → IsCause verbs parts why → event_at verbs parts ≡ Err why
+cause_event verbs parts cause.BadTime is = bad_time verbs parts is
+cause_event verbs parts cause.BadVerb is = bad_verb verbs parts is.0 is.1
+cause_event verbs parts (cause.BadField number) is = bad_event verbs parts number is
+cause_event verbs parts _ is = absurd is
 
 pub finds_causes : FindsCauses
 unfolding event_of
-finds_causes line why = (event_at_err (parts_at 32 line) why, cause_event (parts_at 32 line) why)
+finds_causes verbs line why = (event_at_err verbs (parts_at 32 line) why, cause_event verbs (parts_at 32 line) why)

@@ -1,5 +1,5 @@
 -- Each kind of field: what is read is spelled so, what is spelled so is read, and what its words look like.
-use Rattle.std.proofs.Common.{◌≡◌, ℕ, zero, suc, ◌^◌, ◌<◌, ◌⊎◌, inl, inr, List, [], ◌∷◌, refl, sym, ap, ◌∙◌, arith, true, false, Bool}
+use Rattle.std.proofs.Common.{◌≡◌, ℕ, zero, suc, ◌^◌, ◌<◌, ◌⊎◌, inl, inr, ⊎_elim, List, [], ◌∷◌, refl, sym, ap, ◌∙◌, arith, true, false, Bool}
 use Rattle.std.specs.Prelude.{Option, None, Some, IfSome, option_map, decimal, nat_lt, ◌&&◌, if◌then◌else◌}
 use Rattle.std.specs.Str.{bytes_eq}
 use Rattle.std.proofs.lemmas.Slice.Eq.{bytes_eq-Decides}
@@ -17,7 +17,7 @@ use Rattle.psi_base.specs.declared.event.Res.{Res}
 use Rattle.psi_base.specs.declared.event.Res.TheVariants.{Io, Memory, Cpu as CpuRes}
 use Rattle.psi_base.specs.declared.event.Level.{Level}
 use Rattle.psi_base.specs.declared.event.Level.TheVariants.{SomeStalled, FullStalled}
-use Rattle.psi_spec.specs.Fields.{Kind, pid, next, cpu, path, how, preference, amount, number, resource, level, Value, InRange, IsPid, word, value_of, named, kept, number_in, task_or_none, next_word, how_word, preference_word, resource_word, level_word, hows, preferences, resources, levels}
+use Rattle.psi_spec.specs.Fields.{Kind, pid, next, cpu, path, how, preference, amount, number, resource, level, Value, InRange, IsAmong, IsPid, word, value_of, named, kept, number_in, task_or_none, next_word, how_word, preference_word, resource_word, level_word, hows, preferences, resources, levels}
 
 if_some : {A : Type 0} (test : Bool) (x y : A) (rest : Option A) → (if test then Some x else rest) ≡ Some y → ((test ≡ true) × (x ≡ y)) ⊎ (rest ≡ Some y)
 if_some true x y rest is = inl (refl, cc)
@@ -31,6 +31,28 @@ named_spells name (y ∷ ys) text x is =
       | inl found ↦ (bytes_eq-Decides text (name y)).0 found.0 ∙ ap name found.1
       | inr later ↦ named_spells name ys text x later
     ]
+
+-- and it is one of the list
+pub named_among : {A : Type 0} (name : A → List ℕ) (xs : List A) (text : List ℕ) (x : A) → named name xs text ≡ Some x → IsAmong x xs
+named_among name [] text x is = absurd cc
+named_among name (y ∷ ys) text x is =
+    elim (if_some (bytes_eq text (name y)) y x (named name ys text) is) [
+      | inl found ↦ inl (sym found.1)
+      | inr later ↦ inr (named_among name ys text x later)
+    ]
+
+if_found : {A : Type 0} (test : Bool) (x y : A) (rest : Option A) → (test ≡ true → x ≡ y) → (test ≡ false → rest ≡ Some x) → (if test then Some y else rest) ≡ Some x
+if_found true x y rest here later = ap (λ a. Some a) (sym (here refl))
+if_found false x y rest here later = later refl
+
+-- one of the list is found by its name, where names differ
+pub named_again : {A : Type 0} (name : A → List ℕ) (xs : List A) (x : A) → ((y : A) → IsAmong y xs → name x ≡ name y → x ≡ y) → IsAmong x xs → named name xs (name x) ≡ Some x
+named_again name [] x differ among = absurd among
+named_again name (y ∷ ys) x differ among =
+    if_found (bytes_eq (name x) (name y)) x y (named name ys (name x))
+    (λ equal. differ y (inl refl) ((bytes_eq-Decides (name x) (name y)).0 equal))
+    (λ other. named_again name ys x (λ z there. differ z (inr there))
+    (⊎_elim (λ same. let equal = (bytes_eq-Decides (name x) (name y)).1 (ap name same) in absurd cc) (λ there. there) among))
 
 map_some : {A B : Type 0} (f : A → B) (o : Option A) (y : B) → option_map f o ≡ Some y → (x : A) × (o ≡ Some x) × (f x ≡ y)
 map_some f None y is = absurd cc

@@ -1,14 +1,13 @@
 -- A header is read exactly where it is spelled.
-use Rattle.std.proofs.Common.{◌≡◌, ℕ, zero, suc, ◌+◌, ◌^◌, ◌<◌, ◌≤◌, List, [], ◌∷◌, ◌++◌, length, refl, sym, ap, ◌∙◌, arith, true, false, Bool, append_assoc, length-append}
+use Rattle.std.proofs.Common.{◌≡◌, ◌≢◌, ◌⊎◌, inl, inr, ⊎_elim, subst, ◌==◌, map, ℕ, zero, suc, ◌+◌, ◌^◌, ◌<◌, ◌≤◌, List, [], ◌∷◌, ◌++◌, length, refl, sym, ap, ◌∙◌, arith, true, false, Bool, append_assoc, length-append}
 use Rattle.std.specs.Prelude.{Option, Some, decimal, codes, if◌then◌else◌}
-use Rattle.std.specs.Str.{bytes_eq}
-use Rattle.std.specs.List.{range_with_len}
-use Rattle.std.proofs.lemmas.Slice.Eq.{bytes_eq-Decides}
+use Rattle.std.specs.List.{flat_map, range_with_len}
+use Rattle.std.proofs.lemmas.Bool.Decides.{eqb_tells, nat_tests}
 use Rattle.std.proofs.lemmas.Fmt.{decimal_injective}
 use Rattle.psi_base.proofs.PartLaws.{HasNone}
-use Rattle.psi_spec.specs.Fields.{named}
-use Rattle.psi_spec.specs.Grammar.{joined, header, header_of, HeadersSpelled, HeadedByLine}
-use Rattle.psi_spec.proofs.GrammarFields.{named_spells}
+use Rattle.psi_spec.specs.Fields.{IsAmong, named}
+use Rattle.psi_spec.specs.Grammar.{Header, HeadedByLine, HeadersSpelled, One, Version, header, header_line, header_of, headers_of, joined, version_number}
+use Rattle.psi_spec.proofs.GrammarFields.{named_again, named_among, named_spells}
 use Rattle.psi_spec.proofs.GrammarParts.{AreWords, joined-no_newline}
 use Rattle.psi_spec.proofs.GrammarWords.{decimal_printed, decimal_short}
 
@@ -25,32 +24,65 @@ unfolding header
 header-injective version m n small fits is =
     decimal_injective m n small fits (front_same (codes "psitrace " ++ decimal version ++ codes " cpus=") (decimal m) (decimal n) is)
 
--- a number that was found is in the range
-if_range : (test : Bool) (a n cpus : ℕ) (rest : Option ℕ) → (rest ≡ Some cpus → (a + 1 ≤ cpus) × (cpus < a + 1 + n)) → (if test then Some a else rest) ≡ Some cpus → (a ≤ cpus) × (cpus < a + suc n)
-if_range true a n cpus rest later is = let same : a ≡ cpus = cc in (omega (arith, same), omega (arith, same))
-if_range false a n cpus rest later is = let both = later is in (omega (arith, both.0), omega (arith, both.1))
+-- ---- headers among those of some versions
 
-named_range : (name : ℕ → List ℕ) (a n : ℕ) (text : List ℕ) (cpus : ℕ) → named name (range_with_len a n) text ≡ Some cpus → (a ≤ cpus) × (cpus < a + n)
-named_range name a zero text cpus is = absurd cc
-named_range name a (suc n) text cpus is =
-    if_range (bytes_eq text (name a)) a n cpus (named name (range_with_len (a + 1) n) text) (named_range name (a + 1) n text cpus) is
+abbrev made : Version → ℕ → Header
+made version cpus = record { version = version; cpus = cpus }
 
--- a name in the range is found, where names differ
-if_found : (test : Bool) (a cpus : ℕ) (rest : Option ℕ) → (test ≡ true → a ≡ cpus) → (test ≡ false → rest ≡ Some cpus) → (if test then Some a else rest) ≡ Some cpus
-if_found true a cpus rest here later = ap (λ n. let o : Option ℕ = Some n in o) (here refl)
-if_found false a cpus rest here later = later refl
+-- what is among one list or another
+among_front : {A : Type 0} (x : A) (xs ys : List A) → IsAmong x xs → IsAmong x (xs ++ ys)
+among_front x [] ys among = absurd among
+among_front x (y ∷ xs) ys among = ⊎_elim (λ same. inl same) (λ there. inr (among_front x xs ys there)) among
 
-not_here : (a cpus : ℕ) (name : ℕ → List ℕ) (text : List ℕ) → text ≡ name cpus → bytes_eq text (name a) ≡ false → a ≡ cpus → ⊥
-not_here a cpus name text is differ same =
-    let equal = (bytes_eq-Decides text (name a)).1 (is ∙ ap name (sym same)) in cc
+among_back : {A : Type 0} (x : A) (xs ys : List A) → IsAmong x ys → IsAmong x (xs ++ ys)
+among_back x [] ys among = among
+among_back x (y ∷ xs) ys among = inr (among_back x xs ys among)
 
-named_found : (name : ℕ → List ℕ) (a n cpus : ℕ) (text : List ℕ) → ((m : ℕ) → m < a + n → name m ≡ name cpus → m ≡ cpus) → a ≤ cpus → cpus < a + n → text ≡ name cpus → named name (range_with_len a n) text ≡ Some cpus
-named_found name a zero cpus text differ low high is = absurd (omega arith)
-named_found name a (suc n) cpus text differ low high is =
-    if_found (bytes_eq text (name a)) a cpus (named name (range_with_len (a + 1) n) text)
-    (λ equal. differ a (omega arith) (sym ((bytes_eq-Decides text (name a)).0 equal) ∙ is))
-    (λ other. named_found name (a + 1) n cpus text (λ m below. differ m (omega arith))
-    (let apart = not_here a cpus name text is other in omega (arith, apart)) (omega arith) is)
+among_either : {A : Type 0} (x : A) (xs ys : List A) → IsAmong x (xs ++ ys) → IsAmong x xs ⊎ IsAmong x ys
+among_either x [] ys among = inr among
+among_either x (y ∷ xs) ys among = ⊎_elim (λ same. inl (inl same)) (λ there. ⊎_elim (λ front. inl (inr front)) (λ back. inr back) (among_either x xs ys there)) among
+
+-- those of a version have it, and so many processors
+ranged : (version : Version) (low n : ℕ) (head : Header) → IsAmong head (map (made version) (range_with_len low n)) → (head.version ≡ version) × (low ≤ head.cpus) × (head.cpus < low + n)
+ranged version low zero head among = absurd among
+ranged version low (suc n) head among = ⊎_elim
+    (λ same. let cpus : head.cpus ≡ low = ap (λ (h : Header). h.cpus) same in (ap (λ (h : Header). h.version) same, omega (arith, cpus), omega (arith, cpus)))
+    (λ there. let later = ranged version (low + 1) n head there in (later.0, omega (arith, later.1), omega (arith, later.2)))
+    among
+
+in_range : (version : Version) (low n cpus : ℕ) → low ≤ cpus → cpus < low + n → IsAmong (made version cpus) (map (made version) (range_with_len low n))
+in_range version low zero cpus from below = absurd (omega (arith, from, below))
+in_range version low (suc n) cpus from below = ⊎_elim
+    (λ same. inl (ap (made version) same.1))
+    (λ other. inr (in_range version (low + 1) n cpus (let apart = (eqb_tells_apart cpus low other.0) in omega (arith, from, apart)) (omega (arith, below))))
+    (eqb_tells cpus low)
+  where
+    eqb_tells_apart : (a b : ℕ) → (a == b) ≡ false → a ≢ b
+    eqb_tells_apart a b differ same = grind (arith, nat_tests)
+
+headed_by : (versions : List Version) (head : Header) → IsAmong head (flat_map headers_of versions) → IsAmong head.version versions × (1 ≤ head.cpus) × (head.cpus ≤ 64)
+headed_by [] head among = absurd among
+headed_by (version ∷ versions) head among = ⊎_elim
+    (λ here. let range = ranged version 1 64 head here in (inl range.0, range.1, omega (arith, range.2)))
+    (λ there. let later = headed_by versions head there in (inr later.0, later.1, later.2))
+    (among_either head (headers_of version) (flat_map headers_of versions) among)
+
+heads : (versions : List Version) (head : Header) → IsAmong head.version versions → 1 ≤ head.cpus → head.cpus ≤ 64 → IsAmong head (flat_map headers_of versions)
+heads [] head known low high = absurd known
+heads (version ∷ versions) head known low high = ⊎_elim
+    (λ same. among_front head (headers_of version) (flat_map headers_of versions) (subst (λ v. IsAmong head (headers_of v)) same (in_range head.version 1 64 head.cpus low (omega (arith, high)))))
+    (λ there. among_back head (headers_of version) (flat_map headers_of versions) (heads versions head there low high))
+    known
+
+-- headers that are written alike are the same
+version_same : (one other : Version) → one ≡ other
+version_same One One = refl
+
+header_same : (one other : Header) → one.cpus < 2 ^ 64 → other.cpus < 2 ^ 64 → header_line one ≡ header_line other → one ≡ other
+header_same one other small fits is =
+    let version : one.version ≡ other.version = version_same one.version other.version in
+    let same : one.cpus ≡ other.cpus = header-injective (version_number one.version) one.cpus other.cpus small fits (is ∙ ap (λ v. header (version_number v) other.cpus) (sym version)) in
+    ap (λ v. let h : Header = record { version = v; cpus = one.cpus } in h) version ∙ ap (λ n. let h : Header = record { version = other.version; cpus = n } in h) same
 
 header_words : (version cpus : ℕ) → header version cpus ≡ joined (codes "psitrace" ∷ decimal version ∷ (codes "cpus=" ++ decimal cpus) ∷ [])
 unfolding header
@@ -72,14 +104,15 @@ length-header-le version cpus fits small =
 
 pub headers_spelled : HeadersSpelled
 unfolding header_of
-headers_spelled line cpus = (
+headers_spelled versions line head = (
   λ is.
-      let range = named_range (header 1) 1 64 line cpus is in
-      (range.0, omega (arith, range.1), named_spells (header 1) (range_with_len 1 64) line cpus is),
+      let known = headed_by versions head (named_among header_line (flat_map headers_of versions) line head is) in
+      (known.0, known.1, known.2, named_spells header_line (flat_map headers_of versions) line head is),
   λ spells.
-      named_found (header 1) 1 64 cpus line
-      (λ m below. header-injective 1 m cpus (omega arith) (omega (arith, spells.1)))
-      spells.0 (omega (arith, spells.1)) spells.2,
+      ap (named header_line (flat_map headers_of versions)) spells.3
+      ∙ named_again header_line (flat_map headers_of versions) head
+      (λ other among is. let range = headed_by versions other among in header_same head other (omega (arith, spells.2)) (omega (arith, range.2)) is)
+      (heads versions head spells.0 spells.1 spells.2),
 )
 
 pub headed_by_line : HeadedByLine

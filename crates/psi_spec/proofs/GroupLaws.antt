@@ -12,8 +12,8 @@ use Rattle.psi_base.specs.declared.event.Act.TheVariants as act
 use Rattle.psi_base.specs.declared.event.Event.{Event}
 use Rattle.psi_base.specs.declared.event.Cause.TheVariants as cause
 use Rattle.psi_spec.specs.declared.machine.GroupLife.{GroupLife}
-use Rattle.psi_spec.specs.World.{World, Limits, root, is_live, is_root, slot_from, slot_of, parent_path, as_slot, new_group, without, groups_after}
-use Rattle.psi_spec.specs.Refusal.{cause_of, stands, order, has_child, has_member}
+use Rattle.psi_spec.specs.World.{World, Limits, root, is_live, is_root, slot_from, slot_of, parent_path, as_slot, new_group, marked_removed, groups_after}
+use Rattle.psi_spec.specs.Refusal.{cause_of, applies, cause_order, has_child, has_member}
 use Rattle.psi_spec.specs.Stall.{number_of_slot, parents_of, climbs, is_under}
 use Rattle.psi_spec.specs.Groups.{AreOlder, HaveParents, path_at, AreAbove, IsOneLive, AreGroups, leads_to, new_parents, AreGroupsFirst, AreGroupsKept, ParentsKept, ClimbsKept, UnderByStep, AncestorsAreOlder, RootIsAbove}
 use Rattle.psi_spec.proofs.RefusalLaws.{is_none, passed, second_true}
@@ -153,11 +153,11 @@ kept_here from path group rest other it =
     ] refl
 
 -- the group that is removed isn't found, and any other as before
-pub removed_not_found : (from at : ℕ) (path : List ℕ) (groups : List GroupLife) (other : List ℕ) → slot_from from (map (without path at) groups) other ≡ (if bytes_eq path other then None else slot_from from groups other)
+pub removed_not_found : (from at : ℕ) (path : List ℕ) (groups : List GroupLife) (other : List ℕ) → slot_from from (map (marked_removed path at) groups) other ≡ (if bytes_eq path other then None else slot_from from groups other)
 removed_not_found from at path [] other = elim (bytes_eq path other) as (λ b. let none : Option ℕ = None in none ≡ (if b then none else none)) [ true ↦ refl | false ↦ refl ]
 removed_not_found from at path (group ∷ groups) other =
     let rest = removed_not_found (from + 1) at path groups other in
-    elim (is_live group && bytes_eq group.path path) as (λ r. (is_live group && bytes_eq group.path path) ≡ r → slot_from from ((if r then record group { gone = Some at } else group) ∷ map (without path at) groups) other ≡ (if bytes_eq path other then None else slot_from from (group ∷ groups) other)) [
+    elim (is_live group && bytes_eq group.path path) as (λ r. (is_live group && bytes_eq group.path path) ≡ r → slot_from from ((if r then record group { gone = Some at } else group) ∷ map (marked_removed path at) groups) other ≡ (if bytes_eq path other then None else slot_from from (group ∷ groups) other)) [
       | true ↦ λ it. rest ∙ removed_here from path group (slot_from (from + 1) groups other) other it
       | false ↦ λ it. ap (λ o. if is_live group && bytes_eq group.path other then Some from else o) rest ∙ kept_here from path group (slot_from (from + 1) groups other) other it
     ] refl
@@ -203,17 +203,17 @@ found_group from (first ∷ groups) path slot (suc place) group is at got =
 -- ---- a group is removed
 
 -- removing a group leaves its parent
-without_parent : (path : List ℕ) (at : ℕ) (group : GroupLife) → (without path at group).parent ≡ group.parent
+without_parent : (path : List ℕ) (at : ℕ) (group : GroupLife) → (marked_removed path at group).parent ≡ group.parent
 without_parent path at group =
     elim (is_live group && bytes_eq group.path path) as (λ b. (let g : GroupLife = if b then record group { gone = Some at } else group in g.parent) ≡ group.parent) [ true ↦ refl | false ↦ refl ]
 
 -- removing a group leaves its path
-without_path : (path : List ℕ) (at : ℕ) (group : GroupLife) → (without path at group).path ≡ group.path
+without_path : (path : List ℕ) (at : ℕ) (group : GroupLife) → (marked_removed path at group).path ≡ group.path
 without_path path at group =
     elim (is_live group && bytes_eq group.path path) as (λ b. (let g : GroupLife = if b then record group { gone = Some at } else group in g.path) ≡ group.path) [ true ↦ refl | false ↦ refl ]
 
 -- removing a group leaves all parents
-pub parents_without : (path : List ℕ) (at : ℕ) (groups : List GroupLife) → parents_of (map (without path at) groups) ≡ parents_of groups
+pub parents_without : (path : List ℕ) (at : ℕ) (groups : List GroupLife) → parents_of (map (marked_removed path at) groups) ≡ parents_of groups
 parents_without path at [] = refl
 parents_without path at (group ∷ groups) =
     let here = ap number_of_slot (without_parent path at group) in
@@ -221,7 +221,7 @@ parents_without path at (group ∷ groups) =
     cc (here, rest)
 
 -- removing a group leaves all paths
-paths_without : (path : List ℕ) (at : ℕ) (groups : List GroupLife) → map (λ (group : GroupLife). group.path) (map (without path at) groups) ≡ map (λ (group : GroupLife). group.path) groups
+paths_without : (path : List ℕ) (at : ℕ) (groups : List GroupLife) → map (λ (group : GroupLife). group.path) (map (marked_removed path at) groups) ≡ map (λ (group : GroupLife). group.path) groups
 paths_without path at [] = refl
 paths_without path at (group ∷ groups) =
     let here = without_path path at group in
@@ -240,7 +240,7 @@ other_path path old new differ same live =
     ] refl
 
 -- a group that is live after one was removed was live before, and isn't that one
-still_live : (path : List ℕ) (at : ℕ) (old new : GroupLife) → without path at old ≡ new → is_live new ≡ true → (old ≡ new) × (is_live old ≡ true) × (bytes_eq path new.path ≡ false)
+still_live : (path : List ℕ) (at : ℕ) (old new : GroupLife) → marked_removed path at old ≡ new → is_live new ≡ true → (old ≡ new) × (is_live old ≡ true) × (bytes_eq path new.path ≡ false)
 still_live path at old new is live =
     elim (is_live old && bytes_eq old.path path) as (λ b. (is_live old && bytes_eq old.path path) ≡ b → (if b then record old { gone = Some at } else old) ≡ new → (old ≡ new) × (is_live old ≡ true) × (bytes_eq path new.path ≡ false)) [
       | true ↦ λ _ i. absurd (cc (ap is_live i ∙ live))
@@ -253,9 +253,9 @@ mapped_from f None new is = absurd (cc is)
 mapped_from f (Some old) new is = (old, refl, cc is)
 
 -- so each live one is still found
-one_live_without : (path : List ℕ) (at : ℕ) (groups : List GroupLife) → IsOneLive groups → IsOneLive (map (without path at) groups)
+one_live_without : (path : List ℕ) (at : ℕ) (groups : List GroupLife) → IsOneLive groups → IsOneLive (map (marked_removed path at) groups)
 one_live_without path at groups one slot new is live =
-    let old = mapped_from (without path at) (slice_get groups slot) new (sym (slice_get-map (without path at) groups slot) ∙ is) in
+    let old = mapped_from (marked_removed path at) (slice_get groups slot) new (sym (slice_get-map (marked_removed path at) groups slot) ∙ is) in
     let kept = still_live path at old.0 new old.2 live in
     removed_not_found 0 at path groups new.path
     ∙ ap (λ b. if b then None else slot_of groups new.path) kept.2
@@ -407,7 +407,7 @@ groups_made groups path at parent few new over are =
     }
 
 -- the root stays, where another group is removed
-root_stays : (path : List ℕ) (at : ℕ) → is_root path ≡ false → without path at root ≡ root
+root_stays : (path : List ℕ) (at : ℕ) → is_root path ≡ false → marked_removed path at root ≡ root
 root_stays path at other =
     elim (bytes_eq root.path path) as (λ b. bytes_eq root.path path ≡ b → (if b then record root { gone = Some at } else root) ≡ root) [
       | true ↦ λ is. let it : is_root path ≡ true = (bytes_eq-Decides path root.path).1 (sym (same_bytes root.path path is)) in absurd (cc (sym it ∙ other))
@@ -415,14 +415,14 @@ root_stays path at other =
     ] refl
 
 -- a group is removed
-pub groups_removed : (groups : List GroupLife) (path : List ℕ) (at : ℕ) → is_root path ≡ false → AreGroups groups → AreGroups (map (without path at) groups)
+pub groups_removed : (groups : List GroupLife) (path : List ℕ) (at : ℕ) → is_root path ≡ false → AreGroups groups → AreGroups (map (marked_removed path at) groups)
 groups_removed groups path at other are =
-    let len : length (map (without path at) groups) ≡ length groups = length-map groups (without path at) in
+    let len : length (map (marked_removed path at) groups) ≡ length groups = length-map groups (marked_removed path at) in
     let parents = parents_without path at groups in
     let few = are.few in
     record {
       few = omega (arith, len, few);
-      rooted = take-map (without path at) 1 groups ∙ ap (map (without path at)) are.rooted ∙ ap (λ group. group ∷ []) (root_stays path at other);
+      rooted = take-map (marked_removed path at) 1 groups ∙ ap (map (marked_removed path at)) are.rooted ∙ ap (λ group. group ∷ []) (root_stays path at other);
       older = subst AreOlder (sym parents) are.older;
       parented = subst HaveParents (sym parents) are.parented;
       above = λ slot parent is.
@@ -472,13 +472,13 @@ groups_act : (limits : Limits) (w : World) (at : ℕ) (a : Act) → cause_of lim
 unfolding cause_of
 groups_act limits w at (act.Group path) legal are =
     let event : Event = record { at = at; act = act.Group path } in
-    let few = passed (λ why. stands why limits w event) order 4 cause.TooManyGroups legal refl in
-    let new = passed (λ why. stands why limits w event) order 8 cause.GroupExists legal refl in
-    let over = the_some (slot_of w.groups (parent_path path)) (passed (λ why. stands why limits w event) order 9 cause.NoParent legal refl) in
+    let few = passed (λ why. applies why limits w event) cause_order 4 cause.TooManyGroups legal refl in
+    let new = passed (λ why. applies why limits w event) cause_order 8 cause.GroupExists legal refl in
+    let over = the_some (slot_of w.groups (parent_path path)) (passed (λ why. applies why limits w event) cause_order 9 cause.NoParent legal refl) in
     groups_made w.groups path at over.0 (fewer (length w.groups) few) (is_none (slot_of w.groups path) new) over.1 are
 groups_act limits w at (act.Remove path) legal are =
     let event : Event = record { at = at; act = act.Remove path } in
-    let busy = passed (λ why. stands why limits w event) order 10 cause.GroupBusy legal refl in
+    let busy = passed (λ why. applies why limits w event) cause_order 10 cause.GroupBusy legal refl in
     groups_removed w.groups path at (first_false (is_root path) (has_child w.groups (slot_of w.groups path)) (has_member w.tasks (slot_of w.groups path)) busy) are
 groups_act limits w at (act.Prefer path preference) legal are = are
 groups_act limits w at (act.Fork pid path cpu) legal are = are

@@ -5,7 +5,7 @@ use Rattle.psi_base.specs.declared.event.Event.{Event}
 use Rattle.psi_base.specs.declared.event.Cause.{Cause}
 use Rattle.psi_base.specs.declared.event.Cause.TheVariants as cause
 use Rattle.psi_spec.specs.World.{World, Limits}
-use Rattle.psi_spec.specs.Refusal.{cause_of, stands, order}
+use Rattle.psi_spec.specs.Refusal.{cause_of, applies, cause_order}
 
 -- ---- what the absence of a cause says
 
@@ -25,18 +25,18 @@ passed test (first ∷ causes) (suc at) why none is =
 
 -- causes that don't stand against a legal event
 pub record NoneStands (limits : Limits) (w : World) (event : Event) : Type 0 where
-  pub unknown_group : stands cause.UnknownGroup limits w event ≡ false
-  pub unknown_task : stands cause.UnknownTask limits w event ≡ false
-  pub task_exists : stands cause.TaskExists limits w event ≡ false
-  pub bad_cpu : stands cause.BadCpu limits w event ≡ false
-  pub not_ready : stands cause.NotReady limits w event ≡ false
-  pub wrong_how : stands cause.WrongHow limits w event ≡ false
+  pub unknown_group : applies cause.UnknownGroup limits w event ≡ false
+  pub unknown_task : applies cause.UnknownTask limits w event ≡ false
+  pub task_exists : applies cause.TaskExists limits w event ≡ false
+  pub bad_cpu : applies cause.BadCpu limits w event ≡ false
+  pub not_ready : applies cause.NotReady limits w event ≡ false
+  pub wrong_how : applies cause.WrongHow limits w event ≡ false
 
 -- no cause stands against a legal event
 pub none_stands : (limits : Limits) (w : World) (event : Event) → cause_of limits w event ≡ None → NoneStands limits w event
 unfolding cause_of
 none_stands limits w event legal =
-    let off : (at : ℕ) (why : Cause) → slice_get order at ≡ Some why → stands why limits w event ≡ false = λ at why is. passed (λ why. stands why limits w event) order at why legal is in
+    let off : (at : ℕ) (why : Cause) → slice_get cause_order at ≡ Some why → applies why limits w event ≡ false = λ at why is. passed (λ why. applies why limits w event) cause_order at why legal is in
     record {
       unknown_group = off 7 cause.UnknownGroup refl;
       unknown_task = off 11 cause.UnknownTask refl;

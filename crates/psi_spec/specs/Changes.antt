@@ -2,53 +2,46 @@
 use Rattle.std.specs.Prelude.{ℕ, ◌-◌, ◌≤◌, List, [], ◌∷◌, length, map, take, filter, slice_get, slice_index_or, ◌==◌, ◌||◌, Bool, false, Option, None, Some}
 use Rattle.std.specs.List.{range_with_len}
 use Rattle.psi_base.specs.declared.event.Act.{Act}
-use Rattle.psi_base.specs.declared.event.Act.TheVariants as act
 use Rattle.psi_base.specs.declared.event.Event.{Event}
 use Rattle.psi_spec.specs.declared.machine.Task.{Task}
+use Rattle.psi_spec.specs.World.{Effect, forks, moves, none, readies, stalls, switches, effect_of}
 use Rattle.psi_spec.specs.World.{World, Tasks, task_of, test_task, task_part, running_on, after, up_to}
 use Rattle.psi_spec.specs.Stall.{stall, states}
 
 -- ---- the processors that an act touches
 
--- The one task whose counts an act changes, before it. The task that a switch puts on a processor is ready before and
--- runs after, and counts the same; so it is the task that leaves whose counts change.
+-- The one task whose counts an effect changes, before it. The task that a switch puts on a processor is ready before and runs
+-- after, and counts the same; so it is the task that leaves whose counts change.
+abbrev pub before_effect : Tasks → Effect → Option Task
+before_effect tasks none = None
+before_effect tasks (forks pid path cpu) = None
+before_effect tasks (readies pid cpu) = task_of tasks pid.0
+before_effect tasks (stalls pid stalled) = task_of tasks pid.0
+before_effect tasks (moves pid path) = task_of tasks pid.0
+before_effect tasks (switches cpu next how) = task_part (running_on tasks cpu.0)
+
+-- the one task whose counts an act changes, before it
 abbrev pub before : Tasks → Act → Option Task
-before tasks (act.Group path) = None
-before tasks (act.Remove path) = None
-before tasks (act.Prefer path preference) = None
-before tasks (act.Fork pid path cpu) = None
-before tasks (act.Wake pid cpu) = task_of tasks pid.0
-before tasks (act.Switch cpu next how) = task_part (running_on tasks cpu.0)
-before tasks (act.Stall pid) = task_of tasks pid.0
-before tasks (act.Unstall pid) = task_of tasks pid.0
-before tasks (act.Migrate pid cpu) = task_of tasks pid.0
-before tasks (act.Move pid path) = task_of tasks pid.0
-before tasks (act.Mem path current swap scan) = None
-before tasks (act.Host mem_total swap_total swap_free) = None
-before tasks (act.Trigger path res level threshold_us window_us) = None
-before tasks act.End = None
+before tasks what = before_effect tasks (effect_of what)
 
 -- the task is on a processor, asleep or not
 abbrev pub is_at : ℕ → Task → Bool
 is_at cpu task = task.cpu.0 == cpu
 
--- An act touches a processor, by the task that it changes as it is before: the processor that a fork or a switch names,
--- the one that a task comes to and the one that it was on at a wake or a migration, and the task's at other acts on it.
+-- An effect touches a processor, by the task that it changes as it is before: the processor that a fork or a switch names, the
+-- one that a task comes to and the one that it was on where it is put on a run queue, and the task's where it stays there.
+abbrev pub touched_by : Effect → Option Task → ℕ → Bool
+touched_by none old cpu = false
+touched_by (forks pid path named) old cpu = named.0 == cpu
+touched_by (readies pid named) old cpu = named.0 == cpu || test_task old (is_at cpu)
+touched_by (stalls pid stalled) old cpu = test_task old (is_at cpu)
+touched_by (moves pid path) old cpu = test_task old (is_at cpu)
+touched_by (switches named next how) old cpu = named.0 == cpu
+
+-- An act touches a processor of the machine, by the task that it changes as it is before. It is asked of processors that there
+-- are alone: an act that touches every processor touches whichever is asked for.
 abbrev pub touched : Act → Option Task → ℕ → Bool
-touched (act.Group path) old cpu = false
-touched (act.Remove path) old cpu = false
-touched (act.Prefer path preference) old cpu = false
-touched (act.Fork pid path named) old cpu = named.0 == cpu
-touched (act.Wake pid named) old cpu = named.0 == cpu || test_task old (is_at cpu)
-touched (act.Switch named next how) old cpu = named.0 == cpu
-touched (act.Stall pid) old cpu = test_task old (is_at cpu)
-touched (act.Unstall pid) old cpu = test_task old (is_at cpu)
-touched (act.Migrate pid named) old cpu = named.0 == cpu || test_task old (is_at cpu)
-touched (act.Move pid path) old cpu = test_task old (is_at cpu)
-touched (act.Mem path current swap scan) old cpu = false
-touched (act.Host mem_total swap_total swap_free) old cpu = false
-touched (act.Trigger path res level threshold_us window_us) old cpu = false
-touched act.End old cpu = false
+touched what old cpu = touched_by (effect_of what) old cpu
 
 -- ---- the changes of a processor
 

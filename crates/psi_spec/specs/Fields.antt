@@ -1,5 +1,5 @@
 -- The kinds of fields that an event line has: the values of each, and the one word that spells a value.
-use Rattle.std.specs.Prelude.{◌≡◌, ℕ, ◌≤◌, ◌<◌, ◌^◌, List, [], ◌∷◌, nat_lt, nat_le, ◌&&◌, Bool, true, if◌then◌else◌, codes, decimal, Option, None, Some, IfSome, option_map}
+use Rattle.std.specs.Prelude.{◌≡◌, ◌⊎◌, ℕ, ◌≤◌, ◌<◌, ◌^◌, List, [], ◌∷◌, nat_lt, nat_le, ◌&&◌, Bool, true, if◌then◌else◌, codes, decimal, Option, None, Some, IfSome, option_map}
 use Rattle.std.specs.Str.{bytes_eq}
 use Rattle.psi_base.specs.Number.{number_of}
 use Rattle.psi_base.specs.Path.{is_path}
@@ -106,6 +106,11 @@ word level which = level_word which
 abbrev pub named : {A : Type 0} → (A → List ℕ) → List A → List ℕ → Option A
 named name [] text = None
 named name (x ∷ xs) text = if bytes_eq text (name x) then Some x else named name xs text
+
+-- this is one of these
+abbrev pub IsAmong : {A : Type 0} → A → List A → Type 0
+IsAmong x [] = ⊥
+IsAmong x (y ∷ ys) = (x ≡ y) ⊎ IsAmong x ys
 
 -- a number where it is in a range
 abbrev pub kept : (ℕ → Bool) → Option ℕ → Option ℕ

@@ -1,7 +1,7 @@
 -- The lines of a trace, as this profile has them: which bytes spell a header and an event, which event a line has,
 -- and for what a line is refused that spells none.
-use Rattle.std.specs.Prelude.{◌≡◌, ◌≢◌, ◌↔◌, ℕ, ◌+◌, ◌≤◌, ◌<◌, ◌^◌, List, [], ◌∷◌, ◌++◌, drop, length, slice_index, EachIndex, codes, decimal, true, Option, None, Some, Result, Ok, Err, IfSome}
-use Rattle.std.specs.List.{range_with_len, slice_get}
+use Rattle.std.specs.Prelude.{◌≡◌, ◌≢◌, ◌↔◌, ℕ, ◌+◌, ◌≤◌, ◌<◌, ◌^◌, List, [], ◌∷◌, ◌++◌, drop, map, length, slice_index, EachIndex, codes, decimal, true, Option, None, Some, Result, Ok, Err, IfSome}
+use Rattle.std.specs.List.{flat_map, range_with_len, slice_get}
 use Rattle.psi_base.specs.Number.{number_of}
 use Rattle.psi_base.specs.Path.{parts_at, is_path}
 use Rattle.psi_base.specs.declared.event.Act.{Act}
@@ -9,7 +9,7 @@ use Rattle.psi_base.specs.declared.event.Act.TheVariants as act
 use Rattle.psi_base.specs.declared.event.Event.{Event}
 use Rattle.psi_base.specs.declared.event.Cause.{Cause}
 use Rattle.psi_base.specs.declared.event.Cause.TheVariants as cause
-use Rattle.psi_spec.specs.Fields.{Kind, Value, InRange, IsPid, word, value_of, named, next_word, how_word, preference_word, resource_word, level_word}
+use Rattle.psi_spec.specs.Fields.{Kind, Value, InRange, IsPid, word, IsAmong, value_of, named}
 use Rattle.psi_spec.specs.Fields as kind
 
 -- words with one space between them
@@ -18,52 +18,22 @@ joined [] = []
 joined (text ∷ []) = text
 joined (text ∷ next ∷ words) = text ++ 32 ∷ joined (next ∷ words)
 
--- the verb of an act and its fields
-abbrev pub act_words : Act → List (List ℕ)
-act_words (act.Group path) = codes "group" ∷ path ∷ []
-act_words (act.Remove path) = codes "rmgroup" ∷ path ∷ []
-act_words (act.Prefer path preference) = codes "prefer" ∷ path ∷ preference_word preference ∷ []
-act_words (act.Fork pid path cpu) = codes "fork" ∷ decimal pid.0 ∷ path ∷ decimal cpu.0 ∷ []
-act_words (act.Wake pid cpu) = codes "wake" ∷ decimal pid.0 ∷ decimal cpu.0 ∷ []
-act_words (act.Switch cpu next how) = codes "switch" ∷ decimal cpu.0 ∷ next_word next ∷ how_word how ∷ []
-act_words (act.Stall pid) = codes "stall" ∷ decimal pid.0 ∷ []
-act_words (act.Unstall pid) = codes "unstall" ∷ decimal pid.0 ∷ []
-act_words (act.Migrate pid cpu) = codes "migrate" ∷ decimal pid.0 ∷ decimal cpu.0 ∷ []
-act_words (act.Move pid path) = codes "move" ∷ decimal pid.0 ∷ path ∷ []
-act_words (act.Mem path current swap scan) = codes "mem" ∷ path ∷ decimal current ∷ decimal swap ∷ decimal scan ∷ []
-act_words (act.Host mem_total swap_total swap_free) = codes "host" ∷ decimal mem_total ∷ decimal swap_total ∷ decimal swap_free ∷ []
-act_words (act.Trigger path res level threshold_us window_us) = codes "trigger" ∷ path ∷ resource_word res ∷ level_word level ∷ decimal threshold_us ∷ decimal window_us ∷ []
-act_words act.End = codes "end" ∷ []
+-- the versions of traces
+pub data Version : Type 0 where
+  One : Version
 
--- the one spelling of an event
-unfoldable pub spelling : Event → List ℕ
-spelling event = joined (decimal event.at ∷ act_words event.act)
+-- how a version is written
+abbrev pub version_number : Version → ℕ
+version_number One = 1
+
+-- what a header tells: the version, and how many processors there are
+pub record Header : Type 0 where
+  pub version : Version
+  pub cpus : ℕ
 
 -- the header line of a trace of this version, for so many processors
 unfoldable pub header : ℕ → ℕ → List ℕ
 header version cpus = codes "psitrace " ++ decimal version ++ codes " cpus=" ++ decimal cpus
-
--- the values of an act are ones that a trace may speak of
-abbrev pub ActFits : Act → Type 0
-ActFits (act.Group path) = is_path path ≡ true
-ActFits (act.Remove path) = is_path path ≡ true
-ActFits (act.Prefer path preference) = is_path path ≡ true
-ActFits (act.Fork pid path cpu) = IsPid pid × (is_path path ≡ true) × (cpu.0 < 2 ^ 32)
-ActFits (act.Wake pid cpu) = IsPid pid × (cpu.0 < 2 ^ 32)
-ActFits (act.Switch cpu next how) = (cpu.0 < 2 ^ 32) × IfSome next IsPid
-ActFits (act.Stall pid) = IsPid pid
-ActFits (act.Unstall pid) = IsPid pid
-ActFits (act.Migrate pid cpu) = IsPid pid × (cpu.0 < 2 ^ 32)
-ActFits (act.Move pid path) = IsPid pid × (is_path path ≡ true)
-ActFits (act.Mem path current swap scan) = (is_path path ≡ true) × (current ≤ 2 ^ 60) × (swap ≤ 2 ^ 60) × (scan ≤ 2 ^ 60)
-ActFits (act.Host mem_total swap_total swap_free) = (mem_total ≤ 2 ^ 60) × (swap_total ≤ 2 ^ 60) × (swap_free ≤ 2 ^ 60)
-ActFits (act.Trigger path res level threshold_us window_us) = (is_path path ≡ true) × (threshold_us < 2 ^ 64) × (window_us < 2 ^ 64)
-ActFits act.End = Unit {0}
-
--- an event is one that a trace may speak of
-pub record Fits (event : Event) : Type 0 where
-  pub at : event.at < 2 ^ 64
-  pub act : ActFits event.act
 
 -- one value of each kind
 abbrev pub Values : List Kind → Type 0
@@ -122,9 +92,66 @@ verb_word verb = (form_of verb).word
 abbrev pub kinds_of : Verb → List Kind
 kinds_of verb = (form_of verb).kinds
 
--- all the verbs; no two are written alike, and those that a trace has most of stand first
-abbrev pub verbs : List Verb
-verbs = Switch ∷ Wake ∷ Stall ∷ Unstall ∷ Migrate ∷ Move ∷ Fork ∷ Mem ∷ Host ∷ Group ∷ Remove ∷ Prefer ∷ Trigger ∷ End ∷ []
+-- the verbs of a version; no two are written alike, and those that a trace has most of stand first
+abbrev pub verbs_of : Version → List Verb
+verbs_of One = Switch ∷ Wake ∷ Stall ∷ Unstall ∷ Migrate ∷ Move ∷ Fork ∷ Mem ∷ Host ∷ Group ∷ Remove ∷ Prefer ∷ Trigger ∷ End ∷ []
+
+-- a verb with the values of its fields
+pub record Phrase : Type 0 where
+  pub verb : Verb
+  pub values : Values (kinds_of verb)
+
+-- such a verb and such values
+abbrev pub phrase : (verb : Verb) → Values (kinds_of verb) → Phrase
+phrase verb values = record { verb = verb; values = values }
+
+-- the verb that tells of an act, and the values of its fields
+abbrev pub phrase_of : Act → Phrase
+phrase_of (act.Group path) = phrase Group (path, tt)
+phrase_of (act.Remove path) = phrase Remove (path, tt)
+phrase_of (act.Prefer path preference) = phrase Prefer (path, (preference, tt))
+phrase_of (act.Fork pid path cpu) = phrase Fork (pid, (path, (cpu, tt)))
+phrase_of (act.Wake pid cpu) = phrase Wake (pid, (cpu, tt))
+phrase_of (act.Switch cpu next how) = phrase Switch (cpu, (next, (how, tt)))
+phrase_of (act.Stall pid) = phrase Stall (pid, tt)
+phrase_of (act.Unstall pid) = phrase Unstall (pid, tt)
+phrase_of (act.Migrate pid cpu) = phrase Migrate (pid, (cpu, tt))
+phrase_of (act.Move pid path) = phrase Move (pid, (path, tt))
+phrase_of (act.Mem path current swap scan) = phrase Mem (path, (current, (swap, (scan, tt))))
+phrase_of (act.Host mem_total swap_total swap_free) = phrase Host (mem_total, (swap_total, (swap_free, tt)))
+phrase_of (act.Trigger path res level threshold_us window_us) = phrase Trigger (path, (res, (level, (threshold_us, (window_us, tt)))))
+phrase_of act.End = phrase End tt
+
+-- ---- spelling
+
+-- the words of values
+abbrev pub field_words : (ks : List Kind) → Values ks → List (List ℕ)
+field_words [] values = []
+field_words (k ∷ ks) values = word k values.0 ∷ field_words ks values.1
+
+-- each value is one that a trace may speak of
+abbrev pub AreInRange : (ks : List Kind) → Values ks → Type 0
+AreInRange [] values = Unit {0}
+AreInRange (k ∷ ks) values = InRange k values.0 × AreInRange ks values.1
+
+-- the verb of an act and its fields
+abbrev pub act_words : Act → List (List ℕ)
+act_words what = verb_word (phrase_of what).verb ∷ field_words (kinds_of (phrase_of what).verb) (phrase_of what).values
+
+-- the one spelling of an event
+unfoldable pub spelling : Event → List ℕ
+spelling event = joined (decimal event.at ∷ act_words event.act)
+
+-- the values of an act are ones that a trace may speak of
+abbrev pub ActFits : Act → Type 0
+ActFits what = AreInRange (kinds_of (phrase_of what).verb) (phrase_of what).values
+
+-- an event is one that a trace may speak of
+pub record Fits (event : Event) : Type 0 where
+  pub at : event.at < 2 ^ 64
+  pub act : ActFits event.act
+
+-- ---- reading
 
 -- a step of reading after another, unless that one found a fault
 infixl 10 ◌>>=◌
@@ -157,39 +184,51 @@ act_from verb words = do
   values ← values_from 1 (kinds_of verb) words
   Ok ((form_of verb).act values)
 
--- the verb that a word is
-unfoldable pub verb_of : List ℕ → Option Verb
-verb_of text = named verb_word verbs text
+-- the verb that a word is, of these
+unfoldable pub verb_of : List Verb → List ℕ → Option Verb
+verb_of verbs text = named verb_word verbs text
 
 -- the act of a verb that was found, and its fields
 abbrev pub act_in : Option Verb → List (List ℕ) → Result Act Cause
 act_in None words = Err cause.BadVerb
 act_in (Some verb) words = act_from verb words
 
--- the act that a verb and its fields spell
-unfoldable pub act_at : List (List ℕ) → Result Act Cause
-act_at [] = Err cause.BadVerb
-act_at (text ∷ words) = act_in (verb_of text) words
+-- the act that a verb of these and its fields spell
+unfoldable pub act_at : List Verb → List (List ℕ) → Result Act Cause
+act_at verbs [] = Err cause.BadVerb
+act_at verbs (text ∷ words) = act_in (verb_of verbs text) words
 
 -- the event at a time that was found, with the verb and its fields
-abbrev pub event_in : Option ℕ → List (List ℕ) → Result Event Cause
-event_in None words = Err cause.BadTime
-event_in (Some at) words = do
-  what ← act_at words
+abbrev pub event_in : List Verb → Option ℕ → List (List ℕ) → Result Event Cause
+event_in verbs None words = Err cause.BadTime
+event_in verbs (Some at) words = do
+  what ← act_at verbs words
   Ok (record { at = at; act = what })
 
 -- the event that the parts of a line spell
-unfoldable pub event_at : List (List ℕ) → Result Event Cause
-event_at [] = Err cause.BadTime
-event_at (time ∷ words) = event_in (number_of time) words
+unfoldable pub event_at : List Verb → List (List ℕ) → Result Event Cause
+event_at verbs [] = Err cause.BadTime
+event_at verbs (time ∷ words) = event_in verbs (number_of time) words
 
--- the event that a line spells, or the first cause against it
-unfoldable pub event_of : List ℕ → Result Event Cause
-event_of line = event_at (parts_at 32 line)
+-- the event that a line spells by these verbs, or the first cause against it
+unfoldable pub event_of : List Verb → List ℕ → Result Event Cause
+event_of verbs line = event_at verbs (parts_at 32 line)
 
--- the number of processors of a line that is a header of version 1
-unfoldable pub header_of : List ℕ → Option ℕ
-header_of line = named (header 1) (range_with_len 1 64) line
+-- what a header of the first version tells
+abbrev pub plain_header : ℕ → Header
+plain_header cpus = record { version = One; cpus = cpus }
+
+-- the line of a header
+abbrev pub header_line : Header → List ℕ
+header_line head = header (version_number head.version) head.cpus
+
+-- the headers of a version: for 1 to 64 processors
+abbrev pub headers_of : Version → List Header
+headers_of version = map (λ cpus. let head : Header = record { version = version; cpus = cpus } in head) (range_with_len 1 64)
+
+-- the header of one of these versions that a line is
+unfoldable pub header_of : List Version → List ℕ → Option Header
+header_of versions line = named header_line (flat_map headers_of versions) line
 
 -- a word spells a value of a kind
 abbrev pub Spells : Kind → List ℕ → Type 0
@@ -217,38 +256,43 @@ pub record IsFirstBad (ks : List Kind) (parts : List (List ℕ)) (at : ℕ) : Ty
 abbrev pub HasTime : List (List ℕ) → Type 0
 HasTime parts = IsGood (Some kind.number) (slice_get parts 0)
 
--- the second part of a line is this verb
-abbrev pub HasVerb : List (List ℕ) → Verb → Type 0
-HasVerb parts verb = slice_get parts 1 ≡ Some (verb_word verb)
+-- the second part of a line is this verb, and it is one of these
+abbrev pub HasVerb : List Verb → List (List ℕ) → Verb → Type 0
+HasVerb verbs parts verb = IsAmong verb verbs × (slice_get parts 1 ≡ Some (verb_word verb))
 
 -- the parts behind the verb are bad first at the field with this number, counted from 1
-pub record HasBadField (parts : List (List ℕ)) (number : ℕ) : Type 0 where
+pub record HasBadField (verbs : List Verb) (parts : List (List ℕ)) (number : ℕ) : Type 0 where
   pub time : HasTime parts
   pub verb : Verb
-  pub has_verb : HasVerb parts verb
+  pub has_verb : HasVerb verbs parts verb
   pub at : ℕ
   pub is_number : number ≡ at + 1
   pub first : IsFirstBad (kinds_of verb) (drop 2 parts) at
 
 -- The cause against the parts of a line, for what they spell alone: a first part that is no time; else a second part
--- that is missing or no verb; else the leftmost field that is missing, wrong or one too many. There is no other.
-abbrev pub IsCause : List (List ℕ) → Cause → Type 0
-IsCause parts cause.BadTime = HasTime parts → ⊥
-IsCause parts cause.BadVerb = HasTime parts × ((verb : Verb) → HasVerb parts verb → ⊥)
-IsCause parts (cause.BadField number) = HasBadField parts number
-IsCause parts _ = ⊥
+-- that is missing or no verb of these; else the leftmost field that is missing, wrong or one too many. There is no other.
+abbrev pub IsCause : List Verb → List (List ℕ) → Cause → Type 0
+IsCause verbs parts cause.BadTime = HasTime parts → ⊥
+IsCause verbs parts cause.BadVerb = HasTime parts × ((verb : Verb) → HasVerb verbs parts verb → ⊥)
+IsCause verbs parts (cause.BadField number) = HasBadField verbs parts number
+IsCause verbs parts _ = ⊥
 
--- A line is read as an event exactly where it is the spelling of one that a trace may speak of.
+-- an event is told of by one of these verbs
+abbrev pub IsKnown : List Verb → Event → Type 0
+IsKnown verbs event = IsAmong (phrase_of event.act).verb verbs
+
+-- A line is read as an event exactly where it is the spelling of one that a trace may speak of, by one of the verbs.
 abbrev pub ReadsSpelled : Type 0
-ReadsSpelled = (line : List ℕ) (event : Event) → (event_of line ≡ Ok event) ↔ (Fits event × (line ≡ spelling event))
+ReadsSpelled = (verbs : List Verb) (line : List ℕ) (event : Event) → (event_of verbs line ≡ Ok event) ↔ (Fits event × IsKnown verbs event × (line ≡ spelling event))
 
 -- A line is refused exactly for what is wrong first from the left.
 abbrev pub FindsCauses : Type 0
-FindsCauses = (line : List ℕ) (why : Cause) → (event_of line ≡ Err why) ↔ IsCause (parts_at 32 line) why
+FindsCauses = (verbs : List Verb) (line : List ℕ) (why : Cause) → (event_of verbs line ≡ Err why) ↔ IsCause verbs (parts_at 32 line) why
 
--- A line is read as a header exactly where it is the header of 1 to 64 processors.
+-- A line is read as a header exactly where it is the header of one of the versions and of 1 to 64 processors.
 abbrev pub HeadersSpelled : Type 0
-HeadersSpelled = (line : List ℕ) (cpus : ℕ) → (header_of line ≡ Some cpus) ↔ ((1 ≤ cpus) × (cpus ≤ 64) × (line ≡ header 1 cpus))
+HeadersSpelled = (versions : List Version) (line : List ℕ) (head : Header) →
+    (header_of versions line ≡ Some head) ↔ (IsAmong head.version versions × (1 ≤ head.cpus) × (head.cpus ≤ 64) × (line ≡ header_line head))
 
 -- bytes that may stand in a line: none is a newline, and there are at most 512
 pub record IsLine (bytes : List ℕ) : Type 0 where

@@ -5,9 +5,9 @@ use Rattle.std.specs.Ordering.{nat_cmp}
 use Rattle.std.specs.Cmp.Lexicographic.{slice_cmp}
 use Rattle.std.specs.FinMap as entries
 use Rattle.psi_base.specs.declared.event.Act.{Act}
-use Rattle.psi_base.specs.declared.event.Act.TheVariants as act
 use Rattle.psi_base.specs.declared.event.Event.{Event}
 use Rattle.psi_spec.specs.declared.machine.GroupLife.{GroupLife}
+use Rattle.psi_spec.specs.Names.{names}
 use Rattle.psi_spec.specs.World.{World, Limits, root, is_live, slot_of, parent_path, after_event}
 use Rattle.psi_spec.specs.Refusal.{cause_of}
 use Rattle.psi_spec.specs.Stall.{parents_of, is_under}
@@ -87,22 +87,14 @@ abbrev pub leads_to : List (Option ℕ) → Option ℕ → ℕ → Bool
 leads_to parents None high = false
 leads_to parents (Some low) high = is_under parents low high
 
+-- the parent of a new group, if one is made
+abbrev pub parent_of_new : List GroupLife → Option (List ℕ) → List (Option ℕ)
+parent_of_new groups None = []
+parent_of_new groups (Some path) = slot_of groups (parent_path path) ∷ []
+
 -- the parents that an act adds: that of a new group
 abbrev pub new_parents : List GroupLife → Act → List (Option ℕ)
-new_parents groups (act.Group path) = slot_of groups (parent_path path) ∷ []
-new_parents groups (act.Remove path) = []
-new_parents groups (act.Prefer path preference) = []
-new_parents groups (act.Fork pid path cpu) = []
-new_parents groups (act.Wake pid cpu) = []
-new_parents groups (act.Switch cpu next how) = []
-new_parents groups (act.Stall pid) = []
-new_parents groups (act.Unstall pid) = []
-new_parents groups (act.Migrate pid cpu) = []
-new_parents groups (act.Move pid path) = []
-new_parents groups (act.Mem path current swap scan) = []
-new_parents groups (act.Host mem_total swap_total swap_free) = []
-new_parents groups (act.Trigger path res level threshold_us window_us) = []
-new_parents groups act.End = []
+new_parents groups what = parent_of_new groups (names what).new_path
 
 -- ---- laws
 

@@ -1,5 +1,6 @@
 pub mod Fields
 pub mod Grammar
+pub mod Names
 pub mod World
 pub mod Refusal
 pub mod Groups

@@ -13,60 +13,8 @@ use Rattle.psi_base.specs.declared.event.Cause.{Cause}
 use Rattle.psi_base.specs.declared.event.Cause.TheVariants as cause
 use Rattle.psi_spec.specs.declared.machine.Task.{Task}
 use Rattle.psi_spec.specs.declared.machine.GroupLife.{GroupLife}
+use Rattle.psi_spec.specs.Names.{names}
 use Rattle.psi_spec.specs.World.{World, Limits, Tasks, task_of, test_task, running_on, task_part, is_running, is_ready, is_active, is_ready_on, is_live, is_trigger, slot_of, parent_path, is_root, after_event}
-
--- ---- what a line names
-
--- the path of a group that has to be live
-abbrev pub live_path : Act → Option (List ℕ)
-live_path (act.Group path) = None
-live_path (act.Remove path) = Some path
-live_path (act.Prefer path preference) = Some path
-live_path (act.Fork pid path cpu) = Some path
-live_path (act.Wake pid cpu) = None
-live_path (act.Switch cpu next how) = None
-live_path (act.Stall pid) = None
-live_path (act.Unstall pid) = None
-live_path (act.Migrate pid cpu) = None
-live_path (act.Move pid path) = Some path
-live_path (act.Mem path current swap scan) = Some path
-live_path (act.Host mem_total swap_total swap_free) = None
-live_path (act.Trigger path res level threshold_us window_us) = Some path
-live_path act.End = None
-
--- the task that has to be live
-abbrev pub live_task : Act → Option Pid
-live_task (act.Group path) = None
-live_task (act.Remove path) = None
-live_task (act.Prefer path preference) = None
-live_task (act.Fork pid path cpu) = None
-live_task (act.Wake pid cpu) = Some pid
-live_task (act.Switch cpu next how) = next
-live_task (act.Stall pid) = Some pid
-live_task (act.Unstall pid) = Some pid
-live_task (act.Migrate pid cpu) = Some pid
-live_task (act.Move pid path) = Some pid
-live_task (act.Mem path current swap scan) = None
-live_task (act.Host mem_total swap_total swap_free) = None
-live_task (act.Trigger path res level threshold_us window_us) = None
-live_task act.End = None
-
--- the processor that has to be there
-abbrev pub named_cpu : Act → Option ℕ
-named_cpu (act.Group path) = None
-named_cpu (act.Remove path) = None
-named_cpu (act.Prefer path preference) = None
-named_cpu (act.Fork pid path cpu) = Some cpu.0
-named_cpu (act.Wake pid cpu) = Some cpu.0
-named_cpu (act.Switch cpu next how) = Some cpu.0
-named_cpu (act.Stall pid) = None
-named_cpu (act.Unstall pid) = None
-named_cpu (act.Migrate pid cpu) = Some cpu.0
-named_cpu (act.Move pid path) = None
-named_cpu (act.Mem path current swap scan) = None
-named_cpu (act.Host mem_total swap_total swap_free) = None
-named_cpu (act.Trigger path res level threshold_us window_us) = None
-named_cpu act.End = None
 
 -- ---- single tests
 
@@ -117,21 +65,6 @@ is_busy w (Some path) = is_root path || has_child w.groups (slot_of w.groups pat
 abbrev pub has_task : Tasks → Option Pid → Bool
 has_task tasks None = false
 has_task tasks (Some pid) = is_some (task_of tasks pid.0)
-
--- the path of a group that is made
-abbrev pub new_path : Act → Option (List ℕ)
-new_path (act.Group path) = Some path
-new_path _ = None
-
--- the path of a group that is removed
-abbrev pub removed_path : Act → Option (List ℕ)
-removed_path (act.Remove path) = Some path
-removed_path _ = None
-
--- the task that is made
-abbrev pub new_pid : Act → Option Pid
-new_pid (act.Fork pid path cpu) = Some pid
-new_pid _ = None
 
 -- no task may run where a processor is said to idle, and one must where a task is said to leave
 abbrev pub is_wrong : How → Option (ℕ × Task) → Bool
@@ -196,38 +129,38 @@ bad_window _ = false
 -- ---- causes
 
 -- When each cause stands against an event in a world. Causes that a line's bytes alone can have stand against no event.
-abbrev pub stands : Cause → Limits → World → Event → Bool
-stands cause.AfterEnd limits w event = w.ended
-stands cause.TimeBack limits w event = nat_lt event.at w.last
-stands cause.TimeTooLate limits w event = nat_lt limits.latest event.at
-stands cause.TooManyEvents limits w event = nat_le 4000000 w.lines
-stands cause.TooManyGroups limits w event = is_some (new_path event.act) && nat_le 1024 (length w.groups)
-stands cause.TooManyTasks limits w event = is_some (new_pid event.act) && nat_le 65536 (tasks_by.len w.tasks)
-stands cause.TooManyTriggers limits w event = is_trigger event.act && nat_le 256 w.triggers
-stands cause.UnknownGroup limits w event = lacks_group w.groups (live_path event.act)
-stands cause.GroupExists limits w event = has_group w.groups (new_path event.act)
-stands cause.NoParent limits w event = lacks_parent w.groups (new_path event.act)
-stands cause.GroupBusy limits w event = is_busy w (removed_path event.act)
-stands cause.UnknownTask limits w event = lacks_task w.tasks (live_task event.act)
-stands cause.TaskExists limits w event = has_task w.tasks (new_pid event.act)
-stands cause.BadWindow limits w event = bad_window event.act
-stands cause.BadCpu limits w event = lacks_cpu limits.cpus (named_cpu event.act)
-stands cause.NotRunning limits w event = not_running w.tasks event.act
-stands cause.NotReady limits w event = not_ready w.tasks event.act
-stands cause.NotBlocked limits w event = not_blocked w.tasks event.act
-stands cause.WrongHow limits w event = wrong_how w.tasks event.act
-stands cause.InStall limits w event = in_stall w.tasks event.act
-stands cause.NotInStall limits w event = not_in_stall w.tasks event.act
-stands cause.BadHeader limits w event = false
-stands cause.LineTooLong limits w event = false
-stands cause.BadTime limits w event = false
-stands cause.BadVerb limits w event = false
-stands (cause.BadField i) limits w event = false
-stands cause.NoEnd limits w event = false
+abbrev pub applies : Cause → Limits → World → Event → Bool
+applies cause.AfterEnd limits w event = w.ended
+applies cause.TimeBack limits w event = nat_lt event.at w.last
+applies cause.TimeTooLate limits w event = nat_lt limits.latest event.at
+applies cause.TooManyEvents limits w event = nat_le 4000000 w.lines
+applies cause.TooManyGroups limits w event = is_some (names event.act).new_path && nat_le 1024 (length w.groups)
+applies cause.TooManyTasks limits w event = is_some (names event.act).new_task && nat_le 65536 (tasks_by.len w.tasks)
+applies cause.TooManyTriggers limits w event = is_trigger event.act && nat_le 256 w.triggers
+applies cause.UnknownGroup limits w event = lacks_group w.groups (names event.act).live_path
+applies cause.GroupExists limits w event = has_group w.groups (names event.act).new_path
+applies cause.NoParent limits w event = lacks_parent w.groups (names event.act).new_path
+applies cause.GroupBusy limits w event = is_busy w (names event.act).removed_path
+applies cause.UnknownTask limits w event = lacks_task w.tasks (names event.act).live_task
+applies cause.TaskExists limits w event = has_task w.tasks (names event.act).new_task
+applies cause.BadWindow limits w event = bad_window event.act
+applies cause.BadCpu limits w event = lacks_cpu limits.cpus (names event.act).cpu
+applies cause.NotRunning limits w event = not_running w.tasks event.act
+applies cause.NotReady limits w event = not_ready w.tasks event.act
+applies cause.NotBlocked limits w event = not_blocked w.tasks event.act
+applies cause.WrongHow limits w event = wrong_how w.tasks event.act
+applies cause.InStall limits w event = in_stall w.tasks event.act
+applies cause.NotInStall limits w event = not_in_stall w.tasks event.act
+applies cause.BadHeader limits w event = false
+applies cause.LineTooLong limits w event = false
+applies cause.BadTime limits w event = false
+applies cause.BadVerb limits w event = false
+applies (cause.BadField i) limits w event = false
+applies cause.NoEnd limits w event = false
 
 -- the order in which causes are asked for, where several stand
-abbrev pub order : List Cause
-order =
+abbrev pub cause_order : List Cause
+cause_order =
     cause.AfterEnd ∷ cause.TimeBack ∷ cause.TimeTooLate
     ∷ cause.TooManyEvents ∷ cause.TooManyGroups ∷ cause.TooManyTasks ∷ cause.TooManyTriggers
     ∷ cause.UnknownGroup ∷ cause.GroupExists ∷ cause.NoParent ∷ cause.GroupBusy
@@ -236,7 +169,7 @@ order =
 
 -- the first cause against an event, or none where the event is legal
 unfoldable pub cause_of : Limits → World → Event → Option Cause
-cause_of limits w event = find (λ why. stands why limits w event) order
+cause_of limits w event = find (λ why. applies why limits w event) cause_order
 
 -- each event is legal in the world after those before it
 abbrev pub AreLegal : Limits → World → List Event → Type 0

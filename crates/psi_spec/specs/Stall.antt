@@ -75,14 +75,14 @@ holds_of CpuFull tasks = list_any queues tasks && not (list_any runs tasks)
 holds_of Nonidle tasks = list_any (λ task. waits task || stalls task || is_up task) tasks
 
 -- the number of a state, from 0
-abbrev pub number_of : State → ℕ
-number_of IoSome = 0
-number_of IoFull = 1
-number_of MemSome = 2
-number_of MemFull = 3
-number_of CpuSome = 4
-number_of CpuFull = 5
-number_of Nonidle = 6
+abbrev pub state_number : State → ℕ
+state_number IoSome = 0
+state_number IoFull = 1
+state_number MemSome = 2
+state_number MemFull = 3
+state_number CpuSome = 4
+state_number CpuFull = 5
+state_number Nonidle = 6
 
 -- the states in the order of their numbers
 abbrev pub states : List State

@@ -7,13 +7,14 @@ use Rattle.psi_base.specs.declared.event.Event.{Event}
 use Rattle.psi_base.specs.declared.event.Cause.{Cause}
 use Rattle.psi_base.specs.declared.event.Cause.TheVariants as cause
 use Rattle.psi_base.specs.declared.event.Refusal.{Refusal}
-use Rattle.psi_spec.specs.Grammar.{event_of, header_of, header, spelling, Fits}
+use Rattle.psi_spec.specs.Fields.{IsAmong}
+use Rattle.psi_spec.specs.Grammar.{Fits, Header, IsKnown, Verb, Version, event_of, One, header, header_of, spelling, verbs_of, version_number}
 use Rattle.psi_spec.specs.World.{World, Limits, first_world, after_event, after}
 use Rattle.psi_spec.specs.Refusal.{cause_of, AreLegal}
 
 -- an accepted trace: its version, how many processors it has, and its events
 pub record Trace : Type 0 where
-  pub version : ℕ
+  pub version : Version
   pub cpus : ℕ
   pub events : List Event
 
@@ -37,7 +38,7 @@ lines_of events = flat_map (λ event. spelling event ++ 10 ∷ []) events
 
 -- the text of a trace: the header's line and those of its events, and nothing else
 abbrev pub text_of : Trace → List ℕ
-text_of trace = header trace.version trace.cpus ++ 10 ∷ lines_of trace.events
+text_of trace = header (version_number trace.version) trace.cpus ++ 10 ∷ lines_of trace.events
 
 -- each event can be spelled
 abbrev pub AllFit : List Event → Type 0
@@ -54,6 +55,21 @@ pub record IsAccepted (limits : Limits) (events : List Event) : Type 0 where
   pub legal : AreLegal limits first_world events
   pub ends : EndsLast events
 
+-- the verbs of each event are among these
+abbrev pub AreKnown : List Verb → List Event → Type 0
+AreKnown verbs [] = Unit {0}
+AreKnown verbs (event ∷ events) = IsKnown verbs event × AreKnown verbs events
+
+-- What is accepted: at which length of a tick (ns), which versions, and which verbs in a trace of a version.
+pub record Accepts : Type 0 where
+  pub tick : ℕ
+  pub versions : List Version
+  pub verbs : Version → List Verb
+
+-- all that there is, at a length of a tick (ns)
+abbrev pub accepts_all : ℕ → Accepts
+accepts_all tick = record { tick = tick; versions = One ∷ []; verbs = verbs_of }
+
 -- ---- one line
 
 -- an event that is refused for a cause, or taken
@@ -67,9 +83,9 @@ then_legal limits w (Err why) = Err why
 then_legal limits w (Ok event) = if_legal (cause_of limits w event) event
 
 -- the event of a line behind the header, or the first cause against the line: nothing may stand behind the end, a line
--- has at most 512 bytes, it spells an event, and the event is legal
-unfoldable pub line_event : Limits → World → List ℕ → Result Event Cause
-line_event limits w line = if w.ended then Err cause.AfterEnd else if nat_lt 512 (length line) then Err cause.LineTooLong else then_legal limits w (event_of line)
+-- has at most 512 bytes, it spells an event by one of the verbs, and the event is legal
+unfoldable pub line_event : List Verb → Limits → World → List ℕ → Result Event Cause
+line_event verbs limits w line = if w.ended then Err cause.AfterEnd else if nat_lt 512 (length line) then Err cause.LineTooLong else then_legal limits w (event_of verbs line)
 
 -- the cause against input that ends with this rest of a line, or none: after the end nothing is left, and before it the
 -- input may not end
@@ -77,13 +93,13 @@ unfoldable pub rest_cause : World → List ℕ → Option Cause
 rest_cause w rest = if w.ended then (if nat_lt 0 (length rest) then Some cause.AfterEnd else None) else if nat_lt 512 (length rest) then Some cause.LineTooLong else Some cause.NoEnd
 
 -- a header that was read, or a bad one
-abbrev pub or_bad_header : Option ℕ → Result ℕ Cause
+abbrev pub or_bad_header : Option Header → Result Header Cause
 or_bad_header None = Err cause.BadHeader
-or_bad_header (Some cpus) = Ok cpus
+or_bad_header (Some head) = Ok head
 
--- the number of processors of the first line, or the cause against it
-unfoldable pub first_line : List ℕ → Result ℕ Cause
-first_line line = if nat_lt 512 (length line) then Err cause.LineTooLong else or_bad_header (header_of line)
+-- what the first line tells, or the cause against it
+unfoldable pub first_line : List Version → List ℕ → Result Header Cause
+first_line versions line = if nat_lt 512 (length line) then Err cause.LineTooLong else or_bad_header (header_of versions line)
 
 -- the cause against input that ends inside its first line
 unfoldable pub first_rest : List ℕ → Cause
@@ -111,29 +127,29 @@ or_refused line (Ok event) next = next event
 
 -- The events of these parts of the input between newlines, of which the first is the line with this number and the
 -- last is what stands behind the last newline; or the first refused line.
-unfoldable pub events_from : Limits → World → ℕ → List (List ℕ) → Result (List Event) Refusal
-events_from limits w line [] = at_end line (rest_cause w [])
-events_from limits w line (rest ∷ []) = at_end line (rest_cause w rest)
-events_from limits w line (part ∷ next ∷ parts) = or_refused line (line_event limits w part) (λ event. followed (event ∷ []) (events_from limits (after_event w event) (line + 1) (next ∷ parts)))
+unfoldable pub events_from : List Verb → Limits → World → ℕ → List (List ℕ) → Result (List Event) Refusal
+events_from verbs limits w line [] = at_end line (rest_cause w [])
+events_from verbs limits w line (rest ∷ []) = at_end line (rest_cause w rest)
+events_from verbs limits w line (part ∷ next ∷ parts) = or_refused line (line_event verbs limits w part) (λ event. followed (event ∷ []) (events_from verbs limits (after_event w event) (line + 1) (next ∷ parts)))
 
--- a trace of these events
-abbrev pub with_events : ℕ → Result (List Event) Refusal → Result Trace Refusal
-with_events cpus (Ok events) = Ok (record { version = 1; cpus = cpus; events = events })
-with_events cpus (Err refusal) = Err refusal
+-- a trace with this header, and these events
+abbrev pub with_events : Header → Result (List Event) Refusal → Result Trace Refusal
+with_events head (Ok events) = Ok (record { version = head.version; cpus = head.cpus; events = events })
+with_events head (Err refusal) = Err refusal
 
 -- behind a header, or its refusal
-abbrev pub headed : ℕ → Result ℕ Cause → List (List ℕ) → Result Trace Refusal
-headed tick (Err why) parts = Err (refused 1 why)
-headed tick (Ok cpus) parts = with_events cpus (events_from (limits_of tick cpus) first_world 2 parts)
+abbrev pub headed : Accepts → Result Header Cause → List (List ℕ) → Result Trace Refusal
+headed accepts (Err why) parts = Err (refused 1 why)
+headed accepts (Ok head) parts = with_events head (events_from (accepts.verbs head.version) (limits_of accepts.tick head.cpus) first_world 2 parts)
 
-unfoldable pub trace_of_parts : ℕ → List (List ℕ) → Result Trace Refusal
-trace_of_parts tick [] = Err (refused 1 cause.BadHeader)
-trace_of_parts tick (rest ∷ []) = Err (refused 1 (first_rest rest))
-trace_of_parts tick (first ∷ next ∷ parts) = headed tick (first_line first) (next ∷ parts)
+unfoldable pub trace_of_parts : Accepts → List (List ℕ) → Result Trace Refusal
+trace_of_parts accepts [] = Err (refused 1 cause.BadHeader)
+trace_of_parts accepts (rest ∷ []) = Err (refused 1 (first_rest rest))
+trace_of_parts accepts (line ∷ next ∷ parts) = headed accepts (first_line accepts.versions line) (next ∷ parts)
 
--- the trace that bytes are at a tick length (ns), or the first refused line with its first cause
-unfoldable pub trace_of : ℕ → List ℕ → Result Trace Refusal
-trace_of tick bytes = trace_of_parts tick (parts_at 10 bytes)
+-- the trace that bytes are, by what is accepted, or the first refused line with its first cause
+unfoldable pub trace_of : Accepts → List ℕ → Result Trace Refusal
+trace_of accepts bytes = trace_of_parts accepts (parts_at 10 bytes)
 
 -- ---- laws
 
@@ -141,54 +157,58 @@ trace_of tick bytes = trace_of_parts tick (parts_at 10 bytes)
 abbrev pub IsCpuCount : ℕ → Type 0
 IsCpuCount cpus = (1 ≤ cpus) × (cpus ≤ 64)
 
--- what makes bytes a trace, with no reader in sight: they are its text, its header is known, and its events make up a
--- trace
-pub record IsTrace (tick : ℕ) (bytes : List ℕ) (trace : Trace) : Type 0 where
+-- what makes bytes a trace, with no reader in sight: they are its text, its version is accepted, and its events, each by a verb
+-- that is accepted, make up a trace
+pub record IsTrace (accepts : Accepts) (bytes : List ℕ) (trace : Trace) : Type 0 where
   pub text : bytes ≡ text_of trace
-  pub version : trace.version ≡ 1
+  pub version : IsAmong trace.version accepts.versions
   pub cpus : IsCpuCount trace.cpus
-  pub accepted : IsAccepted (limits_of tick trace.cpus) trace.events
+  pub known : AreKnown (accepts.verbs trace.version) trace.events
+  pub accepted : IsAccepted (limits_of accepts.tick trace.cpus) trace.events
 
 -- bytes are accepted as a trace exactly where they are one
 abbrev pub Accepted : Type 0
-Accepted = (tick : ℕ) (bytes : List ℕ) (trace : Trace) → (trace_of tick bytes ≡ Ok trace) ↔ IsTrace tick bytes trace
+Accepted = (accepts : Accepts) (bytes : List ℕ) (trace : Trace) → (trace_of accepts bytes ≡ Ok trace) ↔ IsTrace accepts bytes trace
 
 -- no newline is among the bytes
 abbrev pub NoNewline : List ℕ → Type 0
 NoNewline bytes = (k : ℕ) → k < length bytes → slice_index bytes k ≢ 10
 
 -- What stands in the input at the start of a line: the line with its newline, or a rest with none.
-abbrev pub IsLine : List ℕ → List ℕ → Type 0
-IsLine rest line = NoNewline line × ((behind : List ℕ) × (rest ≡ line ++ 10 ∷ behind))
+abbrev pub IsFirstLine : List ℕ → List ℕ → Type 0
+IsFirstLine rest line = NoNewline line × ((behind : List ℕ) × (rest ≡ line ++ 10 ∷ behind))
 
 abbrev pub IsRest : List ℕ → Type 0
 IsRest rest = NoNewline rest
 
 -- the cause against what stands at the start of a line in a world, as the line or as the rest of the input
-abbrev pub HasCause : Limits → World → List ℕ → Cause → Type 0
-HasCause limits w rest why = ((line : List ℕ) × IsLine rest line × (line_event limits w line ≡ Err why)) ⊎ (IsRest rest × (rest_cause w rest ≡ Some why))
+abbrev pub IsLineCause : List Verb → Limits → World → List ℕ → Cause → Type 0
+IsLineCause verbs limits w rest why = ((line : List ℕ) × IsFirstLine rest line × (line_event verbs limits w line ≡ Err why)) ⊎ (IsRest rest × (rest_cause w rest ≡ Some why))
 
 -- the same of the first line
-abbrev pub HasFirstCause : List ℕ → Cause → Type 0
-HasFirstCause rest why = ((line : List ℕ) × IsLine rest line × (first_line line ≡ Err why)) ⊎ (IsRest rest × (first_rest rest ≡ why))
+abbrev pub IsFirstLineCause : List Version → List ℕ → Cause → Type 0
+IsFirstLineCause versions rest why = ((line : List ℕ) × IsFirstLine rest line × (first_line versions line ≡ Err why)) ⊎ (IsRest rest × (first_rest rest ≡ why))
 
 -- the first refused line is one behind the header: the lines before it are a header and legal events, and in the world
 -- after these the cause is that of what stands there
-pub record IsRefusedLater (tick : ℕ) (bytes : List ℕ) (line : ℕ) (why : Cause) : Type 0 where
+pub record IsRefusedLater (accepts : Accepts) (bytes : List ℕ) (line : ℕ) (why : Cause) : Type 0 where
+  pub version : Version
   pub cpus : ℕ
   pub front : List Event
   pub rest : List ℕ
-  pub bytes_are : bytes ≡ text_of (record { version = 1; cpus = cpus; events = front }) ++ rest
+  pub bytes_are : bytes ≡ text_of (record { version = version; cpus = cpus; events = front }) ++ rest
+  pub version_is : IsAmong version accepts.versions
   pub counted : IsCpuCount cpus
   pub fit : AllFit front
-  pub legal : AreLegal (limits_of tick cpus) first_world front
+  pub known : AreKnown (accepts.verbs version) front
+  pub legal : AreLegal (limits_of accepts.tick cpus) first_world front
   pub line_is : line ≡ length front + 2
-  pub has : HasCause (limits_of tick cpus) (after front) rest why
+  pub has : IsLineCause (accepts.verbs version) (limits_of accepts.tick cpus) (after front) rest why
 
 -- where bytes are refused, at the first line against which a cause stands
-abbrev pub IsRefused : ℕ → List ℕ → ℕ → Cause → Type 0
-IsRefused tick bytes line why = ((line ≡ 1) × HasFirstCause bytes why) ⊎ IsRefusedLater tick bytes line why
+abbrev pub IsRefused : Accepts → List ℕ → ℕ → Cause → Type 0
+IsRefused accepts bytes line why = ((line ≡ 1) × IsFirstLineCause accepts.versions bytes why) ⊎ IsRefusedLater accepts bytes line why
 
 -- bytes are refused at a line with a cause exactly where that is the first refused line and its first cause
 abbrev pub FirstRefused : Type 0
-FirstRefused = (tick : ℕ) (bytes : List ℕ) (line : ℕ) (why : Cause) → (trace_of tick bytes ≡ Err (refused line why)) ↔ IsRefused tick bytes line why
+FirstRefused = (accepts : Accepts) (bytes : List ℕ) (line : ℕ) (why : Cause) → (trace_of accepts bytes ≡ Err (refused line why)) ↔ IsRefused accepts bytes line why

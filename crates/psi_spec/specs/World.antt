@@ -5,12 +5,14 @@ use Rattle.std.specs.Str.{bytes_eq}
 use Rattle.std.specs.Ordering.{nat_cmp}
 use Rattle.std.specs.FinMap as tasks_by
 use Rattle.psi_base.specs.declared.event.Pid.{Pid}
+use Rattle.psi_base.specs.declared.event.Cpu.{Cpu}
 use Rattle.psi_base.specs.declared.event.Slot.{Slot}
 use Rattle.psi_base.specs.declared.event.How.{How}
 use Rattle.psi_base.specs.declared.event.How.TheVariants.{Preempt, Sleep, IoWait, Exit, Idle}
 use Rattle.psi_base.specs.declared.event.Act.{Act}
 use Rattle.psi_base.specs.declared.event.Act.TheVariants as act
 use Rattle.psi_base.specs.declared.event.Event.{Event}
+use Rattle.psi_spec.specs.Names.{names}
 use Rattle.psi_spec.specs.declared.machine.Mode.{Mode}
 use Rattle.psi_spec.specs.declared.machine.Mode.TheVariants.{Blocked, Waiting, Ready, Running}
 use Rattle.psi_spec.specs.declared.machine.Task.{Task}
@@ -132,8 +134,8 @@ abbrev pub new_group : List GroupLife → List ℕ → ℕ → GroupLife
 new_group groups path at = record { path = path; parent = as_slot (slot_of groups (parent_path path)); made = at; gone = None }
 
 -- a group after the live one with a path was removed
-abbrev pub without : List ℕ → ℕ → GroupLife → GroupLife
-without path at group = if is_live group && bytes_eq group.path path then record group { gone = Some at } else group
+abbrev pub marked_removed : List ℕ → ℕ → GroupLife → GroupLife
+marked_removed path at group = if is_live group && bytes_eq group.path path then record group { gone = Some at } else group
 
 -- ---- the world
 
@@ -198,39 +200,59 @@ abbrev pub start : Option Pid → Tasks → Tasks
 start None tasks = tasks
 start (Some pid) tasks = change tasks pid.0 (λ task. record task { mode = Running })
 
+-- what an act does to tasks: nothing; a task is made in a group on a processor, is put on the run queue of a processor, starts
+-- or ends a memory stall, or goes to another group; or the task that runs on a processor leaves, and the next starts
+pub data Effect : Type 0 where
+  none : Effect
+  forks : Pid → List ℕ → Cpu → Effect
+  readies : Pid → Cpu → Effect
+  stalls : Pid → Bool → Effect
+  moves : Pid → List ℕ → Effect
+  switches : Cpu → Option Pid → How → Effect
+
+-- what each act does to tasks
+abbrev pub effect_of : Act → Effect
+effect_of (act.Group path) = none
+effect_of (act.Remove path) = none
+effect_of (act.Prefer path preference) = none
+effect_of (act.Fork pid path cpu) = forks pid path cpu
+effect_of (act.Wake pid cpu) = readies pid cpu
+effect_of (act.Switch cpu next how) = switches cpu next how
+effect_of (act.Stall pid) = stalls pid true
+effect_of (act.Unstall pid) = stalls pid false
+effect_of (act.Migrate pid cpu) = readies pid cpu
+effect_of (act.Move pid path) = moves pid path
+effect_of (act.Mem path current swap scan) = none
+effect_of (act.Host mem_total swap_total swap_free) = none
+effect_of (act.Trigger path res level threshold_us window_us) = none
+effect_of act.End = none
+
+-- the tasks after an effect
+abbrev pub tasks_by_effect : List GroupLife → Tasks → Effect → Tasks
+tasks_by_effect groups tasks none = tasks
+tasks_by_effect groups tasks (forks pid path cpu) = put tasks pid.0 (new_task groups path cpu.0)
+tasks_by_effect groups tasks (readies pid cpu) = change tasks pid.0 (readied cpu.0)
+tasks_by_effect groups tasks (stalls pid stalled) = change tasks pid.0 (λ task. record task { stalled = stalled })
+tasks_by_effect groups tasks (moves pid path) = change tasks pid.0 (λ task. record task { slot = record { 0 = unwrap_or (slot_of groups path) 0 } })
+tasks_by_effect groups tasks (switches cpu next how) = start next (leave how tasks (running_on tasks cpu.0))
+
 -- what an act does to the tasks
 abbrev pub tasks_after : List GroupLife → Tasks → Act → Tasks
-tasks_after groups tasks (act.Group path) = tasks
-tasks_after groups tasks (act.Remove path) = tasks
-tasks_after groups tasks (act.Prefer path preference) = tasks
-tasks_after groups tasks (act.Fork pid path cpu) = put tasks pid.0 (new_task groups path cpu.0)
-tasks_after groups tasks (act.Wake pid cpu) = change tasks pid.0 (readied cpu.0)
-tasks_after groups tasks (act.Switch cpu next how) = start next (leave how tasks (running_on tasks cpu.0))
-tasks_after groups tasks (act.Stall pid) = change tasks pid.0 (λ task. record task { stalled = true })
-tasks_after groups tasks (act.Unstall pid) = change tasks pid.0 (λ task. record task { stalled = false })
-tasks_after groups tasks (act.Migrate pid cpu) = change tasks pid.0 (readied cpu.0)
-tasks_after groups tasks (act.Move pid path) = change tasks pid.0 (λ task. record task { slot = record { 0 = unwrap_or (slot_of groups path) 0 } })
-tasks_after groups tasks (act.Mem path current swap scan) = tasks
-tasks_after groups tasks (act.Host mem_total swap_total swap_free) = tasks
-tasks_after groups tasks (act.Trigger path res level threshold_us window_us) = tasks
-tasks_after groups tasks act.End = tasks
+tasks_after groups tasks what = tasks_by_effect groups tasks (effect_of what)
+
+-- the groups with a new one, if one is made
+abbrev pub with_new : ℕ → Option (List ℕ) → List GroupLife → List GroupLife
+with_new at None groups = groups
+with_new at (Some path) groups = groups ++ new_group groups path at ∷ []
+
+-- the groups after one was removed, if one is
+abbrev pub with_removed : ℕ → Option (List ℕ) → List GroupLife → List GroupLife
+with_removed at None groups = groups
+with_removed at (Some path) groups = map (marked_removed path at) groups
 
 -- what an act at a moment does to the groups
 abbrev pub groups_after : ℕ → List GroupLife → Act → List GroupLife
-groups_after at groups (act.Group path) = groups ++ new_group groups path at ∷ []
-groups_after at groups (act.Remove path) = map (without path at) groups
-groups_after at groups (act.Prefer path preference) = groups
-groups_after at groups (act.Fork pid path cpu) = groups
-groups_after at groups (act.Wake pid cpu) = groups
-groups_after at groups (act.Switch cpu next how) = groups
-groups_after at groups (act.Stall pid) = groups
-groups_after at groups (act.Unstall pid) = groups
-groups_after at groups (act.Migrate pid cpu) = groups
-groups_after at groups (act.Move pid path) = groups
-groups_after at groups (act.Mem path current swap scan) = groups
-groups_after at groups (act.Host mem_total swap_total swap_free) = groups
-groups_after at groups (act.Trigger path res level threshold_us window_us) = groups
-groups_after at groups act.End = groups
+groups_after at groups what = with_new at (names what).new_path (with_removed at (names what).removed_path groups)
 
 -- the act makes a trigger
 abbrev pub is_trigger : Act → Bool

@@ -231,7 +231,8 @@ impl Table {
         ensures fault { MatchResult result (λ _. Unit {0})
             (IsFault (cause_of self.old.limits self.old.world event.now) event.now.act) }
         ensures err { OnErr result (self.new ≡ self.old) }
-        ensures touch { IfOk result (λ touch. IsTouch self.old.world event.now touch) }
+        ensures touch { IfOk result (λ touch.
+            IsTouch self.old.limits.cpus self.old.world event.now touch) }
         ensures cpus { IfOk result
             (λ touch. AllTouched (λ cpu change. cpu < self.old.limits.cpus) touch) }
         ensures slots { IfOk result (λ touch.

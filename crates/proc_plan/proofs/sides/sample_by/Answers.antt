@@ -1,0 +1,10 @@
+use Rattle.psi_spec.specs.Fields.{InRange}
+use Rattle.psi_spec.specs.Grammar.{ActFits, AreInRange, form_of, kinds_of, phrase_of}
+use Rattle.proc_plan.specs.Sides.{IsSmall}
+use Rattle.proc_plan.proofs.sides.sample_by.Goals as goal
+
+pub returns-in-Mem-clause-small : goal.returns-in-Mem-clause-small
+returns-in-Mem-clause-small c = let fits = rw c.in-Mem.is at c.requires in (fits.1.0, fits.1.1.0, fits.1.1.1.0)
+
+pub returns-in-Host-clause-small : goal.returns-in-Host-clause-small
+returns-in-Host-clause-small c = let fits = rw c.in-Host.is at c.requires in (fits.0, fits.1.0, fits.1.1.0)

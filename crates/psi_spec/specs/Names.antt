@@ -1,0 +1,36 @@
+-- What the line of an act names, one row a verb.
+use Rattle.std.specs.Prelude.{ℕ, List, Option, None, Some}
+use Rattle.psi_base.specs.declared.event.Pid.{Pid}
+use Rattle.psi_base.specs.declared.event.Act.{Act}
+use Rattle.psi_base.specs.declared.event.Act.TheVariants as act
+
+-- what an act names: the paths of a group that has to be live, of one that is made and of one that is removed, a task that has
+-- to be live and one that is made, and a processor that has to be there
+pub record Names : Type 0 where
+  pub live_path : Option (List ℕ)
+  pub new_path : Option (List ℕ)
+  pub removed_path : Option (List ℕ)
+  pub live_task : Option Pid
+  pub new_task : Option Pid
+  pub cpu : Option ℕ
+
+-- an act that names nothing
+abbrev pub no_names : Names
+no_names = record { live_path = None; new_path = None; removed_path = None; live_task = None; new_task = None; cpu = None }
+
+-- what each act names
+abbrev pub names : Act → Names
+names (act.Group path) = record no_names { new_path = Some path }
+names (act.Remove path) = record no_names { live_path = Some path; removed_path = Some path }
+names (act.Prefer path preference) = record no_names { live_path = Some path }
+names (act.Fork pid path cpu) = record no_names { live_path = Some path; new_task = Some pid; cpu = Some cpu.0 }
+names (act.Wake pid cpu) = record no_names { live_task = Some pid; cpu = Some cpu.0 }
+names (act.Switch cpu next how) = record no_names { live_task = next; cpu = Some cpu.0 }
+names (act.Stall pid) = record no_names { live_task = Some pid }
+names (act.Unstall pid) = record no_names { live_task = Some pid }
+names (act.Migrate pid cpu) = record no_names { live_task = Some pid; cpu = Some cpu.0 }
+names (act.Move pid path) = record no_names { live_path = Some path; live_task = Some pid }
+names (act.Mem path current swap scan) = record no_names { live_path = Some path }
+names (act.Host mem_total swap_total swap_free) = no_names
+names (act.Trigger path res level threshold_us window_us) = record no_names { live_path = Some path }
+names act.End = no_names
