@@ -14,8 +14,8 @@ use Rattle.psi_base.specs.declared.event.Event.{Event}
 use Rattle.psi_base.specs.declared.event.How.{How}
 use Rattle.psi_base.specs.declared.event.Pid.{Pid}
 use Rattle.psi_base.proofs.NumberLaws.{numerals}
-use Rattle.psi_spec.specs.Fields.{IsPid, how_word, next_word}
-use Rattle.psi_spec.specs.Grammar.{joined, spelling}
+use Rattle.psi_spec.specs.Fields.{InRange, IsPid, how_word, next_word, word}
+use Rattle.psi_spec.specs.Grammar.{AreInRange, act_words, form_of, joined, kinds_of, spelling, phrase_of, verb_word, field_words}
 use Rattle.psi_spec.proofs.GrammarReads.{spelled_in_line}
 use Rattle.psi_trace.specs.Front.{AreDigits, BeginsWithEvent, HasInFront}
 
@@ -118,7 +118,7 @@ pub switch_front : (at : ℕ) (cpu : Cpu) (next : Option Pid) (how : How) (field
     → BeginsWithEvent (decimal at ++ (codes " switch " ++ fields)) (event_at at (act.Switch cpu next how)) rest
 unfolding spelling
 switch_front at cpu next how fields more last rest fits cpu_fits is_next is then ends = record {
-  fits = record { at = fits; act = (cpu_fits, is_next) };
+  fits = record { at = fits; act = (cpu_fits, (is_next, (tt, tt))) };
   whole = three_fields (decimal at) (codes "switch") (decimal cpu.0) (next_word next) (how_word how) fields more last rest is then ends;
 }
 
@@ -126,7 +126,7 @@ pub wake_front : (at : ℕ) (pid : Pid) (cpu : Cpu) (fields more rest : List ℕ
     → BeginsWithEvent (decimal at ++ (codes " wake " ++ fields)) (event_at at (act.Wake pid cpu)) rest
 unfolding spelling
 wake_front at pid cpu fields more rest fits is_pid cpu_fits is then = record {
-  fits = record { at = fits; act = (is_pid, cpu_fits) };
+  fits = record { at = fits; act = (is_pid, (cpu_fits, tt)) };
   whole = two_fields (decimal at) (codes "wake") (decimal pid.0) (decimal cpu.0) fields more rest is then;
 }
 
@@ -134,21 +134,21 @@ pub migrate_front : (at : ℕ) (pid : Pid) (cpu : Cpu) (fields more rest : List 
     → BeginsWithEvent (decimal at ++ (codes " migrate " ++ fields)) (event_at at (act.Migrate pid cpu)) rest
 unfolding spelling
 migrate_front at pid cpu fields more rest fits is_pid cpu_fits is then = record {
-  fits = record { at = fits; act = (is_pid, cpu_fits) };
+  fits = record { at = fits; act = (is_pid, (cpu_fits, tt)) };
   whole = two_fields (decimal at) (codes "migrate") (decimal pid.0) (decimal cpu.0) fields more rest is then;
 }
 
 pub stall_front : (at : ℕ) (pid : Pid) (fields rest : List ℕ) → at < 2 ^ 64 → IsPid pid → fields ≡ decimal pid.0 ++ 10 ∷ rest → BeginsWithEvent (decimal at ++ (codes " stall " ++ fields)) (event_at at (act.Stall pid)) rest
 unfolding spelling
 stall_front at pid fields rest fits is_pid is = record {
-  fits = record { at = fits; act = is_pid };
+  fits = record { at = fits; act = (is_pid, tt) };
   whole = one_field (decimal at) (codes "stall") (decimal pid.0) fields rest is;
 }
 
 pub unstall_front : (at : ℕ) (pid : Pid) (fields rest : List ℕ) → at < 2 ^ 64 → IsPid pid → fields ≡ decimal pid.0 ++ 10 ∷ rest → BeginsWithEvent (decimal at ++ (codes " unstall " ++ fields)) (event_at at (act.Unstall pid)) rest
 unfolding spelling
 unstall_front at pid fields rest fits is_pid is = record {
-  fits = record { at = fits; act = is_pid };
+  fits = record { at = fits; act = (is_pid, tt) };
   whole = one_field (decimal at) (codes "unstall") (decimal pid.0) fields rest is;
 }
 

@@ -1,10 +1,10 @@
 -- A header line, cut behind `cpus=`.
-use Rattle.std.proofs.Common.{◌≡◌, ◌≢◌, ℕ, ◌^◌, ◌<◌, ◌≤◌, List, [], ◌∷◌, ◌++◌, length, take, drop, refl, sym, ap, ◌∙◌, arith, true, false, take-append-drop}
+use Rattle.std.proofs.Common.{◌≡◌, ◌≢◌, ℕ, ◌^◌, ◌<◌, ◌≤◌, List, [], ◌∷◌, ◌++◌, length, take, drop, refl, sym, ap, ◌∙◌, arith, true, false, take-append-drop, inl}
 use Rattle.std.specs.Prelude.{Option, None, Some, MatchOption, IfSome, IfNone, decimal, codes}
 use Rattle.std.specs.Str.{bytes_eq}
 use Rattle.std.proofs.lemmas.Slice.Eq.{bytes_eq-Decides}
 use Rattle.std.proofs.lemmas.Fmt.{decimal_digit}
-use Rattle.psi_spec.specs.Grammar.{header, header_of}
+use Rattle.psi_spec.specs.Grammar.{Header, One, Version, header, header_of, plain_header, version_number}
 use Rattle.psi_spec.proofs.GrammarWords.{decimal_short}
 use Rattle.psi_spec.proofs.GrammarHeaders.{headers_spelled, header-injective}
 
@@ -45,28 +45,37 @@ HasNumber-other line front same other n fits spelled =
     let starts : take (length front) line ≡ front = ap (take (length front)) (spelled ∙ header-prefix n) ∙ ap (λ bytes. take (length bytes) (prefix ++ decimal n)) same ∙ sym same in
     let equal = (bytes_eq-Decides (take (length front) line) front).1 starts in cc
 
-pub header_of-some : (line : List ℕ) (n : ℕ) → line ≡ header 1 n → 1 ≤ n → n ≤ 64 → header_of line ≡ Some n
-header_of-some line n is low high = (headers_spelled line n).1 (low, high, is)
+pub header_of-some : (line : List ℕ) (n : ℕ) → line ≡ header 1 n → 1 ≤ n → n ≤ 64 → header_of (One ∷ []) line ≡ Some (plain_header n)
+header_of-some line n is low high = (headers_spelled (One ∷ []) line (plain_header n)).1 (inl refl, low, high, is)
 
-no_header : (line : List ℕ) (read : Option ℕ) → header_of line ≡ read → ((n : ℕ) → 1 ≤ n → n ≤ 64 → line ≢ header 1 n) → read ≡ None
+-- a header that was read is one of the first version
+one_version : (version : Version) → version ≡ One
+one_version One = refl
+
+plain_spells : (line : List ℕ) (head : Header) → header_of (One ∷ []) line ≡ Some head → (1 ≤ head.cpus) × (head.cpus ≤ 64) × (line ≡ header 1 head.cpus)
+plain_spells line head is =
+    let spells = (headers_spelled (One ∷ []) line head).0 is in
+    (spells.1, spells.2, spells.3 ∙ ap (λ v. header (version_number v) head.cpus) (one_version head.version))
+
+no_header : (line : List ℕ) (read : Option Header) → header_of (One ∷ []) line ≡ read → ((n : ℕ) → 1 ≤ n → n ≤ 64 → line ≢ header 1 n) → read ≡ None
 no_header line None is none = refl
-no_header line (Some n) is none =
-    let spells = (headers_spelled line n).0 is in
-    absurd (none n spells.0 spells.1 spells.2)
+no_header line (Some head) is none =
+    let spells = plain_spells line head is in
+    absurd (none head.cpus spells.0 spells.1 spells.2)
 
-pub header_of-none : (line : List ℕ) → ((n : ℕ) → 1 ≤ n → n ≤ 64 → line ≢ header 1 n) → header_of line ≡ None
-header_of-none line none = no_header line (header_of line) refl none
+pub header_of-none : (line : List ℕ) → ((n : ℕ) → 1 ≤ n → n ≤ 64 → line ≢ header 1 n) → header_of (One ∷ []) line ≡ None
+header_of-none line none = no_header line (header_of (One ∷ []) line) refl none
 
 -- a header of too few or too many processors is none
-pub header_of-other : (line : List ℕ) (n : ℕ) → line ≡ header 1 n → n < 2 ^ 64 → (1 ≤ n → 64 < n) → header_of line ≡ None
+pub header_of-other : (line : List ℕ) (n : ℕ) → line ≡ header 1 n → n < 2 ^ 64 → (1 ≤ n → 64 < n) → header_of (One ∷ []) line ≡ None
 header_of-other line n is fits out =
     header_of-none line (λ m low high spelled.
     let same = header-injective 1 n m fits (omega arith) (sym is ∙ spelled) in
     omega (arith, same, out))
 
 -- the same, of what was read
-pub header_found : (line : List ℕ) (n : ℕ) → header_of line ≡ Some n → (1 ≤ n) × (n ≤ 64) × (line ≡ header 1 n)
-header_found line n is = (headers_spelled line n).0 is
+pub header_found : (line : List ℕ) (n : ℕ) → header_of (One ∷ []) line ≡ Some (plain_header n) → (1 ≤ n) × (n ≤ 64) × (line ≡ header 1 n)
+header_found line n is = plain_spells line (plain_header n) is
 
-pub header_missed : (line : List ℕ) → header_of line ≡ None → (n : ℕ) → 1 ≤ n → n ≤ 64 → line ≢ header 1 n
+pub header_missed : (line : List ℕ) → header_of (One ∷ []) line ≡ None → (n : ℕ) → 1 ≤ n → n ≤ 64 → line ≢ header 1 n
 header_missed line is n low high spelled = let some = header_of-some line n spelled low high in cc

@@ -6,7 +6,7 @@ use Rattle.psi_base.specs.declared.event.Event.{Event}
 use Rattle.psi_base.specs.declared.event.Fault.{Fault}
 use Rattle.psi_base.specs.declared.event.Fault.TheVariants.{Refused, NoMemory}
 use Rattle.psi_spec.specs.Fields.{Kind, path}
-use Rattle.psi_spec.specs.Grammar.{Verb, kinds_of, verb_of}
+use Rattle.psi_spec.specs.Grammar.{One, verbs_of, Verb, kinds_of, verb_of}
 
 -- the call took from the words what the definition takes, and these are left
 abbrev pub Takes : {A W : Type 0} → Result A Cause → W → Result (A × W) Cause → Type 0
@@ -38,4 +38,4 @@ takes_path (Some verb) = has_path (kinds_of verb)
 -- the parts from the verb on, of which the verb has a path among its fields
 abbrev pub names_path : List (List ℕ) → Bool
 names_path [] = false
-names_path (text ∷ words) = takes_path (verb_of text)
+names_path (text ∷ words) = takes_path (verb_of (verbs_of One) text)

@@ -5,7 +5,7 @@ ghost use Rattle.psi_base.specs.declared.event.Cause.{Cause};
 ghost use Rattle.psi_base.specs.declared.event.Event.{Event};
 ghost use Rattle.psi_base.specs.declared.event.Fault.TheVariants as fault;
 ghost use Rattle.psi_spec.specs.Grammar as verb;
-ghost use Rattle.psi_spec.specs.Grammar.{Fits, IsCause, act_at, act_from, event_of, spelling};
+ghost use Rattle.psi_spec.specs.Grammar.{Fits, IsCause, One, act_at, act_from, event_of, spelling, verbs_of};
 ghost use Rattle.psi_base.specs.Gives.{Gives};
 ghost use Rattle.psi_trace.specs.Taking.{dated, names_path};
 
@@ -215,7 +215,7 @@ fn end_of_trace(at: Ns, mut words: Words) -> Result<Event, Fault<Cause>>
 // The event at a time (ns) of the verb that is the next part, and of its fields: the verbs that a trace has most of first.
 #[tactic(auto, unfolding(psi_spec::specs::Grammar::act_at, psi_spec::specs::Grammar::verb_of))]
 fn event_at(alloc: Global, at: Ns, mut words: Words) -> Result<Event, Fault<Cause>>
-    ensures exact { Gives result (dated at (act_at words.entry)) }
+    ensures exact { Gives result (dated at (act_at (verbs_of One) words.entry)) }
     ensures memory { result ≡ Err fault.NoMemory → names_path words.entry ≡ true }
 {
     let Some(verb) = words.next_part() else {
@@ -257,7 +257,7 @@ fn event_at(alloc: Global, at: Ns, mut words: Words) -> Result<Event, Fault<Caus
 // The event of a line: its time, and behind it its act.
 #[tactic(auto, unfolding(psi_spec::specs::Grammar::event_of, psi_spec::specs::Grammar::event_at))]
 fn event_in(alloc: Global, line: &[u8]) -> Result<Event, Fault<Cause>>
-    ensures exact { Gives result (event_of line.now) }
+    ensures exact { Gives result (event_of (verbs_of One) line.now) }
     ensures memory { result ≡ Err fault.NoMemory →
         names_path (drop 1 (parts_at 32 line.now)) ≡ true }
 {
@@ -275,7 +275,7 @@ fn event_in(alloc: Global, line: &[u8]) -> Result<Event, Fault<Cause>>
 /// `BadTime`, `BadVerb`, or `BadField` with the number of the leftmost field that is missing, wrong or surplus.
 /// `NoMemory` comes only for a verb that has a path among its fields, since its bytes alone are allocated.
 pub fn read_event(alloc: Global, line: &[u8]) -> Result<Event, Fault<Cause>>
-    ensures exact { Gives result (event_of line.now) }
+    ensures exact { Gives result (event_of (verbs_of One) line.now) }
     ensures found { IfOk result (λ event. Fits event × (line.now ≡ spelling event)) }
     ensures none { (why : Cause) → result ≡ Err (fault.Refused why) → (event : Event) →
         Fits event →
@@ -283,7 +283,7 @@ pub fn read_event(alloc: Global, line: &[u8]) -> Result<Event, Fault<Cause>>
     ensures memory { result ≡ Err fault.NoMemory →
         names_path (drop 1 (parts_at 32 line.now)) ≡ true }
     ensures cause { (why : Cause) → result ≡ Err (fault.Refused why) →
-        IsCause (parts_at 32 line.now) why }
+        IsCause (verbs_of One) (parts_at 32 line.now) why }
 {
     event_in(alloc, line)
 }

@@ -2,7 +2,8 @@
 ghost use Rattle.std.specs.Prelude.{◌≡◌, ◌≤◌, ◌<◌, ◌+◌, ◌++◌, ◌∷◌, [], true, false, OnOk, OnErr, codes, decimal, length};
 ghost use Rattle.std.specs.Prelude.{vec_capacity, vec_len};
 ghost use Rattle.psi_spec.specs.Fields as fields;
-ghost use Rattle.psi_spec.specs.Grammar.{Fits, act_words, header, spelling};
+ghost use Rattle.psi_spec.specs.Fields.{word};
+ghost use Rattle.psi_spec.specs.Grammar.{Fits, act_words, form_of, header, kinds_of, spelling, phrase_of, verb_word, field_words};
 ghost use Rattle.psi_trace.specs.Writes.{is_short, spaced};
 
 use crate::line::Line;
@@ -67,31 +68,19 @@ fn put_long_act(line: &mut LongLine, act: &Act)
             current,
             swap,
             scan,
-        } => {
-            put_numbers(line, *current, *swap, *scan);
-            put_group(line, b" mem ", path)
-        }
+        } => put_memory(line, path, *current, *swap, *scan),
         Act::Host {
             mem_total,
             swap_total,
             swap_free,
-        } => {
-            put_numbers(line, *mem_total, *swap_total, *swap_free);
-            line.text(b" host")
-        }
+        } => put_host(line, *mem_total, *swap_total, *swap_free),
         Act::Trigger {
             path,
             res,
             level,
             threshold_us,
             window_us,
-        } => {
-            put_number(line, *window_us);
-            put_number(line, *threshold_us);
-            put_level(line, *level);
-            put_resource(line, *res);
-            put_group(line, b" trigger ", path)
-        }
+        } => put_trigger(line, path, *res, *level, *threshold_us, *window_us),
         _ => unreachable!(),
     }
 }
@@ -148,6 +137,56 @@ fn put_move(line: &mut LongLine, pid: Pid, path: &Path)
     line.text(b" ");
     line.number(u64::from(pid.0));
     line.text(b" move ");
+}
+
+/// Puts the words of a group's memory in front.
+#[tactic(auto, using(crate::proofs::InPieces::lines))]
+fn put_memory(line: &mut LongLine, path: &Path, current: u64, swap: u64, scan: u64)
+    requires { length line.old ≡ 0 }
+    ensures bytes { line.new
+        ≡ spaced (codes "mem" ∷ path.now ∷ decimal current ∷ decimal swap ∷ decimal scan ∷ [])
+        ++ line.old }
+    ensures room { length line.new ≤ 330 }
+{
+    put_numbers(line, current, swap, scan);
+    put_group(line, b" mem ", path);
+}
+
+/// Puts the words of the machine's memory in front.
+#[tactic(auto, using(crate::proofs::InPieces::lines))]
+fn put_host(line: &mut LongLine, mem_total: u64, swap_total: u64, swap_free: u64)
+    requires { length line.old ≡ 0 }
+    ensures bytes { line.new
+        ≡ spaced (codes "host" ∷ decimal mem_total ∷ decimal swap_total ∷ decimal swap_free ∷ [])
+        ++ line.old }
+    ensures room { length line.new ≤ 330 }
+{
+    put_numbers(line, mem_total, swap_total, swap_free);
+    line.text(b" host");
+}
+
+/// Puts the words of a trigger in front.
+#[tactic(auto, using(crate::proofs::InPieces::lines))]
+fn put_trigger(
+    line: &mut LongLine,
+    path: &Path,
+    res: Res,
+    level: Level,
+    threshold_us: u64,
+    window_us: u64,
+)
+    requires { length line.old ≡ 0 }
+    ensures bytes { line.new
+        ≡ spaced (codes "trigger" ∷ path.now ∷ fields.resource_word res ∷ fields.level_word level
+        ∷ decimal threshold_us ∷ decimal window_us ∷ [])
+        ++ line.old }
+    ensures room { length line.new ≤ 330 }
+{
+    put_number(line, window_us);
+    put_number(line, threshold_us);
+    put_level(line, level);
+    put_resource(line, res);
+    put_group(line, b" trigger ", path);
 }
 
 /// Puts the words of a switch in front.
