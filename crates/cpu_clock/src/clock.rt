@@ -84,11 +84,9 @@ impl Clock {
         requires { IsInTime self.old at }
         ensures { self.new ≡ advanced self.old at mask }
     {
-        *self = Clock {
-            times: self.opened(at),
-            mask,
-            start: at,
-        };
+        self.times = self.opened(at);
+        self.mask = mask;
+        self.start = at;
     }
 
     /// Takes the clock over a change of its processor at a moment (ns), from which on the states of the mask hold. Where the
