@@ -1,5 +1,5 @@
 -- A group that a change doesn't reach, and one to which it comes.
-use Rattle.std.proofs.Common.{◌≡◌, ℕ, List, refl, sym, ap, ◌∙◌, subst, Bool, true, false, Option, None, Some}
+use Rattle.std.proofs.Common.{◌≡◌, ℕ, List, refl, sym, ap, ◌∙◌, subst, Bool, true, false, ◌⊎◌, ⊎_elim, Option, None, Some}
 use Rattle.std.specs.Prelude.{if◌then◌else◌}
 use Rattle.psi_base.specs.declared.event.Slot.{Slot}
 use Rattle.psi_base.specs.declared.event.State.{State}
@@ -11,15 +11,16 @@ use Rattle.psi_laws.specs.Touch.{Follows, is_current_in, is_current_stalled, no_
 use Rattle.psi_laws.proofs.PlanClocks.{clock_stays}
 use Rattle.slot_clocks.specs.declared.cell.Cell.{Cell}
 use Rattle.slot_clocks.specs.Clocks.{IsTold, IsUpTo}
-use Rattle.slot_clocks.specs.Walk.{IsTurned, counts_in, height, reaches, slot_in}
+use Rattle.slot_clocks.specs.declared.chains.Chains.{Chains}
+use Rattle.slot_clocks.specs.Walk.{IsTurned, MayStart, MayStartAt, counts_in, height, reaches, slot_in}
 
 -- ---- sides of a change, by what is reached
 
--- what counts on a chain are for a slot that is reached or isn't
-pub chain_is : (parents : List (Option ℕ)) (slot : ℕ) (side : Option (Slot × Counts)) (here : Bool) → reaches parents (height (slot_in side)) slot ≡ here → on_chain parents slot side ≡ (if here then counts_in side else no_counts)
-chain_is parents slot None true reached = refl
-chain_is parents slot None false reached = refl
-chain_is parents slot (Some part) here reached = ap (λ b. if b then part.1 else no_counts) reached
+-- what counts on a chain are for a slot that is reached or isn't, from where the chain may start
+pub chain_is : (parents : List (Option ℕ)) (slot : ℕ) (side : Option (Slot × Counts)) (place : ℕ) (here : Bool) → MayStartAt side place → reaches parents place slot ≡ here → on_chain parents slot side ≡ (if here then counts_in side else no_counts)
+chain_is parents slot None place true start reached = refl
+chain_is parents slot None place false start reached = refl
+chain_is parents slot (Some part) place here start reached = ap (λ b. if b then part.1 else no_counts) (ap (λ (h : ℕ). reaches parents h slot) (sym start) ∙ reached)
 
 -- whether the running task is in a group that is reached or isn't
 pub current_is : (parents : List (Option ℕ)) (slot : ℕ) (current : Option (Slot × Bool)) (here : Bool) → reaches parents (height (slot_in current)) slot ≡ here → is_current_in parents slot current ≡ here
@@ -41,14 +42,19 @@ told_off Nonidle counts one other = refl
 follows_none : (counts : Counts) → Follows counts no_counts no_counts counts
 follows_none counts = record { io = refl; stalled = refl; running = refl; stalled_running = refl }
 
+-- a running task isn't in a group that isn't reached from where its chain may start
+not_in : (parents : List (Option ℕ)) (slot : ℕ) (current : Option (Slot × Bool)) (place : ℕ) → MayStartAt current place → reaches parents place slot ≡ false → is_current_in parents slot current ≡ false
+not_in parents slot None place start reached = refl
+not_in parents slot (Some running) place start reached = ap (λ (h : ℕ). reaches parents h slot) (sym start) ∙ reached
+
 -- a group that no chain of a change reaches stays as it is
-pub stays_turned : (parents : List (Option ℕ)) (current : Option (Slot × Bool)) (change : Change) (slot : ℕ) (cell : Cell) → reaches parents (height (slot_in change.minus)) slot ≡ false → reaches parents (height (slot_in change.plus)) slot ≡ false
-    → reaches parents (height (slot_in current)) slot ≡ false → reaches parents (height (slot_in change.current)) slot ≡ false → IsTold parents current slot cell → IsUpTo change.at cell.clock → IsTurned parents change slot cell cell
-stays_turned parents current change slot cell minus plus before after told up_to =
-    let taken : on_chain parents slot change.minus ≡ no_counts = chain_is parents slot change.minus false minus in
-    let added : on_chain parents slot change.plus ≡ no_counts = chain_is parents slot change.plus false plus in
-    let ran : is_current_in parents slot current ≡ false = current_is parents slot current false before in
-    let runs : is_current_in parents slot change.current ≡ false = current_is parents slot change.current false after in
+pub stays_turned : (parents : List (Option ℕ)) (current : Option (Slot × Bool)) (change : Change) (starts : Chains) (slot : ℕ) (cell : Cell) → MayStart current change starts → reaches parents starts.minus slot ≡ false → reaches parents starts.plus slot ≡ false
+    → reaches parents starts.before slot ≡ false → reaches parents starts.after slot ≡ false → IsTold parents current slot cell → IsUpTo change.at cell.clock → IsTurned parents change slot cell cell
+stays_turned parents current change starts slot cell start minus plus before after told up_to =
+    let taken : on_chain parents slot change.minus ≡ no_counts = chain_is parents slot change.minus starts.minus false start.minus minus in
+    let added : on_chain parents slot change.plus ≡ no_counts = chain_is parents slot change.plus starts.plus false start.plus plus in
+    let runs : is_current_in parents slot change.current ≡ false = current_is parents slot change.current false (ap (λ (h : ℕ). reaches parents h slot) (sym start.after) ∙ after) in
+    let ran : is_current_in parents slot current ≡ false = ⊎_elim (λ at. not_in parents slot current starts.before at before) (λ same. ap (is_current_in parents slot) same ∙ runs) start.before in
     record {
       counts = subst (λ m. Follows cell.counts m (on_chain parents slot change.plus) cell.counts) (sym taken) (subst (λ p. Follows cell.counts no_counts p cell.counts) (sym added) (follows_none cell.counts));
       clock = clock_stays cell.clock change.at up_to.start;

@@ -14,7 +14,7 @@ use Rattle.psi_laws.specs.Touch.{Follows, is_current_in, is_current_stalled, no_
 use Rattle.slot_clocks.specs.declared.cell.Cell.{Cell}
 use Rattle.slot_clocks.specs.declared.chains.Chains.{Chains}
 use Rattle.slot_clocks.specs.Clocks.{CanFollow, IsTold, IsUpTo, StaysByMask, cell_in, numbers_of, zero_cell}
-use Rattle.slot_clocks.specs.Walk.{IsTurned, all_passed, chains_of, counts_in, height, passed, reaches, top}
+use Rattle.slot_clocks.specs.Walk.{AreTogether, IsTurned, MayStart, all_passed, counts_in, height, passed, reaches, top}
 use Rattle.slot_clocks.proofs.ChainLaws.{ended, not_at, passed_height, reaches_at, reaches_passed, stands}
 use Rattle.slot_clocks.proofs.TurnLaws.{chain_is, current_is, stays_turned}
 
@@ -81,14 +81,14 @@ pub record IsShare (parents : List (Option ℕ)) (change : Change) (chains : Cha
   pub plus : on_chain parents slot change.plus ≡ (if chains.plus == here then counts_in change.plus else no_counts)
   pub after : is_current_in parents slot change.current ≡ (chains.after == here)
 
-pub share_at_top : (parents : List (Option ℕ)) (current : Option (Slot × Bool)) (change : Change) (chains : Chains) (here slot : ℕ) → AreOlder parents → here ≡ slot + 1 → top chains ≡ here → IsAhead parents (chains_of current change) chains slot → IsShare parents change chains here slot
-share_at_top parents current change chains here slot older at is ahead =
+pub share_at_top : (parents : List (Option ℕ)) (current : Option (Slot × Bool)) (change : Change) (starts chains : Chains) (here slot : ℕ) → AreOlder parents → MayStart current change starts → here ≡ slot + 1 → top chains ≡ here → IsAhead parents starts chains slot → IsShare parents change chains here slot
+share_at_top parents current change starts chains here slot older start at is ahead =
     let within = within_top chains here is in
     let stands_here : (place : ℕ) → place ≤ here → reaches parents place slot ≡ (place == here) = λ place low. reaches_at parents place slot older (omega (arith, low, at)) ∙ ap (λ h. place == h) (sym at) in
     record {
-      minus = chain_is parents slot change.minus (chains.minus == here) (sym ahead.minus ∙ stands_here chains.minus within.minus);
-      plus = chain_is parents slot change.plus (chains.plus == here) (sym ahead.plus ∙ stands_here chains.plus within.plus);
-      after = current_is parents slot change.current (chains.after == here) (sym ahead.after ∙ stands_here chains.after within.after);
+      minus = chain_is parents slot change.minus starts.minus (chains.minus == here) start.minus (sym ahead.minus ∙ stands_here chains.minus within.minus);
+      plus = chain_is parents slot change.plus starts.plus (chains.plus == here) start.plus (sym ahead.plus ∙ stands_here chains.plus within.plus);
+      after = current_is parents slot change.current (chains.after == here) (ap (λ (h : ℕ). reaches parents h slot) (sym start.after) ∙ sym ahead.after ∙ stands_here chains.after within.after);
     }
 
 -- ---- one step
@@ -165,18 +165,22 @@ top_passed parents chains parent here slot older up at is =
 -- ---- the end
 
 -- behind the roots each group went through the change
-pub all_walked : (parents : List (Option ℕ)) (current : Option (Slot × Bool)) (change : Change) (chains : Chains) (slot : ℕ) (old now : Cell) → top chains ≡ 0 → IsTold parents current slot old → IsUpTo change.at old.clock
-    → IsWalked parents change (chains_of current change) chains slot old now → IsTurned parents change slot old now
-all_walked parents current change chains slot old now is told up_to (inl done) = done.0
-all_walked parents current change chains slot old now is told up_to (inr ahead) =
+pub all_walked : (parents : List (Option ℕ)) (current : Option (Slot × Bool)) (change : Change) (starts chains : Chains) (slot : ℕ) (old now : Cell) → MayStart current change starts → top chains ≡ 0 → IsTold parents current slot old → IsUpTo change.at old.clock
+    → IsWalked parents change starts chains slot old now → IsTurned parents change slot old now
+all_walked parents current change starts chains slot old now start is told up_to (inl done) = done.0
+all_walked parents current change starts chains slot old now start is told up_to (inr ahead) =
     let within = within_top chains 0 is in
     subst (IsTurned parents change slot old) (sym ahead.0)
-    (stays_turned parents current change slot old
+    (stays_turned parents current change starts slot old start
     (sym ahead.1.minus ∙ ended parents chains.minus slot (omega (arith, within.minus)))
     (sym ahead.1.plus ∙ ended parents chains.plus slot (omega (arith, within.plus)))
     (sym ahead.1.before ∙ ended parents chains.before slot (omega (arith, within.before)))
     (sym ahead.1.after ∙ ended parents chains.after slot (omega (arith, within.after)))
     told up_to)
+
+-- chains that go together still do once they were passed
+pub together_passed : (here parent : ℕ) (chains : Chains) → AreTogether chains → AreTogether (all_passed here parent chains)
+together_passed here parent chains are = record { plus = ap (passed here parent) are.plus; before = ap (passed here parent) are.before }
 
 -- ---- parents as numbers
 

@@ -1,14 +1,17 @@
 -- The walk up the chains of slots that a change concerns.
-use Rattle.std.specs.Prelude.{ℕ, zero, suc, List, max, Bool, false, ◌==◌, if◌then◌else◌, Option, None, Some}
+use Rattle.std.specs.Prelude.{◌≡◌, ◌⊎◌, ◌≤◌, ℕ, zero, suc, List, length, max, Bool, true, false, ◌==◌, if◌then◌else◌, Option, None, Some}
 use Rattle.psi_base.specs.declared.event.Slot.{Slot}
 use Rattle.psi_laws.specs.declared.changes.Counts.{Counts}
 use Rattle.psi_laws.specs.declared.changes.Change.{Change}
 use Rattle.psi_laws.specs.Clock.{ClockFollows}
+use Rattle.psi_spec.specs.Groups.{AreOlder}
 use Rattle.psi_spec.specs.Stall.{is_under}
-use Rattle.psi_laws.specs.Touch.{Follows, no_counts, on_chain}
+use Rattle.psi_spec.specs.Trace.{last_moment}
+use Rattle.psi_laws.specs.Touch.{Follows, is_current_stalled, no_counts, on_chain}
 use Rattle.slot_clocks.specs.declared.cell.Cell.{Cell}
 use Rattle.slot_clocks.specs.declared.chains.Chains.{Chains}
-use Rattle.slot_clocks.specs.Clocks.{IsTold, IsUpTo, StaysByMask}
+use Rattle.slot_clocks.specs.declared.chains.Sides.{Sides}
+use Rattle.slot_clocks.specs.Clocks.{CanFollow, IsTold, IsUpTo, StaysByMask, cell_in, numbers_of}
 
 -- the slot of a pair, if there is one
 abbrev pub slot_in : {A : Type 0} → Option (Slot × A) → Option Slot
@@ -36,6 +39,31 @@ reaches parents (suc place) slot = is_under parents place slot
 abbrev pub chains_of : Option (Slot × Bool) → Change → Chains
 chains_of current change = record { minus = height (slot_in change.minus); plus = height (slot_in change.plus); before = height (slot_in current); after = height (slot_in change.current) }
 
+-- a chain may start at a height for what a change tells of a slot: at the slot's, or anywhere where nothing is told
+abbrev pub MayStartAt : {A : Type 0} → Option (Slot × A) → ℕ → Type 0
+MayStartAt None place = Unit {0}
+MayStartAt (Some pair) place = place ≡ suc pair.0.0
+
+-- Chains may start so for a change, each of them. That of the task that ran may start anywhere where that task stays.
+pub record MayStart (current : Option (Slot × Bool)) (change : Change) (starts : Chains) : Type 0 where
+  pub minus : MayStartAt change.minus starts.minus
+  pub plus : MayStartAt change.plus starts.plus
+  pub before : MayStartAt current starts.before ⊎ (current ≡ change.current)
+  pub after : starts.after ≡ height (slot_in change.current)
+
+-- what a change means to groups, where a task ran up to it
+pub record AreSides (current : Option (Slot × Bool)) (change : Change) (sides : Sides) : Type 0 where
+  pub at : sides.at ≡ change.at
+  pub minus : sides.minus ≡ counts_in change.minus
+  pub plus : sides.plus ≡ counts_in change.plus
+  pub stalled : sides.stalled ≡ is_current_stalled change.current
+  pub stays : sides.stays ≡ true → current ≡ change.current
+
+-- the chains of the counts and of the task that ran stand at one height
+pub record AreTogether (chains : Chains) : Type 0 where
+  pub plus : chains.plus ≡ chains.minus
+  pub before : chains.before ≡ chains.minus
+
 -- the height on a chain after the walk passed one: that of the parent, if the chain stood there
 abbrev pub passed : ℕ → ℕ → ℕ → ℕ
 passed here parent place = if place == here then parent else place
@@ -55,3 +83,18 @@ pub record IsTurned (parents : List (Option ℕ)) (change : Change) (slot : ℕ)
   pub kept : StaysByMask old.clock new.clock
   pub up_to : IsUpTo change.at new.clock
   pub told : IsTold parents change.current slot new
+
+-- all groups after a change
+abbrev pub AreTurned : List (Option ℕ) → Change → List Cell → List Cell → Type 0
+AreTurned parents change olds news = (slot : ℕ) → IsTurned parents change slot (cell_in olds slot) (cell_in news slot)
+
+-- groups can go through a change, where this task ran up to it and chains start so
+pub record CanClimb (parents : List (Option Slot)) (current : Option (Slot × Bool)) (change : Change) (starts : Chains) (cells : List Cell) : Type 0 where
+  pub older : AreOlder (numbers_of parents)
+  pub start : MayStart current change starts
+  pub slots : top starts ≤ length parents
+  pub room : length parents ≤ length cells
+  pub told : (slot : ℕ) → IsTold (numbers_of parents) current slot (cell_in cells slot)
+  pub fits : (slot : ℕ) → CanFollow (cell_in cells slot).counts (on_chain (numbers_of parents) slot change.minus) (on_chain (numbers_of parents) slot change.plus)
+  pub up_to : (slot : ℕ) → IsUpTo change.at (cell_in cells slot).clock
+  pub early : change.at ≤ last_moment

@@ -66,6 +66,7 @@ impl Cell {
 
     /// Follows a change at a moment (ns), by what it takes and adds for this group. The clock stays where no state
     /// changes.
+    #[inline(always)]
     pub(crate) fn turn(
         &mut self,
         at: Ns,

@@ -1,14 +1,13 @@
 //! The walk up the chains of groups that a change concerns.
 
-ghost use Rattle.std.specs.Prelude.{◌≡◌, ℕ, ◌+◌, ◌==◌, ◌<◌, ◌≤◌, length, true, if◌then◌else◌};
+ghost use Rattle.std.specs.Prelude.{◌≡◌, ◌⊎◌, ◌+◌, ◌==◌, ◌<◌, ◌≤◌, length, true, if◌then◌else◌, IfSome};
 ghost use Rattle.psi_base.specs.declared.event.State.{State};
 ghost use Rattle.psi_laws.specs.Clock.{ClockFollows};
 ghost use Rattle.psi_laws.specs.Counts.{mask_holds, tells};
-ghost use Rattle.psi_spec.specs.Groups.{AreOlder};
 ghost use Rattle.psi_spec.specs.Trace.{last_moment};
-ghost use Rattle.psi_laws.specs.Touch.{Follows, is_current_stalled, no_counts, on_chain};
-ghost use Rattle.slot_clocks.specs.Clocks.{CanFollow, IsTold, IsUpTo, StaysByMask, cell_in, numbers_of};
-ghost use Rattle.slot_clocks.specs.Walk.{IsTurned, all_passed, chains_of, counts_in, height, passed, slot_in, top};
+ghost use Rattle.psi_laws.specs.Touch.{Follows, is_current_stalled, no_counts};
+ghost use Rattle.slot_clocks.specs.Clocks.{CanFollow, IsUpTo, StaysByMask, numbers_of};
+ghost use Rattle.slot_clocks.specs.Walk.{AreSides, AreTogether, AreTurned, CanClimb, MayStart, all_passed, chains_of, height, passed, slot_in, top};
 
 use crate::cell::Cell;
 use crate::part::Part;
@@ -83,6 +82,13 @@ fn pass(place: u64, here: u64, parent: u64) -> u64
     if place == here { parent } else { place }
 }
 
+// A chain at a height may go with one that is at another: they are the same, or it stands nowhere.
+fn fits(place: u64, other: u64) -> bool
+    ensures { result ≡ true → (place ≡ 0) ⊎ (place ≡ other) }
+{
+    (place == 0) | (place == other)
+}
+
 impl Chains {
     /// The chains of a change, at their slots. The current task is the one that ran up to it.
     pub(crate) fn of(current: Option<(Slot, bool)>, change: &Change) -> Chains
@@ -105,25 +111,51 @@ impl Chains {
         counted.max(running)
     }
 
-    // Takes the chains that stand at a height to that of the parent.
-    fn pass(&mut self, here: u64, parent: u64)
+    // Takes the chains that stand at a height to that of the parent. Where those of the counts and of the task that ran go
+    // together, they are one.
+    fn pass(&mut self, here: u64, parent: u64, together: bool)
+        requires together { together ≡ true → AreTogether self.old }
         ensures { self.new ≡ all_passed here parent self.old }
     {
         self.minus = pass(self.minus, here, parent);
-        self.plus = pass(self.plus, here, parent);
-        self.before = pass(self.before, here, parent);
         self.after = pass(self.after, here, parent);
+        if together {
+            self.plus = self.minus;
+            self.before = self.minus;
+        } else {
+            self.plus = pass(self.plus, here, parent);
+            self.before = pass(self.before, here, parent);
+        }
+    }
+
+    // The chains of a change with those of the counts and of the task that ran together, where these stand at one slot. One that
+    // stands nowhere may go with the others, and so may that of a task which stays the running one: it has nothing to tell
+    // then.
+    fn together(current: Option<(Slot, bool)>, change: &Change, stays: bool) -> Option<Chains>
+        requires stays { stays ≡ true → current ≡ change.now.current }
+        ensures start { IfSome result (MayStart current change.now) }
+        ensures together { IfSome result AreTogether }
+        ensures low { IfSome result (λ starts. top starts ≤ top (chains_of current change.now)) }
+    {
+        let chains = Chains::of(current, change);
+        let before = if stays { 0 } else { chains.before };
+        let highest = chains.minus.max(chains.plus).max(before);
+        if !(fits(chains.minus, highest) & fits(chains.plus, highest) & fits(before, highest)) {
+            return None;
+        }
+        Some(Chains {
+            minus: highest,
+            plus: highest,
+            before: highest,
+            after: chains.after,
+        })
     }
 }
 
 impl Sides {
     // What a change means, where this task ran up to it.
     fn of(current: Option<(Slot, bool)>, change: &Change) -> Sides
-        ensures at { result.at ≡ change.now.at }
-        ensures minus { result.minus ≡ counts_in change.now.minus }
-        ensures plus { result.plus ≡ counts_in change.now.plus }
-        ensures stalled { result.stalled ≡ is_current_stalled change.now.current }
-        ensures stays { result.stays ≡ true → current ≡ change.now.current }
+        ensures { AreSides current change.now result }
     {
         Sides {
             at: change.at,
@@ -137,6 +169,7 @@ impl Sides {
 
 // Takes the group at a height through a change. Where the change takes and adds nothing there, and the running task stays,
 // there is nothing to do: it is on the chain of that task alone.
+#[inline(always)]
 fn turn_at(cell: &mut Cell, sides: &Sides, chains: &Chains, here: u64)
     requires fits { CanFollow cell.old.counts
         (if chains.now.minus == here then sides.now.minus else no_counts)
@@ -170,39 +203,70 @@ fn turn_at(cell: &mut Cell, sides: &Sides, chains: &Chains, here: u64)
     );
 }
 
-/// Takes the groups on the chains of a change through it. A parent has a smaller number, so the chains are walked together,
-/// always from the greatest slot on, and each group is come to once.
-pub(crate) fn walk(
+// Takes the groups on the chains of a change through it, from where the chains may start. A parent has a smaller number, so they
+// are climbed side by side, always from the greatest slot on, and each group is come to once. Where it is known from the
+// start that they go together, the compiler makes two chains of the four.
+#[inline(always)]
+fn climb(
     cells: &mut [Cell],
     parents: &[Option<Slot>],
     current: Option<(Slot, bool)>,
     change: &Change,
+    sides: &Sides,
+    starts: Chains,
+    together: bool,
 )
-    requires older { AreOlder (numbers_of parents.now) }
-    requires slots { top (chains_of current change.now) ≤ length parents.now }
-    requires room { length parents.now ≤ length cells.old }
-    requires told { (slot : ℕ) →
-        IsTold (numbers_of parents.now) current slot (cell_in cells.old slot) }
-    requires fits { (slot : ℕ) →
-        CanFollow (cell_in cells.old slot).counts
-        (on_chain (numbers_of parents.now) slot change.now.minus)
-        (on_chain (numbers_of parents.now) slot change.now.plus) }
-    requires up_to { (slot : ℕ) → IsUpTo change.now.at (cell_in cells.old slot).clock }
-    requires early { change.now.at ≤ last_moment }
-    ensures turned { (slot : ℕ) →
-        IsTurned (numbers_of parents.now) change.now slot (cell_in cells.old slot)
-        (cell_in cells.new slot) }
+    requires can { CanClimb parents.now current change.now starts cells.old }
+    requires sides { AreSides current change.now sides.now }
+    requires together { together ≡ true → AreTogether starts }
+    ensures turned { AreTurned (numbers_of parents.now) change.now cells.old cells.new }
     ensures room { length cells.new ≡ length cells.old }
 {
-    let sides = Sides::of(current, change);
-    let mut chains = Chains::of(current, change);
+    let mut chains = starts;
     'up: loop {
         let here = chains.top();
         if here == 0 {
             return;
         }
         let place = here as usize - 1;
-        turn_at(&mut cells[place], &sides, &chains, here);
-        chains.pass(here, height(parents[place]));
+        turn_at(&mut cells[place], sides, &chains, here);
+        chains.pass(here, height(parents[place]), together);
+    }
+}
+
+// Climbs each of the four chains by itself. That is rare, so it stands aside, and has the change by value: the one that it is
+// a copy of can stay in registers.
+#[inline(never)]
+fn climb_each(
+    cells: &mut [Cell],
+    parents: &[Option<Slot>],
+    current: Option<(Slot, bool)>,
+    change: Change,
+)
+    requires { CanClimb parents.now current change (chains_of current change) cells.old }
+    ensures turned { AreTurned (numbers_of parents.now) change cells.old cells.new }
+    ensures room { length cells.new ≡ length cells.old }
+{
+    let sides = Sides::of(current, &change);
+    let starts = Chains::of(current, &change);
+    climb(cells, parents, current, &change, &sides, starts, false);
+}
+
+/// Takes the groups on the chains of a change through it. At most changes two chains are enough, where there could be four: the
+/// one of the task that runs from then on, and one for the counts and the task that ran.
+pub(crate) fn walk(
+    cells: &mut [Cell],
+    parents: &[Option<Slot>],
+    current: Option<(Slot, bool)>,
+    change: &Change,
+)
+    requires { CanClimb parents.now current change.now (chains_of current change.now) cells.old }
+    ensures turned { AreTurned (numbers_of parents.now) change.now cells.old cells.new }
+    ensures room { length cells.new ≡ length cells.old }
+{
+    let sides = Sides::of(current, change);
+    match Chains::together(current, change, sides.stays) {
+        Some(starts) => climb(cells, parents, current, change, &sides, starts, true),
+        None => climb_each(cells, parents, current, *change),
     }
 }

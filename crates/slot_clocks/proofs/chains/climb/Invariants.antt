@@ -1,0 +1,17 @@
+use Rattle.std.proofs.Common.{◌≡◌, ℕ, ◌≤◌, length, true}
+use Rattle.slot_clocks.specs.Clocks.{cell_in, numbers_of}
+use Rattle.slot_clocks.specs.Walk.{AreTogether, top}
+use Rattle.slot_clocks.proofs.WalkLaws.{IsWalked}
+use Rattle.slot_clocks.proofs.chains.climb.Given as goal
+
+-- the chains stand at slots that there are, and still go together where they did; each group went through the change, or the walk is to come to it yet
+abbrev pub invariant-up : goal.invariant-up
+invariant-up l = record {
+  slots : top l.chains ≤ length l.parents;
+  together : l.together ≡ true → AreTogether l.chains;
+  room : length l.cells ≡ length l.fn.cells;
+  groups : (slot : ℕ) → IsWalked (numbers_of l.parents) l.change l.fn.starts l.chains slot (cell_in l.fn.cells slot) (cell_in l.cells slot);
+}
+
+abbrev pub decreases-up : goal.decreases-up
+decreases-up l = top l.chains
