@@ -1,6 +1,10 @@
 -- How a reader's samples were taken, one after the other.
-use Rattle.std.specs.Prelude.{◌≡◌, ◌⊎◌, ℕ, ◌+◌, ◌-◌, ◌≤◌, List, [], ◌∷◌, ◌++◌}
+use Rattle.std.specs.Prelude.{◌≡◌, ◌⊎◌, ℕ, ◌+◌, ◌-◌, ◌≤◌, List, [], ◌∷◌, ◌++◌, length}
 use Rattle.clock_row.specs.declared.view.ReaderView.{ReaderView}
+
+-- how often a reader tried: each try gave a sample or met a change
+abbrev pub tries_of : ReaderView → ℕ
+tries_of reader = reader.met + length reader.got
 
 -- How samples of these counts were taken after one of another count, where successful tries gave some counts and so many tries
 -- met a change: each successful try gave a sample, and each sample that repeats the one before it cost eight tries that met a

@@ -1,9 +1,9 @@
 //! A reader of a row.
-ghost use Rattle.std.specs.Prelude.{◌≡◌, ◌<◌, ◌≤◌, ◌∷◌, [], length, IfErr, IfOk};
+ghost use Rattle.std.specs.Prelude.{◌≡◌, ◌+◌, ◌<◌, ◌≤◌, ◌∷◌, [], length, IfErr, IfOk};
 ghost use Rattle.std.specs.Arc.{arc_value};
 ghost use Rattle.psi_laws.specs.Plan.{IsClock};
 ghost use Rattle.clock_row.specs.Ends.{AllAreClocks, IsBusy, sampled};
-ghost use Rattle.clock_row.specs.Tries.{IsTried};
+ghost use Rattle.clock_row.specs.Tries.{IsTried, tries_of};
 
 use crate::steps::{begin_try, end_try};
 use crate::view::{Board, RowSeat};
@@ -109,6 +109,7 @@ impl ClockReader {
         ensures seen { self.new.knows.seen ≡ result.count }
         ensures tried { IsTried (result.count ∷ []) last.now.count
             self.old.knows self.new.knows }
+        ensures few { tries_of self.new.knows ≤ tries_of self.old.knows + 8 }
     {
         'tries: for tries in 0..TRIES {
             if let Ok(sample) = self.try_sample(slot) {
