@@ -1,6 +1,6 @@
 -- The lanes of processors, as they are dealt to workers, and what going over ticks makes of them.
 use Rattle.std.proofs.Common.{◌≡◌, ℕ, zero, suc, ◌+◌, ◌*◌, ◌/◌, ◌%◌, ◌^◌, ◌<◌, ◌≤◌, List, [], ◌∷◌, drop, length, get_or, refl, sym, ap, ◌∙◌, subst, arith, ◌⊎◌, ⊎_elim, inl, inr}
-use Rattle.std.specs.Prelude.{Some, max, min, slice_get}
+use Rattle.std.specs.Prelude.{Bool, Some, is_some, max, min, slice_get}
 use Rattle.std.specs.List.{All}
 use Rattle.std.proofs.Math.Nat.{div-mul-le_self, mod-add-div', mod-lt, mul-le-mul_left, mul-le-mul_right}
 use Rattle.std.proofs.Math.Seq.{drop-nil}
@@ -215,8 +215,8 @@ handed_out plans batches ticks out room is left = record {
 -- ---- a new crew
 
 -- the batches of new workers are a crew
-pub crew_new : (plans : PlansView) (batches : List (List LaneView)) (workers room : ℕ) → AreNewBatches plans room workers batches → 0 < workers → 1 ≤ room → room < 2 ^ 32 → AreLanes plans batches no_ticks 0 room
-crew_new plans batches workers room new some roomy countable = record {
+pub crew_new : (plans : PlansView) (batches : List (List LaneView)) (in_rows : Bool) (workers room : ℕ) → AreNewBatches plans room in_rows workers batches → 0 < workers → 1 ≤ room → room < 2 ^ 32 → AreLanes plans batches no_ticks 0 room
+crew_new plans batches in_rows workers room new some roomy countable = record {
   some = subst (λ n. 0 < n) (sym new.many) some;
   roomy = roomy;
   countable = countable;
@@ -226,12 +226,20 @@ crew_new plans batches workers room new some roomy countable = record {
 }
 
 -- none of its clocks made a change
-pub clocks_new : (plans : PlansView) (batches : List (List LaneView)) (workers room : ℕ) → AreNewBatches plans room workers batches → 0 < workers → 1 ≤ room → room < 2 ^ 32 → (cpu : ℕ) → cpu < length plans.plans → (clocks_at (clocks_of batches (length plans.plans)) cpu).made ≡ 0
-clocks_new plans batches workers room new some roomy countable cpu below =
-    let is = crew_new plans batches workers room new some roomy countable in
+pub clocks_new : (plans : PlansView) (batches : List (List LaneView)) (in_rows : Bool) (workers room : ℕ) → AreNewBatches plans room in_rows workers batches → 0 < workers → 1 ≤ room → room < 2 ^ 32 → (cpu : ℕ) → cpu < length plans.plans → (clocks_at (clocks_of batches (length plans.plans)) cpu).made ≡ 0
+clocks_new plans batches in_rows workers room new some roomy countable cpu below =
+    let is = crew_new plans batches in_rows workers room new some roomy countable in
     let there = lane_there plans batches no_ticks 0 room cpu is below in
     let mine : cpu % length batches < workers = omega (arith, mod-lt cpu is.some, new.many) in
     ap (λ (on : OnPlan). on.made) (clocks_are batches (length plans.plans) cpu below) ∙ (new.each (cpu % length batches) mine).fresh (cpu / length batches) there
+
+-- each of them is in a row where that is wanted, and else plain
+pub rows_new : (plans : PlansView) (batches : List (List LaneView)) (in_rows : Bool) (workers room : ℕ) → AreNewBatches plans room in_rows workers batches → 0 < workers → 1 ≤ room → room < 2 ^ 32 → (cpu : ℕ) → cpu < length plans.plans → is_some (lane_of batches cpu).row ≡ in_rows
+rows_new plans batches in_rows workers room new some roomy countable cpu below =
+    let is = crew_new plans batches in_rows workers room new some roomy countable in
+    let there = lane_there plans batches no_ticks 0 room cpu is below in
+    let mine : cpu % length batches < workers = omega (arith, mod-lt cpu is.some, new.many) in
+    (new.each (cpu % length batches) mine).rows (cpu / length batches) there
 
 -- the lane of a processor that was made of plans is one of theirs
 pub new_lane : (plans : PlansView) (room cpu number : ℕ) (lane : LaneView) → number ≡ cpu → number < length plans.plans → lane.cpu ≡ number → lane.on ≡ record { plan = plan_at plans number; made = 0 } → length lane.kept ≡ room * length plans.lives → IsPlan lane.on.plan

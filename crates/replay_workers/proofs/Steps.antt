@@ -1,11 +1,8 @@
 -- One change, one processor and one group more.
 use Rattle.std.proofs.Common.{◌≡◌, ℕ, ◌+◌, ◌*◌, ◌<◌, ◌≤◌, List, [], ◌∷◌, ◌++◌, length, get_or, set, sym, ap, ◌∙◌, subst, arith, cond, ◌⊎◌, ⊎_elim, inl, inr}
-use Rattle.std.specs.Prelude.{◌≢◌, nat_le}
-use Rattle.std.specs.List.{count_by}
+use Rattle.std.specs.Prelude.{◌≢◌}
 use Rattle.std.proofs.Math.Nat.{mul-le-mul_right}
 use Rattle.std.proofs.lemmas.List.{get_or_append_left, get_or_push, get_or-set_same, get_or-set_other, length-append, length-set}
-use Rattle.std.proofs.lemmas.List.Sums.{length-filter, sum_by-cons}
-use Rattle.psi_laws.specs.declared.changes.Change.{Change}
 use Rattle.psi_laws.specs.Clock.{ClockView, opened, opened_time}
 use Rattle.psi_laws.specs.Plan.{IsClock, PlanView, changes_up_to, last_change, planned_time}
 use Rattle.psi_laws.proofs.ClockLaws.{map_states}
@@ -38,28 +35,6 @@ each_changed R start now place x d inside before here k below =
 -- what stands behind the place is as it was
 pub left_changed : {X : Type 0} → (start now : List X) (place : ℕ) (x d : X) → ((k : ℕ) → place ≤ k → get_or now k d ≡ get_or start k d) → (k : ℕ) → place + 1 ≤ k → get_or (set now place x) k d ≡ get_or start k d
 left_changed start now place x d left k behind = get_or-set_other now place k x d (λ same. omega (arith, same, behind)) ∙ left k (omega (arith, behind))
-
--- ---- changes
-
-one_change : (moment at later : ℕ) → at ≤ later → cond (nat_le moment at) 1 0 ≤ cond (nat_le moment later) 1 0
-one_change moment at later forward = grind arith
-
-counts_more : (at later : ℕ) → at ≤ later → (changes : List Change) → count_by (λ (change : Change). nat_le change.at at) changes ≤ count_by (λ (change : Change). nat_le change.at later) changes
-counts_more at later forward [] = omega arith
-counts_more at later forward (change ∷ changes) =
-    let before = sum_by-cons (λ (change : Change). cond (nat_le change.at at) 1 0) change changes in
-    let behind = sum_by-cons (λ (change : Change). cond (nat_le change.at later) 1 0) change changes in
-    let one = one_change change.at at later forward in
-    let others = counts_more at later forward changes in
-    omega (arith, before, behind, one, others)
-
--- no fewer changes come up to a later moment
-pub changes_more : (plan : PlanView) (at later : ℕ) → at ≤ later → changes_up_to plan at ≤ changes_up_to plan later
-changes_more plan at later forward =
-    let few = length-filter (λ (change : Change). nat_le change.at at) plan.changes in
-    let more = length-filter (λ (change : Change). nat_le change.at later) plan.changes in
-    let counts = counts_more at later forward plan.changes in
-    omega (arith, few, more, counts)
 
 -- ---- ticks
 

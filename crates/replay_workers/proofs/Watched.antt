@@ -4,6 +4,7 @@ use Rattle.std.specs.Prelude.{Some}
 use Rattle.std.specs.List.{All}
 use Rattle.std.proofs.Math.ListN.{get_or-eq_default, get_or-map}
 use Rattle.std.proofs.Math.Seq.{take-append_seam}
+use Rattle.atomic_table.specs.Seated.{TableId}
 use Rattle.psi_base.specs.declared.event.Slot.{Slot}
 use Rattle.psi_laws.specs.Plan.{IsClock, PlanView}
 use Rattle.psi_spec.specs.Changes.{RiseWithin}
@@ -16,7 +17,7 @@ use Rattle.replay_workers.specs.Crew.{AreBehind, AreSampled, IsSampled, WatchVie
 use Rattle.replay_workers.specs.Lanes.{AreLanes, HaveAllGone, LaneView, clocks_of, lane_of, no_ticks}
 use Rattle.replay_workers.specs.Watches.{AreNewWatchers, AreSettled, AreWatchers, AreWatching, HasMet, HasSampled, HasWatched, HaveCleared, HaveMet, HaveSampled, HaveSlot, HaveWatched, IsCrew, IsSameWatcher, IsThere, WatcherView, crew_of, no_watcher, watch_of, watcher_at}
 use Rattle.replay_workers.proofs.Dealt.{clocks_are, clocks_many, gone_at, gone_there, lane_is, lane_there}
-use Rattle.replay_workers.proofs.Steps.{changes_more}
+use Rattle.psi_laws.proofs.PlanTimes.{changes_more}
 use Rattle.replay_workers.proofs.Tries.{no_clocks, no_tries, rise_wider, tried_since}
 
 -- a slice of the whole that was written over is what was written
@@ -40,6 +41,7 @@ has_watched lane_old lane_new slot old met new one two settled =
         clocks = subst (λ (plan : PlanView). All (λ (sample : Sample). IsClock sample.clock plan slot sample.count) new.samples) one.same.plan two.clocks;
         rise = rise_wider lane_old.on.made new.knows.seen lane_new.on.made counts settled (subst (λ n. RiseWithin n counts new.knows.seen) one.count two.rise);
         tried = tried_since counts lane_old.on.made old.knows met.knows new.knows one.got one.met (subst (λ n. IsTried counts n met.knows new.knows) one.count two.tried);
+        few = omega (arith, two.few, one.met, ap length one.got, one.same.asked);
       };
     }
 
@@ -96,7 +98,7 @@ watchers_stay plans lanes_old lanes_new before ticks out room asked old new is g
       let lane = gone_there plans lanes_old lanes_new before ticks out room cpu is gone (watched_below plans lanes_old asked old cpu are inside) in
       record {
         cpu_is = one.cpu ∙ own.cpu_is;
-        row = one.row ∙ own.row ∙ sym lane.row;
+        row = ap (λ (row : TableId). Some row) one.row ∙ own.row ∙ sym lane.row;
         plan = one.plan ∙ own.plan;
         asked_is = one.asked ∙ own.asked_is;
       };
@@ -129,6 +131,7 @@ nothing_asked plan slot asked before now watch zero none forward = record {
   clocks = no_clocks plan slot watch.samples none;
   rise = subst (λ (samples : List Sample). RiseWithin before (counts_of samples) now) (sym none) forward;
   tried = no_tries before watch.samples watch.reader none;
+  few = omega arith;
 }
 
 -- the changes of a processor that were made after ticks are no fewer

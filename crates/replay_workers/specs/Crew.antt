@@ -13,7 +13,7 @@ use Rattle.proc_plan.specs.Plans.{PlansView, StandFor, plan_at}
 use Rattle.clock_row.specs.declared.reader.Sample.{Sample}
 use Rattle.clock_row.specs.declared.view.ReaderView.{ReaderView}
 use Rattle.clock_row.specs.Steps.{new_reader}
-use Rattle.clock_row.specs.Tries.{IsTried}
+use Rattle.clock_row.specs.Tries.{IsTried, tries_of}
 use Rattle.aggregate.specs.Table.{HasSizes, times_at}
 use Rattle.replay_workers.specs.declared.ticks.Ticks.{Ticks}
 
@@ -96,12 +96,13 @@ counts_of samples = map (λ (sample : Sample). sample.count) samples
 
 -- A reader took so many samples of a slot's clocks on a processor, beside the changes from one number to another: each is the
 -- clock after its number of changes, these numbers never fall and lie between the two, and the reader took them by its own
--- tries, the first of them after the writer's own clock.
+-- tries, the first of them after the writer's own clock, and eight at most for each.
 pub record IsSampled (plan : PlanView) (slot asked before now : ℕ) (old new : WatchView) : Type 0 where
   pub many : length new.samples ≡ asked
   pub clocks : All (λ (sample : Sample). IsClock sample.clock plan slot sample.count) new.samples
   pub rise : RiseWithin before (counts_of new.samples) now
   pub tried : IsTried (counts_of new.samples) before old.reader new.reader
+  pub few : tries_of new.reader ≤ tries_of old.reader + 8 * asked
 
 -- Where a slot is watched, so many samples of it were taken on each processor, beside the changes that were made; else there is
 -- none.

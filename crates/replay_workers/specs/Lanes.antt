@@ -1,5 +1,5 @@
 -- The lanes of a crew, one for each processor, and how they are dealt to batches, one for each worker that has a lane.
-use Rattle.std.specs.Prelude.{◌≡◌, ◌≢◌, ℕ, ◌+◌, ◌*◌, ◌/◌, ◌%◌, ◌^◌, ◌<◌, ◌≤◌, List, [], length, map, slice_index_or}
+use Rattle.std.specs.Prelude.{◌≡◌, ◌≢◌, ℕ, ◌+◌, ◌*◌, ◌/◌, ◌%◌, ◌^◌, ◌<◌, ◌≤◌, Bool, List, [], length, map, slice_index_or, Option, None, Some, is_some}
 use Rattle.std.specs.List.{range_with_len}
 use Rattle.psi_laws.specs.Plan.{IsPlan, PlanView, changes_up_to, last_change, no_plan}
 use Rattle.atomic_table.specs.Seated.{TableId}
@@ -7,6 +7,8 @@ use Rattle.proc_plan.specs.Clocks.{OnPlan}
 use Rattle.proc_plan.specs.Plans.{PlansView, plan_at}
 use Rattle.clock_row.specs.Ends.{WriterEnd}
 use Rattle.aggregate.specs.Table.{times_at}
+use Rattle.replay_workers.specs.declared.lane_clocks.LaneClocks.{LaneClocks}
+use Rattle.replay_workers.specs.declared.lane_clocks.LaneClocks.TheVariants.{Plain, Row}
 use Rattle.replay_workers.specs.declared.ticks.Ticks.{Ticks}
 use Rattle.replay_workers.specs.Crew.{last_of, moment_in, times_by}
 
@@ -16,20 +18,27 @@ use Rattle.replay_workers.specs.Crew.{last_of, moment_in, times_by}
 abbrev pub on_of : WriterEnd → OnPlan
 on_of writer = record { plan = writer.knows.plan; made = writer.knows.count }
 
--- A lane: a processor's number, the row of its clocks, these, and the times (ns) that it keeps, tick by tick and slot by slot.
+-- the clocks of a lane, as plain ones or as those of the writer of a row
+abbrev pub clocks_in : LaneClocks → OnPlan
+clocks_in (Plain clocks) = clocks
+clocks_in (Row writer) = on_of writer
+
+-- the row that they are in, if they are in one
+abbrev pub row_in : LaneClocks → Option TableId
+row_in (Plain clocks) = None
+row_in (Row writer) = Some writer.row
+
+-- A lane: a processor's number, the row that its clocks are in, if they are in one, these, and the times (ns) that it keeps,
+-- tick by tick and slot by slot.
 pub record LaneView : Type 0 where
   pub cpu : ℕ
-  pub row : TableId
+  pub row : Option TableId
   pub on : OnPlan
   pub kept : List (List ℕ)
 
--- no row
-abbrev pub no_row : TableId
-no_row = record { words = 0; slots = 0; views_name = 0; atom = 0; block = 0; offset = 0; slot_names = [] }
-
 -- no lane
 abbrev pub no_lane : LaneView
-no_lane = record { cpu = 0; row = no_row; on = record { plan = no_plan; made = 0 }; kept = [] }
+no_lane = record { cpu = 0; row = None; on = record { plan = no_plan; made = 0 }; kept = [] }
 
 -- the times (ns) of a slot that are kept for a tick with a number from 0
 abbrev pub kept_at : List (List ℕ) → ℕ → ℕ → ℕ → List ℕ
@@ -137,15 +146,16 @@ pub record IsBatchOf (plans : PlansView) (ticks : Ticks) (room workers worker : 
 abbrev pub no_ticks : Ticks
 no_ticks = record { first = 0; length = 0; count = 0 }
 
--- A batch has the lanes of its worker, and no lane made a change yet.
-pub record IsNewBatch (plans : PlansView) (room workers worker : ℕ) (lanes : List LaneView) : Type 0 where
+-- A batch has the lanes of its worker, no lane made a change yet, and their clocks are in rows or plain, as is wanted.
+pub record IsNewBatch (plans : PlansView) (room : ℕ) (in_rows : Bool) (workers worker : ℕ) (lanes : List LaneView) : Type 0 where
   pub batch : IsBatchOf plans no_ticks room workers worker lanes
   pub fresh : (k : ℕ) → k < length lanes → (lane_at lanes k).on.made ≡ 0
+  pub rows : (k : ℕ) → k < length lanes → is_some (lane_at lanes k).row ≡ in_rows
 
 -- the batches of workers, none of which made a change yet
-pub record AreNewBatches (plans : PlansView) (room workers : ℕ) (batches : List (List LaneView)) : Type 0 where
+pub record AreNewBatches (plans : PlansView) (room : ℕ) (in_rows : Bool) (workers : ℕ) (batches : List (List LaneView)) : Type 0 where
   pub many : length batches ≡ workers
-  pub each : (worker : ℕ) → worker < workers → IsNewBatch plans room workers worker (batch_at batches worker)
+  pub each : (worker : ℕ) → worker < workers → IsNewBatch plans room in_rows workers worker (batch_at batches worker)
 
 -- The lanes of a crew: there is a batch for each of some workers, and so many of the ticks that its lanes went over were handed
 -- out.

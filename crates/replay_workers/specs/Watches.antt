@@ -1,5 +1,5 @@
 -- Watchers, which take samples of the lanes of a crew, and the crew with its watchers.
-use Rattle.std.specs.Prelude.{◌≡◌, ℕ, ◌/◌, ◌%◌, ◌<◌, ◌≤◌, List, [], drop, length, map, slice_index_or}
+use Rattle.std.specs.Prelude.{◌≡◌, ℕ, ◌+◌, ◌*◌, ◌/◌, ◌%◌, ◌<◌, ◌≤◌, true, List, [], drop, length, map, slice_index_or, Option, Some, is_some}
 use Rattle.std.specs.List.{All}
 use Rattle.atomic_table.specs.Seated.{TableId}
 use Rattle.psi_laws.specs.Clock.{zero_clock}
@@ -10,10 +10,10 @@ use Rattle.proc_plan.specs.Plans.{PlansView, plan_at}
 use Rattle.clock_row.specs.declared.reader.Sample.{Sample}
 use Rattle.clock_row.specs.declared.view.ReaderView.{ReaderView}
 use Rattle.clock_row.specs.Steps.{new_reader}
-use Rattle.clock_row.specs.Tries.{IsTried}
+use Rattle.clock_row.specs.Tries.{IsTried, tries_of}
 use Rattle.replay_workers.specs.declared.ticks.Ticks.{Ticks}
 use Rattle.replay_workers.specs.Crew.{CrewView, IsSampled, WatchView, counts_of, moments_of}
-use Rattle.replay_workers.specs.Lanes.{AreLanes, LaneView, batch_at, clocks_of, lane_of, no_row}
+use Rattle.replay_workers.specs.Lanes.{AreLanes, LaneView, batch_at, clocks_of, lane_of}
 
 -- ---- one watcher
 
@@ -26,6 +26,10 @@ pub record WatcherView : Type 0 where
   pub last : Sample
   pub samples : List Sample
   pub asked : ℕ
+
+-- no row
+abbrev pub no_row : TableId
+no_row = record { words = 0; slots = 0; views_name = 0; atom = 0; block = 0; offset = 0; slot_names = [] }
 
 -- no watcher
 abbrev pub no_watcher : WatcherView
@@ -47,9 +51,9 @@ pub record IsSameWatcher (old new : WatcherView) : Type 0 where
   pub asked : new.asked ≡ old.asked
 
 -- A new watcher of a lane's row has no sample.
-pub record IsNewWatcher (cpu asked : ℕ) (row : TableId) (plan : PlanView) (watcher : WatcherView) : Type 0 where
+pub record IsNewWatcher (cpu asked : ℕ) (row : Option TableId) (plan : PlanView) (watcher : WatcherView) : Type 0 where
   pub cpu_is : watcher.cpu ≡ cpu
-  pub row_is : watcher.row ≡ row
+  pub row_is : Some watcher.row ≡ row
   pub plan_is : watcher.knows.plan ≡ plan
   pub asked_is : watcher.asked ≡ asked
   pub none : watcher.samples ≡ []
@@ -70,13 +74,14 @@ pub record HasMet (slot : ℕ) (on : OnPlan) (old new : WatcherView) : Type 0 wh
   pub count : new.last.count ≡ on.made
   pub clock : IsClock new.last.clock on.plan slot on.made
 
--- A watcher took its samples of a slot after its last one, by its own tries, up to what it has seen now.
+-- A watcher took its samples of a slot after its last one, by its own tries, eight at most for each, up to what it has seen now.
 pub record HasSampled (slot : ℕ) (old new : WatcherView) : Type 0 where
   pub same : IsSameWatcher old new
   pub many : length new.samples ≡ old.asked
   pub clocks : All (λ (sample : Sample). IsClock sample.clock old.knows.plan slot sample.count) new.samples
   pub rise : RiseWithin old.last.count (counts_of new.samples) new.knows.seen
   pub tried : IsTried (counts_of new.samples) old.last.count old.knows new.knows
+  pub few : tries_of new.knows ≤ tries_of old.knows + 8 * old.asked
 
 -- A watcher took its samples of a slot beside the changes of a lane.
 pub record HasWatched (slot : ℕ) (lane_old lane_new : LaneView) (old new : WatcherView) : Type 0 where
@@ -90,6 +95,10 @@ pub record HasCleared (old new : WatcherView) : Type 0 where
 
 -- ---- the watchers of all processors, in their order
 
+-- the clocks of a lane are in a row
+abbrev pub IsInRow : LaneView → Type 0
+IsInRow lane = is_some lane.row ≡ true
+
 -- the lane of a processor is there
 pub record IsThere (batches : List (List LaneView)) (cpu : ℕ) : Type 0 where
   pub some : 0 < length batches
@@ -99,7 +108,7 @@ pub record IsThere (batches : List (List LaneView)) (cpu : ℕ) : Type 0 where
 pub record IsWatching (batches : List (List LaneView)) (cpu : ℕ) (watcher : WatcherView) : Type 0 where
   pub there : IsThere batches cpu
   pub cpu_is : watcher.cpu ≡ cpu
-  pub row : watcher.row ≡ (lane_of batches cpu).row
+  pub row : Some watcher.row ≡ (lane_of batches cpu).row
   pub plan : watcher.knows.plan ≡ (lane_of batches cpu).on.plan
 
 -- so is each of them
@@ -148,7 +157,7 @@ pub record AreNewWatchers (batches : List (List LaneView)) (cpus asked : ℕ) (w
 -- A watcher of a crew is that of a processor: it has the row of its lane, and its plan, and takes so many samples.
 pub record IsWatcherOf (plans : PlansView) (batches : List (List LaneView)) (asked cpu : ℕ) (watcher : WatcherView) : Type 0 where
   pub cpu_is : watcher.cpu ≡ cpu
-  pub row : watcher.row ≡ (lane_of batches cpu).row
+  pub row : Some watcher.row ≡ (lane_of batches cpu).row
   pub plan : watcher.knows.plan ≡ plan_at plans cpu
   pub asked_is : watcher.asked ≡ asked
 

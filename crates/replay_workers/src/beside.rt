@@ -5,9 +5,9 @@ ghost use Rattle.std.specs.Thread.{IsSync};
 ghost use Rattle.psi_spec.specs.Trace.{last_moment};
 ghost use Rattle.replay_workers.specs.Crew.{last_of};
 ghost use Rattle.replay_workers.specs.Lanes.{HaveAllGone, MayAllGo, lane_of};
-ghost use Rattle.replay_workers.specs.Watches.{AreNewWatchers, AreSettled, AreWatching, HasMet, HaveCleared, HaveMet, HaveSampled, HaveSlot, HaveWatched, IsNewWatcher, IsThere, IsWatching, MayAllSample};
+ghost use Rattle.replay_workers.specs.Watches.{AreNewWatchers, AreSettled, AreWatching, HasMet, HaveCleared, HaveMet, HaveSampled, HaveSlot, HaveWatched, IsInRow, IsNewWatcher, IsThere, IsWatching, MayAllSample};
 
-use crate::batch::{Batch, go_all};
+use crate::batch::{Batch, go_all, threads_beside, threads_for};
 use crate::ticks::Ticks;
 use crate::watch::Watcher;
 use psi_base::{Cpu, Gate, NoMemory, Slot};
@@ -21,7 +21,8 @@ fn watcher_of(
     cpu: Cpu,
     asked: u32,
 ) -> Result<Watcher, NoMemory>
-    requires { IsThere batches.old cpu.0 }
+    requires there { IsThere batches.old cpu.0 }
+    requires row { IsInRow (lane_of batches.old cpu.0) }
     ensures same { batches.new ≡ batches.old }
     ensures new { IfOk result (IsNewWatcher (lane_of batches.old cpu.0).cpu asked
         (lane_of batches.old cpu.0).row (lane_of batches.old cpu.0).on.plan) }
@@ -31,8 +32,8 @@ fn watcher_of(
     batch.lanes[cpu.0 as usize / workers].watcher(alloc, asked)
 }
 
-/// Watchers of the lanes of so many processors, each of which is to take so many samples in an interval. They take all the
-/// memory that they need.
+/// Watchers of the lanes of so many processors, whose clocks are in rows. Each is to take so many samples in an interval. They
+/// take all the memory that they need.
 pub(crate) fn watch(
     alloc: Global,
     batches: &mut [Batch<'_>],
@@ -40,6 +41,7 @@ pub(crate) fn watch(
     asked: u32,
 ) -> Result<Vec<Watcher>, NoMemory>
     requires there { (cpu : ℕ) → cpu < cpus → IsThere batches.old cpu }
+    requires rows { (cpu : ℕ) → cpu < cpus → IsInRow (lane_of batches.old cpu) }
     requires own { (cpu : ℕ) → cpu < cpus → (lane_of batches.old cpu).cpu ≡ cpu }
     ensures same { batches.new ≡ batches.old }
     ensures new { IfOk result (λ watchers.
@@ -113,20 +115,21 @@ fn settle_all(batches: &mut [Batch<'_>], watchers: &mut [Watcher])
     }
 }
 
-// The batches, after the changes up to each tick.
+// The batches, after the changes up to each tick, made in so many threads.
 fn gone<'a, R: Threads + Sync, G: Gate>(
     rt: &R,
     mut batches: Vec<Batch<'a>>,
     ticks: Ticks,
+    threads: usize,
     gate: &G,
 ) -> Vec<Batch<'a>>
-    requires any { 0 < length batches.items }
+    requires threads { 0 < threads }
     requires some { 0 < ticks.count }
     requires early { last_of ticks ≤ last_moment }
     requires may { All (MayAllGo ticks) batches.items }
     ensures { HaveAllGone ticks batches.entry.items result.items }
 {
-    go_all(rt, &mut batches, ticks, gate);
+    go_all(rt, &mut batches, ticks, threads, gate);
     batches
 }
 
@@ -163,21 +166,23 @@ pub(crate) fn go_beside<'a, R: Threads + Sync, G: Gate>(
         watchers.items result.1.items }
 {
     if watchers.is_empty() {
-        return (gone(rt, batches, ticks, gate), watchers);
+        let threads = threads_for(&batches, ticks.last());
+        return (gone(rt, batches, ticks, threads, gate), watchers);
     }
     let mut batches = batches;
     let mut watchers = watchers;
     meet_all(&mut batches, &mut watchers, slot);
+    let threads = threads_beside(&batches, ticks.last());
     let (mut batches, mut watchers) = join(
         rt,
         || -> Vec<Batch>
             requires sync { IsSync R.row }
-            requires any { 0 < length batches.items }
+            requires threads { 0 < threads }
             requires some { 0 < ticks.count }
             requires early { last_of ticks ≤ last_moment }
             requires may { All (MayAllGo ticks) batches.items }
             ensures { HaveAllGone ticks batches.entry.items result.items }
-        { gone(rt, batches, ticks, gate) },
+        { gone(rt, batches, ticks, threads, gate) },
         || -> Vec<Watcher>
             requires { MayAllSample slot.0 watchers.items }
             ensures { HaveSampled slot.0 watchers.items result.items }

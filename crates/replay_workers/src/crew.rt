@@ -6,7 +6,7 @@ ghost use Rattle.aggregate.specs.Table.{HasSizes};
 ghost use Rattle.proc_plan.specs.Plans.{plan_at};
 ghost use Rattle.replay_workers.specs.Crew.{AreAt, AreBehind, AreOnPlans, AreSampled, IsTableAt, clocks_at, last_of, moments_of, room_of, watch_at};
 
-use crate::batch::{Batch, go_all};
+use crate::batch::{Batch, go_all, threads_for};
 use crate::beside::{clear, go_beside, watch};
 use crate::deal::{deal, room_for};
 use crate::fill::{fill, lane_in};
@@ -84,8 +84,9 @@ impl<'a> Crew<'a> {
     {
         let cpus = plans.cpus();
         let room = room_for(cpus, plans.groups().len() as u32, moments);
-        let mut batches = deal(alloc, plans, workers.min(cpus), room)?;
-        let watched = if live > 0 { cpus } else { 0 };
+        let is_live = live > 0;
+        let mut batches = deal(alloc, plans, workers.min(cpus), room, is_live)?;
+        let watched = if is_live { cpus } else { 0 };
         let watchers = watch(alloc, &mut batches, watched, live)?;
         Ok(Crew {
             alloc,
@@ -133,7 +134,8 @@ impl<'a> Crew<'a> {
         ensures ready { self.new.ready ≡ moments_of ticks }
         ensures live { AreSampled None self.old self.new }
     {
-        go_all(rt, &mut self.batches, ticks, gate);
+        let threads = threads_for(&self.batches, ticks.last());
+        go_all(rt, &mut self.batches, ticks, threads, gate);
         clear(&mut self.watchers);
         self.ticks = ticks;
         self.out = 0;

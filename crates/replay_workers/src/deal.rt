@@ -27,43 +27,47 @@ pub(crate) fn room_for(cpus: u32, slots: u32, moments: u64) -> u32
     fits.min(moments).max(1) as u32
 }
 
-// The lanes of a worker, before any change: each processor whose number over that of the workers leaves the worker's own.
+// The lanes of a worker, before any change: each processor whose number over that of the workers leaves the worker's own. Their
+// clocks are in rows or plain.
 fn deal_batch<'a>(
     alloc: Global,
     plans: &'a Plans,
     worker: u32,
     workers: u32,
     room: u32,
+    in_rows: bool,
 ) -> Result<Batch<'a>, NoMemory>
     requires below { worker < workers }
     requires few { workers ≤ 64 }
     requires roomy { 1 ≤ room }
-    ensures { IfOk result (IsNewBatch plans.now room workers worker) }
+    ensures { IfOk result (IsNewBatch plans.now room in_rows workers worker) }
 {
     let cpus = plans.cpus();
     let mut lanes = Vec::new(alloc);
     let mut cpu = worker;
     'cpus: while cpu < cpus {
-        lanes.push(Lane::make(alloc, plans, Cpu(cpu), room)?)?;
+        lanes.push(Lane::make(alloc, plans, Cpu(cpu), room, in_rows)?)?;
         cpu += workers;
     }
     Ok(Batch { lanes })
 }
 
-/// All processors, dealt to so many workers, before any change.
+/// All processors, dealt to so many workers, before any change, with clocks in rows where they are to be watched.
 pub(crate) fn deal<'a>(
     alloc: Global,
     plans: &'a Plans,
     workers: u32,
     room: u32,
+    in_rows: bool,
 ) -> Result<Vec<Batch<'a>>, NoMemory>
     requires few { workers ≤ 64 }
     requires roomy { 1 ≤ room }
-    ensures { IfOk result (λ batches. AreNewBatches plans.now room workers batches.items) }
+    ensures { IfOk result (λ batches.
+        AreNewBatches plans.now room in_rows workers batches.items) }
 {
     let mut batches = Vec::new(alloc);
     'workers: for worker in 0..workers {
-        batches.push(deal_batch(alloc, plans, worker, workers, room)?)?;
+        batches.push(deal_batch(alloc, plans, worker, workers, room, in_rows)?)?;
     }
     Ok(batches)
 }

@@ -1,47 +1,46 @@
 //! One processor, which goes tick by tick and keeps the times at each.
-ghost use Rattle.std.specs.Prelude.{◌≡◌, ◌+◌, ◌*◌, ◌<◌, ◌≤◌, ℕ, [], length, IfOk, slice_index_or};
-ghost use Rattle.psi_laws.specs.Plan.{IsClock, IsPlan, changes_up_to, last_change};
+ghost use Rattle.std.specs.Prelude.{◌≡◌, ◌*◌, ◌<◌, ◌≤◌, ℕ, length, IfOk, Some, is_some};
+ghost use Rattle.psi_laws.specs.Plan.{IsClock, IsPlan};
 ghost use Rattle.psi_spec.specs.Trace.{last_moment};
 ghost use Rattle.proc_plan.specs.Plans.{plan_at};
-ghost use Rattle.replay_workers.specs.Crew.{last_of, moment_in};
-ghost use Rattle.replay_workers.specs.Lanes.{HasGone, KeepsTick, KeepsTicks, MayGo};
-ghost use Rattle.replay_workers.specs.Watches.{HasMet, IsNewWatcher};
+ghost use Rattle.replay_workers.specs.Crew.{last_of};
+ghost use Rattle.replay_workers.specs.Lanes.{HasGone, MayGo};
+ghost use Rattle.replay_workers.specs.Watches.{HasMet, IsInRow, IsNewWatcher};
 
-use crate::clocks::make_until;
+use crate::lane_clocks::LaneClocks;
 use crate::ticks::Ticks;
 use crate::watch::Watcher;
-use clock_row::{ClockWriter, Row};
 use cpu_clock::Clock;
-use proc_plan::{Plan, Plans, ProcClocks};
+use proc_plan::{Plan, Plans};
 use psi_base::{Cpu, Gate, NoMemory, Ns, Slot};
 use std::alloc::Global;
 use std::marker::Model;
 
-/// The clocks of one processor, in a row that can be read beside its changes, and the times of all groups there at the ticks that
-/// they went over last. Contracts see the processor, the row, how many changes of which plan were made, and what is kept.
+/// The clocks of one processor, and the times of all groups there at the ticks that they went over last. Contracts see the
+/// processor, the row if the clocks are in one, how many changes of which plan were made, and what is kept.
 #[derive(Drop)]
 pub(crate) struct Lane<'a> {
     cpu: Cpu,
     plan: &'a Plan,
     slots: u32,
-    clocks: ClockWriter<'a>,
+    clocks: LaneClocks<'a>,
     /// Tick by tick, `slots` a tick.
     kept: Vec<[u64; 7]>,
 }
 
 impl<'a> Model for Lane<'a> {
-    ghost use Rattle.replay_workers.specs.Lanes.{IsLane, LaneView, on_of};
+    ghost use Rattle.replay_workers.specs.Lanes.{IsLane, LaneView, clocks_in, row_in};
 
     ghost Value = { LaneView };
 
     ghost view = { λ l. record {
       cpu = l.cpu.0;
-      row = l.clocks.row;
-      on = on_of l.clocks;
+      row = row_in l.clocks;
+      on = clocks_in l.clocks;
       kept = l.kept.items;
     } };
 
-    ghost invariant = { λ l. IsLane l.plan.now l.slots (on_of l.clocks) };
+    ghost invariant = { λ l. IsLane l.plan.now l.slots (clocks_in l.clocks) };
 }
 
 // So many places for times.
@@ -54,65 +53,15 @@ fn places(alloc: Global, count: usize) -> Result<Vec<[u64; 7]>, NoMemory>
     }
 }
 
-// Keeps the times (ns) of all groups at the tick with a number from 0, whose moment this is. The clocks made all changes up to
-// the moment.
-fn keep_tick<C: ProcClocks>(clocks: &mut C, slots: u32, tick: u32, at: Ns, kept: &mut [[u64; 7]])
-    requires known { slots ≡ length (C.plan clocks.old).parents }
-    requires whole { IsPlan (C.plan clocks.old) }
-    requires all { C.made clocks.old ≡ changes_up_to (C.plan clocks.old) at }
-    requires past { last_change (C.plan clocks.old) (C.made clocks.old) ≤ at }
-    requires early { at ≤ last_moment }
-    requires room { tick * slots + slots ≤ length kept.old }
-    ensures plan { C.plan clocks.new ≡ C.plan clocks.old }
-    ensures made { C.made clocks.new ≡ C.made clocks.old }
-    ensures home { C.home clocks.new ≡ C.home clocks.old }
-    ensures keeps { KeepsTick kept.old kept.new tick (C.plan clocks.old) at }
-{
-    let start = tick as usize * slots as usize;
-    'slots: for slot in 0..slots {
-        kept[start + slot as usize] = clocks.own(Slot(slot)).opened(at);
-    }
-}
-
-// Makes the changes of a plan tick by tick, and keeps the times of all groups at each tick.
-fn go_over<C: ProcClocks, G: Gate>(
-    plan: &Plan,
-    clocks: &mut C,
-    slots: u32,
-    cpu: Cpu,
-    ticks: Ticks,
-    kept: &mut [[u64; 7]],
-    gate: &G,
-)
-    requires plan { C.plan clocks.old ≡ plan.now }
-    requires whole { IsPlan plan.now }
-    requires slots { slots ≡ length plan.now.parents }
-    requires some { 0 < ticks.count }
-    requires room { ticks.count * slots ≤ length kept.old }
-    requires behind { C.made clocks.old ≤ changes_up_to plan.now ticks.first }
-    requires early { last_of ticks ≤ last_moment }
-    ensures plan { C.plan clocks.new ≡ plan.now }
-    ensures made { C.made clocks.new ≡ changes_up_to plan.now (last_of ticks) }
-    ensures home { C.home clocks.new ≡ C.home clocks.old }
-    ensures past { last_change plan.now (changes_up_to plan.now (last_of ticks)) ≤ last_of ticks }
-    ensures size { length kept.new ≡ length kept.old }
-    ensures keeps { KeepsTicks kept.new plan.now ticks ticks.count }
-{
-    'ticks: for tick in 0..ticks.count {
-        let at = ticks.moment(tick);
-        make_until(clocks, cpu, plan.until(at), gate);
-        keep_tick(clocks, slots, tick, at, kept);
-    }
-}
-
 impl<'a> Lane<'a> {
-    /// A processor before its first change, with room for the times of so many ticks. It takes all the memory that its
-    /// changes need.
+    /// A processor before its first change, with room for the times of so many ticks, and with clocks in a row where they are
+    /// to be watched. It takes all the memory that its changes need.
     pub(crate) fn make(
         alloc: Global,
         plans: &'a Plans,
         cpu: Cpu,
         room: u32,
+        in_row: bool,
     ) -> Result<Lane<'a>, NoMemory>
         requires { cpu.0 < length plans.now.plans }
         ensures cpu { IfOk result (λ lane. lane.cpu ≡ cpu.0) }
@@ -122,6 +71,7 @@ impl<'a> Lane<'a> {
         ensures whole { IfOk result (λ lane. IsPlan lane.on.plan) }
         ensures slots { IfOk result (λ lane.
             length lane.on.plan.parents ≡ length plans.now.lives) }
+        ensures row { IfOk result (λ lane. is_some lane.row ≡ in_row) }
     {
         let plan = plans.plan(cpu);
         let slots = plans.groups().len() as u32;
@@ -129,7 +79,7 @@ impl<'a> Lane<'a> {
             cpu,
             plan,
             slots,
-            clocks: Row::make(alloc, plan, slots)?,
+            clocks: LaneClocks::make(alloc, plan, slots, in_row)?,
             kept: places(alloc, room as usize * slots as usize)?,
         })
     }
@@ -141,9 +91,9 @@ impl<'a> Lane<'a> {
         self.clocks.count()
     }
 
-    /// Whether a change is left up to a moment (ns).
-    pub(crate) fn is_busy(&self, until: Ns) -> bool {
-        self.clocks.count() < self.plan.until(until)
+    /// How many changes are left up to a moment (ns).
+    pub(crate) fn left(&self, until: Ns) -> u64 {
+        self.plan.until(until).saturating_sub(self.clocks.count())
     }
 
     /// The clock of a slot, after the changes that were made.
@@ -162,34 +112,45 @@ impl<'a> Lane<'a> {
         &self.kept
     }
 
-    /// A watcher of the processor, which is to take so many samples in an interval. It takes all the memory that it needs.
+    /// A watcher of the processor, whose clocks are in a row. It is to take so many samples in an interval, and takes all the
+    /// memory that it needs.
     pub(crate) fn watcher(&mut self, alloc: Global, asked: u32) -> Result<Watcher, NoMemory>
+        requires { IsInRow self.old }
         ensures same { self.new ≡ self.old }
         ensures new { IfOk result
             (IsNewWatcher self.old.cpu asked self.old.row self.old.on.plan) }
     {
-        Watcher::make(alloc, self.cpu, &mut self.clocks, asked)
+        let LaneClocks::Row(writer) = &mut self.clocks else {
+            unreachable!()
+        };
+        Watcher::make(alloc, self.cpu, writer, asked)
     }
 
     /// Meets the processor's watcher: it learns how many changes were made, and what the clock of a slot is after them.
     pub(crate) fn meet(&mut self, watcher: &mut Watcher, slot: Slot)
-        requires row { watcher.old.row ≡ self.old.row }
+        requires row { Some watcher.old.row ≡ self.old.row }
         requires plan { watcher.old.knows.plan ≡ self.old.on.plan }
         requires slot { slot.0 < length self.old.on.plan.parents }
         ensures same { self.new ≡ self.old }
         ensures met { HasMet slot.0 self.old.on watcher.old watcher.new }
     {
-        watcher.meet(&mut self.clocks, slot);
+        let LaneClocks::Row(writer) = &mut self.clocks else {
+            unreachable!()
+        };
+        watcher.meet(writer, slot);
     }
 
     /// Settles with the processor's watcher: it has seen no more changes than were made.
     pub(crate) fn settle(&mut self, watcher: &mut Watcher)
-        requires { watcher.old.row ≡ self.old.row }
+        requires { Some watcher.old.row ≡ self.old.row }
         ensures lane { self.new ≡ self.old }
         ensures same { watcher.new ≡ watcher.old }
         ensures seen { watcher.old.knows.seen ≤ self.old.on.made }
     {
-        watcher.settle(&mut self.clocks);
+        let LaneClocks::Row(writer) = &mut self.clocks else {
+            unreachable!()
+        };
+        watcher.settle(writer);
     }
 
     /// Makes the changes up to each tick, and keeps the times of all groups there.
@@ -199,14 +160,6 @@ impl<'a> Lane<'a> {
         requires may { MayGo ticks self.old }
         ensures { HasGone ticks self.old self.new }
     {
-        go_over(
-            self.plan,
-            &mut self.clocks,
-            self.slots,
-            self.cpu,
-            ticks,
-            &mut self.kept,
-            gate,
-        );
+        self.clocks.go_over(self.plan, self.slots, self.cpu, ticks, &mut self.kept, gate);
     }
 }

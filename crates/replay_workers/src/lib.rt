@@ -8,6 +8,7 @@ mod crew;
 mod deal;
 mod fill;
 mod lane;
+mod lane_clocks;
 mod laws;
 mod ticks;
 mod watch;

@@ -1,10 +1,10 @@
 //! A watcher, which takes live samples of one processor.
-ghost use Rattle.std.specs.Prelude.{◌≡◌, ◌<◌, ◌≤◌, [], length, vec_capacity, vec_len, IfOk};
+ghost use Rattle.std.specs.Prelude.{◌≡◌, ◌+◌, ◌*◌, ◌<◌, ◌≤◌, [], length, vec_capacity, vec_len, IfOk, Some};
 ghost use Rattle.std.specs.List.{All};
 ghost use Rattle.psi_laws.specs.Plan.{IsClock};
 ghost use Rattle.psi_spec.specs.Changes.{RiseWithin};
 ghost use Rattle.clock_row.specs.declared.reader.Sample.{Sample};
-ghost use Rattle.clock_row.specs.Tries.{IsTried};
+ghost use Rattle.clock_row.specs.Tries.{IsTried, tries_of};
 ghost use Rattle.replay_workers.specs.Crew.{counts_of};
 ghost use Rattle.replay_workers.specs.Lanes.{on_of};
 ghost use Rattle.replay_workers.specs.Watches.{HasCleared, HasMet, HasSampled, IsNewWatcher, MaySample};
@@ -72,6 +72,7 @@ fn sample_on<G: Gate>(
         reader.new.knows.seen }
     ensures tried { IsTried (counts_of samples.new.items) last.now.count
         reader.old.knows reader.new.knows }
+    ensures few { tries_of reader.new.knows ≤ tries_of reader.old.knows + 8 * asked }
 {
     let mut newest = *last;
     'samples: for index in 0..asked {
@@ -95,7 +96,7 @@ impl Watcher {
     ) -> Result<Watcher, NoMemory>
         ensures same { writer.new ≡ writer.old }
         ensures new { IfOk result
-            (IsNewWatcher cpu.0 asked writer.old.row writer.old.knows.plan) }
+            (IsNewWatcher cpu.0 asked (Some writer.old.row) writer.old.knows.plan) }
     {
         let reader = writer.reader()?;
         Ok(Watcher {

@@ -11,8 +11,8 @@ workers-preserved c =
     let batches = c.workers.batches.items in
     let batch = c.in_ok-deal_batch.field-0 in
     let items = c.in_ok-push.ensures.items in
-    let here : IsNewBatch plans c.args.room c.args.workers (length batches) batch = subst (λ n. IsNewBatch plans c.args.room c.args.workers n batch) (sym i.many) c.in_ok-deal_batch.ensures in
+    let here : IsNewBatch plans c.args.room c.args.in_rows c.args.workers (length batches) batch = subst (λ n. IsNewBatch plans c.args.room c.args.in_rows c.args.workers n batch) (sym i.many) c.in_ok-deal_batch.ensures in
     record {
       many = ap length items ∙ length-append batches (batch ∷ []) ∙ omega (arith, i.many);
-      each = λ worker below. subst (λ xs. IsNewBatch plans c.args.room c.args.workers worker (batch_at xs worker)) (sym items) (each_more (λ n b. IsNewBatch plans c.args.room c.args.workers n b) batches batch [] i.each here worker (subst (λ xs. worker < length xs) items below));
+      each = λ worker below. subst (λ xs. IsNewBatch plans c.args.room c.args.in_rows c.args.workers worker (batch_at xs worker)) (sym items) (each_more (λ n b. IsNewBatch plans c.args.room c.args.in_rows c.args.workers n b) batches batch [] i.each here worker (subst (λ xs. worker < length xs) items below));
     }

@@ -1,4 +1,5 @@
 use Rattle.std.proofs.Common.{◌≡◌, ◌+◌, ◌*◌, ◌<◌, [], ◌∷◌, ap, arith, length, subst, sym, ◌∙◌}
+use Rattle.std.specs.Prelude.{is_some}
 use Rattle.std.proofs.lemmas.List.{length-append}
 use Rattle.proc_plan.specs.Clocks.{OnPlan}
 use Rattle.replay_workers.specs.Lanes.{IsLaneOf, LaneView, lane_at, no_lane, no_ticks}
@@ -25,4 +26,5 @@ cpus-preserved c =
       few = omega (arith, c.cpus-test.true, c.cpus-cpus.ensures.counted, c.requires.few);
       each = λ k inside. subst (λ xs. IsLaneOf plans no_ticks c.args.room (k * workers + c.args.worker) (lane_at xs k)) (sym items) (each_more (λ n l. IsLaneOf plans no_ticks c.args.room (n * workers + c.args.worker) l) lanes lane no_lane i.each here k (subst (λ xs. k < length xs) items inside));
       fresh = λ k inside. ap (λ xs. (lane_at xs k).on.made) items ∙ each_more (λ n (l : LaneView). l.on.made ≡ 0) lanes lane no_lane i.fresh (ap (λ (on : OnPlan). on.made) made.on) k (subst (λ xs. k < length xs) items inside);
+      rows = λ k inside. ap (λ xs. is_some (lane_at xs k).row) items ∙ each_more (λ n (l : LaneView). is_some l.row ≡ c.args.in_rows) lanes lane no_lane i.rows made.row k (subst (λ xs. k < length xs) items inside);
     }

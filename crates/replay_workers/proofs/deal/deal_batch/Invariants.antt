@@ -1,4 +1,5 @@
 use Rattle.std.proofs.Common.{◌≡◌, ◌+◌, ◌-◌, ◌*◌, ◌<◌, ◌≤◌, ℕ, length}
+use Rattle.std.specs.Prelude.{is_some}
 use Rattle.replay_workers.specs.Lanes.{IsLaneOf, lane_at, no_ticks}
 use Rattle.replay_workers.proofs.deal.deal_batch.Given as goal
 
@@ -8,6 +9,7 @@ invariant-cpus l = record {
   few : l.cpu ≤ 128;
   each : (k : ℕ) → k < length l.lanes.items → IsLaneOf l.plans no_ticks l.room (k * l.workers + l.worker) (lane_at l.lanes.items k);
   fresh : (k : ℕ) → k < length l.lanes.items → (lane_at l.lanes.items k).on.made ≡ 0;
+  rows : (k : ℕ) → k < length l.lanes.items → is_some (lane_at l.lanes.items k).row ≡ l.in_rows;
 }
 
 abbrev pub decreases-cpus : goal.decreases-cpus

@@ -18,6 +18,7 @@ samples-init g c =
       clocks = no_clocks c.args.reader.now.knows.plan c.args.slot.0 c.args.samples.now.items none;
       rise = no_rise c.args.last.now.count c.args.reader.now.knows.seen c.args.samples.now.items none c.requires.seen;
       tried = no_tries c.args.last.now.count c.args.samples.now.items c.args.reader.now.knows none;
+      few = omega arith;
     }
 
 pub samples-preserved : goal.samples-preserved
@@ -39,6 +40,7 @@ samples-preserved g c =
       rise = rises_grown _ _ _ _ _ _ grown held.rise later call.seen;
       tried = tried_grown c.args.last.now.count c.samples.reader.knows.seen c.samples.samples.items c.push.new.self.items sample c.args.reader.now.knows c.samples.reader.knows c.sample_or-newest.new.self.knows
           grown held.rise held.tried (subst (λ (number : ℕ). IsTried (sample.count ∷ []) number c.samples.reader.knows c.sample_or-newest.new.self.knows) held.seen call.tried);
+      few = omega (arith, held.few, call.few);
     }
 
 pub returns-clause-rise : goal.returns-clause-rise

@@ -1,9 +1,9 @@
-use Rattle.std.proofs.Common.{◌≡◌, ◌≤◌}
+use Rattle.std.proofs.Common.{◌≡◌, ◌+◌, ◌*◌, ◌≤◌}
 use Rattle.std.specs.Prelude.{vec_capacity, vec_len}
 use Rattle.std.specs.List.{All}
 use Rattle.psi_laws.specs.Plan.{IsClock}
 use Rattle.clock_row.specs.declared.reader.Sample.{Sample}
-use Rattle.clock_row.specs.Tries.{IsTried}
+use Rattle.clock_row.specs.Tries.{IsTried, tries_of}
 use Rattle.replay_workers.specs.Crew.{counts_of}
 use Rattle.replay_workers.proofs.Tries.{Rises}
 use Rattle.replay_workers.proofs.watch.sample_on.Given as goal
@@ -19,4 +19,5 @@ invariant-samples g l = record {
   clocks : All (λ (sample : Sample). IsClock sample.clock l.fn.reader.knows.plan l.fn.slot.0 sample.count) l.samples.items;
   rise : Rises l.fn.last.count (counts_of l.samples.items) l.reader.knows.seen;
   tried : IsTried (counts_of l.samples.items) l.fn.last.count l.fn.reader.knows l.reader.knows;
+  few : tries_of l.reader.knows ≤ tries_of l.fn.reader.knows + 8 * l.index;
 }

@@ -2,7 +2,7 @@ use Rattle.std.proofs.Common.{◌≤◌, ◌+◌, ◌*◌, arith, refl, subst, s
 use Rattle.psi_laws.specs.Plan.{IsClock, IsPlan, last_change}
 use Rattle.psi_laws.proofs.PlanClocks.{clock_is_in_time}
 use Rattle.replay_workers.proofs.Steps.{kept_more, times_by_clock}
-use Rattle.replay_workers.proofs.lane.keep_tick.Goals as goal
+use Rattle.replay_workers.proofs.lane_clocks.keep_tick.Goals as goal
 
 pub opened-requires : goal.opened-requires
 opened-requires g c =

@@ -1,6 +1,6 @@
 use Rattle.std.proofs.Common.{◌≡◌}
 use Rattle.replay_workers.proofs.Steps.{KeptTo}
-use Rattle.replay_workers.proofs.lane.keep_tick.Given as goal
+use Rattle.replay_workers.proofs.lane_clocks.keep_tick.Given as goal
 
 abbrev pub invariant-slots : goal.invariant-slots
 invariant-slots g l = record {

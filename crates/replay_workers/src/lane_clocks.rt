@@ -1,0 +1,150 @@
+//! The clocks of one processor, in a row only where they are to be watched.
+ghost use Rattle.std.specs.Prelude.{◌≡◌, ◌+◌, ◌*◌, ◌<◌, ◌≤◌, ℕ, [], length, IfOk, is_some, slice_index_or};
+ghost use Rattle.psi_laws.specs.Plan.{IsClock, IsPlan, changes_up_to, last_change};
+ghost use Rattle.psi_spec.specs.Trace.{last_moment};
+ghost use Rattle.replay_workers.specs.Crew.{last_of, moment_in};
+ghost use Rattle.replay_workers.specs.Lanes.{KeepsTick, KeepsTicks, clocks_in, row_in};
+
+use crate::clocks::make_until;
+use crate::ticks::Ticks;
+use clock_row::{ClockWriter, Row};
+use cpu_clock::Clock;
+use proc_plan::{PlainClocks, Plan, ProcClocks};
+use psi_base::{Cpu, Gate, NoMemory, Ns, Slot};
+use std::alloc::Global;
+
+/// The clocks of a processor. A change costs about twice as much where they are in a row.
+#[derive(Drop)]
+pub(crate) enum LaneClocks<'a> {
+    /// Nothing reads them beside their changes.
+    Plain(PlainClocks<'a>),
+    /// Watchers may read them beside their changes.
+    Row(ClockWriter<'a>),
+}
+
+// Keeps the times (ns) of all groups at the tick with a number from 0, whose moment this is. The clocks made all changes up to
+// the moment.
+fn keep_tick<C: ProcClocks>(clocks: &mut C, slots: u32, tick: u32, at: Ns, kept: &mut [[u64; 7]])
+    requires known { slots ≡ length (C.plan clocks.old).parents }
+    requires whole { IsPlan (C.plan clocks.old) }
+    requires all { C.made clocks.old ≡ changes_up_to (C.plan clocks.old) at }
+    requires past { last_change (C.plan clocks.old) (C.made clocks.old) ≤ at }
+    requires early { at ≤ last_moment }
+    requires room { tick * slots + slots ≤ length kept.old }
+    ensures plan { C.plan clocks.new ≡ C.plan clocks.old }
+    ensures made { C.made clocks.new ≡ C.made clocks.old }
+    ensures home { C.home clocks.new ≡ C.home clocks.old }
+    ensures keeps { KeepsTick kept.old kept.new tick (C.plan clocks.old) at }
+{
+    let start = tick as usize * slots as usize;
+    'slots: for slot in 0..slots {
+        kept[start + slot as usize] = clocks.own(Slot(slot)).opened(at);
+    }
+}
+
+// Makes the changes of a plan tick by tick, and keeps the times of all groups at each tick.
+fn go_over<C: ProcClocks, G: Gate>(
+    plan: &Plan,
+    clocks: &mut C,
+    slots: u32,
+    cpu: Cpu,
+    ticks: Ticks,
+    kept: &mut [[u64; 7]],
+    gate: &G,
+)
+    requires plan { C.plan clocks.old ≡ plan.now }
+    requires whole { IsPlan plan.now }
+    requires slots { slots ≡ length plan.now.parents }
+    requires some { 0 < ticks.count }
+    requires room { ticks.count * slots ≤ length kept.old }
+    requires behind { C.made clocks.old ≤ changes_up_to plan.now ticks.first }
+    requires early { last_of ticks ≤ last_moment }
+    ensures plan { C.plan clocks.new ≡ plan.now }
+    ensures made { C.made clocks.new ≡ changes_up_to plan.now (last_of ticks) }
+    ensures home { C.home clocks.new ≡ C.home clocks.old }
+    ensures past { last_change plan.now (changes_up_to plan.now (last_of ticks)) ≤ last_of ticks }
+    ensures size { length kept.new ≡ length kept.old }
+    ensures keeps { KeepsTicks kept.new plan.now ticks ticks.count }
+{
+    'ticks: for tick in 0..ticks.count {
+        let at = ticks.moment(tick);
+        make_until(clocks, cpu, plan.until(at), gate);
+        keep_tick(clocks, slots, tick, at, kept);
+    }
+}
+
+impl<'a> LaneClocks<'a> {
+    /// The clocks before the first change of a plan that knows the parents of so many slots, in a row or plain. They take all
+    /// the memory that their changes need.
+    pub(crate) fn make(
+        alloc: Global,
+        plan: &'a Plan,
+        slots: u32,
+        in_row: bool,
+    ) -> Result<LaneClocks<'a>, NoMemory>
+        requires { slots ≡ length plan.now.parents }
+        ensures on { IfOk result (λ clocks.
+            clocks_in clocks ≡ record { plan = plan.now; made = 0 }) }
+        ensures row { IfOk result (λ clocks. is_some (row_in clocks) ≡ in_row) }
+    {
+        if in_row {
+            return Ok(LaneClocks::Row(Row::make(alloc, plan, slots)?));
+        }
+        Ok(LaneClocks::Plain(PlainClocks::make(alloc, plan, slots)?))
+    }
+
+    /// How many changes were made.
+    pub(crate) fn count(&self) -> u64
+        ensures { result ≡ (clocks_in self.now).made }
+    {
+        match self {
+            LaneClocks::Plain(clocks) => clocks.count(),
+            LaneClocks::Row(writer) => writer.count(),
+        }
+    }
+
+    /// The clock of a slot, after the changes that were made.
+    pub(crate) fn own(&mut self, slot: Slot) -> Clock
+        requires { slot.0 < length (clocks_in self.old).plan.parents }
+        ensures kept { clocks_in self.new ≡ clocks_in self.old }
+        ensures row { row_in self.new ≡ row_in self.old }
+        ensures clock { IsClock result (clocks_in self.old).plan slot.0
+            (clocks_in self.old).made }
+    {
+        match self {
+            LaneClocks::Plain(clocks) => clocks.own(slot),
+            LaneClocks::Row(writer) => writer.own(slot),
+        }
+    }
+
+    /// Makes the changes of a plan tick by tick, and keeps the times of all groups at each tick.
+    pub(crate) fn go_over<G: Gate>(
+        &mut self,
+        plan: &Plan,
+        slots: u32,
+        cpu: Cpu,
+        ticks: Ticks,
+        kept: &mut [[u64; 7]],
+        gate: &G,
+    )
+        requires plan { (clocks_in self.old).plan ≡ plan.now }
+        requires whole { IsPlan plan.now }
+        requires slots { slots ≡ length plan.now.parents }
+        requires some { 0 < ticks.count }
+        requires room { ticks.count * slots ≤ length kept.old }
+        requires behind { (clocks_in self.old).made ≤ changes_up_to plan.now ticks.first }
+        requires early { last_of ticks ≤ last_moment }
+        ensures plan { (clocks_in self.new).plan ≡ plan.now }
+        ensures made { (clocks_in self.new).made ≡ changes_up_to plan.now (last_of ticks) }
+        ensures row { row_in self.new ≡ row_in self.old }
+        ensures past { last_change plan.now (changes_up_to plan.now (last_of ticks))
+            ≤ last_of ticks }
+        ensures size { length kept.new ≡ length kept.old }
+        ensures keeps { KeepsTicks kept.new plan.now ticks ticks.count }
+    {
+        match self {
+            LaneClocks::Plain(clocks) => go_over(plan, clocks, slots, cpu, ticks, kept, gate),
+            LaneClocks::Row(writer) => go_over(plan, writer, slots, cpu, ticks, kept, gate),
+        }
+    }
+}
