@@ -7,7 +7,7 @@ use Rattle.std.specs.Str.{bytes_eq}
 use Rattle.std.specs.List.{list_all, list_any, before_first}
 use Rattle.clap.specs.Lexer.{long_of, name_and_value}
 use Rattle.run_spec.specs.Words.{◌>>=◌, Word, assigned, opened, unknown, is_among, is_dashed}
-use Rattle.run_spec.specs.Words.{is_equals, option_of, word_of, Given, nothing, value_of}
+use Rattle.run_spec.specs.Words.{is_equals, option_of, word_of, Given, nothing, value_given}
 use Rattle.run_spec.specs.Words.{with_option, with_positional, positionals, then_word, parted}
 use Rattle.psi_words.specs.Clap.{positional_id}
 use Rattle.psi_words.proofs.Parts.{Part, given, plain, id_of, then_part, then_long, parts, has_part}
@@ -107,14 +107,14 @@ free_id names name free known = go (bytes_eq positional_id name) (same_text posi
     go false same = refl
 
 option_under : (name value key : List ℕ) (g : Given) (b : Bool) → bytes_eq name key ≡ b
-    → is_some (value_of key (record g { options = (name, value) ∷ g.options })) ≡ b
-    || is_some (value_of key g)
+    → is_some (value_given key (record g { options = (name, value) ∷ g.options })) ≡ b
+    || is_some (value_given key g)
 option_under name value key g true is = rw is refl
 option_under name value key g false is = rw is refl
 
 pub has_option : (names : List (List ℕ)) (key : List ℕ) (ps : List Part)
     → is_among positional_id names ≡ false → is_among key names ≡ true
-    → has_part key ps ≡ is_some (value_of key (given_of ps))
+    → has_part key ps ≡ is_some (value_given key (given_of ps))
 has_option names key [] free known = refl
 has_option names key (given name value ∷ ps) free known =
     ap (λ b. bytes_eq name key || b) (has_option names key ps free known)
@@ -138,7 +138,7 @@ said_option names name value ps free known =
     go (has_part name ps) (are_apart ps) refl refl (sym (has_option names name ps free known))
   where
     go : (b d : Bool) → has_part name ps ≡ b → are_apart ps ≡ d
-        → is_some (value_of name (given_of ps)) ≡ has_part name ps
+        → is_some (value_given name (given_of ps)) ≡ has_part name ps
         → said (given name value ∷ ps) ≡ said ps >>= with_option name value
     go true true has apart same = rw (has, apart, same, has) refl
     go true false has apart same = rw (has, apart) refl

@@ -12,7 +12,7 @@ use Rattle.clap.proofs.FaultLemmas.{leaf_fault}
 use Rattle.clap.specs.Walk.{nothing_held, is_early_multiple}
 use Rattle.clap.specs.Simple.{App, built, is_simple, is_buildable, is_ready, is_ready_leaf}
 use Rattle.clap.specs.Faults.{fault_of, built_fault, is_free_app, is_simple_and_free}
-use Rattle.run_spec.specs.Words.{is_among, parted, value_of}
+use Rattle.run_spec.specs.Words.{is_among, parted, value_given}
 use Rattle.psi_words.specs.Clap.{plain_app, plain_shape, option_rule, positional_rule}
 use Rattle.psi_words.specs.Clap.{positional_id, is_option_row, option_in, given_in, AreValued}
 use Rattle.psi_words.proofs.Parts.{parts, judged, AreTexts, Part, given, plain, gathered}
@@ -187,8 +187,8 @@ row_valued : (name : List ℕ) (r : Row) (rows : List Row) (here option : Bool) 
     → bytes_eq name positional_id ≡ false
     → bytes_eq r.id name ≡ here → bytes_eq r.id positional_id ≡ option → slice_get r.values 0 ≡ v
     → is_some v ≡ true
-    → first_of name rows ≡ value_of name (given_in rows)
-    → first_of name (r ∷ rows) ≡ value_of name (given_in (r ∷ rows))
+    → first_of name rows ≡ value_given name (given_in rows)
+    → first_of name (r ∷ rows) ≡ value_given name (given_in (r ∷ rows))
 row_valued name r rows true true v other here option is some rest =
     absurd (true≢false (sym option
     ∙ (ap (λ t. bytes_eq t positional_id) (same_text r.id name here) ∙ other)))
@@ -201,7 +201,7 @@ row_valued name r rows false false v other here option is some rest = rw (option
 
 -- a look-up by name finds the option's value
 pub first_valued : (name : List ℕ) (rows : List Row) → bytes_eq name positional_id ≡ false
-    → AreValued rows → first_of name rows ≡ value_of name (given_in rows)
+    → AreValued rows → first_of name rows ≡ value_given name (given_in rows)
 first_valued name [] other valued = refl
 first_valued name (r ∷ rows) other valued =
     let both =

@@ -5,7 +5,7 @@ ghost use Rattle.clap.specs.Words.{app_of, rule_of};
 ghost use Rattle.psi_words.specs.Clap.{option_rule, positional_rule, plain_app, plain_shape};
 ghost use Rattle.psi_words.specs.Clap.{positional_id};
 ghost use Rattle.psi_words.specs.Reads.{names_in, Reads};
-ghost use Rattle.run_spec.specs.Words.{is_among, parted, value_of};
+ghost use Rattle.run_spec.specs.Words.{is_among, parted, value_given};
 
 use crate::words::BadWords;
 use clap::error::ErrorKind;
@@ -101,7 +101,7 @@ impl<'a> Parsed<'a> {
     /// The value of the option of this name.
     pub(crate) fn value(&self, name: &str) -> Option<&'a str>
         requires { bytes_eq name.now positional_id ≡ false }
-        ensures { option_copied result ≡ value_of name.now self.now }
+        ensures { option_copied result ≡ value_given name.now self.now }
     {
         self.found.get_str(name)
     }

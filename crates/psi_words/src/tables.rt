@@ -12,7 +12,7 @@ use std::alloc::Global;
 
 // The name of the trace's file.
 fn trace(alloc: Global, given: &Parsed) -> Result<Text, Fault<BadWords>>
-    ensures exact { Reads result (spec.trace_of given.now) }
+    ensures exact { Reads result (spec.trace_given given.now) }
     ensures text { IfOk result IsUtf8 }
 {
     match given.positional() {
@@ -23,14 +23,14 @@ fn trace(alloc: Global, given: &Parsed) -> Result<Text, Fault<BadWords>>
 
 // The length of a tick in ms.
 fn tick_ms(given: &Parsed) -> Result<u32, BadWords>
-    ensures { Finds result (spec.tick_of given.now) }
+    ensures { Finds result (spec.tick_given given.now) }
 {
     number_or(2_000, 1, 60_000, given.value("tick-ms"))
 }
 
 // How many threads replay.
 fn workers(given: &Parsed) -> Result<u32, BadWords>
-    ensures { Finds result (spec.workers_of given.now) }
+    ensures { Finds result (spec.workers_given given.now) }
 {
     number_or(64, 1, 64, given.value("workers"))
 }

@@ -49,7 +49,7 @@ pub(crate) fn number_or(
 
 /// The name of a rules file, which isn't standard input, or that there is none.
 pub(crate) fn rules(alloc: Global, given: Option<&str>) -> Result<Option<Text>, Fault<BadWords>>
-    ensures exact { Reads result (spec.rules_of (option_copied given.entry)) }
+    ensures exact { Reads result (spec.rules_given (option_copied given.entry)) }
     ensures text { IfOk result (λ name. IfSome name IsUtf8) }
 {
     match given {
@@ -65,7 +65,7 @@ pub(crate) fn rules(alloc: Global, given: Option<&str>) -> Result<Option<Text>, 
 
 /// The path of a group, or that there is none.
 pub(crate) fn live(alloc: Global, given: Option<&str>) -> Result<Option<Path>, Fault<BadWords>>
-    ensures { Reads result (spec.live_of (option_copied given.entry)) }
+    ensures { Reads result (spec.live_given (option_copied given.entry)) }
 {
     match given {
         None => Ok(None),

@@ -1,18 +1,16 @@
 -- Texts with live lines, tick by tick.
 use Rattle.std.proofs.Common.{◌≡◌, ℕ, zero, suc, ◌+◌, ◌-◌, ◌*◌, ◌≤◌, ◌<◌, List, [], ◌∷◌, ◌++◌, replicate, refl, sym, ap, ◌∙◌, subst, append_assoc, arith, true, false, cond, Option, None, Some, ◌⊎◌, ⊎_elim}
 use Rattle.std.specs.Prelude.{nat_le}
-use Rattle.std.specs.List.{count_by}
 use Rattle.std.proofs.Math.Nat.{mul-le-mul_right}
 use Rattle.std.proofs.lemmas.Bool.Decides.{nat_tests}
 use Rattle.std.proofs.lemmas.List.{length-replicate}
-use Rattle.std.proofs.lemmas.List.Sums.{length-filter, sum_by-cons}
 use Rattle.psi_spec.specs.World.{Limits, first_world}
 use Rattle.psi_spec.specs.Refusal.{AreLegal}
 use Rattle.psi_spec.specs.Trace.{Trace}
 use Rattle.psi_spec.specs.Changes.{RiseWithin, count_at}
 use Rattle.pressure_spec.specs.Ticks.{tick_moment}
-use Rattle.psi_laws.specs.declared.changes.Change.{Change}
-use Rattle.psi_laws.specs.Plan.{PlanView, changes_up_to, plan_of}
+use Rattle.psi_laws.specs.Plan.{plan_of}
+use Rattle.psi_laws.proofs.PlanTimes.{changes_more}
 use Rattle.psi_laws.proofs.PlanUpTo.{counts_by_plan}
 use Rattle.ruleset_json.specs.declared.types.Rule.{Rule}
 use Rattle.run_spec.specs.Live.{AreCounts, IsLiveOf, IsLiveText, Watch, changes_until, live_lines, slot_at}
@@ -92,32 +90,12 @@ one_text_unwatched trace pace rules text none is =
 
 -- ---- changes of a processor up to a tick
 
-one_change : (moment at later : ℕ) → at ≤ later → cond (nat_le moment at) 1 0 ≤ cond (nat_le moment later) 1 0
-one_change moment at later forward = grind arith
-
-counts_more : (at later : ℕ) → at ≤ later → (changes : List Change) → count_by (λ (change : Change). nat_le change.at at) changes ≤ count_by (λ (change : Change). nat_le change.at later) changes
-counts_more at later forward [] = omega arith
-counts_more at later forward (change ∷ changes) =
-    let before = sum_by-cons (λ (change : Change). cond (nat_le change.at at) 1 0) change changes in
-    let behind = sum_by-cons (λ (change : Change). cond (nat_le change.at later) 1 0) change changes in
-    let one = one_change change.at at later forward in
-    let others = counts_more at later forward changes in
-    omega (arith, before, behind, one, others)
-
--- no fewer changes of a plan come up to a later moment
-pub plan_more : (plan : PlanView) (at later : ℕ) → at ≤ later → changes_up_to plan at ≤ changes_up_to plan later
-plan_more plan at later forward =
-    let few = length-filter (λ (change : Change). nat_le change.at at) plan.changes in
-    let more = length-filter (λ (change : Change). nat_le change.at later) plan.changes in
-    let counts = counts_more at later forward plan.changes in
-    omega (arith, few, more, counts)
-
 -- no fewer changes of a processor come up to a later moment
 pub count_more : (limits : Limits) (trace : Trace) → AreLegal limits first_world trace.events → (cpu at later : ℕ) → at ≤ later → count_at cpu trace.events at ≤ count_at cpu trace.events later
 count_more limits trace legal cpu at later forward =
     let few = (counts_by_plan limits trace.events legal cpu at).0 in
     let more = (counts_by_plan limits trace.events legal cpu later).0 in
-    let counts = plan_more (plan_of cpu trace.events) at later forward in
+    let counts = changes_more (plan_of cpu trace.events) at later forward in
     omega (arith, few, more, counts)
 
 -- nor up to the next tick

@@ -12,10 +12,10 @@ use Rattle.run_spec.specs.declared.command.Options.{Options}
 use Rattle.run_spec.specs.declared.command.Shape.{Shape}
 use Rattle.run_spec.specs.declared.command.Command.TheVariants.{Stall, Check, Replay, Gen, Stress}
 use Rattle.std.proofs.Common.{lit≤}
-use Rattle.run_spec.specs.Words.{◌>>=◌, Given, parted, value_of, is_name, number_within, number_or}
-use Rattle.run_spec.specs.Words.{needed, trace_of, rules_of, live_of, tick_of, workers_of}
+use Rattle.run_spec.specs.Words.{◌>>=◌, Given, parted, value_given, is_name, number_within, number_or}
+use Rattle.run_spec.specs.Words.{needed, trace_given, rules_given, live_given, tick_given, workers_given}
 use Rattle.run_spec.specs.Words.{options_of, shape_of, stall_of, check_of, replay_of, gen_of}
-use Rattle.run_spec.specs.Words.{stress_of, Form, forms, command_of, IsWithin, AreOptions, IsShape}
+use Rattle.run_spec.specs.Words.{stress_of, CommandForm, forms, command_of, IsWithin, AreOptions, IsShape}
 use Rattle.run_spec.specs.Words.{IsCommand, SpelledInRange}
 
 -- a step that found something had something before it
@@ -48,7 +48,7 @@ or_ranges default least most (Some text) n inside is = within_ranges least most 
 name_ranges : (name : List ℕ) → is_name name ≡ true → name ≢ []
 name_ranges name is none = absurd (true≢false (sym is ∙ ap is_name none))
 
-trace_ranges : (given : Given) (trace : List ℕ) → trace_of given ≡ Some trace → trace ≢ []
+trace_ranges : (given : Given) (trace : List ℕ) → trace_given given ≡ Some trace → trace ≢ []
 trace_ranges given trace is =
     let found = bind_some given.positional _ trace is in
     let tests = if_some (is_name found.0) found.0 trace found.2 in
@@ -58,7 +58,7 @@ both_true : (a b : Bool) → a && b ≡ true → (a ≡ true) × (b ≡ true)
 both_true true b is = (refl, is)
 both_true false b is = absurd (true≢false (sym is))
 
-rules_ranges : (given : Option (List ℕ)) (rules : Option (List ℕ)) → rules_of given ≡ Some rules
+rules_ranges : (given : Option (List ℕ)) (rules : Option (List ℕ)) → rules_given given ≡ Some rules
     → IfSome rules (λ name. (name ≢ []) × (name ≢ codes "-"))
 rules_ranges None rules is =
     let same : None ≡ rules = cc in
@@ -72,7 +72,7 @@ rules_ranges (Some name) rules is =
           (true≢false (sym both.1 ∙ ap not ((bytes_eq-Decides name (codes "-")).1 dash))),
     )
 
-live_ranges : (given : Option (List ℕ)) (live : Option (List ℕ)) → live_of given ≡ Some live
+live_ranges : (given : Option (List ℕ)) (live : Option (List ℕ)) → live_given given ≡ Some live
     → IfSome live (λ path. is_path path ≡ true)
 live_ranges None live is =
     let same : None ≡ live = cc in subst (λ r. IfSome r (λ path. is_path path ≡ true)) same tt
@@ -82,17 +82,17 @@ live_ranges (Some path) live is =
 
 -- ---- tables
 
-tick_ranges : (given : Given) (n : ℕ) → tick_of given ≡ Some n → IsWithin 1 60000 n
+tick_ranges : (given : Given) (n : ℕ) → tick_given given ≡ Some n → IsWithin 1 60000 n
 tick_ranges given n is = or_ranges 2000 1 60000 _ n (lit≤ tt, lit≤ tt) is
 
-workers_ranges : (given : Given) (n : ℕ) → workers_of given ≡ Some n → IsWithin 1 64 n
+workers_ranges : (given : Given) (n : ℕ) → workers_given given ≡ Some n → IsWithin 1 64 n
 workers_ranges given n is = or_ranges 64 1 64 _ n (lit≤ tt, lit≤ tt) is
 
 pub stall_ranges : (given : Given) (command : Command) → stall_of given ≡ Some command
     → IsCommand command
 unfolding stall_of
 stall_ranges given command is =
-    let trace = bind_some (trace_of given) _ command is in
+    let trace = bind_some (trace_given given) _ command is in
     let same : Stall trace.0 ≡ command = cc trace.2 in
     subst IsCommand same (trace_ranges given trace.0 trace.1)
 
@@ -100,8 +100,8 @@ pub check_ranges : (given : Given) (command : Command) → check_of given ≡ So
     → IsCommand command
 unfolding check_of
 check_ranges given command is =
-    let trace = bind_some (trace_of given) _ command is in
-    let tick = bind_some (tick_of given) _ command trace.2 in
+    let trace = bind_some (trace_given given) _ command is in
+    let tick = bind_some (tick_given given) _ command trace.2 in
     let same : Check trace.0 tick.0 ≡ command = cc tick.2 in
     subst IsCommand same (trace_ranges given trace.0 trace.1, tick_ranges given tick.0 tick.1)
 
@@ -109,16 +109,16 @@ options_ranges : (given : Given) (options : Options) → options_of given ≡ So
     → AreOptions options
 unfolding options_of
 options_ranges given options is =
-    let rules = bind_some (rules_of (value_of (codes "rules") given)) _ options is in
-    let tick = bind_some (tick_of given) _ options rules.2 in
+    let rules = bind_some (rules_given (value_given (codes "rules") given)) _ options is in
+    let tick = bind_some (tick_given given) _ options rules.2 in
     let interval =
-    bind_some (number_or 5 1 3600 (value_of (codes "interval-s") given)) _ options tick.2 in
+    bind_some (number_or 5 1 3600 (value_given (codes "interval-s") given)) _ options tick.2 in
     let report =
-    bind_some (number_or 10 0 3600 (value_of (codes "report-s") given)) _ options interval.2 in
-    let workers = bind_some (workers_of given) _ options report.2 in
-    let live = bind_some (live_of (value_of (codes "live") given)) _ options workers.2 in
+    bind_some (number_or 10 0 3600 (value_given (codes "report-s") given)) _ options interval.2 in
+    let workers = bind_some (workers_given given) _ options report.2 in
+    let live = bind_some (live_given (value_given (codes "live") given)) _ options workers.2 in
     let count =
-    bind_some (number_or 1 1 16 (value_of (codes "live-count") given)) _ options live.2 in
+    bind_some (number_or 1 1 16 (value_given (codes "live-count") given)) _ options live.2 in
     let same : record {
       rules = rules.0;
       tick_ms = tick.0;
@@ -131,12 +131,12 @@ options_ranges given options is =
     }
     ≡ options = cc count.2 in
     subst AreOptions same (record {
-      rules = rules_ranges (value_of (codes "rules") given) rules.0 rules.1;
+      rules = rules_ranges (value_given (codes "rules") given) rules.0 rules.1;
       tick_ms = tick_ranges given tick.0 tick.1;
       interval_s = or_ranges 5 1 3600 _ interval.0 (lit≤ tt, lit≤ tt) interval.1;
       report_s = (or_ranges 10 0 3600 _ report.0 (lit≤ tt, lit≤ tt) report.1).1;
       workers = workers_ranges given workers.0 workers.1;
-      live = live_ranges (value_of (codes "live") given) live.0 live.1;
+      live = live_ranges (value_given (codes "live") given) live.0 live.1;
       live_count = or_ranges 1 1 16 _ count.0 (lit≤ tt, lit≤ tt) count.1;
     })
 
@@ -144,7 +144,7 @@ pub replay_ranges : (given : Given) (command : Command) → replay_of given ≡ 
     → IsCommand command
 unfolding replay_of
 replay_ranges given command is =
-    let trace = bind_some (trace_of given) _ command is in
+    let trace = bind_some (trace_given given) _ command is in
     let options = bind_some (options_of given) _ command trace.2 in
     let same : Replay trace.0 options.0 ≡ command = cc options.2 in
     subst IsCommand same (
@@ -166,19 +166,19 @@ unfolding shape_of
 shape_ranges given shape is =
     let options = bind_some (if is_some given.positional then None else Some given) _ shape is in
     let seed =
-    bind_some (needed 0 (2 ^ 64 - 1) (value_of (codes "seed") options.0)) _ shape options.2 in
-    let cpus = bind_some (needed 1 64 (value_of (codes "cpus") options.0)) _ shape seed.2 in
-    let groups = bind_some (needed 0 1000 (value_of (codes "groups") options.0)) _ shape cpus.2 in
+    bind_some (needed 0 (2 ^ 64 - 1) (value_given (codes "seed") options.0)) _ shape options.2 in
+    let cpus = bind_some (needed 1 64 (value_given (codes "cpus") options.0)) _ shape seed.2 in
+    let groups = bind_some (needed 0 1000 (value_given (codes "groups") options.0)) _ shape cpus.2 in
     let events =
-    bind_some (needed 0 3900000 (value_of (codes "events") options.0)) _ shape groups.2 in
+    bind_some (needed 0 3900000 (value_given (codes "events") options.0)) _ shape groups.2 in
     let same : record { seed = seed.0; cpus = cpus.0; groups = groups.0; events = events.0 }
     ≡ shape = cc events.2 in
     subst IsShape same (record {
-      seed = below_all seed.0 (needed_ranges 0 (2 ^ 64 - 1) (value_of (codes "seed") options.0)
+      seed = below_all seed.0 (needed_ranges 0 (2 ^ 64 - 1) (value_given (codes "seed") options.0)
           seed.0 seed.1).1;
-      cpus = needed_ranges 1 64 (value_of (codes "cpus") options.0) cpus.0 cpus.1;
-      groups = (needed_ranges 0 1000 (value_of (codes "groups") options.0) groups.0 groups.1).1;
-      events = (needed_ranges 0 3900000 (value_of (codes "events") options.0) events.0 events.1).1;
+      cpus = needed_ranges 1 64 (value_given (codes "cpus") options.0) cpus.0 cpus.1;
+      groups = (needed_ranges 0 1000 (value_given (codes "groups") options.0) groups.0 groups.1).1;
+      events = (needed_ranges 0 3900000 (value_given (codes "events") options.0) events.0 events.1).1;
     })
 
 pub gen_ranges : (given : Given) (command : Command) → gen_of given ≡ Some command
@@ -194,7 +194,7 @@ pub stress_ranges : (given : Given) (command : Command) → stress_of given ≡ 
 unfolding stress_of
 stress_ranges given command is =
     let shape = bind_some (shape_of given) _ command is in
-    let workers = bind_some (workers_of given) _ command shape.2 in
+    let workers = bind_some (workers_given given) _ command shape.2 in
     let same : Stress shape.0 workers.0 ≡ command = cc workers.2 in
     subst IsCommand same (
       shape_ranges given shape.0 shape.1,
@@ -205,19 +205,19 @@ stress_ranges given command is =
 -- ---- all commands
 
 -- a fact holds of each command's table
-abbrev pub OfEach : ((Given → Option Command) → Type 0) → List Form → Type 0
+abbrev pub OfEach : ((Given → Option Command) → Type 0) → List CommandForm → Type 0
 OfEach P [] = ⊤
 OfEach P (form ∷ forms) = P form.command × OfEach P forms
 
-found_here : (P : (Given → Option Command) → Type 0) (other form : Form) (rest : Option Form)
+found_here : (P : (Given → Option Command) → Type 0) (other form : CommandForm) (rest : Option CommandForm)
     (b : Bool) → (if b then Some other else rest) ≡ Some form → P other.command
     → (rest ≡ Some form → P form.command) → P form.command
 found_here P other form rest true is here later =
-    let same : other ≡ form = cc in subst (λ (f : Form). P f.command) same here
+    let same : other ≡ form = cc in subst (λ (f : CommandForm). P f.command) same here
 found_here P other form rest false is here later = later is
 
-pub each_found : (P : (Given → Option Command) → Type 0) (first : List ℕ) (forms : List Form)
-    (form : Form) → OfEach P forms → find (λ form. bytes_eq first form.word) forms ≡ Some form
+pub each_found : (P : (Given → Option Command) → Type 0) (first : List ℕ) (forms : List CommandForm)
+    (form : CommandForm) → OfEach P forms → find (λ form. bytes_eq first form.word) forms ≡ Some form
     → P form.command
 each_found P first [] form each is = absurd (true≢false (sym (ap is_some is)))
 each_found P first (other ∷ forms) form each is =
@@ -235,6 +235,6 @@ pub command_ranges : SpelledInRange
 unfolding command_of
 command_ranges [] command is = absurd (true≢false (sym (ap is_some is)))
 command_ranges (first ∷ words) command is =
-    let form = bind_some (find (λ (form : Form). bytes_eq first form.word) forms) _ command is in
+    let form = bind_some (find (λ (form : CommandForm). bytes_eq first form.word) forms) _ command is in
     let given = bind_some (parted form.0.options None words) _ command form.2 in
     each_found GivesCommands first forms form.0 all_ranges form.1 given.0 command given.2

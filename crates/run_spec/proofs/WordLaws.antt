@@ -9,10 +9,10 @@ use Rattle.std.specs.Str.{bytes_eq}
 use Rattle.std.proofs.lemmas.Slice.Eq.{bytes_eq-Decides}
 use Rattle.run_spec.specs.declared.command.Command.{Command}
 use Rattle.run_spec.specs.Words.{◌>>=◌, Word, assigned, opened, end, plain, unknown, is_dashed}
-use Rattle.run_spec.specs.Words.{is_among, is_equals, option_of, word_of, Given, value_of}
+use Rattle.run_spec.specs.Words.{is_among, is_equals, option_of, word_of, Given, value_given}
 use Rattle.run_spec.specs.Words.{with_option, with_positional, positionals, then_word, parted}
 use Rattle.run_spec.specs.Words.{options_of, shape_of, stall_of, check_of, replay_of, gen_of}
-use Rattle.run_spec.specs.Words.{stress_of, Form, forms, command_of, assigned_word}
+use Rattle.run_spec.specs.Words.{stress_of, CommandForm, forms, command_of, assigned_word}
 use Rattle.run_spec.specs.Words.{HasNoEquals, OrderIsFree, ValueMayFollow}
 use Rattle.run_spec.proofs.RangeLaws.{OfEach, each_found}
 
@@ -101,7 +101,7 @@ assigned_is names name value none = rw (longer name value 61) (option_is names n
 
 -- each option has the same value in both, and so has the positional
 pub record SaysSame (one other : Given) : Type 0 where
-  pub values : (name : List ℕ) → value_of name one ≡ value_of name other
+  pub values : (name : List ℕ) → value_given name one ≡ value_given name other
   pub positional : one.positional ≡ other.positional
 
 -- both are refused, or say the same
@@ -119,8 +119,8 @@ same_if : (one other : Option Given) → one ≡ other → Same one other
 same_if one other is = subst (Same one) is (same_itself one)
 
 value_under : (name value key : List ℕ) (given : Given) (b : Bool) → bytes_eq name key ≡ b
-    → value_of key (record given { options = (name, value) ∷ given.options })
-    ≡ (if b then Some value else value_of key given)
+    → value_given key (record given { options = (name, value) ∷ given.options })
+    ≡ (if b then Some value else value_given key given)
 value_under name value key given true is = rw is refl
 value_under name value key given false is = rw is refl
 
@@ -140,10 +140,10 @@ with_option_same name value None None same = tt
 with_option_same name value None (Some other) same = absurd same
 with_option_same name value (Some one) None same = absurd same
 with_option_same name value (Some one) (Some other) same =
-    go (is_some (value_of name one)) refl (sym (ap is_some (same.values name)))
+    go (is_some (value_given name one)) refl (sym (ap is_some (same.values name)))
   where
-    go : (b : Bool) → is_some (value_of name one) ≡ b
-        → is_some (value_of name other) ≡ is_some (value_of name one)
+    go : (b : Bool) → is_some (value_given name one) ≡ b
+        → is_some (value_given name other) ≡ is_some (value_given name one)
         → Same (with_option name value one) (with_option name value other)
     go true is is_other = rw (is_other, is) tt
     go false is is_other = rw (is_other, is) (same_more name value one other same)
@@ -167,7 +167,7 @@ swapped : (name value other another : List ℕ) → name ≢ other → (r : Opti
     ((r >>= with_option name value) >>= with_option other another)
 swapped name value other another differ None = tt
 swapped name value other another differ (Some given) =
-    go (is_some (value_of name given)) (is_some (value_of other given)) refl refl
+    go (is_some (value_given name given)) (is_some (value_given other given)) refl refl
   where
     first : (bytes_eq name other ≡ false)
     first = other_text name other differ
@@ -175,7 +175,7 @@ swapped name value other another differ (Some given) =
     second : (bytes_eq other name ≡ false)
     second = other_text other name (λ is. differ (sym is))
 
-    go : (b d : Bool) → is_some (value_of name given) ≡ b → is_some (value_of other given) ≡ d
+    go : (b d : Bool) → is_some (value_given name given) ≡ b → is_some (value_given other given) ≡ d
         → Same (with_option other another given >>= with_option name value)
         (with_option name value given >>= with_option other another)
     go true true is is_other = rw (is, is_other) tt
@@ -189,10 +189,10 @@ swapped name value other another differ (Some given) =
         })
       where
         both : (key : List ℕ) (b d : Bool) → bytes_eq name key ≡ b → bytes_eq other key ≡ d
-            → value_of key (record given {
+            → value_given key (record given {
               options = (name, value) ∷ (other, another) ∷
                   given.options;
-            }) ≡ value_of key
+            }) ≡ value_given key
             (record given { options = (other, another) ∷ (name, value) ∷ given.options })
         both key true true is_name is_other =
             absurd (differ (same_text name key is_name ∙ sym (same_text other key is_other)))
@@ -357,9 +357,9 @@ same_command : (first : List ℕ) (one other : List (List ℕ))
     → command_of (first ∷ one) ≡ command_of (first ∷ other)
 unfolding command_of
 same_command first one other same =
-    go (find (λ (form : Form). bytes_eq first form.word) forms) refl
+    go (find (λ (form : CommandForm). bytes_eq first form.word) forms) refl
   where
-    go : (r : Option Form) → find (λ (form : Form). bytes_eq first form.word) forms ≡ r
+    go : (r : Option CommandForm) → find (λ (form : CommandForm). bytes_eq first form.word) forms ≡ r
         → (r >>= λ form. parted form.options None one >>= λ given. form.command given)
         ≡ (r >>= λ form. parted form.options None other >>= λ given. form.command given)
     go None is = refl

@@ -12,7 +12,8 @@ use Rattle.psi_spec.specs.declared.machine.Mode.{Mode}
 use Rattle.psi_spec.specs.declared.machine.Mode.TheVariants.{Blocked, Ready, Running, Waiting}
 use Rattle.psi_spec.specs.declared.machine.Task.{Task}
 use Rattle.psi_spec.specs.World.{Tasks, World, after, after_event, running_on, task_of}
-use Rattle.psi_spec.specs.Trace.{IsTrace, Trace, text_of, trace_of}
+use Rattle.psi_spec.specs.Grammar.{One}
+use Rattle.psi_spec.specs.Trace.{Trace, text_of}
 use Rattle.run_spec.specs.declared.command.Shape.{Shape}
 
 -- ---- random numbers
@@ -134,11 +135,11 @@ next_event shape w state = record {
 }
 
 -- so many events from a world and a state on, and the end at the moment of the last
-unfoldable pub events_from : Shape → ℕ → World → ℕ → List Event
-events_from shape zero w state = record { at = w.last; act = act.End } ∷ []
-events_from shape (suc left) w state =
+unfoldable pub drawn_events : Shape → ℕ → World → ℕ → List Event
+drawn_events shape zero w state = record { at = w.last; act = act.End } ∷ []
+drawn_events shape (suc left) w state =
     next_event shape w state
-    ∷ events_from shape left (after_event w (next_event shape w state))
+    ∷ drawn_events shape left (after_event w (next_event shape w state))
     (next_drawn shape w.tasks state).state
 
 -- ---- the trace
@@ -146,10 +147,10 @@ events_from shape (suc left) w state =
 -- the trace of a shape: its groups and tasks are made, and then there are its events
 abbrev pub generated : Shape → Trace
 generated shape = record {
-  version = 1;
+  version = One;
   cpus = shape.cpus;
   events = first_events shape
-      ++ events_from shape shape.events (after (first_events shape)) shape.seed;
+      ++ drawn_events shape shape.events (after (first_events shape)) shape.seed;
 }
 
 -- the text of `gen`

@@ -5,5 +5,6 @@ pub mod Generated
 pub mod Live
 pub mod Replay
 pub mod Outputs
+pub mod Reading
 pub mod Status
 pub mod Run

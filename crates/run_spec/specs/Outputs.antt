@@ -1,6 +1,6 @@
 -- Which files a command reads, how long its ticks are, and what it prints of an accepted trace.
 use Rattle.std.specs.Prelude.{◌≡◌, ℕ, ◌*◌, List, Option, None, Some}
-use Rattle.psi_spec.specs.Trace.{Trace, text_of}
+use Rattle.psi_spec.specs.Trace.{Accepts, Trace, accepts_all, text_of}
 use Rattle.ruleset_json.specs.declared.types.Rule.{Rule}
 use Rattle.run_spec.specs.declared.command.Command.{Command}
 use Rattle.run_spec.specs.declared.command.Command.TheVariants.{Stall, Check, Replay, Gen, Stress}
@@ -43,6 +43,10 @@ abbrev pub tick_length : Command → ℕ
 tick_length (Check trace tick_ms) = of_ms tick_ms
 tick_length (Replay trace options) = of_ms options.tick_ms
 tick_length _ = of_s 2
+
+-- what a command accepts of a trace: all that there is, at the length of its ticks
+abbrev pub accepts_of : Command → Accepts
+accepts_of command = accepts_all (tick_length command)
 
 -- what is watched, if there is a path
 abbrev pub watch_of_path : ℕ → Option (List ℕ) → Option Watch

@@ -2,7 +2,8 @@
 use Rattle.std.specs.Prelude.{◌≡◌, ℕ, List, [], Option, None, Some, IsSome, MatchOption, Ok, Err, ⊤}
 use Rattle.std.specs.Io.KnownBytes.{Appends, Keeps}
 use Rattle.psi_base.specs.Outside.{Files, told, Lacks, Rose, AppendsFront, ShelfCounts, counts_of}
-use Rattle.psi_spec.specs.Trace.{IsAccepted, IsCpuCount, Trace, limits_of, refused, trace_of}
+use Rattle.psi_spec.specs.Fields.{IsAmong}
+use Rattle.psi_spec.specs.Trace.{AreKnown, IsAccepted, IsCpuCount, Trace, limits_of, refused, trace_of}
 use Rattle.run_spec.specs.declared.command.Command.{Command}
 use Rattle.run_spec.specs.declared.status.Status.{Status}
 use Rattle.run_spec.specs.declared.status.Status.TheVariants as status
@@ -11,7 +12,7 @@ use Rattle.run_spec.specs.declared.status.Which.TheVariants.{RulesFile, TraceFil
 use Rattle.ruleset_json.specs.declared.types.Rule.{Rule}
 use Rattle.ruleset_json.specs.RuleRanges.{FitsRules}
 use Rattle.ruleset_json.specs.Rules.{rules_of}
-use Rattle.run_spec.specs.Outputs.{IsOutput, file_of, rules_name, tick_length, trace_name}
+use Rattle.run_spec.specs.Outputs.{IsOutput, accepts_of, file_of, rules_name, trace_name}
 
 -- ---- counts
 
@@ -45,12 +46,14 @@ pub record CountsTell (before now : RunCounts) (result : Status) : Type 0 where
 abbrev pub IsTold : Command → Which → Option Files → List ℕ → Type 0
 IsTold command which files bytes = (name : List ℕ) × (file_of command which ≡ Some name) × (told files name ≡ Some bytes)
 
--- A command takes a trace: its events make up one, and it is that of the file's bytes, where these are told.
+-- A command takes a trace: its version and the verbs of its events are accepted, the events make up a trace, and it is that of
+-- the file's bytes, where these are told.
 pub record TakesTrace (command : Command) (files : Option Files) (trace : Trace) : Type 0 where
-  pub version : trace.version ≡ 1
+  pub version : IsAmong trace.version (accepts_of command).versions
   pub cpus : IsCpuCount trace.cpus
-  pub accepted : IsAccepted (limits_of (tick_length command) trace.cpus) trace.events
-  pub read : (bytes : List ℕ) → IsTold command TraceFile files bytes → trace_of (tick_length command) bytes ≡ Ok trace
+  pub known : AreKnown ((accepts_of command).verbs trace.version) trace.events
+  pub accepted : IsAccepted (limits_of (accepts_of command).tick trace.cpus) trace.events
+  pub read : (bytes : List ℕ) → IsTold command TraceFile files bytes → trace_of (accepts_of command) bytes ≡ Ok trace
 
 -- A command takes rulesets: each in its ranges, those of its rules file's bytes, where these are told, and none where it reads
 -- no rules file.
@@ -92,7 +95,7 @@ Ends command files old new (status.Rules fault) =
     × ((bytes : List ℕ) → told files name ≡ Some bytes → rules_of bytes ≡ Err fault))
 Ends command files old new (status.Trace line why) =
     Keeps old new × ReadsTrace command × IsPassed command files TraceFile
-    × ((bytes : List ℕ) → IsTold command TraceFile files bytes → trace_of (tick_length command) bytes ≡ Err (refused line why))
+    × ((bytes : List ℕ) → IsTold command TraceFile files bytes → trace_of (accepts_of command) bytes ≡ Err (refused line why))
 Ends command files old new (status.NoFile which) =
     Keeps old new × IsPassed command files which × ((name : List ℕ) × (file_of command which ≡ Some name) × (told files name ≡ None))
 Ends command files old new status.ReadFault = Keeps old new × ReadsTrace command

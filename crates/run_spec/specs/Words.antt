@@ -76,14 +76,14 @@ abbrev pub nothing : Given
 nothing = record { options = []; positional = None }
 
 -- the value that an option of this name has
-abbrev pub value_of : List ℕ → Given → Option (List ℕ)
-value_of name given =
+abbrev pub value_given : List ℕ → Given → Option (List ℕ)
+value_given name given =
     option_map (λ option. option.1) (find (λ option. bytes_eq option.0 name) given.options)
 
 -- an option ahead of the others: it comes once, so they don't have it
 abbrev pub with_option : List ℕ → List ℕ → Given → Option Given
 with_option name value given =
-    if is_some (value_of name given) then None
+    if is_some (value_given name given) then None
     else Some (record given { options = (name, value) ∷ given.options })
 
 -- the positional ahead of the others: there is one at most, so they have none
@@ -140,55 +140,55 @@ abbrev pub is_name : List ℕ → Bool
 is_name name = nat_lt 0 (length name)
 
 -- the name of the trace's file, which may be `-`, the standard input
-abbrev pub trace_of : Given → Option (List ℕ)
-trace_of given = do
+abbrev pub trace_given : Given → Option (List ℕ)
+trace_given given = do
   name ← given.positional
   if is_name name then Some name else None
 
 -- the name of the rules file, which isn't `-`, or that there is none
-abbrev pub rules_of : Option (List ℕ) → Option (Option (List ℕ))
-rules_of None = Some None
-rules_of (Some name) =
+abbrev pub rules_given : Option (List ℕ) → Option (Option (List ℕ))
+rules_given None = Some None
+rules_given (Some name) =
     if is_name name && not (bytes_eq name (codes "-")) then Some (Some name) else None
 
 -- a group's path, or that there is none
-abbrev pub live_of : Option (List ℕ) → Option (Option (List ℕ))
-live_of None = Some None
-live_of (Some path) = if is_path path then Some (Some path) else None
+abbrev pub live_given : Option (List ℕ) → Option (Option (List ℕ))
+live_given None = Some None
+live_given (Some path) = if is_path path then Some (Some path) else None
 
 -- ---- one table a command
 
 -- the length of a tick in ms
-abbrev pub tick_of : Given → Option ℕ
-tick_of given = number_or 2000 1 60000 (value_of (codes "tick-ms") given)
+abbrev pub tick_given : Given → Option ℕ
+tick_given given = number_or 2000 1 60000 (value_given (codes "tick-ms") given)
 
 -- how many threads replay
-abbrev pub workers_of : Given → Option ℕ
-workers_of given = number_or 64 1 64 (value_of (codes "workers") given)
+abbrev pub workers_given : Given → Option ℕ
+workers_given given = number_or 64 1 64 (value_given (codes "workers") given)
 
 -- `stall` needs a trace
 unfoldable pub stall_of : Given → Option Command
 stall_of given = do
-  trace ← trace_of given
+  trace ← trace_given given
   Some (Stall trace)
 
 -- `check` needs a trace, and has the length of a tick
 unfoldable pub check_of : Given → Option Command
 check_of given = do
-  trace ← trace_of given
-  tick_ms ← tick_of given
+  trace ← trace_given given
+  tick_ms ← tick_given given
   Some (Check trace tick_ms)
 
 -- what the options of `replay` say, with the default of each
 unfoldable pub options_of : Given → Option Options
 options_of given = do
-  rules ← rules_of (value_of (codes "rules") given)
-  tick_ms ← tick_of given
-  interval_s ← number_or 5 1 3600 (value_of (codes "interval-s") given)
-  report_s ← number_or 10 0 3600 (value_of (codes "report-s") given)
-  workers ← workers_of given
-  live ← live_of (value_of (codes "live") given)
-  live_count ← number_or 1 1 16 (value_of (codes "live-count") given)
+  rules ← rules_given (value_given (codes "rules") given)
+  tick_ms ← tick_given given
+  interval_s ← number_or 5 1 3600 (value_given (codes "interval-s") given)
+  report_s ← number_or 10 0 3600 (value_given (codes "report-s") given)
+  workers ← workers_given given
+  live ← live_given (value_given (codes "live") given)
+  live_count ← number_or 1 1 16 (value_given (codes "live-count") given)
   Some (record {
     rules = rules;
     tick_ms = tick_ms;
@@ -202,7 +202,7 @@ options_of given = do
 -- `replay` needs a trace, and has its options
 unfoldable pub replay_of : Given → Option Command
 replay_of given = do
-  trace ← trace_of given
+  trace ← trace_given given
   options ← options_of given
   Some (Replay trace options)
 
@@ -210,10 +210,10 @@ replay_of given = do
 unfoldable pub shape_of : Given → Option Shape
 shape_of given = do
   options ← if is_some given.positional then None else Some given
-  seed ← needed 0 (2 ^ 64 - 1) (value_of (codes "seed") options)
-  cpus ← needed 1 64 (value_of (codes "cpus") options)
-  groups ← needed 0 1000 (value_of (codes "groups") options)
-  events ← needed 0 3900000 (value_of (codes "events") options)
+  seed ← needed 0 (2 ^ 64 - 1) (value_given (codes "seed") options)
+  cpus ← needed 1 64 (value_given (codes "cpus") options)
+  groups ← needed 0 1000 (value_given (codes "groups") options)
+  events ← needed 0 3900000 (value_given (codes "events") options)
   Some (record { seed = seed; cpus = cpus; groups = groups; events = events })
 
 -- `gen` needs what is generated
@@ -226,56 +226,56 @@ gen_of given = do
 unfoldable pub stress_of : Given → Option Command
 stress_of given = do
   shape ← shape_of given
-  workers ← workers_of given
+  workers ← workers_given given
   Some (Stress shape workers)
 
 -- how a command is spelled: its own word, the names of its options, and its table, which gives the
 -- command by what the words behind its own say
-pub record Form : Type 0 where
+pub record CommandForm : Type 0 where
   pub word : List ℕ
   pub options : List (List ℕ)
   pub command : Given → Option Command
 
 -- `stall TRACE`
-abbrev pub stall_form : Form
+abbrev pub stall_form : CommandForm
 stall_form = record { word = codes "stall"; options = []; command = stall_of }
 
 -- `check TRACE`, with one option
-abbrev pub check_form : Form
+abbrev pub check_form : CommandForm
 check_form = record { word = codes "check"; options = codes "tick-ms" ∷ []; command = check_of }
 
 -- the names of the options of `replay`
-abbrev pub replay_options : List (List ℕ)
-replay_options =
+abbrev pub replay_names : List (List ℕ)
+replay_names =
     codes "rules" ∷ codes "tick-ms" ∷ codes "interval-s" ∷ codes "report-s"
     ∷ codes "workers" ∷ codes "live" ∷ codes "live-count" ∷ []
 
 -- `replay TRACE`, with options
-abbrev pub replay_form : Form
-replay_form = record { word = codes "replay"; options = replay_options; command = replay_of }
+abbrev pub replay_form : CommandForm
+replay_form = record { word = codes "replay"; options = replay_names; command = replay_of }
 
 -- the names of the options that say what is generated
-abbrev pub shape_options : List (List ℕ)
-shape_options = codes "seed" ∷ codes "cpus" ∷ codes "groups" ∷ codes "events" ∷ []
+abbrev pub shape_names : List (List ℕ)
+shape_names = codes "seed" ∷ codes "cpus" ∷ codes "groups" ∷ codes "events" ∷ []
 
 -- `gen`, with four options
-abbrev pub gen_form : Form
-gen_form = record { word = codes "gen"; options = shape_options; command = gen_of }
+abbrev pub gen_form : CommandForm
+gen_form = record { word = codes "gen"; options = shape_names; command = gen_of }
 
 -- the names of the options of `stress`
-abbrev pub stress_options : List (List ℕ)
-stress_options = codes "workers" ∷ shape_options
+abbrev pub stress_names : List (List ℕ)
+stress_names = codes "workers" ∷ shape_names
 
 -- `stress`, with four options and one more
-abbrev pub stress_form : Form
-stress_form = record { word = codes "stress"; options = stress_options; command = stress_of }
+abbrev pub stress_form : CommandForm
+stress_form = record { word = codes "stress"; options = stress_names; command = stress_of }
 
 -- all commands
-abbrev pub forms : List Form
+abbrev pub forms : List CommandForm
 forms = stall_form ∷ check_form ∷ replay_form ∷ gen_form ∷ stress_form ∷ []
 
 -- the command of this form that the words behind its own spell
-abbrev pub spelled : Form → List (List ℕ) → Option Command
+abbrev pub spelled : CommandForm → List (List ℕ) → Option Command
 spelled form words = do
   given ← parted form.options None words
   form.command given

@@ -101,7 +101,7 @@ group_good shape shaped number w room so =
     let parent : is_some (slot_of w.groups (parent_path path)) ≡ true = rw (numbered_parent number fits) so.root in
     let group = new_group w.groups path 0 in
     record {
-      fits = record { at = omega arith; act = numbered_is_path number fits };
+      fits = record { at = omega arith; act = (numbered_is_path number fits, tt) };
       legal = first_of_act (limits_in shape) w (at_start (made_group number)) so.going (omega (arith, last)) (omega arith) (omega (arith, lines, few, room)) ∙ rw (free, fresh, parent) refl;
       later = record {
         root = still_found w.groups group (codes "/") so.root;
@@ -213,7 +213,7 @@ task_good shape shaped pid w room so =
     let task = new_task w.groups (home_of shape pid) ((pid - 1) / 4) in
     let more = one_more w.tasks pid task in
     record {
-      fits = record { at = omega arith; act = ((omega (arith, low), omega (arith, room, processors)), home_is_path shape groups pid, omega (arith, place, processors)) };
+      fits = record { at = omega arith; act = ((omega (arith, low), omega (arith, room, processors)), (home_is_path shape groups pid, (omega (arith, place, processors), tt))) };
       legal = first_of_act (limits_in shape) w (at_start (made_task shape pid)) so.going (omega (arith, last)) (omega arith) (omega (arith, lines, room, processors, groups)) ∙ rw (free, found, fresh, there) refl;
       later = record {
         low = omega arith;

@@ -9,7 +9,7 @@ use Rattle.psi_spec.specs.Refusal.{AreLegal, cause_of}
 use Rattle.psi_spec.specs.Trace.{AllFit, EndsLast}
 use Rattle.psi_spec.specs.World.{Limits, World, after_event, after_from}
 use Rattle.run_spec.specs.declared.command.Shape.{Shape}
-use Rattle.run_spec.specs.Generated.{drawn, events_from, next_drawn, next_event, next_state}
+use Rattle.run_spec.specs.Generated.{drawn, drawn_events, next_drawn, next_event, next_state}
 use Rattle.run_spec.specs.Words.{IsShape}
 use Rattle.task_table.specs.Causes.{takes_memory}
 use Rattle.task_table.proofs.CauseLaws.{first_of_act}
@@ -92,8 +92,8 @@ end_goes shape shaped count all w so =
 -- ---- all of them
 
 -- so many events from a world on, and the end
-pub events_go : (shape : Shape) → IsShape shape → (left count : ℕ) → count + left ≡ shape.events → (w : World) → IsGenerating shape count w → (state : ℕ) → Go (limits_in shape) w (events_from shape left w state)
-unfolding events_from
+pub events_go : (shape : Shape) → IsShape shape → (left count : ℕ) → count + left ≡ shape.events → (w : World) → IsGenerating shape count w → (state : ℕ) → Go (limits_in shape) w (drawn_events shape left w state)
+unfolding drawn_events
 events_go shape shaped zero count all w so state = end_goes shape shaped count (omega (arith, all)) w so
 events_go shape shaped (suc left) count all w so state =
     let next = next_is shape shaped count (omega (arith, all)) w so state in
@@ -101,16 +101,16 @@ events_go shape shaped (suc left) count all w so state =
     (events_go shape shaped left (count + 1) (omega (arith, all)) (after_event w (next_event shape w state)) next.later (next_drawn shape w.tasks state).state)
 
 -- the end is the last of them
-pub events_end : (shape : Shape) (left : ℕ) (w : World) (state : ℕ) → EndsLast (events_from shape left w state)
-unfolding events_from
+pub events_end : (shape : Shape) (left : ℕ) (w : World) (state : ℕ) → EndsLast (drawn_events shape left w state)
+unfolding drawn_events
 events_end shape zero w state = ([], w.last, refl)
 events_end shape (suc left) w state =
     let rest = events_end shape left (after_event w (next_event shape w state)) (next_drawn shape w.tasks state).state in
     (next_event shape w state ∷ rest.0, rest.1, ap (λ es. next_event shape w state ∷ es) rest.2)
 
 -- how many they are
-pub events_count : (shape : Shape) (left : ℕ) (w : World) (state : ℕ) → length (events_from shape left w state) ≡ left + 1
-unfolding events_from
+pub events_count : (shape : Shape) (left : ℕ) (w : World) (state : ℕ) → length (drawn_events shape left w state) ≡ left + 1
+unfolding drawn_events
 events_count shape zero w state = refl
 events_count shape (suc left) w state =
     let rest = events_count shape left (after_event w (next_event shape w state)) (next_drawn shape w.tasks state).state in omega (arith, rest)

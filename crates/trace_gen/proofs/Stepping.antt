@@ -148,7 +148,7 @@ wake_step shape tasks pid task it sleeps state =
     let there = there_is shape.cpus (drawn (next_state state) shape.cpus) room in
     record {
       legal = λ groups triggers. rw (it.is, there, sleeps) refl;
-      fits = (number_fits shape tasks pid task it, processor_fits shape it.shaped _ room);
+      fits = (number_fits shape tasks pid task it, (processor_fits shape it.shaped _ room, tt));
       live = λ groups. change_live shape tasks it.are pid (readied (drawn (next_state state) shape.cpus)) (λ _ _. room);
       goes = refl;
       light = refl;
@@ -180,7 +180,7 @@ start_step shape tasks pid task it ready how stays right =
     let there = there_is shape.cpus task.cpu.0 room in
     record {
       legal = λ groups triggers. rw (it.is, there, ready_on task ready, right, stays) refl;
-      fits = (processor_fits shape it.shaped _ room, number_fits shape tasks pid task it);
+      fits = (processor_fits shape it.shaped _ room, (number_fits shape tasks pid task it, (tt, tt)));
       live = λ groups. switch_live shape tasks it.are task.cpu.0 room (Some (record { 0 = pid })) how stays;
       goes = refl;
       light = refl;
@@ -204,7 +204,7 @@ leave_step shape tasks pid task it runs how stays right =
     let there = there_is shape.cpus task.cpu.0 room in
     record {
       legal = λ groups triggers. rw (there, right, stays) refl;
-      fits = (processor_fits shape it.shaped _ room, tt);
+      fits = (processor_fits shape it.shaped _ room, (tt, (tt, tt)));
       live = λ groups. switch_live shape tasks it.are task.cpu.0 room None how stays;
       goes = refl;
       light = refl;
@@ -214,7 +214,7 @@ leave_step shape tasks pid task it runs how stays right =
 stall_step : (shape : Shape) (tasks : Tasks) (pid : ℕ) (task : Task) → IsTask shape tasks pid task → is_running task.mode ≡ true → task.stalled ≡ false → IsStep shape tasks (act.Stall (record { 0 = pid }))
 stall_step shape tasks pid task it runs calm = record {
   legal = λ groups triggers. rw (it.is, runs, calm) refl;
-  fits = number_fits shape tasks pid task it;
+  fits = (number_fits shape tasks pid task it, tt);
   live = λ groups. change_live shape tasks it.are pid (λ task. record task { stalled = true }) (λ _ room. room);
   goes = refl;
   light = refl;
@@ -223,7 +223,7 @@ stall_step shape tasks pid task it runs calm = record {
 unstall_step : (shape : Shape) (tasks : Tasks) (pid : ℕ) (task : Task) → IsTask shape tasks pid task → is_running task.mode ≡ true → task.stalled ≡ true → IsStep shape tasks (act.Unstall (record { 0 = pid }))
 unstall_step shape tasks pid task it runs stalled = record {
   legal = λ groups triggers. rw (it.is, runs, stalled) refl;
-  fits = number_fits shape tasks pid task it;
+  fits = (number_fits shape tasks pid task it, tt);
   live = λ groups. change_live shape tasks it.are pid (λ task. record task { stalled = false }) (λ _ room. room);
   goes = refl;
   light = refl;

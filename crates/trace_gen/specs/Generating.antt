@@ -1,7 +1,7 @@
 -- What holds while a trace is generated, and the law of generated traces.
 use Rattle.std.specs.Prelude.{◌≡◌, ℕ, ◌+◌, ◌*◌, ◌≤◌, ◌<◌, length}
 use Rattle.std.specs.Prelude.{false, IfSome, IsSome}
-use Rattle.psi_spec.specs.Trace.{IsTrace, limits_of}
+use Rattle.psi_spec.specs.Trace.{IsTrace, accepts_all, limits_of}
 use Rattle.psi_spec.specs.World.{Limits, Tasks, World, task_of}
 use Rattle.run_spec.specs.declared.command.Shape.{Shape}
 use Rattle.run_spec.specs.Generated.{gen_text, generated, task_count}
@@ -40,7 +40,7 @@ pub record IsGenerating (shape : Shape) (count : ℕ) (w : World) : Type 0 where
 -- Each generated text is one of the generated trace, which is accepted at the default tick.
 abbrev pub GeneratedIsTrace : Type 0
 GeneratedIsTrace = (shape : Shape) → IsShape shape
-    → IsTrace (of_s 2) (gen_text shape) (generated shape)
+    → IsTrace (accepts_all (of_s 2)) (gen_text shape) (generated shape)
 
 -- A generated trace has an event for each group and each task, as many more as were asked for, and the end.
 abbrev pub GeneratedCount : Type 0

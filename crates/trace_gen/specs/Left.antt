@@ -4,7 +4,7 @@ use Rattle.psi_base.specs.declared.event.Act.{Act}
 use Rattle.psi_base.specs.declared.event.Event.{Event}
 use Rattle.psi_spec.specs.World.{World}
 use Rattle.run_spec.specs.declared.command.Shape.{Shape}
-use Rattle.run_spec.specs.Generated.{Drawn, events_from}
+use Rattle.run_spec.specs.Generated.{Drawn, drawn_events}
 use Rattle.run_spec.specs.Words.{IsShape}
 use Rattle.task_table.specs.Stands.{TableView}
 use Rattle.trace_gen.specs.Generating.{IsGenerating, limits_in}
@@ -17,7 +17,7 @@ drawn_act a state = record { act = a; state = state }
 -- world and a state on, and the end
 abbrev pub events_left : Shape → List Event → World → ℕ → ℕ → Bool → List Event
 events_left shape first w state left ended =
-    first ++ (if ended then [] else events_from shape left w state)
+    first ++ (if ended then [] else drawn_events shape left w state)
 
 -- What is true of each generator: its shape is in range, and its table has the limits of the shape and a world of it, in
 -- which so many events are left.

@@ -1,6 +1,6 @@
 //! The events of a generated trace, one by one.
 ghost use Rattle.std.specs.Prelude.{◌≡◌, ◌<◌, ◌≤◌, ◌^◌, IfOk, MatchOption, [], ◌∷◌};
-ghost use Rattle.run_spec.specs.Generated.{events_from, generated, next_drawn, next_event, next_of, running_act};
+ghost use Rattle.run_spec.specs.Generated.{drawn_events, generated, next_drawn, next_event, next_of, running_act};
 ghost use Rattle.run_spec.specs.Generated.{drawn, next_state, stall_turn, started, way_of, woken};
 ghost use Rattle.run_spec.specs.Words.{IsShape};
 ghost use Rattle.trace_gen.specs.Left.{IsGenerator, drawn_act};
@@ -106,8 +106,8 @@ fn play_next(shape: Shape, table: &mut Table, draws: &mut Draws, left: &mut u32)
     requires some { 0 < left.old }
     requires so { IsGenerator shape table.old left.old }
     ensures so { IsGenerator shape table.new left.new }
-    ensures event { events_from shape left.old table.old.world draws.old
-        ≡ result ∷ events_from shape left.new table.new.world draws.new }
+    ensures event { drawn_events shape left.old table.old.world draws.old
+        ≡ result ∷ drawn_events shape left.new table.new.world draws.new }
 {
     let event = next_event(shape, table, draws);
     match table.play(&event) {

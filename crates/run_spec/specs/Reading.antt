@@ -1,0 +1,34 @@
+-- How many bytes a command reads at most.
+use Rattle.std.specs.Prelude.{ℕ, ◌+◌, ◌*◌, List, Option, None, Some}
+use Rattle.run_spec.specs.declared.command.Command.{Command}
+use Rattle.run_spec.specs.Outputs.{rules_name, trace_name}
+
+-- the most lines of a trace: the header, and 4,000,000 events
+abbrev pub most_lines : ℕ
+most_lines = 4000001
+
+-- the most bytes of a line, its newline among them
+abbrev pub longest_line : ℕ
+longest_line = 513
+
+-- the most bytes that are held behind the lines of a trace that were taken: as many as the reader has room for
+abbrev pub most_held : ℕ
+most_held = 66048
+
+-- the most bytes that are read of a trace: no further than what is held behind the most lines that it can have
+abbrev pub most_of_trace : ℕ
+most_of_trace = most_lines * longest_line + most_held
+
+-- the most bytes that are read of a rules file: one more than it may have, so that a longer one is refused
+abbrev pub most_of_rules : ℕ
+most_of_rules = 1048577
+
+-- the most bytes that are read of a file, if one is named
+abbrev pub most_if_named : ℕ → Option (List ℕ) → ℕ
+most_if_named most None = 0
+most_if_named most (Some name) = most
+
+-- the most bytes that a command reads, of its rules file and of its trace
+abbrev pub most_read : Command → ℕ
+most_read command =
+    most_if_named most_of_rules (rules_name command) + most_if_named most_of_trace (trace_name command)
