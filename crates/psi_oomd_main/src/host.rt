@@ -4,7 +4,7 @@ ghost use Rattle.std.specs.Io.KnownBytes.{Keeps, ReadConsumes};
 ghost use Rattle.psi_oomd_main.specs.Host.{GoesOn, LeavesFromPlace, ReadsFront, StandsAt};
 
 use crate::name::Name;
-use psi_base::{Shelf, ShelfFault, Sink, WriteFailed};
+use psi_base::{Shelf, ShelfFault, Sink, Tally, WriteFailed};
 use std::fs;
 use std::io::{AsBytes, Cursor, ErrorKind, Read, Seek, SeekFrom, Write};
 use std::rt::Files;
@@ -144,6 +144,7 @@ pub struct HostShelf<'a, R: Files, I> {
     opened: Option<Opened<R::File>>,
     faults: u64,
     absent: u64,
+    given: Tally,
 }
 
 impl<'a, R: Files, I: Read> HostShelf<'a, R, I> {
@@ -156,6 +157,7 @@ impl<'a, R: Files, I: Read> HostShelf<'a, R, I> {
             opened: None,
             faults: 0,
             absent: 0,
+            given: Tally::new(),
         }
     }
 }
@@ -167,6 +169,8 @@ impl<'a, R: Files, I: Read> Shelf for HostShelf<'a, R, I> {
 
     ghost absent = { λ s. s.absent };
 
+    ghost given = { λ s. s.given.count };
+
     fn read_at(&mut self, name: &str, at: u64, into: &mut [u8]) -> Result<usize, ShelfFault> {
         let read = if name == "-" {
             read_input(&mut self.input, &mut self.place, at, into)
@@ -174,7 +178,10 @@ impl<'a, R: Files, I: Read> Shelf for HostShelf<'a, R, I> {
             read_file(self.rt, &mut self.opened, name, at, into)
         };
         match read {
-            Ok(count) => Ok(count),
+            Ok(count) => {
+                self.given = self.given.and(count);
+                Ok(count)
+            }
             Err(ShelfFault::NoFile) => {
                 self.absent = self.absent.saturating_add(1);
                 Err(ShelfFault::NoFile)

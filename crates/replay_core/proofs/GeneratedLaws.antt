@@ -225,8 +225,9 @@ pub takes_generated : (command : Command) (shape : Shape) (files : Option Files)
     → TakesTrace command files (generated shape)
 takes_generated command shape files unnamed tick is =
     let traced = generated_is_trace shape is in record {
-      version = refl;
+      version = traced.version;
       cpus = traced.cpus;
+      known = traced.known;
       accepted = subst (λ n. IsAccepted (limits_of n shape.cpus) (generated shape).events) (sym tick) traced.accepted;
       read = λ bytes known. absurd (let no : ⊥ = cc (unnamed, known.1) in no);
     }

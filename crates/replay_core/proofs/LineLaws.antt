@@ -12,11 +12,11 @@ use Rattle.psi_base.specs.declared.event.Fault.{Fault}
 use Rattle.psi_base.specs.declared.event.Fault.TheVariants as fault
 use Rattle.psi_lines.specs.Lines.{BeginsWithLine, IsTooLong, IsCut, Reader, left}
 use Rattle.psi_trace.specs.Front.{HasInFront}
-use Rattle.psi_spec.proofs.GrammarReads.{reads_spelled, spelled_in_line}
+use Rattle.psi_spec.proofs.GrammarReads.{event_known, reads_spelled, spelled_in_line}
 use Rattle.psi_spec.specs.World.{World, Limits, after, after_event, first_world}
 use Rattle.psi_spec.specs.Refusal.{cause_of}
-use Rattle.psi_spec.specs.Grammar.{Fits, event_of, header_of, spelling}
-use Rattle.psi_spec.specs.Trace.{AllFit, IsCpuCount, Trace, line_event, rest_cause, then_legal, at_end, or_refused, followed, refused, first_line, first_rest, headed, with_events, trace_of, limits_of}
+use Rattle.psi_spec.specs.Grammar.{Fits, Header, One, event_of, header_of, plain_header, spelling, verbs_of}
+use Rattle.psi_spec.specs.Trace.{AllFit, IsCpuCount, accepts_all, Trace, line_event, rest_cause, then_legal, at_end, or_refused, followed, refused, first_line, first_rest, headed, with_events, trace_of, limits_of}
 use Rattle.psi_spec.proofs.Splitting.{Cut, cut}
 use Rattle.psi_spec.proofs.Reading.{Events, rest_from-line, rest_from-rest, nothing_left, followed-followed}
 use Rattle.psi_spec.proofs.Accepting.{last_end, trace_of-line, trace_of-rest}
@@ -51,13 +51,13 @@ whole_fault front rest whole _ is found = tt
 not_long : (n : ℕ) → n ≤ 512 → nat_lt 512 n ≡ false
 not_long n short = grind (arith, short)
 
-pub line_taken : (limits : Limits) (w : World) (line : ℕ) (bytes part behind : List ℕ) (event : Event) → BeginsWithLine bytes part behind → line_event limits w part ≡ Ok event → rest_from limits w line bytes ≡ followed (event ∷ []) (rest_from limits (after_event w event) (line + 1) behind)
+pub line_taken : (limits : Limits) (w : World) (line : ℕ) (bytes part behind : List ℕ) (event : Event) → BeginsWithLine bytes part behind → line_event (verbs_of One) limits w part ≡ Ok event → rest_from limits w line bytes ≡ followed (event ∷ []) (rest_from limits (after_event w event) (line + 1) behind)
 line_taken limits w line bytes part behind event begins is =
-    ap (rest_from limits w line) begins.whole ∙ rest_from-line limits w line part behind begins.one ∙ ap (λ r. or_refused line r (λ e. followed (e ∷ []) (rest_from limits (after_event w e) (line + 1) behind))) is
+    ap (rest_from limits w line) begins.whole ∙ rest_from-line (verbs_of One) limits w line part behind begins.one ∙ ap (λ r. or_refused line r (λ e. followed (e ∷ []) (rest_from limits (after_event w e) (line + 1) behind))) is
 
-pub line_refused : (limits : Limits) (w : World) (line : ℕ) (bytes part behind : List ℕ) (why : Cause) → BeginsWithLine bytes part behind → line_event limits w part ≡ Err why → rest_from limits w line bytes ≡ Err (refused line why)
+pub line_refused : (limits : Limits) (w : World) (line : ℕ) (bytes part behind : List ℕ) (why : Cause) → BeginsWithLine bytes part behind → line_event (verbs_of One) limits w part ≡ Err why → rest_from limits w line bytes ≡ Err (refused line why)
 line_refused limits w line bytes part behind why begins is =
-    ap (rest_from limits w line) begins.whole ∙ rest_from-line limits w line part behind begins.one ∙ ap (λ r. or_refused line r (λ e. followed (e ∷ []) (rest_from limits (after_event w e) (line + 1) behind))) is
+    ap (rest_from limits w line) begins.whole ∙ rest_from-line (verbs_of One) limits w line part behind begins.one ∙ ap (λ r. or_refused line r (λ e. followed (e ∷ []) (rest_from limits (after_event w e) (line + 1) behind))) is
 
 -- ---- a line that is played
 
@@ -70,22 +70,22 @@ refused_line ended long read limits w event why running short is refused = rw (r
 unread_line : (ended long : Bool) (read : Result Event Cause) (limits : Limits) (w : World) (why : Cause) → ended ≡ false → long ≡ false → read ≡ Err why → (if ended then Err cause.AfterEnd else if long then Err cause.LineTooLong else then_legal limits w read) ≡ Err why
 unread_line ended long read limits w why running short is = rw (running, short, is) refl
 
-takes_event : (Before After : Plays) (line : List ℕ) (event : Event) (result : Result (Unit {0}) (Fault Cause)) → length line ≤ 512 → event_of line ≡ Ok event → Takes Before After event result → TakesLine Before After line result
+takes_event : (Before After : Plays) (line : List ℕ) (event : Event) (result : Result (Unit {0}) (Fault Cause)) → length line ≤ 512 → event_of (verbs_of One) line ≡ Ok event → Takes Before After event result → TakesLine Before After line result
 unfolding line_event
 takes_event Before After line event (Ok x) short is takes = λ limits events before running.
     let taken = takes limits events before in
-    (event, legal_line (after events).ended (nat_lt 512 (length line)) (event_of line) limits (after events) event running (not_long (length line) short) is taken.0, taken.1, taken.2)
+    (event, legal_line (after events).ended (nat_lt 512 (length line)) (event_of (verbs_of One) line) limits (after events) event running (not_long (length line) short) is taken.0, taken.1, taken.2)
 takes_event Before After line event (Err (fault.Refused why)) short is takes = λ limits events before running.
-    refused_line (after events).ended (nat_lt 512 (length line)) (event_of line) limits (after events) event why running (not_long (length line) short) is (takes limits events before)
+    refused_line (after events).ended (nat_lt 512 (length line)) (event_of (verbs_of One) line) limits (after events) event why running (not_long (length line) short) is (takes limits events before)
 takes_event Before After line event (Err fault.NoMemory) short is takes = tt
 
-takes_none : (Before After : Plays) (line : List ℕ) (why : Fault Cause) → length line ≤ 512 → Gives {A = Event} (Err why) (event_of line) → TakesLine Before After line (Err why)
+takes_none : (Before After : Plays) (line : List ℕ) (why : Fault Cause) → length line ≤ 512 → Gives {A = Event} (Err why) (event_of (verbs_of One) line) → TakesLine Before After line (Err why)
 unfolding line_event
 takes_none Before After line (fault.Refused why) short is = λ limits events before running.
-    unread_line (after events).ended (nat_lt 512 (length line)) (event_of line) limits (after events) why running (not_long (length line) short) is
+    unread_line (after events).ended (nat_lt 512 (length line)) (event_of (verbs_of One) line) limits (after events) why running (not_long (length line) short) is
 takes_none Before After line fault.NoMemory short is = tt
 
-pub takes_read : (Before After : Plays) (line : List ℕ) (read : Result Event (Fault Cause)) (result : Result (Unit {0}) (Fault Cause)) → length line ≤ 512 → Gives read (event_of line) → TakesRead Before After read result → TakesLine Before After line result
+pub takes_read : (Before After : Plays) (line : List ℕ) (read : Result Event (Fault Cause)) (result : Result (Unit {0}) (Fault Cause)) → length line ≤ 512 → Gives read (event_of (verbs_of One) line) → TakesRead Before After read result → TakesLine Before After line result
 takes_read Before After line (Ok event) result short is takes = takes_event Before After line event result short is takes
 takes_read Before After line (Err why) result short is same = subst (TakesLine Before After line) (sym same) (takes_none Before After line why short is)
 
@@ -139,7 +139,7 @@ front_begins old new event count bytes front held at =
 -- and it takes what its event takes
 pub front_takes : (Before After : Plays) (held : List ℕ) (event : Event) (count : ℕ) (result : Result (Unit {0}) (Fault Cause)) → HasInFront held event count → Takes Before After event result → TakesLine (Legally Before) (Legally After) (spelling event) result
 front_takes Before After held event count result front takes =
-    takes_event (Legally Before) (Legally After) (spelling event) event result (spelled_in_line event front.begins.fits).short ((reads_spelled (spelling event) event).1 (front.begins.fits, refl)) (legally Before After event result front.begins.fits takes)
+    takes_event (Legally Before) (Legally After) (spelling event) event result (spelled_in_line event front.begins.fits).short ((reads_spelled (verbs_of One) (spelling event) event).1 (front.begins.fits, event_known event, refl)) (legally Before After event result front.begins.fits takes)
 
 -- ---- the end of the input before the end of the trace
 
@@ -148,12 +148,12 @@ runs_out ended n running short = grind (arith, running, short)
 
 pub cut_short : (limits : Limits) (w : World) (line : ℕ) (bytes : List ℕ) → IsCut bytes → w.ended ≡ false → rest_from limits w line bytes ≡ Err (refused line cause.NoEnd)
 unfolding rest_cause
-cut_short limits w line bytes is running = rest_from-rest limits w line bytes is.none ∙ ap (at_end line) (runs_out w.ended (length bytes) running is.short)
+cut_short limits w line bytes is running = rest_from-rest (verbs_of One) limits w line bytes is.none ∙ ap (at_end line) (runs_out w.ended (length bytes) running is.short)
 
 pub none_left : (limits : Limits) (w : World) (line : ℕ) (bytes : List ℕ) → bytes ≡ [] → w.ended ≡ false → rest_from limits w line bytes ≡ Err (refused line cause.NoEnd)
 unfolding rest_cause
 none_left limits w line bytes is running =
-    ap (rest_from limits w line) is ∙ rest_from-rest limits w line [] (λ k below. absurd (omega (arith, below))) ∙ ap (at_end line) (runs_out w.ended 0 running (omega arith))
+    ap (rest_from limits w line) is ∙ rest_from-rest (verbs_of One) limits w line [] (λ k below. absurd (omega (arith, below))) ∙ ap (at_end line) (runs_out w.ended 0 running (omega arith))
 
 -- ---- lines that are too long
 
@@ -172,9 +172,9 @@ rest_too_long ended n running long = grind (arith, running, long)
 pub long_line : (limits : Limits) (w : World) (line : ℕ) (bytes : List ℕ) → IsTooLong bytes → w.ended ≡ false → rest_from limits w line bytes ≡ Err (refused line cause.LineTooLong)
 unfolding rest_cause line_event
 long_line limits w line bytes is running = ⊎_elim
-    (λ none. rest_from-rest limits w line bytes none ∙ ap (at_end line) (rest_too_long w.ended (length bytes) running is.long))
+    (λ none. rest_from-rest (verbs_of One) limits w line bytes none ∙ ap (at_end line) (rest_too_long w.ended (length bytes) running is.long))
     (λ (c : Cut 10 bytes).
-    ap (rest_from limits w line) c.whole ∙ rest_from-line limits w line c.line c.behind c.none
+    ap (rest_from limits w line) c.whole ∙ rest_from-line (verbs_of One) limits w line c.line c.behind c.none
     ∙ ap (λ r. or_refused line r (λ e. followed (e ∷ []) (rest_from limits (after_event w e) (line + 1) c.behind))) (too_long w.ended (length c.line) _ running (long_cut bytes c is)))
     (cut 10 bytes)
 
@@ -193,26 +193,26 @@ ended_rest ended n is some = grind (arith, is, some)
 pub after_end : (limits : Limits) (w : World) (line : ℕ) (bytes : List ℕ) → bytes ≢ [] → w.ended ≡ true → rest_from limits w line bytes ≡ Err (refused line cause.AfterEnd)
 unfolding rest_cause line_event
 after_end limits w line bytes some ended = ⊎_elim
-    (λ none. rest_from-rest limits w line bytes none ∙ ap (at_end line) (ended_rest w.ended (length bytes) ended (some_left bytes some)))
+    (λ none. rest_from-rest (verbs_of One) limits w line bytes none ∙ ap (at_end line) (ended_rest w.ended (length bytes) ended (some_left bytes some)))
     (λ (c : Cut 10 bytes).
-    ap (rest_from limits w line) c.whole ∙ rest_from-line limits w line c.line c.behind c.none
+    ap (rest_from limits w line) c.whole ∙ rest_from-line (verbs_of One) limits w line c.line c.behind c.none
     ∙ ap (λ r. or_refused line r (λ e. followed (e ∷ []) (rest_from limits (after_event w e) (line + 1) c.behind))) (ended_line w.ended (nat_lt 512 (length c.line)) _ ended))
     (cut 10 bytes)
 
 -- all events were read
 pub all_read : (front : List Event) (limits : Limits) (w : World) (line : ℕ) (bytes : List ℕ) (whole : Events) → followed front (rest_from limits w line bytes) ≡ whole → bytes ≡ [] → w.ended ≡ true → whole ≡ Ok front
 all_read front limits w line bytes whole is none ended =
-    sym is ∙ ap (λ bs. followed front (rest_from limits w line bs)) none ∙ ap (followed front) (nothing_left limits w line ended) ∙ ap (λ es. let r : Events = Ok es in r) (append-nil front)
+    sym is ∙ ap (λ bs. followed front (rest_from limits w line bs)) none ∙ ap (followed front) (nothing_left (verbs_of One) limits w line ended) ∙ ap (λ es. let r : Events = Ok es in r) (append-nil front)
 
 -- ---- the first line
 
-pub header_read : (tick cpus : ℕ) (bytes part behind : List ℕ) → BeginsWithLine bytes part behind → first_line part ≡ Ok cpus → trace_of tick bytes ≡ with_events cpus (rest_from (limits_of tick cpus) first_world 2 behind)
+pub header_read : (tick cpus : ℕ) (bytes part behind : List ℕ) → BeginsWithLine bytes part behind → first_line (One ∷ []) part ≡ Ok (plain_header cpus) → trace_of (accepts_all tick) bytes ≡ with_events (plain_header cpus) (rest_from (limits_of tick cpus) first_world 2 behind)
 header_read tick cpus bytes part behind begins is =
-    ap (trace_of tick) begins.whole ∙ trace_of-line tick part behind begins.one ∙ ap (λ r. headed tick r (parts_at 10 behind)) is
+    ap (trace_of (accepts_all tick)) begins.whole ∙ trace_of-line (accepts_all tick) part behind begins.one ∙ ap (λ r. headed (accepts_all tick) r (parts_at 10 behind)) is
 
-pub header_refused : (tick : ℕ) (bytes part behind : List ℕ) (why : Cause) → BeginsWithLine bytes part behind → first_line part ≡ Err why → trace_of tick bytes ≡ Err (refused 1 why)
+pub header_refused : (tick : ℕ) (bytes part behind : List ℕ) (why : Cause) → BeginsWithLine bytes part behind → first_line (One ∷ []) part ≡ Err why → trace_of (accepts_all tick) bytes ≡ Err (refused 1 why)
 header_refused tick bytes part behind why begins is =
-    ap (trace_of tick) begins.whole ∙ trace_of-line tick part behind begins.one ∙ ap (λ r. headed tick r (parts_at 10 behind)) is
+    ap (trace_of (accepts_all tick)) begins.whole ∙ trace_of-line (accepts_all tick) part behind begins.one ∙ ap (λ r. headed (accepts_all tick) r (parts_at 10 behind)) is
 
 first_runs_out : (n : ℕ) → n ≤ 512 → (if nat_lt 512 n then cause.LineTooLong else cause.BadHeader) ≡ cause.BadHeader
 first_runs_out n short = grind (arith, short)
@@ -220,34 +220,34 @@ first_runs_out n short = grind (arith, short)
 first_too_long : (n : ℕ) → 513 ≤ n → (if nat_lt 512 n then cause.LineTooLong else cause.BadHeader) ≡ cause.LineTooLong
 first_too_long n long = grind (arith, long)
 
-pub header_cut : (tick : ℕ) (bytes : List ℕ) → IsCut bytes → trace_of tick bytes ≡ Err (refused 1 cause.BadHeader)
+pub header_cut : (tick : ℕ) (bytes : List ℕ) → IsCut bytes → trace_of (accepts_all tick) bytes ≡ Err (refused 1 cause.BadHeader)
 unfolding first_rest
-header_cut tick bytes is = trace_of-rest tick bytes is.none ∙ ap (λ why. let r : Result Trace Refusal = Err (refused 1 why) in r) (first_runs_out (length bytes) is.short)
+header_cut tick bytes is = trace_of-rest (accepts_all tick) bytes is.none ∙ ap (λ why. let r : Result Trace Refusal = Err (refused 1 why) in r) (first_runs_out (length bytes) is.short)
 
-pub header_none : (tick : ℕ) (bytes : List ℕ) → bytes ≡ [] → trace_of tick bytes ≡ Err (refused 1 cause.BadHeader)
+pub header_none : (tick : ℕ) (bytes : List ℕ) → bytes ≡ [] → trace_of (accepts_all tick) bytes ≡ Err (refused 1 cause.BadHeader)
 unfolding first_rest
-header_none tick bytes is = ap (trace_of tick) is ∙ trace_of-rest tick [] (λ k below. absurd (omega (arith, below))) ∙ ap (λ why. let r : Result Trace Refusal = Err (refused 1 why) in r) (first_runs_out 0 (omega arith))
+header_none tick bytes is = ap (trace_of (accepts_all tick)) is ∙ trace_of-rest (accepts_all tick) [] (λ k below. absurd (omega (arith, below))) ∙ ap (λ why. let r : Result Trace Refusal = Err (refused 1 why) in r) (first_runs_out 0 (omega arith))
 
-line_too_long : (n : ℕ) (read : Result ℕ Cause) → 513 ≤ n → (if nat_lt 512 n then Err cause.LineTooLong else read) ≡ Err cause.LineTooLong
+line_too_long : (n : ℕ) (read : Result Header Cause) → 513 ≤ n → (if nat_lt 512 n then Err cause.LineTooLong else read) ≡ Err cause.LineTooLong
 line_too_long n read long = grind (arith, long)
 
-pub header_long : (tick : ℕ) (bytes : List ℕ) → IsTooLong bytes → trace_of tick bytes ≡ Err (refused 1 cause.LineTooLong)
+pub header_long : (tick : ℕ) (bytes : List ℕ) → IsTooLong bytes → trace_of (accepts_all tick) bytes ≡ Err (refused 1 cause.LineTooLong)
 unfolding first_rest first_line
 header_long tick bytes is = ⊎_elim
-    (λ none. trace_of-rest tick bytes none ∙ ap (λ why. let r : Result Trace Refusal = Err (refused 1 why) in r) (first_too_long (length bytes) is.long))
+    (λ none. trace_of-rest (accepts_all tick) bytes none ∙ ap (λ why. let r : Result Trace Refusal = Err (refused 1 why) in r) (first_too_long (length bytes) is.long))
     (λ (c : Cut 10 bytes).
-    ap (trace_of tick) c.whole ∙ trace_of-line tick c.line c.behind c.none ∙ ap (λ r. headed tick r (parts_at 10 c.behind)) (line_too_long (length c.line) _ (long_cut bytes c is)))
+    ap (trace_of (accepts_all tick)) c.whole ∙ trace_of-line (accepts_all tick) c.line c.behind c.none ∙ ap (λ r. headed (accepts_all tick) r (parts_at 10 c.behind)) (line_too_long (length c.line) _ (long_cut bytes c is)))
     (cut 10 bytes)
 
 -- a header line, and another line
-short_first : (long : Bool) (read : Result ℕ Cause) → long ≡ false → (if long then Err cause.LineTooLong else read) ≡ read
+short_first : (long : Bool) (read : Result Header Cause) → long ≡ false → (if long then Err cause.LineTooLong else read) ≡ read
 short_first long read is = rw is refl
 
-pub first_known : (line : List ℕ) (cpus : ℕ) → length line ≤ 512 → header_of line ≡ Some cpus → first_line line ≡ Ok cpus
+pub first_known : (line : List ℕ) (cpus : ℕ) → length line ≤ 512 → header_of (One ∷ []) line ≡ Some (plain_header cpus) → first_line (One ∷ []) line ≡ Ok (plain_header cpus)
 unfolding first_line
 first_known line cpus short is = short_first (nat_lt 512 (length line)) _ (not_long (length line) short) ∙ rw is refl
 
-pub first_other : (line : List ℕ) → length line ≤ 512 → header_of line ≡ None → first_line line ≡ Err cause.BadHeader
+pub first_other : (line : List ℕ) → length line ≤ 512 → header_of (One ∷ []) line ≡ None → first_line (One ∷ []) line ≡ Err cause.BadHeader
 unfolding first_line
 first_other line short none = short_first (nat_lt 512 (length line)) _ (not_long (length line) short) ∙ rw none refl
 
@@ -335,7 +335,7 @@ faults_here Before After Whole limits count before behind later known found so n
 -- ---- the trace
 
 pub trace_played : (Played : Plays) (tick cpus : ℕ) (named behind : List ℕ → List ℕ) (known : Option (List ℕ)) (x : Unit {0}) → IsCpuCount cpus
-    → ((bytes : List ℕ) → known ≡ Some bytes → trace_of tick bytes ≡ with_events cpus (rest_from (limits_of tick cpus) first_world 2 (behind bytes)))
+    → ((bytes : List ℕ) → known ≡ Some bytes → trace_of (accepts_all tick) bytes ≡ with_events (plain_header cpus) (rest_from (limits_of tick cpus) first_world 2 (behind bytes)))
     → RestGives (Legally Played) (limits_of tick cpus) behind known (Ok x) → TracePlayed Played tick known
 trace_played Played tick cpus named behind known x counted headed rest = record {
   cpus = cpus;
@@ -347,7 +347,7 @@ trace_played Played tick cpus named behind known x counted headed rest = record 
     legal = rest.played.2;
     ends = last_end (limits_of tick cpus) first_world rest.events refl rest.played.2 rest.ended;
   };
-  read = λ bytes tells. headed bytes tells ∙ ap (with_events cpus) (rest.read bytes tells);
+  read = λ bytes tells. headed bytes tells ∙ ap (with_events (plain_header cpus)) (rest.read bytes tells);
 }
 
 -- ---- what players of legal events read

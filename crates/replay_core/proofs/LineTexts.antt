@@ -16,6 +16,7 @@ use Rattle.std.proofs.lemmas.Map.Text.{is_eq-slice_cmp}
 use Rattle.psi_base.specs.declared.event.Event.{Event}
 use Rattle.psi_base.specs.declared.event.Slot.{Slot}
 use Rattle.psi_spec.specs.declared.machine.GroupLife.{GroupLife}
+use Rattle.psi_spec.specs.Grammar.{One}
 use Rattle.psi_spec.specs.World.{Limits, after, first_world, is_live}
 use Rattle.psi_spec.specs.Refusal.{AreLegal}
 use Rattle.psi_spec.specs.Stall.{stall}
@@ -140,7 +141,7 @@ flat_same f g from (suc n) same =
 
 -- the lines of all processors by plans that stand for events are the text of the trace
 pub printed_text : (limits : Limits) (plans : PlansView) (events : List Event) (order : List Slot) (last : ℕ) → AreLegal limits first_world events → StandFor plans limits.cpus events → order ≡ live_slots plans.lives → last ≡ plans.finish
-    → all_lines plans.lives order last plans.plans ≡ stall_text (record { version = 1; cpus = limits.cpus; events = events })
+    → all_lines plans.lives order last plans.plans ≡ stall_text (record { version = One; cpus = limits.cpus; events = events })
 unfolding stall_text
 printed_text limits plans events order last legal stand ordered ended =
     let slots : order ≡ live_slots (after events).groups = ordered ∙ ap live_slots stand.lives in

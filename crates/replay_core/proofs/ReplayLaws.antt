@@ -105,7 +105,6 @@ some_text planner options limits events rules is =
 -- the plans of a trace that was taken apart stand for it
 pub planned : (planner : PlannerView) (plans : PlansView) (options : Options) (limits : Limits) (events : List Event) → IsToReplay planner options limits events → StandForTaken planner plans → IsPlanned plans (plain_trace limits.cpus events) (pace_of options)
 planned planner plans options limits events to_replay stand = record {
-  version = refl;
   counted = to_replay.taken.counted;
   stand = stand limits events to_replay.taken;
   accepted = subst (λ l. IsAccepted l events) to_replay.latest to_replay.ended;

@@ -15,7 +15,7 @@ use Rattle.run_spec.specs.declared.command.Command.TheVariants.{Replay}
 use Rattle.run_spec.specs.declared.command.Options.{Options}
 use Rattle.run_spec.specs.declared.status.Which.{Which}
 use Rattle.run_spec.specs.declared.status.Which.TheVariants.{RulesFile, TraceFile}
-use Rattle.run_spec.specs.Outputs.{pace_of, rules_name, tick_length, trace_name, watch_of_path}
+use Rattle.run_spec.specs.Outputs.{accepts_of, pace_of, rules_name, trace_name, watch_of_path}
 use Rattle.run_spec.specs.Replay.{IsReplayText, replay_text, with_rules}
 use Rattle.run_laws.proofs.LiveTexts.{one_text_unwatched}
 use Rattle.run_spec.specs.Run.{CountsTell, Ends, IsOfMissing, IsTold, RulesTold, RunCounts, Runs, TakesRules}
@@ -133,7 +133,7 @@ none_told command files bytes had has tells ends = one_told files tells.0 ends.2
 -- where a replay is done, its output is one of its trace and its rules
 pub headlined : (name : List ℕ) (options : Options) (files : Option Files) (before now : RunCounts) (had has : Option (List ℕ)) → Runs (Replay name options) files before now had has status.Done
     → (bytes : List ℕ) (rules : List Rule) → IsTold (Replay name options) TraceFile files bytes → RulesTold (Replay name options) files rules
-    → (trace : Trace) × (trace_of (tick_length (Replay name options)) bytes ≡ Ok trace)
+    → (trace : Trace) × (trace_of (accepts_of (Replay name options)) bytes ≡ Ok trace)
     × ((text : List ℕ) × IsReplayText trace (pace_of options) rules text × Appends had has text)
 headlined name options files before now had has runs bytes rules tells rules_told =
     let ends = runs.ends in
@@ -143,7 +143,7 @@ headlined name options files before now had has runs bytes rules tells rules_tol
 -- and where no group is watched there is one
 pub headlined_alone : (name : List ℕ) (options : Options) (files : Option Files) (before now : RunCounts) (had has : Option (List ℕ)) → Runs (Replay name options) files before now had has status.Done
     → (bytes : List ℕ) (rules : List Rule) → options.live ≡ None → IsTold (Replay name options) TraceFile files bytes → RulesTold (Replay name options) files rules
-    → (trace : Trace) × (trace_of (tick_length (Replay name options)) bytes ≡ Ok trace) × Appends had has (replay_text trace (pace_of options) (with_rules rules))
+    → (trace : Trace) × (trace_of (accepts_of (Replay name options)) bytes ≡ Ok trace) × Appends had has (replay_text trace (pace_of options) (with_rules rules))
 headlined_alone name options files before now had has runs bytes rules none tells rules_told =
     let found = headlined name options files before now had has runs bytes rules tells rules_told in
     let text = found.2 in
@@ -151,7 +151,7 @@ headlined_alone name options files before now had has runs bytes rules none tell
 
 -- an accepted trace is done, where its rules are accepted, nothing failed and memory was there
 pub completes : (command : Command) (files : Option Files) (before now : RunCounts) (had has : Option (List ℕ)) (result : Status) → Runs command files before now had has result
-    → (rules : List Rule) (bytes : List ℕ) (trace : Trace) → RulesTold command files rules → IsTold command TraceFile files bytes → trace_of (tick_length command) bytes ≡ Ok trace
+    → (rules : List Rule) (bytes : List ℕ) (trace : Trace) → RulesTold command files rules → IsTold command TraceFile files bytes → trace_of (accepts_of command) bytes ≡ Ok trace
     → (Rose before.shelf.faults now.shelf.faults → ⊥) → (Rose before.writes now.writes → ⊥) → (result ≡ status.Done) ⊎ (result ≡ status.NoMemory)
 completes command files before now had has status.Done runs rules bytes trace given tells is reads writes = inl refl
 completes command files before now had has status.NoMemory runs rules bytes trace given tells is reads writes = inr refl
@@ -165,7 +165,7 @@ completes command files before now had has (status.NoFile TraceFile) runs rules 
 
 -- a refused trace tells of its refusal, where its rules are accepted, no read failed and memory was there
 pub refuses : (command : Command) (files : Option Files) (before now : RunCounts) (had has : Option (List ℕ)) (result : Status) → Runs command files before now had has result
-    → (rules : List Rule) (bytes : List ℕ) (line : ℕ) (why : Cause) → RulesTold command files rules → IsTold command TraceFile files bytes → trace_of (tick_length command) bytes ≡ Err (refused line why)
+    → (rules : List Rule) (bytes : List ℕ) (line : ℕ) (why : Cause) → RulesTold command files rules → IsTold command TraceFile files bytes → trace_of (accepts_of command) bytes ≡ Err (refused line why)
     → (Rose before.shelf.faults now.shelf.faults → ⊥) → (result ≡ status.Trace line why) ⊎ (result ≡ status.NoMemory)
 refuses command files before now had has status.Done runs rules bytes line why given tells is reads = let other = runs.ends.2.read bytes tells in absurd (let no : ⊥ = cc (is, other) in no)
 refuses command files before now had has status.NoMemory runs rules bytes line why given tells is reads = inr refl

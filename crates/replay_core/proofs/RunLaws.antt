@@ -1,17 +1,18 @@
 -- What reading a trace and writing a text come to as a run.
-use Rattle.std.proofs.Common.{◌≡◌, ℕ, List, [], arith, refl, sym, ◌∙◌, subst, Option, None, Some, Ok, Err}
+use Rattle.std.proofs.Common.{◌≡◌, ℕ, List, [], arith, refl, sym, ◌∙◌, subst, Option, None, Some, Ok, Err, inl}
 use Rattle.std.specs.Prelude.{IsErrOf, IsSome}
 use Rattle.std.specs.Io.KnownBytes.{Keeps}
 use Rattle.psi_base.specs.Outside.{Files, Lacks, Rose, told}
 use Rattle.psi_base.specs.declared.event.Event.{Event}
 use Rattle.psi_spec.specs.Trace.{IsAccepted, IsCpuCount, Trace, limits_of, trace_of}
+use Rattle.psi_spec.proofs.Reading.{events_known}
 use Rattle.run_spec.specs.declared.command.Command.{Command}
 use Rattle.run_spec.specs.declared.command.Command.TheVariants as words
 use Rattle.run_spec.specs.declared.status.Status.{Status}
 use Rattle.run_spec.specs.declared.status.Status.TheVariants as status
 use Rattle.run_spec.specs.declared.status.Which.{Which}
 use Rattle.run_spec.specs.declared.status.Which.TheVariants.{RulesFile, TraceFile}
-use Rattle.run_spec.specs.Outputs.{IsOutput, file_of, rules_name, tick_length, trace_name}
+use Rattle.run_spec.specs.Outputs.{IsOutput, accepts_of, file_of, rules_name, tick_length, trace_name}
 use Rattle.run_spec.specs.Run.{CountsTell, IsOfMissing, ReadsTrace, RisesWhere, RunCounts, Runs, TakesRules, TakesTrace}
 use Rattle.std.proofs.lemmas.List.Elements.{All-nil}
 use Rattle.ruleset_json.specs.RuleRanges.{FitsRule}
@@ -47,11 +48,12 @@ same_rules command name other is also = cc
 
 -- a command takes the trace that was played
 pub takes_trace : (command : Command) (name : List ℕ) (files : Option Files) (cpus : ℕ) (events : List Event) → trace_name command ≡ Some name → IsCpuCount cpus → IsAccepted (limits_of (tick_length command) cpus) events
-    → ((bytes : List ℕ) → told files name ≡ Some bytes → trace_of (tick_length command) bytes ≡ Ok (plain_trace cpus events))
+    → ((bytes : List ℕ) → told files name ≡ Some bytes → trace_of (accepts_of command) bytes ≡ Ok (plain_trace cpus events))
     → TakesTrace command files (plain_trace cpus events)
 takes_trace command name files cpus events named counted accepted read = record {
-  version = refl;
+  version = inl refl;
   cpus = counted;
+  known = events_known events;
   accepted = accepted;
   read = λ bytes known. read bytes (subst (λ n. told files n ≡ Some bytes) (same_name command name known.0 named known.1) known.2);
 }

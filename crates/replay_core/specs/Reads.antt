@@ -10,7 +10,8 @@ use Rattle.psi_base.specs.declared.event.Fault.{Fault}
 use Rattle.psi_base.specs.declared.event.Fault.TheVariants as fault
 use Rattle.psi_spec.specs.World.{World, Limits, after, first_world}
 use Rattle.psi_spec.specs.Refusal.{AreLegal, cause_of}
-use Rattle.psi_spec.specs.Trace.{AllFit, IsAccepted, IsCpuCount, Trace, events_from, followed, limits_of, line_event, refused, trace_of, with_events}
+use Rattle.psi_spec.specs.Grammar.{One, plain_header, verbs_of}
+use Rattle.psi_spec.specs.Trace.{AllFit, IsAccepted, IsCpuCount, Trace, accepts_all, events_from, followed, limits_of, line_event, refused, trace_of, with_events}
 use Rattle.replay_core.specs.declared.trace.TraceFault.{TraceFault}
 use Rattle.replay_core.specs.declared.trace.TraceFault.TheVariants.{Refused, NoFile, ReadFault, NoMemory}
 
@@ -46,13 +47,13 @@ TakesRead Before After (Err why) result = result ≡ Err why
 -- What a line does to a player that has played any events and whose trace hasn't ended: its event is played behind them,
 -- and there were fewer than 4,000,000 before it; or the line is refused.
 abbrev pub TakesLine : Plays → Plays → List ℕ → Result (Unit {0}) (Fault Cause) → Type 0
-TakesLine Before After line (Ok x) = (limits : Limits) (events : List Event) → Before limits events → (after events).ended ≡ false → (event : Event) × (line_event limits (after events) line ≡ Ok event) × After limits (events ++ event ∷ []) × (length events < 4000000)
-TakesLine Before After line (Err (fault.Refused why)) = (limits : Limits) (events : List Event) → Before limits events → (after events).ended ≡ false → line_event limits (after events) line ≡ Err why
+TakesLine Before After line (Ok x) = (limits : Limits) (events : List Event) → Before limits events → (after events).ended ≡ false → (event : Event) × (line_event (verbs_of One) limits (after events) line ≡ Ok event) × After limits (events ++ event ∷ []) × (length events < 4000000)
+TakesLine Before After line (Err (fault.Refused why)) = (limits : Limits) (events : List Event) → Before limits events → (after events).ended ≡ false → line_event (verbs_of One) limits (after events) line ≡ Err why
 TakesLine Before After line (Err fault.NoMemory) = ⊤
 
 -- the events of what is left of the input, in a world, from the line with a number on
 abbrev pub rest_from : Limits → World → ℕ → List ℕ → Result (List Event) Refusal
-rest_from limits w line bytes = events_from limits w line (parts_at 10 bytes)
+rest_from limits w line bytes = events_from (verbs_of One) limits w line (parts_at 10 bytes)
 
 -- a refusal is the definition's; the other faults have clauses of their own
 abbrev pub FaultOf : {A : Type 0} → TraceFault → Result A Refusal → Type 0
@@ -110,12 +111,12 @@ RestGives Played limits before known (Err fault) = (bytes : List ℕ) → known 
 
 -- the header was read from the bytes before, and those after are left
 abbrev pub HeadGives : ℕ → List ℕ → List ℕ → Result ℕ TraceFault → Type 0
-HeadGives tick before after (Ok cpus) = trace_of tick before ≡ with_events cpus (rest_from (limits_of tick cpus) first_world 2 after)
-HeadGives tick before after (Err fault) = FaultOf fault (trace_of tick before)
+HeadGives tick before after (Ok cpus) = trace_of (accepts_all tick) before ≡ with_events (plain_header cpus) (rest_from (limits_of tick cpus) first_world 2 after)
+HeadGives tick before after (Err fault) = FaultOf fault (trace_of (accepts_all tick) before)
 
 -- a trace of version 1
 abbrev pub plain_trace : ℕ → List Event → Trace
-plain_trace cpus events = record { version = 1; cpus = cpus; events = events }
+plain_trace cpus events = record { version = One; cpus = cpus; events = events }
 
 -- A player has played all events of an accepted trace, which is that of the bytes where they are told.
 pub record TracePlayed (Played : Plays) (tick : ℕ) (known : Option (List ℕ)) : Type 0 where
@@ -124,11 +125,11 @@ pub record TracePlayed (Played : Plays) (tick : ℕ) (known : Option (List ℕ))
   pub events : List Event
   pub played : Played (limits_of tick cpus) events
   pub accepted : IsAccepted (limits_of tick cpus) events
-  pub read : (bytes : List ℕ) → known ≡ Some bytes → trace_of tick bytes ≡ Ok (plain_trace cpus events)
+  pub read : (bytes : List ℕ) → known ≡ Some bytes → trace_of (accepts_all tick) bytes ≡ Ok (plain_trace cpus events)
 
 -- a trace that can't be read has its first refusal
 abbrev pub TraceRefused : TraceFault → ℕ → Option (List ℕ) → Type 0
-TraceRefused fault tick known = (bytes : List ℕ) → known ≡ Some bytes → FaultOf fault (trace_of tick bytes)
+TraceRefused fault tick known = (bytes : List ℕ) → known ≡ Some bytes → FaultOf fault (trace_of (accepts_all tick) bytes)
 
 -- A shelf counted this fault of a trace and nothing else: a failed read, or a name that it hasn't.
 abbrev pub CausesTraceFault : {A : Type 0} → ShelfCounts → ShelfCounts → Result A TraceFault → Type 0

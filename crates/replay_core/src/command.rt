@@ -1,9 +1,10 @@
 //! The commands, each over its trace.
-ghost use Rattle.std.specs.Prelude.{◌≡◌, ◌≤◌, ℕ, List, IfSome, IsUtf8};
+ghost use Rattle.std.specs.Prelude.{◌≡◌, ◌+◌, ◌≤◌, ℕ, List, IfSome, IsUtf8};
 ghost use Rattle.psi_base.specs.Outside.{StaysOver};
 ghost use Rattle.psi_base.specs.declared.event.Event.{Event};
 ghost use Rattle.psi_spec.specs.World.{Limits};
 ghost use Rattle.run_spec.specs.Text.{check_text};
+ghost use Rattle.run_spec.specs.Reading.{most_read};
 ghost use Rattle.run_spec.specs.Run.{Runs, run_counts};
 ghost use Rattle.run_spec.specs.Words.{IsCommand, IsWithin};
 ghost use Rattle.psi_words.specs.Reads.{HasTextNames};
@@ -74,6 +75,7 @@ fn run_stall<R: Threads + Sync, S: Shelf, K: Sink>(
         (run_counts (S.faults shelf.old) (S.absent shelf.old) (K.faults out.old))
         (run_counts (S.faults shelf.new) (S.absent shelf.new) (K.faults out.new))
         (K.has out.old) (K.has out.new) result }
+    ensures reads { S.given shelf.new ≤ S.given shelf.old + most_read (Command.Stall name.now) }
     ensures below { StaysOver (K.below out.old) (K.below out.new) }
 {
     match play_trace::<S, Planner>(alloc, name, shelf, TICK) {
@@ -110,6 +112,8 @@ fn run_check<S: Shelf, K: Sink>(
         (run_counts (S.faults shelf.old) (S.absent shelf.old) (K.faults out.old))
         (run_counts (S.faults shelf.new) (S.absent shelf.new) (K.faults out.new))
         (K.has out.old) (K.has out.new) result }
+    ensures reads { S.given shelf.new
+        ≤ S.given shelf.old + most_read (Command.Check name.now tick_ms) }
     ensures below { StaysOver (K.below out.old) (K.below out.new) }
 {
     match play_trace::<S, Table>(alloc, name, shelf, Ns::from(tick_ms) * MILLISECOND) {
@@ -139,6 +143,8 @@ fn run_replay<R: Threads + Sync, S: Shelf, K: Sink, G: Gate>(
         (run_counts (S.faults shelf.old) (S.absent shelf.old) (K.faults out.old))
         (run_counts (S.faults shelf.new) (S.absent shelf.new) (K.faults out.new))
         (K.has out.old) (K.has out.new) result }
+    ensures reads { S.given shelf.new
+        ≤ S.given shelf.old + most_read (Command.Replay name.now options.now) }
     ensures below { StaysOver (K.below out.old) (K.below out.new) }
 {
     let rules = match read_rules(alloc, options.rules.as_ref(), shelf) {
@@ -179,6 +185,7 @@ pub(crate) fn run_command<R: Threads + Sync, S: Shelf, K: Sink, G: Gate>(
         (run_counts (S.faults shelf.old) (S.absent shelf.old) (K.faults out.old))
         (run_counts (S.faults shelf.new) (S.absent shelf.new) (K.faults out.new))
         (K.has out.old) (K.has out.new) result }
+    ensures reads { S.given shelf.new ≤ S.given shelf.old + most_read command.now }
     ensures below { StaysOver (K.below out.old) (K.below out.new) }
 {
     match command {

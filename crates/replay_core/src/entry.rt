@@ -1,5 +1,5 @@
 //! The top call.
-ghost use Rattle.std.specs.Prelude.{◌≡◌, ◌⊎◌, ◌≢◌, ℕ, List, Some, None, Ok, Err, map, string_bytes};
+ghost use Rattle.std.specs.Prelude.{◌≡◌, ◌⊎◌, ◌≢◌, ◌+◌, ◌≤◌, ℕ, List, Some, None, Ok, Err, map, string_bytes};
 ghost use Rattle.std.specs.Io.KnownBytes.{Appends, Keeps};
 ghost use Rattle.psi_base.specs.Outside.{AppendsFront, Rose, told};
 ghost use Rattle.psi_base.specs.declared.event.Cause.{Cause};
@@ -7,7 +7,8 @@ ghost use Rattle.psi_spec.specs.Trace.{Trace, refused, trace_of};
 ghost use Rattle.psi_words.specs.Reads.{HasTextNames};
 ghost use Rattle.run_spec.specs.declared.command.Command.{Command};
 ghost use Rattle.run_spec.specs.declared.command.Options.{Options};
-ghost use Rattle.run_spec.specs.Outputs.{pace_of, rules_name, tick_length, trace_name};
+ghost use Rattle.run_spec.specs.Outputs.{accepts_of, pace_of, rules_name, trace_name};
+ghost use Rattle.run_spec.specs.Reading.{most_read};
 ghost use Rattle.run_spec.specs.Replay.{IsReplayText, replay_text, with_rules};
 ghost use Rattle.run_spec.specs.Run.{CountsTell, IsTold, RulesTold, Runs, run_counts};
 ghost use Rattle.run_spec.specs.declared.status.Which.TheVariants.{TraceFile};
@@ -41,6 +42,7 @@ fn run_buffered<R: Threads + Sync, S: Shelf, K: Sink, G: Gate>(
         (run_counts (S.faults shelf.old) (S.absent shelf.old) (K.faults out.old))
         (run_counts (S.faults shelf.new) (S.absent shelf.new) (K.faults out.new))
         (K.has out.old) (K.has out.new) result }
+    ensures reads { S.given shelf.new ≤ S.given shelf.old + most_read command.now }
 {
     let Ok(mut pending) = Pending::new(alloc) else {
         return Status::NoMemory;
@@ -90,7 +92,7 @@ pub fn run<R: Threads + Sync, S: Shelf, K: Sink, N: Sink, G: Gate>(
         IsTold (Command.Replay name options) TraceFile (S.holds shelf.old) bytes →
         RulesTold (Command.Replay name options) (S.holds shelf.old) rules →
         result ≡ Status.Done →
-        (trace : Trace) × (trace_of (tick_length (Command.Replay name options)) bytes ≡ Ok trace)
+        (trace : Trace) × (trace_of (accepts_of (Command.Replay name options)) bytes ≡ Ok trace)
         × ((text : List ℕ) × IsReplayText trace (pace_of options) rules text
         × Appends (K.has out.old) (K.has out.new) text) }
 
@@ -101,7 +103,7 @@ pub fn run<R: Threads + Sync, S: Shelf, K: Sink, N: Sink, G: Gate>(
         IsTold (Command.Replay name options) TraceFile (S.holds shelf.old) bytes →
         RulesTold (Command.Replay name options) (S.holds shelf.old) rules →
         result ≡ Status.Done →
-        (trace : Trace) × (trace_of (tick_length (Command.Replay name options)) bytes ≡ Ok trace)
+        (trace : Trace) × (trace_of (accepts_of (Command.Replay name options)) bytes ≡ Ok trace)
         × Appends (K.has out.old) (K.has out.new)
         (replay_text trace (pace_of options) (with_rules rules)) }
 
@@ -111,7 +113,7 @@ pub fn run<R: Threads + Sync, S: Shelf, K: Sink, N: Sink, G: Gate>(
         command_of (map string_bytes words.now) ≡ Some command →
         RulesTold command (S.holds shelf.old) rules →
         IsTold command TraceFile (S.holds shelf.old) bytes →
-        trace_of (tick_length command) bytes ≡ Ok trace →
+        trace_of (accepts_of command) bytes ≡ Ok trace →
         (Rose (S.faults shelf.old) (S.faults shelf.new) → ⊥) →
         (Rose (K.faults out.old) (K.faults out.new) → ⊥) →
         (result ≡ Status.Done) ⊎ (result ≡ Status.NoMemory) }
@@ -130,7 +132,7 @@ pub fn run<R: Threads + Sync, S: Shelf, K: Sink, N: Sink, G: Gate>(
         command_of (map string_bytes words.now) ≡ Some command →
         RulesTold command (S.holds shelf.old) rules →
         IsTold command TraceFile (S.holds shelf.old) bytes →
-        trace_of (tick_length command) bytes ≡ Err (refused line why) →
+        trace_of (accepts_of command) bytes ≡ Err (refused line why) →
         (Rose (S.faults shelf.old) (S.faults shelf.new) → ⊥) →
         (result ≡ Status.Trace line why) ⊎ (result ≡ Status.NoMemory) }
 
@@ -145,6 +147,13 @@ pub fn run<R: Threads + Sync, S: Shelf, K: Sink, N: Sink, G: Gate>(
     ensures counts { CountsTell
         (run_counts (S.faults shelf.old) (S.absent shelf.old) (K.faults out.old))
         (run_counts (S.faults shelf.new) (S.absent shelf.new) (K.faults out.new)) result }
+
+    // However large its files are, and whatever it answers, a command reads no more bytes than this, and other words read none.
+    ensures reads { (command : Command) →
+        command_of (map string_bytes words.now) ≡ Some command →
+        S.given shelf.new ≤ S.given shelf.old + most_read command }
+    ensures unread { command_of (map string_bytes words.now) ≡ None →
+        S.given shelf.new ≡ S.given shelf.old }
 
     // Nothing is written but by Done and WriteFault.
     ensures quiet { result ≢ Status.Done → result ≢ Status.WriteFault →

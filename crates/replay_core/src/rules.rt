@@ -1,7 +1,8 @@
 //! The rules of a replay from a shelf.
-ghost use Rattle.std.specs.Prelude.{◌≡◌, ℕ, List, Some, IfSome, IsUtf8, MatchResult, option_map};
+ghost use Rattle.std.specs.Prelude.{◌≡◌, ◌+◌, ◌≤◌, ℕ, List, Some, IfSome, IsUtf8, MatchResult, option_map};
 ghost use Rattle.psi_base.specs.Outside.{counts_of};
 ghost use Rattle.ruleset_json.specs.RuleRanges.{FitsRules};
+ghost use Rattle.run_spec.specs.Reading.{most_if_named, most_of_rules};
 ghost use Rattle.replay_core.specs.Rules.{CausesRulesError, RulesFailed, RulesGiven};
 ghost use Rattle.replay_rules.specs.Judged.{rules_in};
 
@@ -41,6 +42,7 @@ fn read_file<S: Shelf>(alloc: Global, name: &str, shelf: &mut S) -> Result<Rules
         (λ found. RulesFailed found (S.holds shelf.old) name.now) }
     ensures cause { CausesRulesError (counts_of (S.faults shelf.old) (S.absent shelf.old))
         (counts_of (S.faults shelf.new) (S.absent shelf.new)) result }
+    ensures given { S.given shelf.new ≤ S.given shelf.old + most_of_rules }
 {
     let bytes = match read_front(alloc, shelf, name, MOST) {
         Ok(bytes) => bytes,
@@ -70,6 +72,8 @@ pub(crate) fn read_rules<S: Shelf>(
         × RulesFailed found (S.holds shelf.old) name) }
     ensures cause { CausesRulesError (counts_of (S.faults shelf.old) (S.absent shelf.old))
         (counts_of (S.faults shelf.new) (S.absent shelf.new)) result }
+    ensures given { S.given shelf.new ≤ S.given shelf.old
+        + most_if_named most_of_rules (option_map (λ name. name.now) named.entry) }
 {
     match named {
         Some(name) => match read_file(alloc, name_of(name), shelf) {

@@ -3,9 +3,11 @@ ghost use Rattle.std.specs.Prelude.{◌≡◌, ◌+◌, ◌*◌, ◌<◌, ◌≤
 ghost use Rattle.psi_base.specs.Outside.{told, Lacks, counts_of};
 ghost use Rattle.psi_base.specs.declared.event.Cause.TheVariants as cause;
 ghost use Rattle.psi_lines.specs.Lines.{left};
+ghost use Rattle.psi_lines.specs.Next.{furthest};
 ghost use Rattle.psi_spec.specs.Grammar.{Fits};
 ghost use Rattle.psi_spec.specs.Trace.{IsCpuCount, limits_of, refused};
 ghost use Rattle.psi_trace.specs.Front.{HasInFront};
+ghost use Rattle.run_spec.specs.Reading.{most_of_trace};
 ghost use Rattle.replay_core.specs.Reads.{CausesTraceFault, HeadGives, IsFaultAt, IsNoRead, Legally, NextGives, RestGives, TailGives, TakesLine, TakesRead, TellsNothing, TracePlayed, TraceRefused};
 
 use crate::player::Player;
@@ -103,6 +105,8 @@ fn play_front<P: Player>(
     ensures content { (known : Option (List ℕ)) → NextGives (Legally (P.Played player.old))
         (Legally (P.Played player.new)) line (left lines.old) (left lines.new) known result }
     ensures faults { IsNoRead result }
+    ensures stays { lines.new.at ≡ lines.old.at }
+    ensures place { lines.new.at ≤ furthest line }
 {
     lines.pass(count);
     match player.take(event) {
@@ -129,6 +133,8 @@ fn next_event<S: Shelf, P: Player>(
         told (S.holds shelf.old) lines.old.name ≡ None }
     ensures cause { CausesTraceFault (counts_of (S.faults shelf.old) (S.absent shelf.old))
         (counts_of (S.faults shelf.new) (S.absent shelf.new)) result }
+    ensures given { S.given shelf.new + lines.old.at ≡ S.given shelf.old + lines.new.at }
+    ensures place { lines.new.at ≤ furthest line }
 {
     match lines.next_bytes(shelf) {
         Ok(Some(bytes)) => match take_line(alloc, player, bytes) {
@@ -164,6 +170,8 @@ fn play_next<S: Shelf, P: Player>(
         told (S.holds shelf.old) lines.old.name ≡ None }
     ensures cause { CausesTraceFault (counts_of (S.faults shelf.old) (S.absent shelf.old))
         (counts_of (S.faults shelf.new) (S.absent shelf.new)) result }
+    ensures given { S.given shelf.new + lines.old.at ≡ S.given shelf.old + lines.new.at }
+    ensures place { lines.new.at ≤ furthest line }
 {
     match front_event(lines.held()) {
         Some((event, count)) => play_front(lines, player, &event, count, line),
@@ -181,6 +189,8 @@ fn close<S: Shelf>(lines: &mut Lines, shelf: &mut S, line: u32) -> Result<(), Tr
         told (S.holds shelf.old) lines.old.name ≡ None }
     ensures cause { CausesTraceFault (counts_of (S.faults shelf.old) (S.absent shelf.old))
         (counts_of (S.faults shelf.new) (S.absent shelf.new)) result }
+    ensures given { S.given shelf.new + lines.old.at
+        ≤ S.given shelf.old + furthest lines.old.number }
 {
     match lines.is_at_end(shelf) {
         Ok(true) => Ok(()),
@@ -210,6 +220,7 @@ fn play_events<S: Shelf, P: Player>(
         told (S.holds shelf.old) lines.old.name ≡ None }
     ensures cause { CausesTraceFault (counts_of (S.faults shelf.old) (S.absent shelf.old))
         (counts_of (S.faults shelf.new) (S.absent shelf.new)) result }
+    ensures given { S.given shelf.new + lines.old.at ≤ S.given shelf.old + most_of_trace }
 {
     'lines: for count in 0..4_000_001u32 {
         match play_next(alloc, lines, shelf, player, count + 2) {
@@ -239,6 +250,8 @@ fn read_cpus<S: Shelf>(lines: &mut Lines, shelf: &mut S, tick: Ns) -> Result<u32
         told (S.holds shelf.old) lines.old.name ≡ None }
     ensures cause { CausesTraceFault (counts_of (S.faults shelf.old) (S.absent shelf.old))
         (counts_of (S.faults shelf.new) (S.absent shelf.new)) result }
+    ensures given { S.given shelf.new + lines.old.at ≡ S.given shelf.old + lines.new.at }
+    ensures place { lines.new.at ≤ furthest 1 }
 {
     match lines.next_bytes(shelf) {
         Ok(Some(bytes)) => match read_header(bytes) {
@@ -271,6 +284,7 @@ pub(crate) fn play_trace<S: Shelf, P: Player + Drop>(
         told (S.holds shelf.old) name.now ≡ None }
     ensures cause { CausesTraceFault (counts_of (S.faults shelf.old) (S.absent shelf.old))
         (counts_of (S.faults shelf.new) (S.absent shelf.new)) result }
+    ensures given { S.given shelf.new ≤ S.given shelf.old + most_of_trace }
 {
     let mut lines = Lines::new(alloc, name)?;
     let cpus = match read_cpus(&mut lines, shelf, tick) {

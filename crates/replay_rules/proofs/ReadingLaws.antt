@@ -97,7 +97,7 @@ memory_fits slot groups (act.Migrate pid cpu) fits = tt
 memory_fits slot groups (act.Move pid path) fits = tt
 memory_fits slot groups (act.Mem path current swap scan) fits =
     alone_where IsSmallSample (record { current = current; swap = swap; scan = scan })
-    ((slot_named groups path).0 == slot) (fits.1, fits.2, fits.3)
+    ((slot_named groups path).0 == slot) (fits.1.0, fits.1.1.0, fits.1.1.1.0)
 memory_fits slot groups (act.Host mem_total swap_total swap_free) fits = tt
 memory_fits slot groups (act.Trigger path res level threshold_us window_us) fits = tt
 memory_fits slot groups act.End fits = tt
@@ -123,7 +123,7 @@ host_fits (act.Migrate pid cpu) fits = tt
 host_fits (act.Move pid path) fits = tt
 host_fits (act.Mem path current swap scan) fits = tt
 host_fits (act.Host mem_total swap_total swap_free) fits =
-    (record { mem_total = fits.0; swap_total = fits.1; swap_free = fits.2 }, tt)
+    (record { mem_total = fits.0; swap_total = fits.1.0; swap_free = fits.1.1.0 }, tt)
 host_fits (act.Trigger path res level threshold_us window_us) fits = tt
 host_fits act.End fits = tt
 

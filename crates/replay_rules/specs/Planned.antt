@@ -14,7 +14,6 @@ numbers_of slots = map (λ (slot : Slot). slot.0) slots
 
 -- plans stand for an accepted trace, which may be replayed at a pace
 pub record IsPlanned (plans : PlansView) (trace : Trace) (pace : Pace) : Type 0 where
-  pub version : trace.version ≡ 1
   pub counted : IsCpuCount trace.cpus
   pub stand : StandFor plans trace.cpus trace.events
   pub accepted : IsAccepted (limits_of pace.length trace.cpus) trace.events

@@ -15,7 +15,7 @@ use Rattle.proc_plan.specs.Clocks.{OnPlan}
 use Rattle.proc_plan.specs.Plans.{PlansView, plan_at}
 use Rattle.replay_workers.specs.declared.ticks.Ticks.{Ticks}
 use Rattle.replay_workers.specs.Crew.{AreAt, AreBehind, CrewView, last_of, moment_in, moments_of}
-use Rattle.replay_workers.proofs.Steps.{changes_more}
+use Rattle.psi_laws.proofs.PlanTimes.{changes_more}
 use Rattle.replay_rules.specs.Planned.{IsPlanned}
 use Rattle.replay_ticks.specs.declared.pacing.Pacing.{Pacing}
 use Rattle.replay_ticks.specs.Replays.{IsAhead, IsReady, IsToGo, moments_behind}

@@ -39,5 +39,10 @@ returns-in-Ok-clause-made g c = λ command is unnamed.
     let none : trace_name c.in-Ok.command ≡ None = rw same unnamed in
     makes c.in-Ok.command (g.S.Shelf.holds c.args.shelf.now) _ _ _ _ c.run_buffered-status.result c.run_buffered-status.ensures.runs none (without_rules c.in-Ok.command none)
 
+pub returns-in-Ok-clause-reads : goal.returns-in-Ok-clause-reads
+returns-in-Ok-clause-reads g c = λ command is.
+    let same : c.in-Ok.command ≡ command = cc (c.in-Ok.ensures.exact, is) in
+    rw (← same) c.run_buffered-status.ensures.reads
+
 pub returns-in-Ok-clause-note_front : goal.returns-in-Ok-clause-note_front
 returns-in-Ok-clause-note_front g c = rw c.in-Ok.ensures.exact (front_of_puts _ _ _ _ c.put_status.ensures.bytes)

@@ -11,6 +11,7 @@ invariant-lines g l = record {
   kept : g.S.Shelf.holds l.shelf ≡ g.S.Shelf.holds l.fn.shelf;
   faults : g.S.Shelf.faults l.shelf ≡ g.S.Shelf.faults l.fn.shelf;
   absent : g.S.Shelf.absent l.shelf ≡ g.S.Shelf.absent l.fn.shelf;
+  given : g.S.Shelf.given l.shelf + l.fn.lines.at ≡ g.S.Shelf.given l.fn.shelf + l.lines.at;
   name : l.lines.name ≡ l.fn.lines.name;
   number : l.lines.number ≡ l.count + 2;
   few : l.count ≤ 4000000;
