@@ -6,7 +6,7 @@ use Rattle.std.proofs.lemmas.List.Elements.{All-filter}
 use Rattle.psi_base.specs.declared.event.Res.{Res}
 use Rattle.psi_base.specs.declared.event.Res.TheVariants.{Io, Memory, Cpu}
 use Rattle.psi_base.specs.declared.event.Level.TheVariants.{FullStalled}
-use Rattle.psi_spec.specs.Stall.{number_of}
+use Rattle.psi_spec.specs.Stall.{state_number}
 use Rattle.pressure_spec.specs.Average.{IsRow}
 use Rattle.pressure_spec.specs.Samples.{state_of}
 use Rattle.ruleset_json.specs.declared.types.DetectorSpec.{DetectorSpec}
@@ -15,7 +15,7 @@ use Rattle.kill_spec.specs.declared.reading.GroupReading.{GroupReading}
 use Rattle.kill_spec.specs.Readings.{IsGroupReading, full_average, ten_seconds}
 use Rattle.detectors.specs.Tables.{found, greatest_of, has}
 
-full_place : (resource : Res) → number_of (state_of resource FullStalled) < 6
+full_place : (resource : Res) → state_number (state_of resource FullStalled) < 6
 full_place Io = omega arith
 full_place Memory = omega arith
 full_place Cpu = omega arith
@@ -24,7 +24,7 @@ average_within : (slots : ℕ) (resource : Res) (window : ℕ) (group : GroupRea
     IsGroupReading slots group →
     full_average resource window group ≤ 204800
 average_within slots resource window group inside is =
-    let place = number_of (state_of resource FullStalled) in
+    let place = state_number (state_of resource FullStalled) in
     let row : IsRow (get_or group.averages place []) = is.each place [] (omega (arith, full_place resource, is.rows)) in
     row.most window 0 (omega (arith, inside, row.three))
 

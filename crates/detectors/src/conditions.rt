@@ -2,7 +2,7 @@
 ghost use Rattle.std.specs.Prelude.{◌≡◌, ◌≤◌, ◌<◌, ◌^◌, All, false, length};
 ghost use Rattle.std.specs.List.{list_any};
 ghost use Rattle.psi_base.specs.declared.event.Level.TheVariants.{FullStalled};
-ghost use Rattle.psi_spec.specs.Stall.{number_of};
+ghost use Rattle.psi_spec.specs.Stall.{state_number};
 ghost use Rattle.pressure_spec.specs.Samples.{state_of};
 ghost use Rattle.kill_spec.specs.declared.reading.GroupReading.{GroupReading};
 ghost use Rattle.kill_spec.specs.Detectors.{is_above};
@@ -59,7 +59,7 @@ pub(crate) fn find_matches(matched: &mut [bool], spec: &DetectorSpec, lives: &[G
 /// The state of which a resource's full pressure is told.
 fn full_state(resource: Res) -> State
     ensures value { result ≡ state_of resource FullStalled }
-    ensures pressure { number_of result < 6 }
+    ensures pressure { state_number result < 6 }
 {
     match resource {
         Res::Io => State::IoFull,

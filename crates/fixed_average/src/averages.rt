@@ -2,7 +2,7 @@
 ghost use Rattle.std.specs.Prelude.{◌≡◌, ◌≢◌, ◌≤◌, ◌<◌, ◌+◌, ◌^◌, ℕ, All, [], map, slice_index, slice_index_or};
 ghost use Rattle.psi_spec.specs.Trace.{last_moment};
 ghost use Rattle.pressure_spec.specs.Share.{zip_with};
-ghost use Rattle.psi_spec.specs.Stall.{number_of};
+ghost use Rattle.psi_spec.specs.Stall.{state_number};
 ghost use Rattle.pressure_spec.specs.Average as model;
 ghost use Rattle.pressure_spec.specs.Average.{IsRow};
 ghost use Rattle.psi_base.specs.declared.event.State.TheVariants as state_of;
@@ -176,7 +176,7 @@ impl Averages {
     /// The averages over 10, 60 and 300 seconds of a state other than nonidle, in fixed point.
     pub fn get(&self, state: State) -> [u64; 3]
         requires { state ≢ state_of.Nonidle }
-        ensures value { result ≡ slice_index_or self.now.averages (number_of state) [] }
+        ensures value { result ≡ slice_index_or self.now.averages (state_number state) [] }
         ensures most { All (λ average. average ≤ 204800) result }
     {
         self.averages[state as usize]

@@ -9,7 +9,7 @@ use Rattle.std.specs.Cmp.Lexicographic.{slice_cmp}
 use Rattle.psi_base.specs.declared.event.Res.{Res}
 use Rattle.psi_base.specs.declared.event.Level.TheVariants.{FullStalled}
 use Rattle.psi_spec.specs.declared.machine.GroupLife.{GroupLife}
-use Rattle.psi_spec.specs.Stall.{number_of}
+use Rattle.psi_spec.specs.Stall.{state_number}
 use Rattle.psi_spec.specs.Groups.{path_at}
 use Rattle.pressure_spec.specs.Average.{IsRow}
 use Rattle.pressure_spec.specs.Samples.{state_of}
@@ -48,7 +48,7 @@ sixty_seconds = 1
 -- the full average of a resource over a window, by the window's place, in fixed point
 abbrev pub full_average : Res → ℕ → GroupReading → ℕ
 full_average resource window group =
-    slice_index (slice_index_or group.averages (number_of (state_of resource FullStalled)) []) window
+    slice_index (slice_index_or group.averages (state_number (state_of resource FullStalled)) []) window
 
 -- ---- scans of pages
 

@@ -5,7 +5,7 @@ use Rattle.psi_base.specs.declared.event.Res.TheVariants.{Io, Memory, Cpu}
 use Rattle.psi_base.specs.declared.event.Level.{Level}
 use Rattle.psi_base.specs.declared.event.Level.TheVariants.{SomeStalled, FullStalled}
 use Rattle.psi_spec.specs.Fields.{level_word}
-use Rattle.psi_spec.specs.Stall.{number_of}
+use Rattle.psi_spec.specs.Stall.{state_number}
 use Rattle.pressure_spec.specs.Samples.{state_of}
 
 -- a number below 100 in two digits
@@ -31,7 +31,7 @@ file_line level averages total =
 -- the line of a resource on some or all tasks, by the totals (ns) and averages of the states
 abbrev pub state_line : Res → Level → List ℕ → List (List ℕ) → List ℕ
 state_line res level totals averages =
-    file_line level (slice_index_or averages (number_of (state_of res level)) []) (slice_index totals (number_of (state_of res level)))
+    file_line level (slice_index_or averages (state_number (state_of res level)) []) (slice_index totals (state_number (state_of res level)))
 
 -- the resource is the processor
 abbrev pub is_cpu : Res → Bool

@@ -3,7 +3,7 @@ use Rattle.std.specs.Prelude.{◌≡◌, ℕ, ◌+◌, ◌*◌, ◌/◌, ◌<◌
 use Rattle.std.specs.List.{range_with_len}
 use Rattle.psi_base.specs.declared.event.State.{State}
 use Rattle.psi_base.specs.declared.event.State.TheVariants.{Nonidle}
-use Rattle.psi_spec.specs.Stall.{number_of}
+use Rattle.psi_spec.specs.Stall.{state_number}
 
 -- f of the elements of two lists, place by place
 abbrev pub zip_with : {A B C : Type 0} → (A → B → C) → List A → List B → List C
@@ -17,7 +17,7 @@ pressure_places = 0 ∷ 1 ∷ 2 ∷ 3 ∷ 4 ∷ 5 ∷ []
 
 -- the number of a state in a list that has one for each state, in the order of their numbers
 abbrev pub at_state : List ℕ → State → ℕ
-at_state numbers state = slice_index numbers (number_of state)
+at_state numbers state = slice_index numbers (state_number state)
 
 -- the weight of a processor: how long it wasn't idle, in whole timer ticks of a millisecond, of seven times (ns)
 abbrev pub weight : List ℕ → ℕ

@@ -9,7 +9,7 @@ use Rattle.std.proofs.lemmas.List.{append-nil, get_or_past}
 use Rattle.psi_base.specs.declared.event.Level.{Level}
 use Rattle.psi_base.specs.declared.event.Level.TheVariants.{SomeStalled, FullStalled}
 use Rattle.psi_spec.specs.Fields.{level_word}
-use Rattle.psi_spec.specs.Stall.{number_of}
+use Rattle.psi_spec.specs.Stall.{state_number}
 use Rattle.pressure_spec.specs.Average.{IsRow}
 use Rattle.pressure_spec.specs.File.{CanTell, file_line, file_text, full_line, hundredths}
 use Rattle.pressure_spec.specs.File.{hundredths_text, in_hundredths, is_cpu, percent_text}
@@ -267,8 +267,8 @@ full_can false averages total fit = can_tell averages total fit
 pub reads_again : ReadsAgain
 unfolding file_text
 reads_again res is_root totals averages fit rows =
-    let some : ℕ = number_of (state_of res SomeStalled) in
-    let full : ℕ = number_of (state_of res FullStalled) in
+    let some : ℕ = state_number (state_of res SomeStalled) in
+    let full : ℕ = state_number (state_of res FullStalled) in
     let some_fit = fit_of totals averages some fit rows in
     let full_fit = fit_of totals averages full fit rows in
     let some_row : List ℕ = get_or averages some [] in

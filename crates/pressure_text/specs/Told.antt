@@ -4,7 +4,7 @@ use Rattle.std.specs.Prelude.{slice_index, slice_index_or, ◌&&◌, Bool, if◌
 use Rattle.psi_base.specs.declared.event.Res.{Res}
 use Rattle.psi_base.specs.declared.event.Level.{Level}
 use Rattle.psi_base.specs.declared.event.Level.TheVariants.{SomeStalled, FullStalled}
-use Rattle.psi_spec.specs.Stall.{number_of}
+use Rattle.psi_spec.specs.Stall.{state_number}
 use Rattle.pressure_spec.specs.Average.{IsRow}
 use Rattle.pressure_spec.specs.File.{CanTell, file_text, in_hundredths, is_cpu, told_line}
 use Rattle.pressure_spec.specs.Samples.{state_of}
@@ -39,8 +39,8 @@ told averages total = record { hundredths = three_hundredths averages; total_us 
 -- what the line of a resource on some or all tasks tells
 abbrev pub told_of : Res → Level → List ℕ → List (List ℕ) → PressureLine
 told_of res level totals averages =
-    told (slice_index_or averages (number_of (state_of res level)) [])
-    (slice_index totals (number_of (state_of res level)))
+    told (slice_index_or averages (state_number (state_of res level)) [])
+    (slice_index totals (state_number (state_of res level)))
 
 -- what a pressure file tells of totals (ns) and averages; of the processor and all tasks of the root it
 -- tells zeros

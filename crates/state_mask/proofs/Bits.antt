@@ -6,7 +6,7 @@ use Rattle.std.proofs.lemmas.Bool.Decides.{nat_tests}
 use Rattle.std.proofs.lemmas.Nat.{pow_pos}
 use Rattle.std.proofs.lemmas.Nat.Bits.{and_pow, bit_at-lt}
 use Rattle.psi_base.specs.declared.event.State.{State}
-use Rattle.psi_spec.specs.Stall.{number_of}
+use Rattle.psi_spec.specs.Stall.{state_number}
 use Rattle.psi_laws.specs.Counts.{mask_holds}
 
 small_bit : (bit power : ℕ) → bit < 2 → 0 < power → not (nat_eq (bit * power) 0) ≡ (bit == 1)
@@ -15,5 +15,5 @@ small_bit (suc zero) power few some = let goal : not (nat_eq (1 * power) 0) ≡ 
 small_bit (suc (suc n)) power few some = absurd (omega arith)
 
 -- a mask has a bit exactly where the bits that it shares with that one aren't 0
-pub holds_told : (mask : ℕ) (state : State) → not (nat_eq (bit_and mask (2 ^ number_of state)) 0) ≡ mask_holds mask state
-holds_told mask state = rw (and_pow mask (number_of state)) (small_bit (bit_at mask (number_of state)) (2 ^ number_of state) (bit_at-lt mask (number_of state)) (pow_pos (number_of state)))
+pub holds_told : (mask : ℕ) (state : State) → not (nat_eq (bit_and mask (2 ^ state_number state)) 0) ≡ mask_holds mask state
+holds_told mask state = rw (and_pow mask (state_number state)) (small_bit (bit_at mask (state_number state)) (2 ^ state_number state) (bit_at-lt mask (state_number state)) (pow_pos (state_number state)))

@@ -3,7 +3,7 @@
 ghost use Rattle.std.specs.Prelude.{◌≡◌, ◌^◌};
 ghost use Rattle.psi_base.specs.declared.event.State.{State};
 ghost use Rattle.psi_laws.specs.Counts.{IsMask, mask_holds};
-ghost use Rattle.psi_spec.specs.Stall.{number_of};
+ghost use Rattle.psi_spec.specs.Stall.{state_number};
 
 use psi_base::State;
 use std::marker::Model;
@@ -28,7 +28,7 @@ impl Model for Mask {
 
 /// The bit of a state.
 fn bit(state: State) -> u8
-    ensures { result ≡ 2 ^ number_of state }
+    ensures { result ≡ 2 ^ state_number state }
 {
     1 << state as u8
 }

@@ -4,7 +4,7 @@ ghost use Rattle.std.specs.Prelude.{◌≡◌, ◌≤◌, ◌<◌, ◌+◌, ◌+
 ghost use Rattle.pressure_spec.specs.Samples as model;
 ghost use Rattle.pressure_spec.specs.Signal.{new_trigger};
 ghost use Rattle.psi_spec.specs.Refusal.{is_window};
-ghost use Rattle.psi_spec.specs.Stall.{number_of};
+ghost use Rattle.psi_spec.specs.Stall.{state_number};
 ghost use Rattle.psi_spec.specs.Told.{IsTriggerWithin};
 ghost use Rattle.psi_spec.specs.Trace.{last_moment};
 ghost use Rattle.tick_engine.specs.Engine.{AreWatchesWithin};
@@ -24,7 +24,7 @@ pub(crate) struct Watch {
 /// The state that a trigger watches.
 fn watched_state(spec: &TriggerSpec) -> State
     ensures value { result ≡ model.watched_state spec.now }
-    ensures pressure { number_of result < 6 }
+    ensures pressure { state_number result < 6 }
 {
     match (spec.res, spec.level) {
         (Res::Io, Level::SomeStalled) => State::IoSome,

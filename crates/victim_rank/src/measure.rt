@@ -1,7 +1,7 @@
 //! How an action compares groups.
 ghost use Rattle.std.specs.Prelude.{◌≡◌, ◌<◌, ◌≤◌, ◌^◌, All, MatchOption, false, length, true};
 ghost use Rattle.psi_base.specs.declared.event.Level.TheVariants.{FullStalled};
-ghost use Rattle.psi_spec.specs.Stall.{number_of};
+ghost use Rattle.psi_spec.specs.Stall.{state_number};
 ghost use Rattle.pressure_spec.specs.Average.{IsRow};
 ghost use Rattle.pressure_spec.specs.Samples.{state_of};
 ghost use Rattle.pressure_spec.specs.Share.{pressure_places};
@@ -29,7 +29,7 @@ pub(crate) fn rank(group: &GroupReading) -> u8
 // The state of which a resource's full pressure is told.
 fn full_state(resource: Res) -> State
     ensures value { result ≡ state_of resource FullStalled }
-    ensures pressure { number_of result < 6 }
+    ensures pressure { state_number result < 6 }
 {
     match resource {
         Res::Io => State::IoFull,
