@@ -16,12 +16,11 @@ fn shelf_of(alloc: Global, bytes: &[u8], most: usize, fails: u64) -> Result<MemS
     Ok(MemShelf::new(files, most, vec![in alloc; fails]?))
 }
 
-// The next line of this number, or a copy of where it is lent.
+// The next line, or a copy of where it is lent.
 fn next_line<S: Shelf>(
     alloc: Global,
     lines: &mut Lines,
     shelf: &mut S,
-    number: u32,
     lends: bool,
 ) -> Result<Option<Line>, LineFault>
     requires { lines.old.number < 2 ^ 32 }
@@ -30,6 +29,7 @@ fn next_line<S: Shelf>(
     if !lends {
         return lines.next(shelf);
     }
+    let number = lines.number();
     match lines.next_bytes(shelf)? {
         Some(bytes) => Ok(Some(Line {
             number,
@@ -49,13 +49,11 @@ fn answers<S: Shelf>(
 ) -> Result<Vec<u8>, Fail> {
     let mut lines = Lines::new(alloc, name)?;
     let mut text = Vec::new(alloc);
-    let mut number = 1u32;
     for _ in 0..calls {
-        match next_line(alloc, &mut lines, shelf, number, lends) {
+        match next_line(alloc, &mut lines, shelf, lends) {
             Ok(Some(line)) => {
                 text.extend_from_slice(format!(in alloc; "{}:", line.number)?.as_bytes())?;
                 text.extend_from_slice(line.bytes.bytes())?;
-                number = number.saturating_add(1);
             }
             Ok(None) => text.extend_from_slice(b"end")?,
             Err(fault) => {

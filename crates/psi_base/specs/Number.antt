@@ -7,7 +7,7 @@ abbrev pub value_after : ℕ → List ℕ → ℕ
 value_after n [] = n
 value_after n (c ∷ cs) = value_after (n * 10 + (c - 48)) cs
 
--- the number of digits that follow those of n, where all are digits and it fits 64 bits
+-- the number that these digits write behind those of n, where all are digits and it fits 64 bits
 unfoldable pub digits_after : ℕ → List ℕ → Option ℕ
 digits_after n bytes = if all_ascii_digits bytes && nat_lt (value_after n bytes) (2 ^ 64) then Some (value_after n bytes) else None
 

@@ -20,8 +20,9 @@ Rose before now = (before < now) ⊎ (now ≡ 2 ^ 64 - 1)
 abbrev pub one_more : ℕ → ℕ
 one_more count = min (count + 1) (2 ^ 64 - 1)
 
--- a count is one more where this happened, and else as it was
+-- a count doesn't fall: it is one more where this happened, and else as it was
 pub record CountsWhere (Happened : Type 0) (before now : ℕ) : Type 0 where
+  pub later : before ≤ now
   pub counted : Happened → now ≡ one_more before
   pub same : ¬ Happened → now ≡ before
 

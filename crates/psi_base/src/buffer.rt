@@ -73,12 +73,12 @@ impl Pending {
     }
 }
 
-/// A sink that collects bytes for another one, which it borrows, and sends them on in large writes: a full buffer at
-/// once, and a piece of more than 65,536 bytes with no copy. It takes no memory.
+/// A sink that collects bytes for another one, which it borrows, and sends them on in large writes: what is pending where a
+/// piece finds no room behind it, and a piece of more than 65,536 bytes with no copy. It takes no memory.
 ///
 /// What it has is what the other one has, with what is pending behind it, so nothing that was put is ever missing; its
-/// count of faults is the other's. A write that fails has taken nothing of its piece. What is pending reaches the other
-/// one by [`BufferedSink::flush`], and is lost without it.
+/// count of faults is the other's. A write that fails has taken nothing of its piece. What is pending at
+/// the end reaches the other one by [`BufferedSink::flush`], and is lost without it.
 #[derive(Drop)]
 pub struct BufferedSink<'a, K> {
     out: &'a mut K,

@@ -19,7 +19,7 @@ pub struct Cpu(pub u32);
 pub struct Slot(pub u32);
 
 /// The states of a group on one processor that are timed, numbered from 0 in this order: the kernel's
-/// `enum psi_states`. `Some` is that at least one task is held up, `Full` that no task gets on.
+/// `enum psi_states` without irq pressure. `Some` is that at least one task is held up, `Full` that no task gets on.
 #[derive(Clone, Copy, Debug, PartialEq, Eq)]
 pub enum State {
     /// A task waits for IO.
@@ -63,7 +63,7 @@ pub enum Level {
 pub enum How {
     /// It stays ready.
     Preempt,
-    /// It is blocked.
+    /// It is blocked, and not for IO.
     Sleep,
     /// It is blocked, and waits for IO.
     IoWait,

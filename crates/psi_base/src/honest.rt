@@ -1,10 +1,10 @@
 //! A shelf and a sink in memory that are honest: they fail only for want of room. Their clauses say each answer exactly.
-ghost use Rattle.std.specs.Prelude.{◌≡◌, ◌⊎◌, ◌+◌, ◌-◌, ◌<◌, ◌≤◌, ℕ, List, Result, Some, None, length, take, min, IfOk, IsErr, vec_capacity, vec_len, IsErrOf, ◌↔◌, []};
-ghost use Rattle.std.specs.Io.{WritesAtMost};
+ghost use Rattle.std.specs.Prelude.{◌≡◌, ◌+◌, ◌-◌, ◌<◌, ◌≤◌, Some, length, take, min, IfOk, IsErr, vec_capacity, vec_len, IsErrOf, ◌↔◌, []};
 ghost use Rattle.std.specs.Io.KnownBytes.{WriteAppends};
-ghost use Rattle.psi_base.specs.Outside.{CountsWhere, HasCause, HasCauses, Lacks, ReadsBytes, StaysOver, bytes_of, counts_of, given_by, nothing_below, told};
+ghost use Rattle.psi_base.specs.Memory.{GivesOf};
+ghost use Rattle.psi_base.specs.Outside.{CountsWhere, given_by};
 
-use crate::memory::{copy_part, find, finds_no_room, take_part};
+use crate::memory::{finds_no_room, give, take_part};
 use crate::outside::{Shelf, ShelfFault, Sink, WriteFailed};
 use crate::tally::Tally;
 use crate::text::{NoMemory, Text};
@@ -53,35 +53,22 @@ impl Shelf for HonestShelf {
     /// most `most` and the length of `into`.
     fn read_at(&mut self, name: &str, at: u64, into: &mut [u8]) -> Result<usize, ShelfFault>
         ensures kept { (self.new.files ≡ self.old.files) × (self.new.most ≡ self.old.most) }
-        ensures bound { IfOk result (λ n. n ≤ length into.new) }
-        ensures bytes { (bytes : List ℕ) →
-            told (Some self.old.files.items) name.now ≡ Some bytes
-            → IfOk result (λ n. ReadsBytes bytes at n into.old into.new) }
-        ensures cause { HasCauses (counts_of 0 self.old.absent) (counts_of 0 self.new.absent)
-            (IsErrOf result ShelfFault.Failed) (IsErrOf result ShelfFault.NoFile) }
         ensures given { self.new.given.count ≡ self.old.given.count + given_by result }
-        ensures missed { IsErrOf result ShelfFault.NoFile
-            → told (Some self.old.files.items) name.now ≡ None }
-        ensures lacking { Lacks (Some self.old.files.items) name.now
-            → IsErrOf result ShelfFault.NoFile ⊎ IsErrOf result ShelfFault.Failed }
-        ensures held { (bytes : List ℕ) → bytes_of self.old.files.items name.now ≡ Some bytes
-            → result ≡ Ok (min self.old.most (min (length into.new) (length bytes - at))) }
-        ensures lacked { bytes_of self.old.files.items name.now ≡ None
-            → result ≡ Err ShelfFault.NoFile }
+        ensures gives { GivesOf self.old.files.items name.now at
+            self.old.most into.old into.new result }
+        ensures failed { IsErrOf result ShelfFault.Failed → ⊥ }
         ensures absent { CountsWhere
             (IsErrOf result ShelfFault.NoFile) self.old.absent self.new.absent }
     {
-        match find(&self.files, name.as_bytes()) {
-            Some(bytes) => {
-                let count = copy_part(bytes, at, self.most, into);
-                self.given = self.given.and(count);
-                Ok(count)
-            }
-            None => {
-                self.absent = self.absent.saturating_add(1);
-                Err(ShelfFault::NoFile)
-            }
-        }
+        give(
+            &self.files,
+            self.most,
+            name,
+            at,
+            into,
+            &mut self.absent,
+            &mut self.given,
+        )
     }
 }
 
@@ -121,12 +108,8 @@ impl Sink for HonestSink {
     /// A call with a piece that isn't empty fails where the room is full. Else it takes what fits into the room.
     fn write(&mut self, piece: &[u8]) -> Result<usize, WriteFailed>
         ensures kept { self.new.room ≡ self.old.room }
-        ensures bound { WritesAtMost result piece.now }
-        ensures progress { IfOk result (λ n. 0 < length piece.now → 0 < n) }
         ensures bytes { WriteAppends (Some self.old.bytes.items)
             (Some self.new.bytes.items) result piece.now }
-        ensures cause { HasCause self.old.faults self.new.faults result }
-        ensures below { StaysOver nothing_below nothing_below }
         ensures failed { IsErr result ↔ ((0 < length piece.now)
             × (vec_len self.old.bytes ≡ self.old.room)) }
         ensures count { IfOk result (λ n. n ≡ min (length piece.now)

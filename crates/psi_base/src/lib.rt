@@ -3,7 +3,7 @@
 //! - What a trace tells ([`Event`], [`Act`]) and why a line of it is refused ([`Cause`], [`Refusal`], [`Fault`]).
 //! - The outside: [`Shelf`] (files by name), [`Sink`] (places to write to) and [`Gate`] (points at which a test may
 //!   hold a thread), with fakes in memory whose every answer is said by their clauses, [`BufferedSink`], which
-//!   collects bytes for another sink, and [`Tally`], a count that only proofs read.
+//!   collects bytes for another sink, [`read_behind`], and [`Tally`], a count that only proofs read.
 //! - Texts: [`Path`], [`Text`], [`Parts`], [`read_number`], [`put_number`], [`put_all`] and [`put_each`].
 #![tactic(auto)]
 
@@ -16,6 +16,7 @@ mod outside;
 mod parts;
 mod path;
 mod put;
+mod read;
 mod tally;
 mod text;
 
@@ -31,5 +32,6 @@ pub use outside::{Gate, OpenGate, Shelf, ShelfFault, Sink, WriteFailed};
 pub use parts::Parts;
 pub use path::Path;
 pub use put::{put_all, put_each};
+pub use read::read_behind;
 pub use tally::Tally;
 pub use text::{NoMemory, Text};

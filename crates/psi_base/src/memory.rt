@@ -1,8 +1,8 @@
 //! A shelf and a sink in memory, some of whose calls fail. Their clauses say each answer exactly.
-ghost use Rattle.std.specs.Prelude.{◌≡◌, ◌⊎◌, ◌+◌, ◌-◌, ◌<◌, ◌≤◌, ℕ, List, Option, Result, Some, None, length, take, drop, min, IfOk, IsErr, IsTrue, MatchOption, vec_capacity, vec_len, Contains, IsErrOf, ◌↔◌, [], ◌++◌};
-ghost use Rattle.std.specs.Io.{WritesAtMost};
+ghost use Rattle.std.specs.Prelude.{◌≡◌, ◌⊎◌, ◌+◌, ◌-◌, ◌<◌, ◌≤◌, Some, None, length, take, drop, min, IfOk, IsErr, IsTrue, MatchOption, vec_capacity, vec_len, Contains, IsErrOf, ◌↔◌, [], ◌++◌};
 ghost use Rattle.std.specs.Io.KnownBytes.{WriteAppends};
-ghost use Rattle.psi_base.specs.Outside.{CountsWhere, HasCause, HasCauses, Lacks, ReadsBytes, StaysOver, bytes_of, counts_of, given_by, nothing_below, one_more, told};
+ghost use Rattle.psi_base.specs.Memory.{GivesOf};
+ghost use Rattle.psi_base.specs.Outside.{CountsWhere, bytes_of, given_by, one_more};
 
 use crate::outside::{Shelf, ShelfFault, Sink, WriteFailed};
 use crate::tally::Tally;
@@ -35,6 +35,36 @@ pub(crate) fn copy_part(bytes: &[u8], at: u64, most: usize, into: &mut [u8]) -> 
     let count = most.min(into.len()).min(rest.len());
     into[..count].copy_from_slice(&rest[..count]);
     count
+}
+
+// Gives what fits of a name's bytes, at most so many, from a place on, and counts them. A name that isn't held is counted
+// as absent.
+pub(crate) fn give(
+    files: &[(Text, Text)],
+    most: usize,
+    name: &str,
+    at: u64,
+    into: &mut [u8],
+    absent: &mut u64,
+    given: &mut Tally,
+) -> Result<usize, ShelfFault>
+    requires { 0 < most }
+    ensures gives { GivesOf files.now name.now at most into.old into.new result }
+    ensures failed { IsErrOf result ShelfFault.Failed → ⊥ }
+    ensures absent { CountsWhere (IsErrOf result ShelfFault.NoFile) absent.old absent.new }
+    ensures given { given.new.count ≡ given.old.count + given_by result }
+{
+    match find(files, name.as_bytes()) {
+        Some(bytes) => {
+            let count = copy_part(bytes, at, most, into);
+            *given = given.and(count);
+            Ok(count)
+        }
+        None => {
+            *absent = absent.saturating_add(1);
+            Err(ShelfFault::NoFile)
+        }
+    }
 }
 
 // Takes what fits into the room, at most so many bytes.
@@ -121,26 +151,12 @@ impl Shelf for MemShelf {
     fn read_at(&mut self, name: &str, at: u64, into: &mut [u8]) -> Result<usize, ShelfFault>
         ensures kept { (self.new.files ≡ self.old.files) × (self.new.most ≡ self.old.most)
             × (self.new.fails ≡ self.old.fails) }
-        ensures bound { IfOk result (λ n. n ≤ length into.new) }
-        ensures bytes { (bytes : List ℕ) →
-            told (Some self.old.files.items) name.now ≡ Some bytes
-            → IfOk result (λ n. ReadsBytes bytes at n into.old into.new) }
-        ensures cause { HasCauses (counts_of self.old.faults self.old.absent)
-            (counts_of self.new.faults self.new.absent)
-            (IsErrOf result ShelfFault.Failed) (IsErrOf result ShelfFault.NoFile) }
         ensures given { self.new.given.count ≡ self.old.given.count + given_by result }
-        ensures missed { IsErrOf result ShelfFault.NoFile
-            → told (Some self.old.files.items) name.now ≡ None }
-        ensures lacking { Lacks (Some self.old.files.items) name.now
-            → IsErrOf result ShelfFault.NoFile ⊎ IsErrOf result ShelfFault.Failed }
         ensures calls { self.new.calls ≡ one_more self.old.calls }
         ensures failed { IsErrOf result ShelfFault.Failed
             ↔ Contains self.old.fails.items self.old.calls }
-        ensures held { (bytes : List ℕ) → bytes_of self.old.files.items name.now ≡ Some bytes
-            → ¬ Contains self.old.fails.items self.old.calls
-            → result ≡ Ok (min self.old.most (min (length into.new) (length bytes - at))) }
-        ensures lacked { bytes_of self.old.files.items name.now ≡ None
-            → ¬ Contains self.old.fails.items self.old.calls → result ≡ Err ShelfFault.NoFile }
+        ensures gives { ¬ Contains self.old.fails.items self.old.calls
+            → GivesOf self.old.files.items name.now at self.old.most into.old into.new result }
         ensures faults { CountsWhere
             (IsErrOf result ShelfFault.Failed) self.old.faults self.new.faults }
         ensures absent { CountsWhere
@@ -152,17 +168,15 @@ impl Shelf for MemShelf {
             self.faults = self.faults.saturating_add(1);
             return Err(ShelfFault::Failed);
         }
-        match find(&self.files, name.as_bytes()) {
-            Some(bytes) => {
-                let count = copy_part(bytes, at, self.most, into);
-                self.given = self.given.and(count);
-                Ok(count)
-            }
-            None => {
-                self.absent = self.absent.saturating_add(1);
-                Err(ShelfFault::NoFile)
-            }
-        }
+        give(
+            &self.files,
+            self.most,
+            name,
+            at,
+            into,
+            &mut self.absent,
+            &mut self.given,
+        )
     }
 }
 
@@ -221,12 +235,8 @@ impl Sink for MemSink {
     fn write(&mut self, piece: &[u8]) -> Result<usize, WriteFailed>
         ensures kept { (self.new.room ≡ self.old.room) × (self.new.most ≡ self.old.most)
             × (self.new.fails ≡ self.old.fails) }
-        ensures bound { WritesAtMost result piece.now }
-        ensures progress { IfOk result (λ n. 0 < length piece.now → 0 < n) }
         ensures bytes { WriteAppends (Some self.old.bytes.items)
             (Some self.new.bytes.items) result piece.now }
-        ensures cause { HasCause self.old.faults self.new.faults result }
-        ensures below { StaysOver nothing_below nothing_below }
         ensures calls { self.new.calls ≡ one_more self.old.calls }
         ensures failed { IsErr result ↔ (Contains self.old.fails.items self.old.calls
             ⊎ ((0 < length piece.now) × (vec_len self.old.bytes ≡ self.old.room))) }

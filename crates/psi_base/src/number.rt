@@ -9,7 +9,7 @@ use crate::put::put_all;
 /// Below this, a number has room for one digit more, whichever it is.
 const LARGE: u64 = u64::MAX / 10;
 
-// The number of these bytes behind the digits of another. Only for a large number it is asked whether the next digit fits:
+// The number that these bytes write, leading zeros allowed. Only for a large number it is asked whether the next digit fits:
 // a division for each digit would take a quarter of the time of reading an event.
 #[tactic(auto, using(crate::proofs::NumberLaws::steps))]
 fn read_digits(bytes: &[u8]) -> Option<u64>
