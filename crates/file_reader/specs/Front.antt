@@ -1,15 +1,22 @@
 -- What reading the front of a file answers, and what it does to the counts of a shelf.
 use Rattle.std.specs.Prelude.{Result, Ok, Err, IsErrOf, ⊤}
 use Rattle.psi_base.specs.Outside.{HasCauses, ShelfCounts}
+use Rattle.psi_base.specs.declared.outside.ShelfFault.{ShelfFault}
+use Rattle.psi_base.specs.declared.outside.ShelfFault.TheVariants as shelf
 use Rattle.file_reader.specs.declared.front.FileFault.{FileFault}
 use Rattle.file_reader.specs.declared.front.FileFault.TheVariants as fault
+
+-- a fault of the shelf, as one of a file
+abbrev pub file_fault : ShelfFault → FileFault
+file_fault shelf.NoFile = fault.NoFile
+file_fault shelf.Failed = fault.ReadFault
 
 -- A shelf counted this fault of a file and nothing else: a failed read, or a name that it hasn't.
 abbrev pub CausesFileFault : {A : Type 0} → ShelfCounts → ShelfCounts → Result A FileFault → Type 0
 CausesFileFault before now result =
     HasCauses before now (IsErrOf result fault.ReadFault) (IsErrOf result fault.NoFile)
 
--- nothing is said of any bytes
+-- the answer is a fault, so no bytes come
 abbrev pub TellsNothing : {A : Type 0} → Result A FileFault → Type 0
 TellsNothing (Ok x) = ⊥
 TellsNothing (Err found) = ⊤

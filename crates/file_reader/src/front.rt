@@ -1,9 +1,9 @@
 //! The front of a file, however the shelf's reads cut it.
-ghost use Rattle.std.specs.Prelude.{◌≡◌, ◌+◌, ◌<◌, ◌≤◌, ◌⊎◌, ℕ, List, length, drop, take, IfOk, IsErrOf, Some, None};
-ghost use Rattle.psi_base.specs.Outside.{Lacks, ReadsBytes, counts_of, given_by, told};
+ghost use Rattle.std.specs.Prelude.{◌≡◌, ◌+◌, ◌<◌, ◌≤◌, ℕ, List, length, take, IfOk, IsErrOf, Some, None};
+ghost use Rattle.psi_base.specs.Outside.{Lacks, counts_of, told};
 ghost use Rattle.file_reader.specs.Front.{CausesFileFault, TellsNothing};
 
-use psi_base::{Shelf, ShelfFault};
+use psi_base::{Shelf, ShelfFault, read_behind};
 use std::alloc::{AllocError, Global};
 
 /// Why a file wasn't read.
@@ -17,6 +17,20 @@ pub enum FileFault {
     NoMemory,
 }
 
+impl From<ShelfFault> for FileFault {
+    ghost use Rattle.std.specs.Prelude.{◌≡◌};
+    ghost use Rattle.file_reader.specs.Front.{file_fault};
+
+    ghost from_gives = { λ fault e. e ≡ file_fault fault };
+
+    fn from(fault: ShelfFault) -> Self {
+        match fault {
+            ShelfFault::NoFile => FileFault::NoFile,
+            ShelfFault::Failed => FileFault::ReadFault,
+        }
+    }
+}
+
 impl From<AllocError> for FileFault {
     ghost use Rattle.std.specs.Prelude.{◌≡◌};
     ghost use Rattle.file_reader.specs.declared.front.FileFault.TheVariants as fault;
@@ -25,34 +39,6 @@ impl From<AllocError> for FileFault {
 
     fn from(_: AllocError) -> Self {
         FileFault::NoMemory
-    }
-}
-
-// Reads once, behind the bytes that are held. No byte is the end.
-fn read_behind<S: Shelf>(
-    shelf: &mut S,
-    name: &str,
-    bytes: &mut [u8],
-    held: usize,
-) -> Result<usize, FileFault>
-    requires { held < length bytes.old }
-    ensures kept { S.holds shelf.new ≡ S.holds shelf.old }
-    ensures size { length bytes.new ≡ length bytes.old }
-    ensures front { take held bytes.new ≡ take held bytes.old }
-    ensures bound { IfOk result (λ n. held + n ≤ length bytes.new) }
-    ensures bytes { (whole : List ℕ) → told (S.holds shelf.old) name.now ≡ Some whole
-        → IfOk result (λ n. ReadsBytes whole held n (drop held bytes.old) (drop held bytes.new)) }
-    ensures cause { CausesFileFault (counts_of (S.faults shelf.old) (S.absent shelf.old))
-        (counts_of (S.faults shelf.new) (S.absent shelf.new)) result }
-    ensures given { S.given shelf.new ≡ S.given shelf.old + given_by result }
-    ensures missed { IsErrOf result FileFault.NoFile →
-        told (S.holds shelf.old) name.now ≡ None }
-    ensures lacking { Lacks (S.holds shelf.old) name.now → TellsNothing result }
-{
-    match shelf.read_at(name, held as u64, &mut bytes[held..]) {
-        Ok(count) => Ok(count),
-        Err(ShelfFault::NoFile) => Err(FileFault::NoFile),
-        Err(ShelfFault::Failed) => Err(FileFault::ReadFault),
     }
 }
 
@@ -73,17 +59,17 @@ fn fill<S: Shelf>(shelf: &mut S, name: &str, bytes: &mut [u8]) -> Result<usize, 
 {
     let mut held = 0;
     'reads: while held < bytes.len() {
-        match read_behind(shelf, name, bytes, held) {
+        match read_behind(shelf, name, held as u64, bytes, held) {
             Ok(0) => return Ok(held),
             Ok(count) => held += count,
-            Err(fault) => return Err(fault),
+            Err(fault) => return Err(FileFault::from(fault)),
         }
     }
     Ok(held)
 }
 
-/// The bytes of a name, or the first `most` of them where it has more. It takes the memory for `most` bytes before it
-/// reads, and reads no more bytes than these, also where it fails. `NoFile` and `ReadFault` come from the shelf, which counts them.
+/// The bytes of a name, or the first `most` of them where it has more. It takes the memory for `most` bytes before it reads,
+/// and reads no more bytes than these, also where it fails. `NoFile` and `ReadFault` come from the shelf, which counts them.
 pub fn read_front<S: Shelf>(
     alloc: Global,
     shelf: &mut S,

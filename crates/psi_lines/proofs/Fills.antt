@@ -1,8 +1,6 @@
 -- How reads keep what is left.
-use Rattle.std.proofs.Common.{◌≡◌, ℕ, ◌+◌, ◌-◌, ◌<◌, ◌≤◌, List, [], ◌∷◌, ◌++◌, length, take, drop, refl, sym, ap, ◌∙◌, append_assoc, length-drop, length-take, arith}
-use Rattle.std.proofs.lemmas.List.{take-append-drop, drop-drop, drop-take, take-take, append-nil, drop_at}
-use Rattle.std.proofs.lemmas.Slice.{between_to_end}
-use borrow.Rule.Slice.PartMut.{put_mid, post_of}
+use Rattle.std.proofs.Common.{◌≡◌, ℕ, ◌+◌, ◌-◌, ◌<◌, ◌≤◌, List, [], ◌∷◌, ◌++◌, length, take, drop, refl, sym, ap, ◌∙◌, append_assoc, length-drop, arith}
+use Rattle.std.proofs.lemmas.List.{take-append-drop, drop-drop, drop-take, take-take}
 use Rattle.std.proofs.Math.ListN.{drop_of_length-le}
 use Rattle.std.proofs.Math.Seq.{take-add}
 use Rattle.psi_base.specs.Outside.{ReadsBytes}
@@ -22,16 +20,6 @@ fills bytes at held n old new before buffer grew front room reads =
       left = rw same (read_on old (drop held buffer) bytes at n reads.read);
       end = λ none. drop_of_length-le bytes (reads.end none (omega (arith, length-drop held buffer)));
     }
-
--- a read into the end of a buffer, which begins behind the bytes that are held
-pub reads_behind : (bytes : List ℕ) (at held n : ℕ) (buffer into : List ℕ) → held ≤ length buffer
-    → ReadsBytes bytes at n (take (length buffer - held) (drop held buffer)) into → ReadsBytes bytes at n (drop held buffer) (drop held (put_mid held (length buffer - held) buffer into))
-reads_behind bytes at held n buffer into inside reads =
-    let whole : take (length buffer - held) (drop held buffer) ≡ drop held buffer = between_to_end buffer held (length buffer) (omega arith) in
-    let none : post_of held (length buffer - held) buffer ≡ [] = drop_of_length-le (drop held buffer) (omega (arith, length-drop held buffer)) in
-    let read : drop held (put_mid held (length buffer - held) buffer into) ≡ into =
-    drop_at (take held buffer) (into ++ post_of held (length buffer - held) buffer) held (omega (arith, length-take held buffer)) ∙ ap (λ xs. into ++ xs) none ∙ append-nil into in
-    rw (read, ← whole) reads
 
 -- the first bytes that a buffer holds
 pub takes : (buffer : List ℕ) (start end count : ℕ) → start + count ≤ end → take (start + count - start) (drop start buffer) ≡ take count (take (end - start) (drop start buffer))

@@ -2,6 +2,8 @@
 use Rattle.std.specs.Prelude.{◌≡◌, ℕ, ◌+◌, ◌-◌, ◌*◌, List, [], ◌++◌, drop, take, length, ◌<◌, ◌≤◌, slice_index, Option, None, Some, Result, Ok, Err, IsErrOf, ⊤}
 use Rattle.psi_base.specs.Outside.{ShelfCounts, HasCauses}
 use Rattle.psi_lines.specs.Lines.{Reader, HasNoNewline, left, BeginsWithLine, IsTooLong, IsCut}
+use Rattle.psi_base.specs.declared.outside.ShelfFault.{ShelfFault}
+use Rattle.psi_base.specs.declared.outside.ShelfFault.TheVariants as shelf
 use Rattle.psi_lines.specs.declared.lines.Line.{Line}
 use Rattle.psi_lines.specs.declared.lines.LineFault.{LineFault}
 use Rattle.psi_lines.specs.declared.lines.LineFault.TheVariants.{TooLong, Cut, NoFile, ReadFault, NoMemory}
@@ -26,6 +28,11 @@ number_after number (Err fault) = number
 pub record FillsBytes (bytes : List ℕ) (at : ℕ) (old new : List ℕ) (n : ℕ) : Type 0 where
   pub left : new ++ drop (at + n) bytes ≡ old ++ drop at bytes
   pub end : n ≡ 0 → drop at bytes ≡ []
+
+-- a fault of the shelf, as one of a line
+abbrev pub read_fault : ShelfFault → LineFault
+read_fault shelf.NoFile = NoFile
+read_fault shelf.Failed = ReadFault
 
 -- A shelf counted this fault of reading and nothing else: a failed read, or a name that it hasn't.
 abbrev pub CausesFault : {T : Type 0} → ShelfCounts → ShelfCounts → Result T LineFault → Type 0
@@ -70,7 +77,7 @@ FindsLine number held (Err NoFile) = ⊤
 FindsLine number held (Err ReadFault) = ⊤
 FindsLine number held (Err NoMemory) = ⊥
 
--- the input is read to its end
+-- where no line stands in front, or a cut one, the input is read to its end; of other answers nothing is said
 abbrev pub EndsAt : List ℕ → ℕ → Result (Option ℕ) LineFault → Type 0
 EndsAt bytes at (Ok (Some count)) = ⊤
 EndsAt bytes at (Ok None) = drop at bytes ≡ []

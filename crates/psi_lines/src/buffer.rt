@@ -1,20 +1,17 @@
 //! The bytes that were read and not handed out.
 ghost use Rattle.std.specs.Prelude.{◌≡◌, ◌+◌, ◌-◌, ◌<◌, ◌≤◌, ◌⊎◌, [], ℕ, List, length, drop, take, IfOk, OnErr, IsErrOf, Some, None};
-ghost use Rattle.psi_base.specs.Outside.{told, Lacks, ReadsBytes, counts_of, given_by};
+ghost use Rattle.psi_base.specs.Outside.{told, Lacks, counts_of, given_by};
 ghost use Rattle.psi_lines.specs.Next.{CausesFault, FillsBytes, IsReadFault};
 
 use crate::lines::LineFault;
-use psi_base::{NoMemory, Shelf, ShelfFault};
+use psi_base::{NoMemory, Shelf, read_behind};
 use std::alloc::Global;
 use std::marker::Model;
 
-/// The greatest line with its newline, in bytes: more are never held when a read is due.
+/// The greatest line with its newline, in bytes: fewer are held whenever a read is due.
 pub(crate) const LINE: usize = 513;
 
-// How much one read can give at least, in bytes.
-const READ: usize = 65536;
-
-/// How much a buffer can hold, in bytes.
+/// How much a buffer can hold, in bytes: a line that is begun, and behind it room for at least 65,536 that a read gives.
 pub(crate) const ROOM: usize = 66048;
 
 // Moves the bytes from `start` to `end` to the front.
@@ -25,36 +22,6 @@ fn move_to_front(bytes: &mut [u8], start: usize, end: usize)
 {
     if start > 0 {
         bytes.copy_within(start..end, 0);
-    }
-}
-
-// Reads once, behind the first bytes, which stay. No byte is the end.
-fn read_behind<S: Shelf>(
-    shelf: &mut S,
-    name: &str,
-    at: u64,
-    bytes: &mut [u8],
-    held: usize,
-) -> Result<usize, LineFault>
-    requires { held < length bytes.old }
-    ensures kept { S.holds shelf.new ≡ S.holds shelf.old }
-    ensures front { take held bytes.new ≡ take held bytes.old }
-    ensures bound { IfOk result (λ n. held + n ≤ length bytes.new) }
-    ensures bytes { (all : List ℕ) → told (S.holds shelf.old) name.now ≡ Some all
-        → IfOk result (λ n. ReadsBytes all at n (drop held bytes.old) (drop held bytes.new)) }
-    ensures cause { CausesFault (counts_of (S.faults shelf.old) (S.absent shelf.old))
-        (counts_of (S.faults shelf.new) (S.absent shelf.new)) result }
-    ensures given { S.given shelf.new ≡ S.given shelf.old + given_by result }
-    ensures missed { IsErrOf result LineFault.NoFile →
-        told (S.holds shelf.old) name.now ≡ None }
-    ensures lacking { Lacks (S.holds shelf.old) name.now → IsErrOf result LineFault.NoFile
-        ⊎ IsErrOf result LineFault.ReadFault }
-    ensures faults { IsReadFault result }
-{
-    match shelf.read_at(name, at, &mut bytes[held..]) {
-        Ok(count) => Ok(count),
-        Err(ShelfFault::NoFile) => Err(LineFault::NoFile),
-        Err(ShelfFault::Failed) => Err(LineFault::ReadFault),
     }
 }
 

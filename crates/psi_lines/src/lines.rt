@@ -6,8 +6,8 @@ ghost use Rattle.psi_lines.specs.Next.{CausesFault, EndsAt, FindsLine, IsMissing
 
 use crate::buffer::{Buffer, LINE, ROOM};
 use memchr::memchr;
-use psi_base::{NoMemory, Shelf, Text};
-use std::alloc::{AllocError, Global};
+use psi_base::{NoMemory, Shelf, ShelfFault, Text};
+use std::alloc::Global;
 use std::marker::Model;
 
 /// A line.
@@ -45,14 +45,17 @@ impl From<NoMemory> for LineFault {
     }
 }
 
-impl From<AllocError> for LineFault {
+impl From<ShelfFault> for LineFault {
     ghost use Rattle.std.specs.Prelude.{◌≡◌};
-    ghost use Rattle.psi_lines.specs.declared.lines.LineFault.TheVariants as fault;
+    ghost use Rattle.psi_lines.specs.Next.{read_fault};
 
-    ghost from_gives = { λ _ e. e ≡ fault.NoMemory };
+    ghost from_gives = { λ fault e. e ≡ read_fault fault };
 
-    fn from(_: AllocError) -> Self {
-        LineFault::NoMemory
+    fn from(fault: ShelfFault) -> Self {
+        match fault {
+            ShelfFault::NoFile => LineFault::NoFile,
+            ShelfFault::Failed => LineFault::ReadFault,
+        }
     }
 }
 
@@ -185,7 +188,7 @@ impl Lines {
         ensures missing { self.old.held ≡ [] → Lacks (S.holds shelf.old) self.old.name
             → (self.new.held ≡ []) × (self.new.at ≡ self.old.at) × IsMissing result }
     {
-        let number = self.number as u32;
+        let number = self.number();
         let found = find_line(
             shelf,
             self.name.as_str(),
@@ -219,7 +222,7 @@ impl Lines {
             → IsMissing result }
         ensures memory { IsErrOf result LineFault.NoMemory → ⊥ }
     {
-        let number = self.number as u32;
+        let number = self.number();
         let found = find_line(
             shelf,
             self.name.as_str(),
@@ -232,6 +235,15 @@ impl Lines {
         };
         self.number += 1;
         Ok(Some(self.held.take_line(count)))
+    }
+
+    /// The number of the next line, from 1.
+    #[inline(always)]
+    pub fn number(&self) -> u32
+        requires { self.now.number < 2 ^ 32 }
+        ensures { result ≡ self.now.number }
+    {
+        self.number as u32
     }
 
     /// The bytes that were read and not handed out. It reads nothing.

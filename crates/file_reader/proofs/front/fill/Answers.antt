@@ -1,4 +1,4 @@
-use Rattle.std.proofs.Common.{◌≡◌, arith, sym, subst, ◌∙◌}
+use Rattle.std.proofs.Common.{arith, ◌∙◌, ⊎_elim}
 use Rattle.file_reader.proofs.Fronts.{front_grows, front_ends}
 use Rattle.file_reader.proofs.front.fill.Goals as goal
 
@@ -19,5 +19,5 @@ reads-preserved g c =
       faults = cause.faults_same (λ failed. cc failed) ∙ i.faults;
       absent = cause.absent_same (λ missed. cc missed) ∙ i.absent;
       given = omega (arith, c.in-Ok.ensures.given, i.given);
-      missing = λ lacks. absurd (c.in-Ok.ensures.lacking (rw i.kept lacks));
+      missing = λ lacks. ⊎_elim (λ missed. cc) (λ failed. cc) (c.in-Ok.ensures.lacking (rw i.kept lacks));
     }
