@@ -14,7 +14,7 @@ use Rattle.psi_spec.specs.Fields.{IsAmong}
 use Rattle.psi_spec.specs.Grammar.{Header, One, Verb, Version, header_line, header_of, version_number}
 use Rattle.psi_spec.specs.World.{World, Limits, first_world, after_event, after_from, after, ends}
 use Rattle.psi_spec.specs.Refusal.{AreLegal}
-use Rattle.psi_spec.specs.Trace.{Accepts, AreKnown, Trace, limits_of, lines_of, text_of, AllFit, EndsLast, IsCpuCount, first_line, or_bad_header, first_rest, refused, events_from, with_events, followed, headed, trace_of_parts, trace_of, IsTrace, Accepted, IsFirstLineCause, IsRefusedLater, IsRefused, FirstRefused}
+use Rattle.psi_spec.specs.Trace.{Accepts, AreKnown, Trace, limits_of, lines_of, text_of, AllFit, EndsLast, IsCpuCount, first_line, or_bad_header, first_rest, refused, with_events, followed, headed, trace_of_parts, trace_of, IsTrace, Accepted, IsFirstLineCause, IsRefusedLater, IsRefused, FirstRefused}
 use Rattle.psi_spec.proofs.Splitting.{Cut, cut}
 use Rattle.psi_spec.proofs.Reading.{Events, rest_from, reads_all, refuses_all, rest_from-lines, rest_from-cause, nothing_left, open_of_legal, same_refusal}
 use Rattle.psi_spec.proofs.GrammarHeaders.{headers_spelled, header-no_newline, length-header-le}

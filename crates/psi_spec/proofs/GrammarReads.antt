@@ -1,5 +1,5 @@
 -- What is read is spelled so, and what is spelled so is read.
-use Rattle.std.proofs.Common.{◌≡◌, ℕ, ◌+◌, ◌≤◌, List, [], ◌∷◌, length, refl, sym, ap, ◌∙◌, subst, arith, lit≤, inl, inr}
+use Rattle.std.proofs.Common.{◌≡◌, ℕ, ◌+◌, ◌≤◌, List, [], ◌∷◌, length, refl, sym, ap, ◌∙◌, subst, arith, lit≤}
 use Rattle.std.specs.Prelude.{Option, None, Some, Result, Ok, Err, decimal}
 use Rattle.psi_base.specs.Number.{number_of}
 use Rattle.psi_base.specs.Path.{parts_at}
@@ -10,7 +10,7 @@ use Rattle.psi_base.specs.declared.event.Act.TheVariants as act
 use Rattle.psi_base.specs.declared.event.Event.{Event}
 use Rattle.psi_base.specs.declared.event.Cause.{Cause}
 use Rattle.psi_spec.specs.Fields.{Kind, Value, InRange, IsAmong, named, word, value_of}
-use Rattle.psi_spec.specs.Grammar.{joined, act_words, spelling, ActFits, AreInRange, Fits, Values, Verb, phrase_of, field_words, Group, Remove, Prefer, Fork, Wake, Switch, Stall, Unstall, Migrate, Move, Mem, Host, Trigger, End, form_of, verb_word, kinds_of, One, verbs_of, IsKnown, ◌>>=◌, or_bad, field, values_from, act_from, verb_of, act_in, act_at, event_in, event_at, event_of, ReadsSpelled, SpelledInLine}
+use Rattle.psi_spec.specs.Grammar.{joined, act_words, spelling, ActFits, AreInRange, Fits, Values, Verb, phrase_of, field_words, Group, form_of, verb_word, kinds_of, One, verbs_of, IsKnown, ◌>>=◌, or_bad, field, values_from, act_from, verb_of, act_in, act_at, event_in, event_at, event_of, ReadsSpelled, SpelledInLine}
 use Rattle.psi_spec.proofs.GrammarFields.{named_again, named_among, named_spells, value_spells, value_again}
 use Rattle.psi_spec.proofs.GrammarParts.{joined-parts, parts-joined, AreWords, IsPrinted, joined-no_newline, behind, length-joined}
 use Rattle.psi_spec.proofs.GrammarWords.{decimal_printed, decimal_short, word_printed, word_short, longest}
@@ -18,86 +18,26 @@ use Rattle.psi_spec.proofs.GrammarWords.{decimal_printed, decimal_short, word_pr
 -- the act of a verb and its values is spelled by the verb and their words
 pub form_words : (verb : Verb) (values : Values (kinds_of verb)) → act_words ((form_of verb).act values) ≡ verb_word verb ∷ field_words (kinds_of verb) values
 form_words Group values = refl
-form_words Remove values = refl
-form_words Prefer values = refl
-form_words Fork values = refl
-form_words Wake values = refl
-form_words Switch values = refl
-form_words Stall values = refl
-form_words Unstall values = refl
-form_words Migrate values = refl
-form_words Move values = refl
-form_words Mem values = refl
-form_words Host values = refl
-form_words Trigger values = refl
-form_words End values = refl
+form_words _ values = refl
 
 -- and fits where they are in range
 form_fits : (verb : Verb) (values : Values (kinds_of verb)) → AreInRange (kinds_of verb) values → ActFits ((form_of verb).act values)
 form_fits Group values are = are
-form_fits Remove values are = are
-form_fits Prefer values are = are
-form_fits Fork values are = are
-form_fits Wake values are = are
-form_fits Switch values are = are
-form_fits Stall values are = are
-form_fits Unstall values are = are
-form_fits Migrate values are = are
-form_fits Move values are = are
-form_fits Mem values are = are
-form_fits Host values are = are
-form_fits Trigger values are = are
-form_fits End values are = are
+form_fits _ values are = are
 
 -- an act is made of its verb and the values of its fields
 pub formed : (what : Act) → (form_of (phrase_of what).verb).act (phrase_of what).values ≡ what
 formed (act.Group path) = refl
-formed (act.Remove path) = refl
-formed (act.Prefer path preference) = refl
-formed (act.Fork pid path cpu) = refl
-formed (act.Wake pid cpu) = refl
-formed (act.Switch cpu next how) = refl
-formed (act.Stall pid) = refl
-formed (act.Unstall pid) = refl
-formed (act.Migrate pid cpu) = refl
-formed (act.Move pid path) = refl
-formed (act.Mem path current swap scan) = refl
-formed (act.Host total swap free) = refl
-formed (act.Trigger path res level threshold window) = refl
-formed act.End = refl
+formed _ = refl
 
--- each verb is one of the first version
-pub all_known : (verb : Verb) → IsAmong verb (verbs_of One)
-all_known Group = inr (inr (inr (inr (inr (inr (inr (inr (inr (inl refl)))))))))
-all_known Remove = inr (inr (inr (inr (inr (inr (inr (inr (inr (inr (inl refl))))))))))
-all_known Prefer = inr (inr (inr (inr (inr (inr (inr (inr (inr (inr (inr (inl refl)))))))))))
-all_known Fork = inr (inr (inr (inr (inr (inr (inl refl))))))
-all_known Wake = inr (inl refl)
-all_known Switch = inl refl
-all_known Stall = inr (inr (inl refl))
-all_known Unstall = inr (inr (inr (inl refl)))
-all_known Migrate = inr (inr (inr (inr (inl refl))))
-all_known Move = inr (inr (inr (inr (inr (inl refl)))))
-all_known Mem = inr (inr (inr (inr (inr (inr (inr (inl refl)))))))
-all_known Host = inr (inr (inr (inr (inr (inr (inr (inr (inl refl))))))))
-all_known Trigger = inr (inr (inr (inr (inr (inr (inr (inr (inr (inr (inr (inr (inl refl))))))))))))
-all_known End = inr (inr (inr (inr (inr (inr (inr (inr (inr (inr (inr (inr (inr (inl refl)))))))))))))
-
+-- the first verb of the first version that is written as a verb is that verb
 first_again : (verb : Verb) → named verb_word (verbs_of One) (verb_word verb) ≡ Some verb
 first_again Group = refl
-first_again Remove = refl
-first_again Prefer = refl
-first_again Fork = refl
-first_again Wake = refl
-first_again Switch = refl
-first_again Stall = refl
-first_again Unstall = refl
-first_again Migrate = refl
-first_again Move = refl
-first_again Mem = refl
-first_again Host = refl
-first_again Trigger = refl
-first_again End = refl
+first_again _ = refl
+
+-- so each verb is one of the first version
+pub all_known : (verb : Verb) → IsAmong verb (verbs_of One)
+all_known verb = named_among verb_word (verbs_of One) (verb_word verb) verb (first_again verb)
 
 -- no two verbs are written alike
 words_differ : (one other : Verb) → verb_word one ≡ verb_word other → one ≡ other
@@ -115,19 +55,7 @@ verb_spells verbs text verb is = (named_spells verb_word verbs text verb is, nam
 
 verb_printed : (verb : Verb) → IsPrinted (verb_word verb)
 verb_printed Group = refl
-verb_printed Remove = refl
-verb_printed Prefer = refl
-verb_printed Fork = refl
-verb_printed Wake = refl
-verb_printed Switch = refl
-verb_printed Stall = refl
-verb_printed Unstall = refl
-verb_printed Migrate = refl
-verb_printed Move = refl
-verb_printed Mem = refl
-verb_printed Host = refl
-verb_printed Trigger = refl
-verb_printed End = refl
+verb_printed _ = refl
 
 -- steps that may fail
 pub bind_ok : {A B : Type 0} (r : Result A Cause) (f : A → Result B Cause) (y : B) → (r >>= f) ≡ Ok y → (x : A) × (r ≡ Ok x) × (f x ≡ Ok y)
@@ -188,19 +116,7 @@ record IsSpelled (verbs : List Verb) (words : List (List ℕ)) (what : Act) : Ty
 
 verb_told : (verb : Verb) (values : Values (kinds_of verb)) → (phrase_of ((form_of verb).act values)).verb ≡ verb
 verb_told Group values = refl
-verb_told Remove values = refl
-verb_told Prefer values = refl
-verb_told Fork values = refl
-verb_told Wake values = refl
-verb_told Switch values = refl
-verb_told Stall values = refl
-verb_told Unstall values = refl
-verb_told Migrate values = refl
-verb_told Move values = refl
-verb_told Mem values = refl
-verb_told Host values = refl
-verb_told Trigger values = refl
-verb_told End values = refl
+verb_told _ values = refl
 
 -- the verb of an act that was read
 act_from_verb : (verb : Verb) (words : List (List ℕ)) (what : Act) → act_from verb words ≡ Ok what → (phrase_of what).verb ≡ verb
@@ -310,19 +226,7 @@ behind_short (k ∷ ks) values are = omega (arith, word_short k values.0 are.0, 
 
 form_short : (verb : Verb) → length (verb_word verb) + most (kinds_of verb) ≤ 400
 form_short Group = lit≤ tt
-form_short Remove = lit≤ tt
-form_short Prefer = lit≤ tt
-form_short Fork = lit≤ tt
-form_short Wake = lit≤ tt
-form_short Switch = lit≤ tt
-form_short Stall = lit≤ tt
-form_short Unstall = lit≤ tt
-form_short Migrate = lit≤ tt
-form_short Move = lit≤ tt
-form_short Mem = lit≤ tt
-form_short Host = lit≤ tt
-form_short Trigger = lit≤ tt
-form_short End = lit≤ tt
+form_short _ = lit≤ tt
 
 act_short : (what : Act) → ActFits what → behind (act_words what) ≤ 401
 act_short what fits =

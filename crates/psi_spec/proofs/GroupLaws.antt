@@ -481,17 +481,7 @@ groups_act limits w at (act.Remove path) legal are =
     let busy = passed (λ why. applies why limits w event) cause_order 10 cause.GroupBusy legal refl in
     groups_removed w.groups path at (first_false (is_root path) (has_child w.groups (slot_of w.groups path)) (has_member w.tasks (slot_of w.groups path)) busy) are
 groups_act limits w at (act.Prefer path preference) legal are = are
-groups_act limits w at (act.Fork pid path cpu) legal are = are
-groups_act limits w at (act.Wake pid cpu) legal are = are
-groups_act limits w at (act.Switch cpu next how) legal are = are
-groups_act limits w at (act.Stall pid) legal are = are
-groups_act limits w at (act.Unstall pid) legal are = are
-groups_act limits w at (act.Migrate pid cpu) legal are = are
-groups_act limits w at (act.Move pid path) legal are = are
-groups_act limits w at (act.Mem path current swap scan) legal are = are
-groups_act limits w at (act.Host mem_total swap_total swap_free) legal are = are
-groups_act limits w at (act.Trigger path res level threshold_us window_us) legal are = are
-groups_act limits w at act.End legal are = are
+groups_act limits w at _ legal are = are
 
 pub groups_kept : AreGroupsKept
 groups_kept limits w event legal are = groups_act limits w event.at event.act legal are
@@ -506,18 +496,7 @@ nothing_behind parents = sym (append-nil parents)
 parents_act : (at : ℕ) (groups : List GroupLife) (a : Act) → parents_of (groups_after at groups a) ≡ parents_of groups ++ new_parents groups a
 parents_act at groups (act.Group path) = parents_behind groups (new_group groups path at) ∙ ap (λ o. parents_of groups ++ o ∷ []) (slot_number (slot_of groups (parent_path path)))
 parents_act at groups (act.Remove path) = parents_without path at groups ∙ nothing_behind (parents_of groups)
-parents_act at groups (act.Prefer path preference) = nothing_behind (parents_of groups)
-parents_act at groups (act.Fork pid path cpu) = nothing_behind (parents_of groups)
-parents_act at groups (act.Wake pid cpu) = nothing_behind (parents_of groups)
-parents_act at groups (act.Switch cpu next how) = nothing_behind (parents_of groups)
-parents_act at groups (act.Stall pid) = nothing_behind (parents_of groups)
-parents_act at groups (act.Unstall pid) = nothing_behind (parents_of groups)
-parents_act at groups (act.Migrate pid cpu) = nothing_behind (parents_of groups)
-parents_act at groups (act.Move pid path) = nothing_behind (parents_of groups)
-parents_act at groups (act.Mem path current swap scan) = nothing_behind (parents_of groups)
-parents_act at groups (act.Host mem_total swap_total swap_free) = nothing_behind (parents_of groups)
-parents_act at groups (act.Trigger path res level threshold_us window_us) = nothing_behind (parents_of groups)
-parents_act at groups act.End = nothing_behind (parents_of groups)
+parents_act at groups _ = nothing_behind (parents_of groups)
 
 pub parents_kept : ParentsKept
 parents_kept w event = parents_act event.at w.groups event.act

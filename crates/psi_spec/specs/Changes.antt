@@ -24,7 +24,7 @@ before_effect tasks (switches cpu next how) = task_part (running_on tasks cpu.0)
 abbrev pub before : Tasks → Act → Option Task
 before tasks what = before_effect tasks (effect_of what)
 
--- the task is on a processor, asleep or not
+-- the task is on a processor, blocked or not
 abbrev pub is_at : ℕ → Task → Bool
 is_at cpu task = task.cpu.0 == cpu
 

@@ -53,7 +53,7 @@ InRange next task = IfSome task IsPid
 InRange cpu processor = processor.0 < 2 ^ 32
 InRange path bytes = is_path bytes ≡ true
 InRange how leaving = Unit {0}
-InRange preference wish = Unit {0}
+InRange preference which = Unit {0}
 InRange amount n = n ≤ 2 ^ 60
 InRange number n = n < 2 ^ 64
 InRange resource which = Unit {0}
@@ -72,7 +72,7 @@ how_word IoWait = codes "iowait"
 how_word Exit = codes "exit"
 how_word Idle = codes "idle"
 
--- what a group wishes of the out-of-memory killer
+-- how a group is preferred by what kills
 abbrev pub preference_word : Preference → List ℕ
 preference_word Prefer = codes "prefer"
 preference_word Avoid = codes "avoid"
@@ -96,7 +96,7 @@ word next task = next_word task
 word cpu processor = decimal processor.0
 word path bytes = bytes
 word how leaving = how_word leaving
-word preference wish = preference_word wish
+word preference which = preference_word which
 word amount n = decimal n
 word number n = decimal n
 word resource which = resource_word which
@@ -129,7 +129,7 @@ task_or_none n = if nat_lt 0 n then Some (record { 0 = n }) else None
 abbrev pub hows : List How
 hows = Preempt ∷ Sleep ∷ IoWait ∷ Exit ∷ Idle ∷ []
 
--- the wishes of a group
+-- how a group may be preferred
 abbrev pub preferences : List Preference
 preferences = Prefer ∷ Avoid ∷ Plain ∷ []
 

@@ -1,9 +1,9 @@
 -- The lines of a trace, as this profile has them: which bytes spell a header and an event, which event a line has,
 -- and for what a line is refused that spells none.
-use Rattle.std.specs.Prelude.{◌≡◌, ◌≢◌, ◌↔◌, ℕ, ◌+◌, ◌≤◌, ◌<◌, ◌^◌, List, [], ◌∷◌, ◌++◌, drop, map, length, slice_index, EachIndex, codes, decimal, true, Option, None, Some, Result, Ok, Err, IfSome}
+use Rattle.std.specs.Prelude.{◌≡◌, ◌≢◌, ◌↔◌, ℕ, ◌+◌, ◌≤◌, ◌<◌, ◌^◌, List, [], ◌∷◌, ◌++◌, drop, map, length, slice_index, EachIndex, codes, decimal, Option, None, Some, Result, Ok, Err}
 use Rattle.std.specs.List.{flat_map, range_with_len, slice_get}
 use Rattle.psi_base.specs.Number.{number_of}
-use Rattle.psi_base.specs.Path.{parts_at, is_path}
+use Rattle.psi_base.specs.Path.{parts_at}
 use Rattle.psi_base.specs.declared.event.Act.{Act}
 use Rattle.psi_base.specs.declared.event.Act.TheVariants as act
 use Rattle.psi_base.specs.declared.event.Event.{Event}

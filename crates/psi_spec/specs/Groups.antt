@@ -8,7 +8,7 @@ use Rattle.psi_base.specs.declared.event.Act.{Act}
 use Rattle.psi_base.specs.declared.event.Event.{Event}
 use Rattle.psi_spec.specs.declared.machine.GroupLife.{GroupLife}
 use Rattle.psi_spec.specs.Names.{names}
-use Rattle.psi_spec.specs.World.{World, Limits, root, is_live, slot_of, parent_path, after_event}
+use Rattle.psi_spec.specs.World.{World, Limits, root, is_live, slot_of, parent_path, after_event, most_groups}
 use Rattle.psi_spec.specs.Refusal.{cause_of}
 use Rattle.psi_spec.specs.Stall.{parents_of, is_under}
 
@@ -37,7 +37,7 @@ IsOneLive groups = (slot : ℕ) (group : GroupLife) → slice_get groups slot �
 -- What holds of the groups of each legal world: they are few, the root is the first, parents are older and are what the
 -- paths say, and no two live groups have one path.
 pub record AreGroups (groups : List GroupLife) : Type 0 where
-  pub few : length groups ≤ 1024
+  pub few : length groups ≤ most_groups
   pub rooted : take 1 groups ≡ root ∷ []
   pub older : AreOlder (parents_of groups)
   pub parented : HaveParents (parents_of groups)

@@ -14,7 +14,7 @@ use Rattle.psi_base.specs.declared.event.Cause.TheVariants as cause
 use Rattle.psi_spec.specs.declared.machine.Task.{Task}
 use Rattle.psi_spec.specs.declared.machine.GroupLife.{GroupLife}
 use Rattle.psi_spec.specs.Names.{names}
-use Rattle.psi_spec.specs.World.{World, Limits, Tasks, task_of, test_task, running_on, task_part, is_running, is_ready, is_active, is_ready_on, is_live, is_trigger, slot_of, parent_path, is_root, after_event}
+use Rattle.psi_spec.specs.World.{World, Limits, Tasks, task_of, test_task, running_on, task_part, is_running, is_ready, is_active, is_ready_on, is_live, is_trigger, slot_of, parent_path, is_root, after_event, most_groups, most_tasks, most_events}
 
 -- ---- single tests
 
@@ -66,7 +66,7 @@ abbrev pub has_task : Tasks → Option Pid → Bool
 has_task tasks None = false
 has_task tasks (Some pid) = is_some (task_of tasks pid.0)
 
--- no task may run where a processor is said to idle, and one must where a task is said to leave
+-- a processor is said to idle where a task runs, or a task is said to leave where none runs
 abbrev pub is_wrong : How → Option (ℕ × Task) → Bool
 is_wrong Idle running = is_some running
 is_wrong Preempt running = not (is_some running)
@@ -88,40 +88,40 @@ isnt_ready tasks cpu (Some pid) = not (test_task (task_of tasks pid.0) (is_ready
 abbrev pub is_window : ℕ → ℕ → Bool
 is_window threshold window = nat_le 500000 window && nat_le window 10000000 && nat_le 1 threshold && nat_le threshold window
 
--- a task in a stall that starts or ends must run
+-- a stall starts or ends, and its task doesn't run
 abbrev pub not_running : Tasks → Act → Bool
 not_running tasks (act.Stall pid) = test_task (task_of tasks pid.0) (λ task. not (is_running task.mode))
 not_running tasks (act.Unstall pid) = test_task (task_of tasks pid.0) (λ task. not (is_running task.mode))
 not_running tasks _ = false
 
--- a task that runs next must be ready on that processor, and one that migrates must be ready
+-- the task that is to run next isn't ready on that processor, or the one that migrates isn't ready
 abbrev pub not_ready : Tasks → Act → Bool
 not_ready tasks (act.Switch cpu next how) = isnt_ready tasks cpu.0 next
 not_ready tasks (act.Migrate pid cpu) = test_task (task_of tasks pid.0) (λ task. not (is_ready task.mode))
 not_ready tasks _ = false
 
--- a task that is woken must sleep
+-- the task that is woken is ready or runs
 abbrev pub not_blocked : Tasks → Act → Bool
 not_blocked tasks (act.Wake pid cpu) = test_task (task_of tasks pid.0) (λ task. is_active task.mode)
 not_blocked tasks _ = false
 
--- a switch says how the running task leaves
+-- a switch says that a processor idles where a task runs, or how one leaves where none runs
 abbrev pub wrong_how : Tasks → Act → Bool
 wrong_how tasks (act.Switch cpu next how) = is_wrong how (running_on tasks cpu.0)
 wrong_how tasks _ = false
 
--- a stall starts where there is none, and no task exits in one
+-- a stall starts where there is one, or a task exits in one
 abbrev pub in_stall : Tasks → Act → Bool
 in_stall tasks (act.Stall pid) = test_task (task_of tasks pid.0) (λ task. task.stalled)
 in_stall tasks (act.Switch cpu next how) = is_exit how && test_task (task_part (running_on tasks cpu.0)) (λ task. task.stalled)
 in_stall tasks _ = false
 
--- a stall ends where there is one
+-- a stall ends where there is none
 abbrev pub not_in_stall : Tasks → Act → Bool
 not_in_stall tasks (act.Unstall pid) = test_task (task_of tasks pid.0) (λ task. not task.stalled)
 not_in_stall tasks _ = false
 
--- a trigger's window is in its range
+-- a trigger's window or threshold isn't in its range
 abbrev pub bad_window : Act → Bool
 bad_window (act.Trigger path res level threshold_us window_us) = not (is_window threshold_us window_us)
 bad_window _ = false
@@ -133,9 +133,9 @@ abbrev pub applies : Cause → Limits → World → Event → Bool
 applies cause.AfterEnd limits w event = w.ended
 applies cause.TimeBack limits w event = nat_lt event.at w.last
 applies cause.TimeTooLate limits w event = nat_lt limits.latest event.at
-applies cause.TooManyEvents limits w event = nat_le 4000000 w.lines
-applies cause.TooManyGroups limits w event = is_some (names event.act).new_path && nat_le 1024 (length w.groups)
-applies cause.TooManyTasks limits w event = is_some (names event.act).new_task && nat_le 65536 (tasks_by.len w.tasks)
+applies cause.TooManyEvents limits w event = nat_le most_events w.lines
+applies cause.TooManyGroups limits w event = is_some (names event.act).new_path && nat_le most_groups (length w.groups)
+applies cause.TooManyTasks limits w event = is_some (names event.act).new_task && nat_le most_tasks (tasks_by.len w.tasks)
 applies cause.TooManyTriggers limits w event = is_trigger event.act && nat_le 256 w.triggers
 applies cause.UnknownGroup limits w event = lacks_group w.groups (names event.act).live_path
 applies cause.GroupExists limits w event = has_group w.groups (names event.act).new_path

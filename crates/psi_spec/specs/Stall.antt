@@ -61,7 +61,7 @@ is_up task = is_active task.mode
 abbrev pub stalls : Task → Bool
 stalls task = task.stalled
 
--- The states of the kernel's test_states, said of the tasks that count.
+-- The states, as this profile's table has them after the kernel's psi.c, said of the tasks that count.
 -- IO: some task waits for IO; full where besides none is ready or running.
 -- Memory: some task is in a stall; full where besides all that are ready or running are in a stall, or the running one is.
 -- CPU: some task is ready; full where besides none runs. Nonidle: some task waits, is in a stall, is ready or runs.
@@ -94,7 +94,7 @@ holds state cpu slot w = holds_of state (tasks_in (parents_of w.groups) cpu slot
 
 -- ---- stall time
 
--- the moment of the event with a number from 1, or the moment after the last
+-- the moment of the event with a number from 1, and the given moment for a number above the last
 abbrev pub moment_of : List Event → ℕ → ℕ → ℕ
 moment_of events at i = slice_index_or (map (λ (event : Event). event.at) events) (i - 1) at
 

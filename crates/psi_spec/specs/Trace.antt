@@ -55,7 +55,7 @@ pub record IsAccepted (limits : Limits) (events : List Event) : Type 0 where
   pub legal : AreLegal limits first_world events
   pub ends : EndsLast events
 
--- the verbs of each event are among these
+-- the verb of each event is among these
 abbrev pub AreKnown : List Verb → List Event → Type 0
 AreKnown verbs [] = Unit {0}
 AreKnown verbs (event ∷ events) = IsKnown verbs event × AreKnown verbs events

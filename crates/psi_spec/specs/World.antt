@@ -20,7 +20,7 @@ use Rattle.psi_spec.specs.declared.machine.GroupLife.{GroupLife}
 
 -- ---- tasks
 
--- the task sleeps until some IO is done
+-- the task is blocked until some IO is done
 abbrev pub is_waiting : Mode → Bool
 is_waiting Waiting = true
 is_waiting Ready = false
@@ -41,7 +41,7 @@ is_running Ready = false
 is_running Waiting = false
 is_running Blocked = false
 
--- the task is on a run queue
+-- the task is ready or runs
 abbrev pub is_active : Mode → Bool
 is_active mode = is_ready mode || is_running mode
 
@@ -116,7 +116,7 @@ or_root (byte ∷ bytes) = byte ∷ bytes
 abbrev pub parent_path : List ℕ → List ℕ
 parent_path path = or_root (before_last_slash path)
 
--- the root's path
+-- the path is the root's
 abbrev pub is_root : List ℕ → Bool
 is_root path = bytes_eq path (codes "/")
 
@@ -139,12 +139,22 @@ marked_removed path at group = if is_live group && bytes_eq group.path path then
 
 -- ---- the world
 
+-- how many event lines a trace may have, how many groups there may ever be, the root among them, and how many live tasks
+abbrev pub most_events : ℕ
+most_events = 4000000
+
+abbrev pub most_groups : ℕ
+most_groups = 1024
+
+abbrev pub most_tasks : ℕ
+most_tasks = 65536
+
 -- what a trace can name: how many processors there are, and the latest moment (ns)
 pub record Limits : Type 0 where
   pub cpus : ℕ
   pub latest : ℕ
 
--- the live tasks, all groups ever made in the order of their slots, and how many triggers and lines there were,
+-- the live tasks, all groups ever made in the order of their slots, and how many triggers and event lines there were,
 -- the moment of the last line (ns), and whether the trace has ended
 pub record World : Type 0 where
   pub tasks : Tasks
@@ -284,6 +294,6 @@ after_from w (event ∷ events) = after_from (after_event w event) events
 abbrev pub after : List Event → World
 after events = after_from first_world events
 
--- the events up to a moment (ns), those at the moment among them
+-- the events up to a moment (ns), those at the moment among them: the first so many, where moments never fall
 abbrev pub up_to : List Event → ℕ → List Event
 up_to events at = filter (λ (event : Event). nat_le event.at at) events

@@ -3,7 +3,7 @@ ghost use Rattle.psi_spec.specs.Grammar.{FindsCauses, HeadedByLine, HeadersSpell
 
 /// Event lines: a line is read exactly where it is the one spelling of an event in range, and is refused exactly for
 /// what is wrong first from the left.
-pub fn event_lines()
+pub fn law_event_lines()
     ensures reads { ReadsSpelled }
     ensures refuses { FindsCauses }
     ensures in_line { SpelledInLine }
@@ -11,7 +11,7 @@ pub fn event_lines()
 {}
 
 /// Header lines: a line is read exactly where it is the header of 1 to 64 processors.
-pub fn header_lines()
+pub fn law_header_lines()
     ensures reads { HeadersSpelled }
     ensures in_line { HeadedByLine }
 {}

@@ -3,19 +3,19 @@ ghost use Rattle.psi_spec.specs.Groups.{AncestorsAreOlder, AreGroupsFirst, AreGr
 
 /// At first and after each legal event there are at most 1,024 groups, the root is the first, parents are older and
 /// are what the paths say, and no two live groups have one path.
-pub fn legal_groups()
+pub fn law_legal_groups()
     ensures first { AreGroupsFirst }
     ensures kept { AreGroupsKept }
 {}
 
 /// Parents never change, and groups that are made later change nothing above the groups before them.
-pub fn kept_parents()
+pub fn law_kept_parents()
     ensures parents { ParentsKept }
     ensures climbs { ClimbsKept }
 {}
 
 /// The groups above a group are its parent and those above that one. They are older, and the last is the root.
-pub fn ancestors()
+pub fn law_ancestors()
     ensures step { UnderByStep }
     ensures older { AncestorsAreOlder }
     ensures root { RootIsAbove }

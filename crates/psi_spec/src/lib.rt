@@ -1,9 +1,10 @@
 //! What a trace means: the definitions that the contracts of all crates above cite, the types that they speak of, and laws
 //! about them.
 //!
-//! In `specs/`, in the order of reading: `Fields` and `Grammar` (which bytes spell an event), `World` (tasks and groups, and
-//! what an event does to them), `Refusal` (which events are legal, and the first cause against others), `Groups`, `Stall`
-//! (when a group is in a state, and for how long), `Changes` (which events change a processor), `Trace` (which bytes are a trace).
+//! In `specs/`, in the order of reading: `Fields` and `Grammar` (which bytes spell an event), `Names` (what an act names),
+//! `World` (tasks and groups, and what an event does to them), `Refusal` (which events are legal, and the first cause against
+//! others), `Groups`, `Stall` (when a group is in a state, and for how long), `Changes` (which events change a processor),
+//! `Told` (the triggers that a trace sets), `Trace` (which bytes are a trace).
 #![tactic(auto)]
 
 mod grammar;
@@ -11,7 +12,7 @@ mod groups;
 mod laws;
 mod machine;
 
-pub use grammar::{event_lines, header_lines};
-pub use groups::{ancestors, kept_parents, legal_groups};
-pub use laws::{stall_time, traces};
+pub use grammar::{law_event_lines, law_header_lines};
+pub use groups::{law_ancestors, law_kept_parents, law_legal_groups};
+pub use laws::{law_stall_time, law_traces};
 pub use machine::{GroupLife, Mode, Task};

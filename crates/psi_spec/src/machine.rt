@@ -14,9 +14,9 @@ pub struct GroupLife {
 /// What a live task does.
 #[derive(Clone, Copy, Debug, PartialEq, Eq)]
 pub enum Mode {
-    /// Asleep, and not for IO.
+    /// Blocked, and not for IO.
     Blocked,
-    /// Asleep until some IO is done.
+    /// Blocked until some IO is done.
     Waiting,
     /// Ready to run, on the run queue of its processor.
     Ready,
@@ -24,12 +24,12 @@ pub enum Mode {
     Running,
 }
 
-/// A live task. The processor of one that is asleep is where it last ran or was ready.
+/// A live task. The processor of one that is blocked is where it last ran or was ready.
 #[derive(Clone, Copy, Debug, PartialEq, Eq)]
 pub struct Task {
     pub slot: Slot,
     pub cpu: Cpu,
     pub mode: Mode,
-    /// It is in a memory stall, asleep or not.
+    /// It is in a memory stall, blocked or not.
     pub stalled: bool,
 }

@@ -1,5 +1,5 @@
 use Rattle.psi_spec.proofs.GroupLaws as laws
-use Rattle.psi_spec.proofs.groups.legal_groups.Goals as goal
+use Rattle.psi_spec.proofs.groups.law_legal_groups.Goals as goal
 
 pub returns-clause-first : goal.returns-clause-first
 returns-clause-first c = laws.groups_first

@@ -1,5 +1,5 @@
 use Rattle.psi_spec.proofs.GroupLaws as laws
-use Rattle.psi_spec.proofs.groups.kept_parents.Goals as goal
+use Rattle.psi_spec.proofs.groups.law_kept_parents.Goals as goal
 
 pub returns-clause-parents : goal.returns-clause-parents
 returns-clause-parents c = laws.parents_kept

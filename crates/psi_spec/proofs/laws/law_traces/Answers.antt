@@ -1,5 +1,5 @@
 use Rattle.psi_spec.proofs.Accepting as laws
-use Rattle.psi_spec.proofs.laws.traces.Goals as goal
+use Rattle.psi_spec.proofs.laws.law_traces.Goals as goal
 
 pub returns-clause-accepted : goal.returns-clause-accepted
 returns-clause-accepted c = laws.accepted

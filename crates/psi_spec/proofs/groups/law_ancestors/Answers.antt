@@ -1,5 +1,5 @@
 use Rattle.psi_spec.proofs.GroupLaws as laws
-use Rattle.psi_spec.proofs.groups.ancestors.Goals as goal
+use Rattle.psi_spec.proofs.groups.law_ancestors.Goals as goal
 
 pub returns-clause-step : goal.returns-clause-step
 returns-clause-step c = laws.by_step

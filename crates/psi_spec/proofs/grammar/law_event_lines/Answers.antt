@@ -1,6 +1,6 @@
 use Rattle.psi_spec.proofs.GrammarCauses as causes
 use Rattle.psi_spec.proofs.GrammarReads as reads
-use Rattle.psi_spec.proofs.grammar.event_lines.Goals as goal
+use Rattle.psi_spec.proofs.grammar.law_event_lines.Goals as goal
 
 pub returns-clause-reads : goal.returns-clause-reads
 returns-clause-reads c = reads.reads_spelled

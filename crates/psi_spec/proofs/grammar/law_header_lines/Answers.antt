@@ -1,5 +1,5 @@
 use Rattle.psi_spec.proofs.GrammarHeaders as headers
-use Rattle.psi_spec.proofs.grammar.header_lines.Goals as goal
+use Rattle.psi_spec.proofs.grammar.law_header_lines.Goals as goal
 
 pub returns-clause-reads : goal.returns-clause-reads
 returns-clause-reads c = headers.headers_spelled
