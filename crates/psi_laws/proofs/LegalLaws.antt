@@ -20,7 +20,7 @@ use Rattle.psi_spec.specs.World.{World, Limits, Tasks, after, after_from, first_
 use Rattle.psi_spec.specs.Refusal.{cause_of, applies, cause_order, AreLegal}
 use Rattle.psi_spec.specs.Stall.{is_under, is_in, parents_of, number_of_slot, tasks_in}
 use Rattle.psi_laws.specs.Counts.{counts_among, how_many}
-use Rattle.psi_laws.specs.Touch.{changed, left_if, AreWithin, Follows, change_of, change_on, no_counts, on_chain, part, after_of}
+use Rattle.psi_laws.specs.Touch.{changed, left_if, AreWithin, Follows, change_of, change_on, no_counts, on_chain, part, task_after}
 use Rattle.psi_spec.specs.Changes.{touched, before}
 use Rattle.psi_spec.specs.Groups.{new_parents}
 use Rattle.psi_laws.specs.Legal.{IsLegalWorld, added, both_counts, changes_from, taken, with_change, CountsAreSums, LegalFirst, LegalKept, SameTasksLater, CountsAreFew}
@@ -69,9 +69,6 @@ room_for_one n h = grind (arith, nat_tests)
 -- a legal act leaves no more tasks than may live
 few_act : (limits : Limits) (w : World) (at : ℕ) (a : Act) → cause_of limits w (record { at = at; act = a }) ≡ None → counted always w.tasks ≤ 65536 → counted always (tasks_after w.groups w.tasks a) ≤ 65536
 unfolding cause_of
-few_act limits w at (act.Group path) h few = few
-few_act limits w at (act.Remove path) h few = few
-few_act limits w at (act.Prefer path preference) h few = few
 few_act limits w at (act.Fork pid path cpu) h few =
     let event : Event = record { at = at; act = act.Fork pid path cpu } in
     let room = room_for_one (fin.len w.tasks) (passed (λ why. applies why limits w event) cause_order 5 cause.TooManyTasks h refl) in
@@ -83,10 +80,7 @@ few_act limits w at (act.Stall pid) h few = not_more _ _ _ _ 65536 (counted_act 
 few_act limits w at (act.Unstall pid) h few = not_more _ _ _ _ 65536 (counted_act always (λ t ready. refl) limits w at (act.Unstall pid) h) (changed_not_more _ (task_of w.tasks pid.0)) few
 few_act limits w at (act.Migrate pid cpu) h few = not_more _ _ _ _ 65536 (counted_act always (λ t ready. refl) limits w at (act.Migrate pid cpu) h) (changed_not_more _ (task_of w.tasks pid.0)) few
 few_act limits w at (act.Move pid path) h few = not_more _ _ _ _ 65536 (counted_act always (λ t ready. refl) limits w at (act.Move pid path) h) (changed_not_more _ (task_of w.tasks pid.0)) few
-few_act limits w at (act.Mem path current swap scan) h few = few
-few_act limits w at (act.Host mem_total swap_total swap_free) h few = few
-few_act limits w at (act.Trigger path res level threshold_us window_us) h few = few
-few_act limits w at act.End h few = few
+few_act limits w at _ h few = few
 
 -- ---- numbers of the world
 
@@ -206,9 +200,9 @@ all_follow old first middle new minus plus more_minus more_plus one others = rec
 }
 
 -- the change of a touched processor has the parts of the task that the event changes
-change_parts : (w : World) (event : Event) (cpu : ℕ) (change : Change) → change_of w event cpu ≡ Some change → (change.minus ≡ part cpu (before w.tasks event.act)) × (change.plus ≡ part cpu (after_of w.groups w.tasks event.act))
+change_parts : (w : World) (event : Event) (cpu : ℕ) (change : Change) → change_of w event cpu ≡ Some change → (change.minus ≡ part cpu (before w.tasks event.act)) × (change.plus ≡ part cpu (task_after w.groups w.tasks event.act))
 unfolding change_of
-change_parts w event cpu change is = parts_then (touched event.act (before w.tasks event.act) cpu) (change_on event.at (before w.tasks event.act) (after_of w.groups w.tasks event.act) (tasks_after w.groups w.tasks event.act) cpu) change is
+change_parts w event cpu change is = parts_then (touched event.act (before w.tasks event.act) cpu) (change_on event.at (before w.tasks event.act) (task_after w.groups w.tasks event.act) (tasks_after w.groups w.tasks event.act) cpu) change is
   where
     parts_then : (b : Bool) (made other : Change) → (if b then Some made else None) ≡ Some other → (other.minus ≡ made.minus) × (other.plus ≡ made.plus)
     parts_then true made other same = let e : made ≡ other = cc same in (ap (λ (x : Change). x.minus) (sym e), ap (λ (x : Change). x.plus) (sym e))

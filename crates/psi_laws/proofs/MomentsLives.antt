@@ -50,18 +50,7 @@ front_same some all same = ([], same ∙ sym (append-nil some))
 front_act : {X : Type 0} (part : GroupLife → X) → Stays part → (at : ℕ) (groups : List GroupLife) (a : Act) → Front (map part groups) (map part (groups_after at groups a))
 front_act part stays at groups (act.Group path) = (part (new_group groups path at) ∷ [], map-append part groups (new_group groups path at ∷ []))
 front_act part stays at groups (act.Remove path) = front_same _ _ (stays_all part stays path at groups)
-front_act part stays at groups (act.Prefer path preference) = front_same _ _ refl
-front_act part stays at groups (act.Fork pid path cpu) = front_same _ _ refl
-front_act part stays at groups (act.Wake pid cpu) = front_same _ _ refl
-front_act part stays at groups (act.Switch cpu next how) = front_same _ _ refl
-front_act part stays at groups (act.Stall pid) = front_same _ _ refl
-front_act part stays at groups (act.Unstall pid) = front_same _ _ refl
-front_act part stays at groups (act.Migrate pid cpu) = front_same _ _ refl
-front_act part stays at groups (act.Move pid path) = front_same _ _ refl
-front_act part stays at groups (act.Mem path current swap scan) = front_same _ _ refl
-front_act part stays at groups (act.Host mem_total swap_total swap_free) = front_same _ _ refl
-front_act part stays at groups (act.Trigger path res level threshold_us window_us) = front_same _ _ refl
-front_act part stays at groups act.End = front_same _ _ refl
+front_act part stays at groups _ = front_same _ _ refl
 
 front_more : {X : Type 0} (few some all : List X) → Front few some → Front some all → Front few all
 front_more few some all first later = (first.0 ++ later.0, later.1 ∙ ap (λ xs. xs ++ later.0) first.1 ∙ append_assoc few first.0 later.0)
@@ -157,18 +146,7 @@ turn_without last at low path groups are =
 turn_act : (last at : ℕ) → last ≤ at → (groups : List GroupLife) → InTurn last groups → (a : Act) → InTurn at (groups_after at groups a)
 turn_act last at low groups are (act.Group path) = turn_behind last at low groups (new_group groups path at) refl refl are
 turn_act last at low groups are (act.Remove path) = turn_without last at low path groups are
-turn_act last at low groups are (act.Prefer path preference) = turn_later last at low groups are
-turn_act last at low groups are (act.Fork pid path cpu) = turn_later last at low groups are
-turn_act last at low groups are (act.Wake pid cpu) = turn_later last at low groups are
-turn_act last at low groups are (act.Switch cpu next how) = turn_later last at low groups are
-turn_act last at low groups are (act.Stall pid) = turn_later last at low groups are
-turn_act last at low groups are (act.Unstall pid) = turn_later last at low groups are
-turn_act last at low groups are (act.Migrate pid cpu) = turn_later last at low groups are
-turn_act last at low groups are (act.Move pid path) = turn_later last at low groups are
-turn_act last at low groups are (act.Mem path current swap scan) = turn_later last at low groups are
-turn_act last at low groups are (act.Host mem_total swap_total swap_free) = turn_later last at low groups are
-turn_act last at low groups are (act.Trigger path res level threshold_us window_us) = turn_later last at low groups are
-turn_act last at low groups are act.End = turn_later last at low groups are
+turn_act last at low groups are _ = turn_later last at low groups are
 
 turn_first : InTurn 0 (root ∷ [])
 turn_first = record {
@@ -243,18 +221,7 @@ removed_or_none at moment past path (Some life) = removed_not_yet at moment past
 live_before : (at moment : ℕ) → at < moment → (groups : List GroupLife) (slot : ℕ) (a : Act) → test_life (slice_get (groups_after moment groups a) slot) (λ l. is_live_at l at) ≡ test_life (slice_get groups slot) (λ l. is_live_at l at)
 live_before at moment past groups slot (act.Group path) = behind_not_yet at groups (new_group groups path moment) slot (ap (λ b. b && not (is_gone_by None at)) (to_come at moment past))
 live_before at moment past groups slot (act.Remove path) = ap (λ o. test_life o (λ l. is_live_at l at)) (slice_get-map (marked_removed path moment) groups slot) ∙ removed_or_none at moment past path (slice_get groups slot)
-live_before at moment past groups slot (act.Prefer path preference) = refl
-live_before at moment past groups slot (act.Fork pid path cpu) = refl
-live_before at moment past groups slot (act.Wake pid cpu) = refl
-live_before at moment past groups slot (act.Switch cpu next how) = refl
-live_before at moment past groups slot (act.Stall pid) = refl
-live_before at moment past groups slot (act.Unstall pid) = refl
-live_before at moment past groups slot (act.Migrate pid cpu) = refl
-live_before at moment past groups slot (act.Move pid path) = refl
-live_before at moment past groups slot (act.Mem path current swap scan) = refl
-live_before at moment past groups slot (act.Host mem_total swap_total swap_free) = refl
-live_before at moment past groups slot (act.Trigger path res level threshold_us window_us) = refl
-live_before at moment past groups slot act.End = refl
+live_before at moment past groups slot _ = refl
 
 -- the groups of a trace tell which are live in a slot at a moment
 abbrev TellsLive : List Event → Type 0

@@ -33,20 +33,8 @@ abbrev by_event : World → Event → List TriggerSpec
 by_event w event = trigger_by event.at w.groups event.act
 
 at_once : (at : ℕ) (groups : List GroupLife) (a : Act) → AllByRecursion (λ (trigger : TriggerSpec). trigger.at ≡ at) (trigger_by at groups a)
-at_once at groups (act.Group path) = tt
-at_once at groups (act.Remove path) = tt
-at_once at groups (act.Prefer path preference) = tt
-at_once at groups (act.Fork pid path cpu) = tt
-at_once at groups (act.Wake pid cpu) = tt
-at_once at groups (act.Switch cpu next how) = tt
-at_once at groups (act.Stall pid) = tt
-at_once at groups (act.Unstall pid) = tt
-at_once at groups (act.Migrate pid cpu) = tt
-at_once at groups (act.Move pid path) = tt
-at_once at groups (act.Mem path current swap scan) = tt
-at_once at groups (act.Host mem_total swap_total swap_free) = tt
 at_once at groups (act.Trigger path res level threshold_us window_us) = (refl, tt)
-at_once at groups act.End = tt
+at_once at groups _ = tt
 
 tells_at_once : TellsAtOnce by_event (λ (trigger : TriggerSpec). trigger.at)
 tells_at_once w event = at_once event.at w.groups event.act
@@ -66,18 +54,7 @@ stays_there at moment low path life is = without_is (λ l. IsThere l at) path mo
 still_there : (at moment : ℕ) → at ≤ moment → (groups : List GroupLife) (slot : ℕ) → slot < length groups → IsThere (slice_index_or groups slot root) at → (a : Act) → IsThere (slice_index_or (groups_after moment groups a) slot root) at
 still_there at moment low groups slot room is (act.Group path) = subst (λ l. IsThere l at) (sym (get_or_append_left groups (new_group groups path moment ∷ []) root slot room)) is
 still_there at moment low groups slot room is (act.Remove path) = subst (λ l. IsThere l at) (sym (get_or-map (marked_removed path moment) groups slot root root room)) (stays_there at moment low path (slice_index_or groups slot root) is)
-still_there at moment low groups slot room is (act.Prefer path preference) = is
-still_there at moment low groups slot room is (act.Fork pid path cpu) = is
-still_there at moment low groups slot room is (act.Wake pid cpu) = is
-still_there at moment low groups slot room is (act.Switch cpu next how) = is
-still_there at moment low groups slot room is (act.Stall pid) = is
-still_there at moment low groups slot room is (act.Unstall pid) = is
-still_there at moment low groups slot room is (act.Migrate pid cpu) = is
-still_there at moment low groups slot room is (act.Move pid path) = is
-still_there at moment low groups slot room is (act.Mem path current swap scan) = is
-still_there at moment low groups slot room is (act.Host mem_total swap_total swap_free) = is
-still_there at moment low groups slot room is (act.Trigger path res level threshold_us window_us) = is
-still_there at moment low groups slot room is act.End = is
+still_there at moment low groups slot room is _ = is
 
 -- a live group is there from when it was made
 live_gone : (at : ℕ) (o : Option ℕ) → not (is_some o) ≡ true → IfSome o (λ gone. at ≤ gone)
@@ -140,36 +117,13 @@ set_now limits w at (act.Trigger path res level threshold_us window_us) legal lo
       tt,
     )
 set_now limits w at (act.Group path) legal low turn = tt
-set_now limits w at (act.Remove path) legal low turn = tt
-set_now limits w at (act.Prefer path preference) legal low turn = tt
-set_now limits w at (act.Fork pid path cpu) legal low turn = tt
-set_now limits w at (act.Wake pid cpu) legal low turn = tt
-set_now limits w at (act.Switch cpu next how) legal low turn = tt
-set_now limits w at (act.Stall pid) legal low turn = tt
-set_now limits w at (act.Unstall pid) legal low turn = tt
-set_now limits w at (act.Migrate pid cpu) legal low turn = tt
-set_now limits w at (act.Move pid path) legal low turn = tt
-set_now limits w at (act.Mem path current swap scan) legal low turn = tt
-set_now limits w at (act.Host mem_total swap_total swap_free) legal low turn = tt
-set_now limits w at act.End legal low turn = tt
+set_now limits w at _ legal low turn = tt
 
 -- ---- all triggers
 
 as_many : (at : ℕ) (groups : List GroupLife) (a : Act) → length (trigger_by at groups a) ≡ (if is_trigger a then 1 else 0)
-as_many at groups (act.Group path) = refl
-as_many at groups (act.Remove path) = refl
-as_many at groups (act.Prefer path preference) = refl
-as_many at groups (act.Fork pid path cpu) = refl
-as_many at groups (act.Wake pid cpu) = refl
-as_many at groups (act.Switch cpu next how) = refl
-as_many at groups (act.Stall pid) = refl
-as_many at groups (act.Unstall pid) = refl
-as_many at groups (act.Migrate pid cpu) = refl
-as_many at groups (act.Move pid path) = refl
-as_many at groups (act.Mem path current swap scan) = refl
-as_many at groups (act.Host mem_total swap_total swap_free) = refl
 as_many at groups (act.Trigger path res level threshold_us window_us) = omega arith
-as_many at groups act.End = refl
+as_many at groups _ = refl
 
 record AreSet (latest : ℕ) (w : World) (triggers : List TriggerSpec) : Type 0 where
   counted : length triggers ≡ w.triggers

@@ -6,8 +6,8 @@ use Rattle.psi_base.specs.declared.event.State.TheVariants.{IoSome, IoFull, MemS
 use Rattle.psi_spec.specs.Stall.{state_number}
 use Rattle.psi_laws.specs.Counts.{mask_holds}
 use Rattle.psi_laws.specs.Clock.{ClockFollows, ClockView, zero_clock, opened_time}
-use Rattle.psi_laws.specs.Plan.{AreInOrder, ClockIsInTime, PlanView, holds_after, last_change, planned_time, FollowedIsClock, KeptIsClock, ZeroIsClock}
-use Rattle.psi_laws.proofs.ClockLaws.{zero_time}
+use Rattle.psi_laws.specs.Plan.{AreInOrder, ClockIsInTime, ClockTellsPlanned, PlanView, holds_after, last_change, planned_time, FollowedIsClock, KeptIsClock, ZeroIsClock}
+use Rattle.psi_laws.proofs.ClockLaws.{map_states, zero_time}
 use Rattle.psi_laws.proofs.PlanTimes.{planned_by_change}
 
 -- ---- before the first change
@@ -96,3 +96,8 @@ clock_is_in_time clock plan slot k at plan_is is from to = record {
       let within = planned_within state plan slot k (last_change plan k) plan_is.order is.within (omega arith) in
       omega (arith, start_time clock (last_change plan k) state, known, within, plan_is.early k is.within);
 }
+
+-- ---- what a clock tells
+
+pub clock_tells_planned : ClockTellsPlanned
+clock_tells_planned clock plan slot k at is from = map_states (opened_time clock at) (λ state. planned_time state plan slot k at) (λ state. is.times state at from)

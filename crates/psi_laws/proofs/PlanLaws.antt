@@ -9,7 +9,7 @@ use Rattle.psi_base.specs.declared.event.Event.{Event}
 use Rattle.psi_laws.specs.declared.changes.Change.{Change}
 use Rattle.psi_spec.specs.World.{World, after, after_event, after_from, first_world, tasks_after}
 use Rattle.psi_spec.specs.Stall.{moment_of}
-use Rattle.psi_laws.specs.Touch.{after_of, change_of, change_on}
+use Rattle.psi_laws.specs.Touch.{change_of, change_on, task_after}
 use Rattle.psi_spec.specs.Changes.{before, changes_of, event_of_change, is_change, touched, touches, until_change}
 use Rattle.psi_laws.specs.Legal.{changes_from, with_change}
 use Rattle.psi_laws.specs.Plan.{change_at, last_change, plan_of, ChangesAreNumbered, ChangesUntil}
@@ -121,7 +121,7 @@ touch_cases false made = inl (refl, refl)
 pub touched_or_not : (w : World) (event : Event) (cpu : ℕ) → Untouched w event cpu ⊎ TouchedBy w event cpu
 unfolding change_of
 touched_or_not w event cpu =
-    let made : Change = change_on event.at (before w.tasks event.act) (after_of w.groups w.tasks event.act) (tasks_after w.groups w.tasks event.act) cpu in
+    let made : Change = change_on event.at (before w.tasks event.act) (task_after w.groups w.tasks event.act) (tasks_after w.groups w.tasks event.act) cpu in
     ⊎_elim
     (λ off. inl (record { leaves = off.0; none = off.1 }))
     (λ on. inr (record { change = made; turns = on.0; one = on.1; moment = refl }))

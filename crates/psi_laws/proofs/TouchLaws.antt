@@ -19,7 +19,7 @@ use Rattle.psi_spec.specs.World.{World, Limits, Tasks, task_of, test_task, task_
 use Rattle.psi_spec.specs.Refusal.{cause_of, is_wrong, isnt_ready}
 use Rattle.psi_spec.specs.Stall.{is_under, is_in, tasks_in, waits, stalls, is_up, runs}
 use Rattle.psi_laws.specs.Counts.{how_many, counts_among, is_up_stalled, runs_stalled}
-use Rattle.psi_laws.specs.Touch.{changed, after_of, part, shown, change_on, change_of, no_counts, on_chain, RunsOnce, is_current_in, is_current_stalled, CountsFollow, RunsOnceFirst, RunsOnceKept, CurrentTells, StaysUntouched}
+use Rattle.psi_laws.specs.Touch.{changed, task_after, part, shown, change_on, change_of, no_counts, on_chain, RunsOnce, is_current_in, is_current_stalled, CountsFollow, RunsOnceFirst, RunsOnceKept, CurrentTells, StaysUntouched}
 use Rattle.psi_spec.specs.Changes.{before, is_at, touched}
 use Rattle.psi_laws.proofs.CountLaws.{one, how_many-cons, any_counted}
 use Rattle.psi_spec.proofs.RefusalLaws.{first_true, is_none, none_stands, not_false, second_true}
@@ -84,13 +84,10 @@ counted_start p blind tasks cpu how (Some pid) h =
 
 -- an act changes a count by the one task that it changes
 abbrev pub CountsOne : (Task → Bool) → World → Act → Type 0
-CountsOne p w a = counted p (tasks_after w.groups w.tasks a) + one (test_task (before w.tasks a) p) ≡ counted p w.tasks + one (test_task (after_of w.groups w.tasks a) p)
+CountsOne p w a = counted p (tasks_after w.groups w.tasks a) + one (test_task (before w.tasks a) p) ≡ counted p w.tasks + one (test_task (task_after w.groups w.tasks a) p)
 
 -- each legal act counts so
 pub counted_act : (p : Task → Bool) → Blind p → (limits : Limits) (w : World) (at : ℕ) (a : Act) → cause_of limits w (record { at = at; act = a }) ≡ None → CountsOne p w a
-counted_act p blind limits w at (act.Group path) h = refl
-counted_act p blind limits w at (act.Remove path) h = refl
-counted_act p blind limits w at (act.Prefer path preference) h = refl
 counted_act p blind limits w at (act.Fork pid path cpu) h =
     let new : task_of w.tasks pid.0 ≡ None = is_none _ (none_stands limits w _ h).task_exists in
     rw new at (counted_put p w.tasks pid.0 (new_task w.groups path cpu.0))
@@ -103,10 +100,7 @@ counted_act p blind limits w at (act.Stall pid) h = counted_changed p w.tasks pi
 counted_act p blind limits w at (act.Unstall pid) h = counted_changed p w.tasks pid.0 _ (task_of w.tasks pid.0) refl
 counted_act p blind limits w at (act.Migrate pid cpu) h = counted_changed p w.tasks pid.0 _ (task_of w.tasks pid.0) refl
 counted_act p blind limits w at (act.Move pid path) h = counted_changed p w.tasks pid.0 _ (task_of w.tasks pid.0) refl
-counted_act p blind limits w at (act.Mem path current swap scan) h = refl
-counted_act p blind limits w at (act.Host mem_total swap_total swap_free) h = refl
-counted_act p blind limits w at (act.Trigger path res level threshold_us window_us) h = refl
-counted_act p blind limits w at act.End h = refl
+counted_act p blind limits w at _ h = refl
 
 -- ---- the same of the four counts
 
@@ -145,14 +139,14 @@ ready_up Running h = refl
 abbrev FollowsField : (Counts → ℕ) → (Task → Bool) → World → Event → List (Option ℕ) → ℕ → ℕ → Type 0
 FollowsField f kind w event parents cpu slot =
     how_many kind (tasks_in parents cpu slot (after_event w event).tasks) + f (on_chain parents slot (part cpu (before w.tasks event.act)))
-    ≡ how_many kind (tasks_in parents cpu slot w.tasks) + f (on_chain parents slot (part cpu (after_of w.groups w.tasks event.act)))
+    ≡ how_many kind (tasks_in parents cpu slot w.tasks) + f (on_chain parents slot (part cpu (task_after w.groups w.tasks event.act)))
 
 -- each field follows
 field : (f : Counts → ℕ) → f no_counts ≡ 0 → (kind : Task → Bool) → ((t : Task) → f (counts_among (t ∷ [])) ≡ one (kind t)) → Blind kind → (limits : Limits) (w : World) (event : Event) → cause_of limits w event ≡ None → (parents : List (Option ℕ)) (cpu slot : ℕ) → FollowsField f kind w event parents cpu slot
 field f none kind same blind limits w event legal parents cpu slot =
     rw (
       ← chain_field f none kind same parents cpu slot (before w.tasks event.act),
-      ← chain_field f none kind same parents cpu slot (after_of w.groups w.tasks event.act),
+      ← chain_field f none kind same parents cpu slot (task_after w.groups w.tasks event.act),
       tallied_both (is_in parents cpu slot) kind (fin.values (tasks_after w.groups w.tasks event.act)),
       tallied_both (is_in parents cpu slot) kind (fin.values w.tasks),
     )
@@ -245,9 +239,6 @@ quiet_there g tasks pid c f same h = quiet_changed g tasks pid c f (task_of task
 
 -- each count of tasks on a processor stays where an act doesn't touch it
 quiet_act : (g : Task → Bool) (limits : Limits) (w : World) (at : ℕ) (a : Act) (c : ℕ) → cause_of limits w (record { at = at; act = a }) ≡ None → touched a (before w.tasks a) c ≡ false → counted (at_cpu c g) (tasks_after w.groups w.tasks a) ≡ counted (at_cpu c g) w.tasks
-quiet_act g limits w at (act.Group path) c legal h = refl
-quiet_act g limits w at (act.Remove path) c legal h = refl
-quiet_act g limits w at (act.Prefer path preference) c legal h = refl
 quiet_act g limits w at (act.Fork pid path cpu) c legal h =
     let new : task_of w.tasks pid.0 ≡ None = is_none _ (none_stands limits w _ legal).task_exists in
     let more = rw new at (counted_put (at_cpu c g) w.tasks pid.0 (new_task w.groups path cpu.0)) in
@@ -260,10 +251,7 @@ quiet_act g limits w at (act.Stall pid) c legal h = quiet_there g w.tasks pid.0 
 quiet_act g limits w at (act.Unstall pid) c legal h = quiet_there g w.tasks pid.0 c _ (λ _. refl) h
 quiet_act g limits w at (act.Migrate pid cpu) c legal h = quiet_readied g w.tasks pid.0 cpu.0 c h
 quiet_act g limits w at (act.Move pid path) c legal h = quiet_there g w.tasks pid.0 c _ (λ _. refl) h
-quiet_act g limits w at (act.Mem path current swap scan) c legal h = refl
-quiet_act g limits w at (act.Host mem_total swap_total swap_free) c legal h = refl
-quiet_act g limits w at (act.Trigger path res level threshold_us window_us) c legal h = refl
-quiet_act g limits w at act.End c legal h = refl
+quiet_act g limits w at _ c legal h = refl
 
 -- tests that agree on each task count the same
 tally_same : (p q : Task → Bool) → ((t : Task) → p t ≡ q t) → (tasks : List Task) → tally p tasks ≡ tally q tasks
@@ -293,7 +281,7 @@ not_then false change h = refl
 untouched : (w : World) (event : Event) (cpu : ℕ) → change_of w event cpu ≡ None → touched event.act (before w.tasks event.act) cpu ≡ false
 unfolding change_of
 untouched w event cpu h =
-    not_then (touched event.act (before w.tasks event.act) cpu) (change_on event.at (before w.tasks event.act) (after_of w.groups w.tasks event.act) (tasks_after w.groups w.tasks event.act) cpu) h
+    not_then (touched event.act (before w.tasks event.act) cpu) (change_on event.at (before w.tasks event.act) (task_after w.groups w.tasks event.act) (tasks_after w.groups w.tasks event.act) cpu) h
 
 -- so it is of each count of a group
 quiet_many : (limits : Limits) (w : World) (event : Event) → cause_of limits w event ≡ None → (cpu : ℕ) → change_of w event cpu ≡ None → (parents : List (Option ℕ)) (slot : ℕ) (kind : Task → Bool) → how_many kind (tasks_in parents cpu slot (after_event w event).tasks) ≡ how_many kind (tasks_in parents cpu slot w.tasks)
@@ -394,9 +382,6 @@ kept_fewer c f same (Some t) = let here = ap one (same t) in omega (arith, here)
 
 -- each legal act lets at most one run
 once_act : (limits : Limits) (w : World) (at : ℕ) (a : Act) → cause_of limits w (record { at = at; act = a }) ≡ None → ((cpu : ℕ) → Once w.tasks cpu) → (c : ℕ) → Once (tasks_after w.groups w.tasks a) c
-once_act limits w at (act.Group path) legal once c = once c
-once_act limits w at (act.Remove path) legal once c = once c
-once_act limits w at (act.Prefer path preference) legal once c = once c
 once_act limits w at (act.Fork pid path cpu) legal once c =
     let more = counted_put (is_running_on c) w.tasks pid.0 (new_task w.groups path cpu.0) in
     let none = not_running c (new_task w.groups path cpu.0) refl in
@@ -415,10 +400,7 @@ once_act limits w at (act.Stall pid) legal once c = once_changed c w.tasks pid.0
 once_act limits w at (act.Unstall pid) legal once c = once_changed c w.tasks pid.0 _ (kept_fewer c _ (λ _. refl)) (once c)
 once_act limits w at (act.Migrate pid cpu) legal once c = once_changed c w.tasks pid.0 _ (readied_fewer c cpu.0) (once c)
 once_act limits w at (act.Move pid path) legal once c = once_changed c w.tasks pid.0 _ (kept_fewer c _ (λ _. refl)) (once c)
-once_act limits w at (act.Mem path current swap scan) legal once c = once c
-once_act limits w at (act.Host mem_total swap_total swap_free) legal once c = once c
-once_act limits w at (act.Trigger path res level threshold_us window_us) legal once c = once c
-once_act limits w at act.End legal once c = once c
+once_act limits w at _ legal once c = once c
 
 -- no task runs at first
 pub runs_once_first : RunsOnceFirst

@@ -23,7 +23,7 @@ use Rattle.psi_spec.specs.Names.{names}
 use Rattle.psi_spec.specs.Refusal.{cause_of}
 use Rattle.psi_spec.specs.Stall.{tasks_in, waits, stalls, is_up}
 use Rattle.psi_laws.specs.Counts.{how_many, counts_among, is_up_stalled, IsRunningTold}
-use Rattle.psi_laws.specs.Touch.{changed, left_if, after_of, part, shown, change_on, change_of, told_first, told_of, IsBeside, AllTouched, HasSlotsBelow, AreAtMost, IsOfOne, AreWithin, WithinFirst, WithinKept, ChangesAreWithin, on_chain, Follows, is_current_in, is_current_stalled, ChangeTells, TouchesItsOwn}
+use Rattle.psi_laws.specs.Touch.{changed, left_if, task_after, part, shown, change_on, change_of, told_first, told_of, IsBeside, AllTouched, HasSlotsBelow, AreAtMost, IsOfOne, AreWithin, WithinFirst, WithinKept, ChangesAreWithin, on_chain, Follows, is_current_in, is_current_stalled, ChangeTells, TouchesItsOwn}
 use Rattle.psi_spec.specs.Changes.{before, is_at, touched}
 use Rattle.psi_laws.proofs.CountLaws.{one, how_many-cons}
 use Rattle.psi_spec.proofs.TaskLaws.{itself, task_placed}
@@ -108,26 +108,16 @@ slot_room groups path live =
 
 -- the task that an act changes, before it and after it
 pub fits_before : (cpus slots : ℕ) (tasks : Tasks) → AreWithin cpus slots tasks → (a : Act) → Fits cpus slots (before tasks a)
-fits_before cpus slots tasks within (act.Group path) = tt
-fits_before cpus slots tasks within (act.Remove path) = tt
-fits_before cpus slots tasks within (act.Prefer path preference) = tt
-fits_before cpus slots tasks within (act.Fork pid path cpu) = tt
 fits_before cpus slots tasks within (act.Wake pid cpu) = within pid.0
 fits_before cpus slots tasks within (act.Switch cpu next how) = fits_running cpus slots tasks within cpu.0 (running_on tasks cpu.0) refl
 fits_before cpus slots tasks within (act.Stall pid) = within pid.0
 fits_before cpus slots tasks within (act.Unstall pid) = within pid.0
 fits_before cpus slots tasks within (act.Migrate pid cpu) = within pid.0
 fits_before cpus slots tasks within (act.Move pid path) = within pid.0
-fits_before cpus slots tasks within (act.Mem path current swap scan) = tt
-fits_before cpus slots tasks within (act.Host mem_total swap_total swap_free) = tt
-fits_before cpus slots tasks within (act.Trigger path res level threshold_us window_us) = tt
-fits_before cpus slots tasks within act.End = tt
+fits_before cpus slots tasks within _ = tt
 
 -- so it is after a legal act
-pub fits_after : (limits : Limits) (w : World) (at : ℕ) (a : Act) → cause_of limits w (record { at = at; act = a }) ≡ None → AreWithin limits.cpus (length w.groups) w.tasks → Fits limits.cpus (length w.groups) (after_of w.groups w.tasks a)
-fits_after limits w at (act.Group path) h within = tt
-fits_after limits w at (act.Remove path) h within = tt
-fits_after limits w at (act.Prefer path preference) h within = tt
+pub fits_after : (limits : Limits) (w : World) (at : ℕ) (a : Act) → cause_of limits w (record { at = at; act = a }) ≡ None → AreWithin limits.cpus (length w.groups) w.tasks → Fits limits.cpus (length w.groups) (task_after w.groups w.tasks a)
 fits_after limits w at (act.Fork pid path cpu) h within =
     let none = none_stands limits w _ h in
     (room_of limits.cpus cpu.0 none.bad_cpu, slot_room w.groups path none.unknown_group)
@@ -137,18 +127,12 @@ fits_after limits w at (act.Stall pid) h within = fits_kept limits.cpus (length 
 fits_after limits w at (act.Unstall pid) h within = fits_kept limits.cpus (length w.groups) (λ task. record task { stalled = false }) (λ _. refl) (λ _. refl) (task_of w.tasks pid.0) (within pid.0)
 fits_after limits w at (act.Migrate pid cpu) h within = fits_readied limits.cpus (length w.groups) cpu.0 (room_of limits.cpus cpu.0 (none_stands limits w _ h).bad_cpu) (task_of w.tasks pid.0) (within pid.0)
 fits_after limits w at (act.Move pid path) h within = fits_moved limits.cpus (length w.groups) (unwrap_or (slot_of w.groups path) 0) (slot_room w.groups path (none_stands limits w _ h).unknown_group) (task_of w.tasks pid.0) (within pid.0)
-fits_after limits w at (act.Mem path current swap scan) h within = tt
-fits_after limits w at (act.Host mem_total swap_total swap_free) h within = tt
-fits_after limits w at (act.Trigger path res level threshold_us window_us) h within = tt
-fits_after limits w at act.End h within = tt
+fits_after limits w at _ h within = tt
 
 -- ---- the tasks after an act
 
 -- all tasks after an act, by the one that it changes
-within_act : (limits : Limits) (w : World) (at : ℕ) (a : Act) → AreWithin limits.cpus (length w.groups) w.tasks → Fits limits.cpus (length w.groups) (after_of w.groups w.tasks a) → AreWithin limits.cpus (length w.groups) (tasks_after w.groups w.tasks a)
-within_act limits w at (act.Group path) within fits = within
-within_act limits w at (act.Remove path) within fits = within
-within_act limits w at (act.Prefer path preference) within fits = within
+within_act : (limits : Limits) (w : World) (at : ℕ) (a : Act) → AreWithin limits.cpus (length w.groups) w.tasks → Fits limits.cpus (length w.groups) (task_after w.groups w.tasks a) → AreWithin limits.cpus (length w.groups) (tasks_after w.groups w.tasks a)
 within_act limits w at (act.Fork pid path cpu) within fits = fits_placed limits.cpus (length w.groups) w.tasks within pid.0 (Some (new_task w.groups path cpu.0)) fits
 within_act limits w at (act.Wake pid cpu) within fits = fits_changed limits.cpus (length w.groups) w.tasks within pid.0 _ (task_of w.tasks pid.0) fits
 within_act limits w at (act.Switch cpu next how) within fits =
@@ -157,10 +141,7 @@ within_act limits w at (act.Stall pid) within fits = fits_changed limits.cpus (l
 within_act limits w at (act.Unstall pid) within fits = fits_changed limits.cpus (length w.groups) w.tasks within pid.0 _ (task_of w.tasks pid.0) fits
 within_act limits w at (act.Migrate pid cpu) within fits = fits_changed limits.cpus (length w.groups) w.tasks within pid.0 _ (task_of w.tasks pid.0) fits
 within_act limits w at (act.Move pid path) within fits = fits_changed limits.cpus (length w.groups) w.tasks within pid.0 _ (task_of w.tasks pid.0) fits
-within_act limits w at (act.Mem path current swap scan) within fits = within
-within_act limits w at (act.Host mem_total swap_total swap_free) within fits = within
-within_act limits w at (act.Trigger path res level threshold_us window_us) within fits = within
-within_act limits w at act.End within fits = within
+within_act limits w at _ within fits = within
 
 -- legal events keep tasks where they may be
 pub within_kept : WithinKept
@@ -187,9 +168,6 @@ either_cpu cpus slots named cpu o fits room either =
 
 -- a processor that a legal act touches is one that there is
 touched_room : (limits : Limits) (w : World) (at : ℕ) (a : Act) → cause_of limits w (record { at = at; act = a }) ≡ None → AreWithin limits.cpus (length w.groups) w.tasks → (cpu : ℕ) → touched a (before w.tasks a) cpu ≡ true → cpu < limits.cpus
-touched_room limits w at (act.Group path) h within cpu on = absurd (cc on)
-touched_room limits w at (act.Remove path) h within cpu on = absurd (cc on)
-touched_room limits w at (act.Prefer path preference) h within cpu on = absurd (cc on)
 touched_room limits w at (act.Fork pid path named) h within cpu on = same_cpu named.0 cpu limits.cpus on (room_of limits.cpus named.0 (none_stands limits w _ h).bad_cpu)
 touched_room limits w at (act.Wake pid named) h within cpu on = either_cpu limits.cpus (length w.groups) named.0 cpu (task_of w.tasks pid.0) (within pid.0) (room_of limits.cpus named.0 (none_stands limits w _ h).bad_cpu) on
 touched_room limits w at (act.Switch named next how) h within cpu on = same_cpu named.0 cpu limits.cpus on (room_of limits.cpus named.0 (none_stands limits w _ h).bad_cpu)
@@ -197,10 +175,7 @@ touched_room limits w at (act.Stall pid) h within cpu on = task_cpu limits.cpus 
 touched_room limits w at (act.Unstall pid) h within cpu on = task_cpu limits.cpus (length w.groups) cpu (task_of w.tasks pid.0) (within pid.0) on
 touched_room limits w at (act.Migrate pid named) h within cpu on = either_cpu limits.cpus (length w.groups) named.0 cpu (task_of w.tasks pid.0) (within pid.0) (room_of limits.cpus named.0 (none_stands limits w _ h).bad_cpu) on
 touched_room limits w at (act.Move pid path) h within cpu on = task_cpu limits.cpus (length w.groups) cpu (task_of w.tasks pid.0) (within pid.0) on
-touched_room limits w at (act.Mem path current swap scan) h within cpu on = absurd (cc on)
-touched_room limits w at (act.Host mem_total swap_total swap_free) h within cpu on = absurd (cc on)
-touched_room limits w at (act.Trigger path res level threshold_us window_us) h within cpu on = absurd (cc on)
-touched_room limits w at act.End h within cpu on = absurd (cc on)
+touched_room limits w at _ h within cpu on = absurd (cc on)
 
 -- a part's slot is one that there is
 part_slot : (cpus slots cpu : ℕ) (o : Option Task) → Fits cpus slots o → IfSome (part cpu o) (λ p. p.0.0 < slots)
@@ -236,7 +211,7 @@ pub changes_are_within : ChangesAreWithin
 unfolding change_of
 changes_are_within limits w event legal within cpu change is =
     let old = before w.tasks event.act in
-    let new = after_of w.groups w.tasks event.act in
+    let new = task_after w.groups w.tasks event.act in
     let tasks = tasks_after w.groups w.tasks event.act in
     let both = is_then (touched event.act old cpu) (change_on event.at old new tasks cpu) change is in
     let later = within_kept limits w event legal within in
@@ -279,7 +254,7 @@ pub change_tells : ChangeTells
 unfolding change_of
 change_tells limits w event legal once cpu change is parents slot =
     let old = before w.tasks event.act in
-    let new = after_of w.groups w.tasks event.act in
+    let new = task_after w.groups w.tasks event.act in
     let tasks = tasks_after w.groups w.tasks event.act in
     let both = is_then (touched event.act old cpu) (change_on event.at old new tasks cpu) change is in (
       subst (λ (c : Change). Follows (counts_among (tasks_in parents cpu slot w.tasks)) (on_chain parents slot c.minus) (on_chain parents slot c.plus) (counts_among (tasks_in parents cpu slot (after_event w event).tasks))) both.1
@@ -305,20 +280,11 @@ or_second false b is = is
 
 -- the processor that an act names
 touches_named : (w : World) (a : Act) (cpu : ℕ) → (names a).cpu ≡ Some cpu → touched a (before w.tasks a) cpu ≡ true
-touches_named w (act.Group path) cpu is = cc is
-touches_named w (act.Remove path) cpu is = cc is
-touches_named w (act.Prefer path preference) cpu is = cc is
 touches_named w (act.Fork pid path named) cpu is = same_test named.0 cpu is
 touches_named w (act.Wake pid named) cpu is = or_first (named.0 == cpu) (test_task (task_of w.tasks pid.0) (is_at cpu)) (same_test named.0 cpu is)
 touches_named w (act.Switch named next how) cpu is = same_test named.0 cpu is
-touches_named w (act.Stall pid) cpu is = cc is
-touches_named w (act.Unstall pid) cpu is = cc is
 touches_named w (act.Migrate pid named) cpu is = or_first (named.0 == cpu) (test_task (task_of w.tasks pid.0) (is_at cpu)) (same_test named.0 cpu is)
-touches_named w (act.Move pid path) cpu is = cc is
-touches_named w (act.Mem path current swap scan) cpu is = cc is
-touches_named w (act.Host mem_total swap_total swap_free) cpu is = cc is
-touches_named w (act.Trigger path res level threshold_us window_us) cpu is = cc is
-touches_named w act.End cpu is = cc is
+touches_named w _ cpu is = cc is
 
 -- a processor's running task is there
 running_there : (named cpu : ℕ) (t : Task) → is_running_on named t ≡ true → is_at cpu t ≡ true → (named == cpu) ≡ true
@@ -333,20 +299,11 @@ leaver_there tasks named cpu (Some e) is at = running_there named cpu e.1 ((runn
 
 -- the processor of the task before
 touches_before : (w : World) (a : Act) (cpu : ℕ) → test_task (before w.tasks a) (is_at cpu) ≡ true → touched a (before w.tasks a) cpu ≡ true
-touches_before w (act.Group path) cpu at = at
-touches_before w (act.Remove path) cpu at = at
-touches_before w (act.Prefer path preference) cpu at = at
 touches_before w (act.Fork pid path named) cpu at = cc at
 touches_before w (act.Wake pid named) cpu at = or_second (named.0 == cpu) (test_task (task_of w.tasks pid.0) (is_at cpu)) at
 touches_before w (act.Switch named next how) cpu at = leaver_there w.tasks named.0 cpu (running_on w.tasks named.0) refl at
-touches_before w (act.Stall pid) cpu at = at
-touches_before w (act.Unstall pid) cpu at = at
 touches_before w (act.Migrate pid named) cpu at = or_second (named.0 == cpu) (test_task (task_of w.tasks pid.0) (is_at cpu)) at
-touches_before w (act.Move pid path) cpu at = at
-touches_before w (act.Mem path current swap scan) cpu at = at
-touches_before w (act.Host mem_total swap_total swap_free) cpu at = at
-touches_before w (act.Trigger path res level threshold_us window_us) cpu at = at
-touches_before w act.End cpu at = at
+touches_before w _ cpu at = at
 
 -- a task that comes to a processor, one that stays where it was, and one that leaves
 came_there : (named cpu : ℕ) (o : Option Task) → test_task (changed (readied named) o) (is_at cpu) ≡ true → (named == cpu) ≡ true
@@ -368,21 +325,14 @@ left_there cpu Exit (Some t) at = cc at
 left_there cpu Idle (Some t) at = at
 
 -- the processor of the task after
-touches_after : (w : World) (a : Act) (cpu : ℕ) → test_task (after_of w.groups w.tasks a) (is_at cpu) ≡ true → touched a (before w.tasks a) cpu ≡ true
-touches_after w (act.Group path) cpu at = at
-touches_after w (act.Remove path) cpu at = at
-touches_after w (act.Prefer path preference) cpu at = at
-touches_after w (act.Fork pid path named) cpu at = at
+touches_after : (w : World) (a : Act) (cpu : ℕ) → test_task (task_after w.groups w.tasks a) (is_at cpu) ≡ true → touched a (before w.tasks a) cpu ≡ true
 touches_after w (act.Wake pid named) cpu at = or_first (named.0 == cpu) (test_task (task_of w.tasks pid.0) (is_at cpu)) (came_there named.0 cpu (task_of w.tasks pid.0) at)
 touches_after w (act.Switch named next how) cpu at = leaver_there w.tasks named.0 cpu (running_on w.tasks named.0) refl (left_there cpu how (task_part (running_on w.tasks named.0)) at)
 touches_after w (act.Stall pid) cpu at = stayed_there cpu (λ task. record task { stalled = true }) (λ _. refl) (task_of w.tasks pid.0) at
 touches_after w (act.Unstall pid) cpu at = stayed_there cpu (λ task. record task { stalled = false }) (λ _. refl) (task_of w.tasks pid.0) at
 touches_after w (act.Migrate pid named) cpu at = or_first (named.0 == cpu) (test_task (task_of w.tasks pid.0) (is_at cpu)) (came_there named.0 cpu (task_of w.tasks pid.0) at)
 touches_after w (act.Move pid path) cpu at = stayed_there cpu (λ task. record task { slot = record { 0 = unwrap_or (slot_of w.groups path) 0 } }) (λ _. refl) (task_of w.tasks pid.0) at
-touches_after w (act.Mem path current swap scan) cpu at = at
-touches_after w (act.Host mem_total swap_total swap_free) cpu at = at
-touches_after w (act.Trigger path res level threshold_us window_us) cpu at = at
-touches_after w act.End cpu at = at
+touches_after w _ cpu at = at
 
 -- all three
 pub touches_its_own : TouchesItsOwn

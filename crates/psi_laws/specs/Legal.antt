@@ -2,7 +2,7 @@
 use Rattle.std.specs.Prelude.{◌≡◌, ℕ, ◌≤◌, List, ◌++◌, length, Option, None, ◌+◌, [], ◌∷◌, Some}
 use Rattle.std.specs.FinMap as tasks_by
 use Rattle.psi_base.specs.declared.event.Event.{Event}
-use Rattle.psi_spec.specs.World.{World, Limits, first_world, after_event, after}
+use Rattle.psi_spec.specs.World.{World, Limits, first_world, after_event, after, most_tasks, most_events}
 use Rattle.psi_spec.specs.Refusal.{cause_of, AreLegal}
 use Rattle.psi_spec.specs.Stall.{parents_of, tasks_in}
 use Rattle.psi_laws.specs.Counts.{counts_among}
@@ -17,9 +17,9 @@ pub record IsLegalWorld (limits : Limits) (w : World) : Type 0 where
   pub groups : AreGroups w.groups
   pub within : AreWithin limits.cpus (length w.groups) w.tasks
   pub once : RunsOnce w.tasks
-  pub few_tasks : tasks_by.len w.tasks ≤ 65536
+  pub few_tasks : tasks_by.len w.tasks ≤ most_tasks
   pub few_triggers : w.triggers ≤ 256
-  pub few_lines : w.lines ≤ 4000000
+  pub few_lines : w.lines ≤ most_events
   pub early : w.last ≤ limits.latest
 
 -- ---- counts over a trace
@@ -65,7 +65,7 @@ SameTasksLater = (limits : Limits) (w : World) → IsLegalWorld limits w → (mo
 
 -- No group counts more tasks than may live.
 abbrev pub CountsAreFew : Type 0
-CountsAreFew = (limits : Limits) (w : World) → IsLegalWorld limits w → (parents : List (Option ℕ)) (cpu slot : ℕ) → AreAtMost 65536 (counts_among (tasks_in parents cpu slot w.tasks))
+CountsAreFew = (limits : Limits) (w : World) → IsLegalWorld limits w → (parents : List (Option ℕ)) (cpu slot : ℕ) → AreAtMost most_tasks (counts_among (tasks_in parents cpu slot w.tasks))
 
 -- After legal events, what the changes of a processor added on a group's chain and took there are the numbers of the tasks
 -- that count for the group on the processor.

@@ -7,13 +7,13 @@ use Rattle.psi_base.specs.declared.event.State.{State}
 use Rattle.psi_base.specs.declared.event.Event.{Event}
 use Rattle.psi_laws.specs.declared.changes.Counts.{Counts}
 use Rattle.psi_laws.specs.declared.changes.Change.{Change}
-use Rattle.psi_spec.specs.World.{World, Limits, first_world, after, up_to}
+use Rattle.psi_spec.specs.World.{World, Limits, first_world, after, up_to, most_tasks, most_events}
 use Rattle.psi_spec.specs.Refusal.{AreLegal}
 use Rattle.psi_spec.specs.Trace.{last_moment}
 use Rattle.psi_spec.specs.Groups.{AreOlder, HaveParents}
 use Rattle.psi_spec.specs.Stall.{is_under, parents_of, holds, stall, moment_of, states}
 use Rattle.psi_laws.specs.Counts.{tells, mask_holds}
-use Rattle.psi_laws.specs.Clock.{ClockView, ClockFollows, IsInTime, IsWholeClock, zero_clock, opened_time}
+use Rattle.psi_laws.specs.Clock.{ClockView, ClockFollows, IsInTime, IsWholeClock, zero_clock, opened, opened_time}
 use Rattle.psi_laws.specs.Touch.{AreAtMost, Follows, HasSlotsBelow, IsOfOne, change_of, is_current_in, is_current_stalled, on_chain}
 use Rattle.psi_spec.specs.Changes.{changes_of, count_at, times_after, touches, until_change}
 use Rattle.psi_laws.specs.Legal.{changes_from, added, taken}
@@ -64,7 +64,7 @@ counts_after plan slot k = less (added_after plan slot k) (taken_after plan slot
 
 -- a number that was taken is at most what was added, and no more than 65,536 are left, the most tasks that may live
 abbrev pub Leaves : ℕ → ℕ → Type 0
-Leaves taken added = (taken ≤ added) × (added ≤ taken + 65536)
+Leaves taken added = (taken ≤ added) × (added ≤ taken + most_tasks)
 
 -- so it is for each count
 pub record LeavesFew (taken added : Counts) : Type 0 where
@@ -103,7 +103,7 @@ AreInOrder plan = (k : ℕ) → k < length plan.changes → last_change plan k �
 -- are at most 60,000,000 s, the longest trace; the counts fit; each change takes and adds the counts of one task at most, and
 -- names slots that there are; and each slot but the first has a parent, which is older.
 pub record IsPlan (plan : PlanView) : Type 0 where
-  pub few : length plan.changes ≤ 4000000
+  pub few : length plan.changes ≤ most_events
   pub order : AreInOrder plan
   pub early : (k : ℕ) → k ≤ length plan.changes → last_change plan k ≤ last_moment
   pub fits : FitsPlan plan
@@ -112,7 +112,7 @@ pub record IsPlan (plan : PlanView) : Type 0 where
   pub older : AreOlder plan.parents
   pub parented : HaveParents plan.parents
 
--- the moment (ns) of the change with a number from 1 among the first k, or the moment after them
+-- the moment (ns) of the change with a number from 1 among the first k, and the given moment for a number above k
 abbrev pub change_moment : PlanView → ℕ → ℕ → ℕ → ℕ
 change_moment plan k at j = slice_index_or (map (λ (change : Change). change.at) (take k plan.changes)) (j - 1) at
 
@@ -189,12 +189,12 @@ abbrev pub StallUpTo : Type 0
 StallUpTo = (limits : Limits) (events : List Event) → AreLegal limits first_world events → (state : State) (cpu slot at : ℕ) →
     stall state cpu slot (up_to events at) at ≡ stall state cpu slot (until_change cpu events (count_at cpu events at)) at
 
--- A plan knows by the moments of its changes how many of them come up to a moment, and there are no fewer.
+-- A plan knows by the moments of its changes how many of them come up to a moment: no more than there are, and none later.
 abbrev pub CountsByPlan : Type 0
 CountsByPlan = (limits : Limits) (events : List Event) → AreLegal limits first_world events → (cpu at : ℕ) →
     (count_at cpu events at ≡ changes_up_to (plan_of cpu events) at) × (count_at cpu events at ≤ length (changes_of cpu events)) × (last_change (plan_of cpu events) (count_at cpu events at) ≤ at)
 
--- A plan of legal events is so, where the latest moment allowed is no later than that.
+-- The plan of legal events is a plan, where no moment later than 60,000,000 s is allowed.
 abbrev pub PlanIsWhole : Type 0
 PlanIsWhole = (limits : Limits) (events : List Event) → AreLegal limits first_world events → limits.latest ≤ last_moment → (cpu : ℕ) → IsPlan (plan_of cpu events)
 
@@ -234,7 +234,7 @@ CountsByChange = (plan : PlanView) → FitsPlan plan → (slot k : ℕ) (change 
 
 -- They are at most 65,536 then.
 abbrev pub PlanCountsAreFew : Type 0
-PlanCountsAreFew = (plan : PlanView) → FitsPlan plan → (slot k : ℕ) → k ≤ length plan.changes → AreAtMost 65536 (counts_after plan slot k)
+PlanCountsAreFew = (plan : PlanView) → FitsPlan plan → (slot k : ℕ) → k ≤ length plan.changes → AreAtMost most_tasks (counts_after plan slot k)
 
 -- A change shows the running task after it.
 abbrev pub CurrentByChange : Type 0
@@ -254,6 +254,10 @@ PlaceOfMoment = (plan : PlanView) → AreInOrder plan → (k at : ℕ) → k ≤
 -- for how long (ns) a group was in each state by the first k changes, up to a moment: seven times in the order of the states
 abbrev pub planned : PlanView → ℕ → ℕ → ℕ → List ℕ
 planned plan slot k at = map (λ state. planned_time state plan slot k at) states
+
+-- A clock that stands for a slot after some changes opens to the planned times.
+abbrev pub ClockTellsPlanned : Type 0
+ClockTellsPlanned = (clock : ClockView) (plan : PlanView) (slot k at : ℕ) → IsClock clock plan slot k → last_change plan k ≤ at → opened clock at ≡ planned plan slot k at
 
 -- The planned times by the changes up to a moment are the stall times of the events up to it.
 abbrev pub PlannedUntil : Type 0

@@ -41,8 +41,8 @@ after_effect groups tasks (moves pid path) = changed (λ task. record task { slo
 after_effect groups tasks (switches cpu next how) = left_if how (task_part (running_on tasks cpu.0))
 
 -- the task whose counts an act changes, after it
-abbrev pub after_of : List GroupLife → Tasks → Act → Option Task
-after_of groups tasks act = after_effect groups tasks (effect_of act)
+abbrev pub task_after : List GroupLife → Tasks → Act → Option Task
+task_after groups tasks act = after_effect groups tasks (effect_of act)
 
 -- ---- changes
 
@@ -65,7 +65,7 @@ change_on at old new tasks cpu = record { at = at; minus = part cpu old; plus = 
 unfoldable pub change_of : World → Event → ℕ → Option Change
 change_of w event cpu =
     if touched event.act (before w.tasks event.act) cpu
-    then Some (change_on event.at (before w.tasks event.act) (after_of w.groups w.tasks event.act) (tasks_after w.groups w.tasks event.act) cpu)
+    then Some (change_on event.at (before w.tasks event.act) (task_after w.groups w.tasks event.act) (tasks_after w.groups w.tasks event.act) cpu)
     else None
 
 -- ---- touches
@@ -153,7 +153,7 @@ AreWithin cpus slots tasks = (pid : ℕ) → IfSome (task_of tasks pid) (λ task
 -- A legal event changes the counts of each group on each processor by what its change takes and adds there.
 abbrev pub CountsFollow : Type 0
 CountsFollow = (limits : Limits) (w : World) (event : Event) → cause_of limits w event ≡ None → (parents : List (Option ℕ)) (cpu slot : ℕ) →
-    Follows (counts_among (tasks_in parents cpu slot w.tasks)) (on_chain parents slot (part cpu (before w.tasks event.act))) (on_chain parents slot (part cpu (after_of w.groups w.tasks event.act))) (counts_among (tasks_in parents cpu slot (after_event w event).tasks))
+    Follows (counts_among (tasks_in parents cpu slot w.tasks)) (on_chain parents slot (part cpu (before w.tasks event.act))) (on_chain parents slot (part cpu (task_after w.groups w.tasks event.act))) (counts_among (tasks_in parents cpu slot (after_event w event).tasks))
 
 -- At most one task runs on each processor, from the first on.
 abbrev pub RunsOnceFirst : Type 0
@@ -181,7 +181,7 @@ abbrev pub TouchesItsOwn : Type 0
 TouchesItsOwn = (w : World) (event : Event) (cpu : ℕ) →
     ((names event.act).cpu ≡ Some cpu → touched event.act (before w.tasks event.act) cpu ≡ true)
     × (test_task (before w.tasks event.act) (is_at cpu) ≡ true → touched event.act (before w.tasks event.act) cpu ≡ true)
-    × (test_task (after_of w.groups w.tasks event.act) (is_at cpu) ≡ true → touched event.act (before w.tasks event.act) cpu ≡ true)
+    × (test_task (task_after w.groups w.tasks event.act) (is_at cpu) ≡ true → touched event.act (before w.tasks event.act) cpu ≡ true)
 
 -- A legal event leaves the counts of each group on a processor that it doesn't touch, and which task runs there.
 abbrev pub StaysUntouched : Type 0

@@ -7,7 +7,7 @@ use psi_base::{Cpu, Ns, Slot};
 pub struct Counts {
     /// Waiting for IO.
     pub io: u32,
-    /// In a memory stall, asleep or not.
+    /// In a memory stall, blocked or not.
     pub stalled: u32,
     /// Ready or running.
     pub running: u32,

@@ -14,13 +14,16 @@ mod plans;
 mod touches;
 
 pub use changes::{Change, Counts, Touch};
-pub use clocks::{clock_times, clock_words, masks, same_clocks, states_by_counts};
-pub use legal::{legal_counts, legal_worlds};
+pub use clocks::{
+    law_clock_times, law_clock_words, law_masks, law_same_clocks, law_states_by_counts,
+};
+pub use legal::{law_legal_counts, law_legal_worlds};
 pub use moments::{law_growth, law_lives, law_path_order, law_triggers};
 pub use plans::{
-    law_planned_after, law_planned_until, numbered_changes, own_changes, plan_clocks, plan_states,
-    plan_steps, planned_times, whole_plans,
+    law_numbered_changes, law_own_changes, law_plan_clocks, law_plan_states, law_plan_steps,
+    law_planned_after, law_planned_times, law_planned_until, law_whole_plans,
 };
 pub use touches::{
-    change_tells, changes_are_within, counts_follow, current_tells, runs_once, touched, within,
+    law_change_tells, law_changes_are_within, law_counts_follow, law_current_tells, law_runs_once,
+    law_touched, law_within,
 };

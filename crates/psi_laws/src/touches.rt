@@ -3,42 +3,42 @@ ghost use Rattle.psi_laws.specs.Touch.{ChangeTells, ChangesAreWithin, CountsFoll
 
 /// A legal event changes the counts of each group on each processor by what its change takes and adds on the chain of
 /// the task's slot, as `psi_group_change` of the kernel's psi.c does group by group.
-pub fn counts_follow()
+pub fn law_counts_follow()
     ensures { CountsFollow }
 {}
 
 /// At most one task runs on each processor, at first and after each legal event.
-pub fn runs_once()
+pub fn law_runs_once()
     ensures first { RunsOnceFirst }
     ensures kept { RunsOnceKept }
 {}
 
 /// The running task of a processor tells which of the tasks that count for a group runs, so that the states follow
 /// from counts.
-pub fn current_tells()
+pub fn law_current_tells()
     ensures { CurrentTells }
 {}
 
 /// The change of a processor tells there all that the states of each group are told by: how the counts follow, and what
 /// runs.
-pub fn change_tells()
+pub fn law_change_tells()
     ensures { ChangeTells }
 {}
 
 /// A legal event leaves counts and running task on processors that it doesn't touch, and it touches the processor that
 /// it names and those of the task that it changes.
-pub fn touched()
+pub fn law_touched()
     ensures others { StaysUntouched }
     ensures own { TouchesItsOwn }
 {}
 
 /// The processors and slots of tasks are ones that there are, at first and after each legal event.
-pub fn within()
+pub fn law_within()
     ensures first { WithinFirst }
     ensures kept { WithinKept }
 {}
 
 /// So are those of changes, and a change takes and adds the counts of one task.
-pub fn changes_are_within()
+pub fn law_changes_are_within()
     ensures { ChangesAreWithin }
 {}
