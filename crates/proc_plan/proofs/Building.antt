@@ -11,7 +11,7 @@ use Rattle.psi_base.specs.declared.event.Refusal.{Refusal}
 use Rattle.psi_spec.specs.Grammar.{Fits}
 use Rattle.psi_spec.specs.Trace.{AllFit}
 use Rattle.psi_spec.specs.World.{World, Limits, first_world}
-use Rattle.proc_plan.specs.Plans.{HasTaken, HasTakenAll, IsFaultAt, IsRefusal, PlannerView, Takes}
+use Rattle.proc_plan.specs.Plans.{HasTaken, HasTakenAll, IsFaultAt, IsRefusal, PlannerTakes, PlannerView}
 use Rattle.proc_plan.proofs.Finishing.{ended_is_accepted}
 use Rattle.proc_plan.proofs.Taking.{lines_of}
 
@@ -32,12 +32,12 @@ abbrev pub HasFirst : PlannerView → PlannerView → List Event → Type 0
 HasFirst old now events = (limits : Limits) → HasTaken old limits [] → HasTaken now limits events
 
 -- one event more of all
-pub took_next : (old now new : PlannerView) (events : List Event) (i : ℕ) (event : Event) (x : Unit {0}) → i < length events → event ≡ slice_index_or events i event → HasFirst old now (take i events) → Takes now new event (Ok x) → HasFirst old new (take (i + 1) events)
+pub took_next : (old now new : PlannerView) (events : List Event) (i : ℕ) (event : Event) (x : Unit {0}) → i < length events → event ≡ slice_index_or events i event → HasFirst old now (take i events) → PlannerTakes now new event (Ok x) → HasFirst old new (take (i + 1) events)
 took_next old now new events i event x room is before takes = λ limits fresh.
     subst (HasTaken new limits) (sym (take_more events i event room ∙ ap (λ e. take i events ++ e ∷ []) (sym is))) (takes limits (take i events) (before limits fresh)).1
 
 -- an event that is refused is the first one
-pub refused_next : (old now new : PlannerView) (events : List Event) (i : ℕ) (event : Event) (why : Fault Cause) (line : ℕ) (at : Fault Refusal) → i < length events → event ≡ slice_index_or events i event → HasFirst old now (take i events) → Takes now new event (Err why) → new ≡ now → line ≡ new.table.world.lines → IsFaultAt (line + 2) why at
+pub refused_next : (old now new : PlannerView) (events : List Event) (i : ℕ) (event : Event) (why : Fault Cause) (line : ℕ) (at : Fault Refusal) → i < length events → event ≡ slice_index_or events i event → HasFirst old now (take i events) → PlannerTakes now new event (Err why) → new ≡ now → line ≡ new.table.world.lines → IsFaultAt (line + 2) why at
     → (limits : Limits) → HasTaken old limits [] → IsRefusal limits events at
 refused_next old now new events i event (fault.Refused why) line at room is before takes same counted told = λ limits fresh.
     let taken = before limits fresh in

@@ -13,7 +13,7 @@ use Rattle.psi_laws.specs.Plan.{IsClock, IsPlan, PlanView, counts_after, current
 use Rattle.psi_laws.proofs.PlanClocks.{followed_is_clock, zero_is_clock}
 use Rattle.psi_laws.proofs.PlanStates.{counts_are}
 use Rattle.psi_laws.proofs.PlanSteps.{counts_by_change, current_by_change, plan_counts_are_few}
-use Rattle.slot_clocks.specs.Clocks.{AllCanFollow, AllClocksFollow, AllFollow, AreTold, AreWhole, CanFollow, ClocksView, cell_at, first_clocks, numbers_of, zero_cell}
+use Rattle.slot_clocks.specs.Clocks.{AllCanFollow, AllClocksFollow, AllFollow, AreTold, AreWhole, CanFollow, ClocksView, cell_at, first_clocks, parent_numbers, zero_cell}
 use Rattle.slot_clocks.specs.declared.cell.Cell.{Cell}
 use Rattle.proc_plan.specs.Clocks.{AreClocks}
 
@@ -39,7 +39,7 @@ first_are plan whole = record {
 -- ---- before a change
 
 -- the clocks' own list of parents is as long as the plan's
-pub as_many_parents : (parents : List (Option Slot)) (plan : PlanView) → numbers_of parents ≡ plan.parents → length plan.parents ≡ length parents
+pub as_many_parents : (parents : List (Option Slot)) (plan : PlanView) → parent_numbers parents ≡ plan.parents → length plan.parents ≡ length parents
 as_many_parents parents plan same = sym (ap length same) ∙ length-map parents number_of_slot
 
 -- the running task is in a slot that the plan knows

@@ -17,7 +17,7 @@ use Rattle.psi_spec.specs.World.{World, Limits, after, after_event, first_world,
 use Rattle.psi_spec.specs.Refusal.{AreLegal, cause_of}
 use Rattle.psi_spec.proofs.TaskLaws.{no_entries}
 use Rattle.psi_spec.proofs.RefusalLaws.{none_stands}
-use Rattle.psi_laws.specs.Touch.{after_of}
+use Rattle.psi_laws.specs.Touch.{task_after}
 use Rattle.psi_spec.specs.Changes.{before}
 use Rattle.psi_laws.proofs.CountLaws.{one}
 use Rattle.psi_laws.proofs.LegalLaws.{chosen_fewer, more_groups}
@@ -30,7 +30,8 @@ use Rattle.psi_laws.proofs.TouchLaws.{counted_act}
 use Rattle.psi_laws.proofs.TouchWithin.{Fits, fits_after, fits_before, slot_room}
 use Rattle.proc_plan.specs.declared.side.Side.{Side}
 use Rattle.proc_plan.specs.Sides.{came, went, passage, group_of, sample_by, sides_by, sides_of}
-use Rattle.proc_plan.specs.SideLaws.{comes, goes, is_member, slot_of_side, MembersAreTold, SidesAreOnGroups}
+use Rattle.task_table.specs.Stands.{is_of}
+use Rattle.proc_plan.specs.SideLaws.{comes, goes, slot_of_side, MembersAreTold, SidesAreOnGroups}
 
 -- ---- comings and goings
 
@@ -49,35 +50,11 @@ is_group slot (Some group) = group.0 == slot
 -- a sample tells of none
 sample_comings : (slot at : ℕ) (groups : List GroupLife) (a : Act) → comings slot (sample_by at groups a) ≡ 0
 sample_comings slot at groups (act.Group path) = refl
-sample_comings slot at groups (act.Remove path) = refl
-sample_comings slot at groups (act.Prefer path preference) = refl
-sample_comings slot at groups (act.Fork pid path cpu) = refl
-sample_comings slot at groups (act.Wake pid cpu) = refl
-sample_comings slot at groups (act.Switch cpu next how) = refl
-sample_comings slot at groups (act.Stall pid) = refl
-sample_comings slot at groups (act.Unstall pid) = refl
-sample_comings slot at groups (act.Migrate pid cpu) = refl
-sample_comings slot at groups (act.Move pid path) = refl
-sample_comings slot at groups (act.Mem path current swap scan) = refl
-sample_comings slot at groups (act.Host mem_total swap_total swap_free) = refl
-sample_comings slot at groups (act.Trigger path res level threshold_us window_us) = refl
-sample_comings slot at groups act.End = refl
+sample_comings slot at groups _ = refl
 
 sample_goings : (slot at : ℕ) (groups : List GroupLife) (a : Act) → goings slot (sample_by at groups a) ≡ 0
 sample_goings slot at groups (act.Group path) = refl
-sample_goings slot at groups (act.Remove path) = refl
-sample_goings slot at groups (act.Prefer path preference) = refl
-sample_goings slot at groups (act.Fork pid path cpu) = refl
-sample_goings slot at groups (act.Wake pid cpu) = refl
-sample_goings slot at groups (act.Switch cpu next how) = refl
-sample_goings slot at groups (act.Stall pid) = refl
-sample_goings slot at groups (act.Unstall pid) = refl
-sample_goings slot at groups (act.Migrate pid cpu) = refl
-sample_goings slot at groups (act.Move pid path) = refl
-sample_goings slot at groups (act.Mem path current swap scan) = refl
-sample_goings slot at groups (act.Host mem_total swap_total swap_free) = refl
-sample_goings slot at groups (act.Trigger path res level threshold_us window_us) = refl
-sample_goings slot at groups act.End = refl
+sample_goings slot at groups _ = refl
 
 same_group : (old new slot : ℕ) → (old == new) ≡ true → one (old == slot) ≡ one (new == slot)
 same_group old new slot is = ⊎_elim (λ same. ap (λ n. one (n == slot)) same.1) (λ other. absurd (cc (is, other.0))) (eqb_tells old new)
@@ -94,32 +71,32 @@ passage_tells at slot (Some old) (Some new) =
     ] refl
 
 -- a task is in a group
-member_group : (slot : ℕ) (o : Option Task) → test_task o (is_member slot) ≡ is_group slot (group_of o)
+member_group : (slot : ℕ) (o : Option Task) → test_task o (is_of slot) ≡ is_group slot (group_of o)
 member_group slot None = refl
 member_group slot (Some task) = refl
 
 -- ---- members
 
 abbrev Tells : ℕ → List Event → Type 0
-Tells slot events = comings slot (sides_of events) ≡ goings slot (sides_of events) + counted (is_member slot) (after events).tasks
+Tells slot events = comings slot (sides_of events) ≡ goings slot (sides_of events) + counted (is_of slot) (after events).tasks
 
 tells-push : (limits : Limits) (slot : ℕ) (events : List Event) (event : Event) → AreLegal limits first_world (events ++ event ∷ []) → Tells slot events → Tells slot (events ++ event ∷ [])
 tells-push limits slot events event legal before_it =
     let w : World = after events in
     let sample : List Side = sample_by event.at w.groups event.act in
-    let pass : List Side = passage event.at (group_of (before w.tasks event.act)) (group_of (after_of w.groups w.tasks event.act)) in
+    let pass : List Side = passage event.at (group_of (before w.tasks event.act)) (group_of (task_after w.groups w.tasks event.act)) in
     let told = told-push sides_by first_world events event in
     let came_all = ap (comings slot) told ∙ sum_by-append _ (sides_of events) (sample ++ pass) ∙ ap (λ n. comings slot (sides_of events) + n) (sum_by-append _ sample pass) in
     let went_all = ap (goings slot) told ∙ sum_by-append _ (sides_of events) (sample ++ pass) ∙ ap (λ n. goings slot (sides_of events) + n) (sum_by-append _ sample pass) in
-    let tasks : counted (is_member slot) (after (events ++ event ∷ [])).tasks ≡ counted (is_member slot) (tasks_after w.groups w.tasks event.act) = ap (λ (v : World). counted (is_member slot) v.tasks) (after-push events event) in
-    let by_act = counted_act (is_member slot) (λ t ready. refl) limits w event.at event.act (legal_last limits first_world events event legal) in
+    let tasks : counted (is_of slot) (after (events ++ event ∷ [])).tasks ≡ counted (is_of slot) (tasks_after w.groups w.tasks event.act) = ap (λ (v : World). counted (is_of slot) v.tasks) (after-push events event) in
+    let by_act = counted_act (is_of slot) (λ t ready. refl) limits w event.at event.act (legal_last limits first_world events event legal) in
     let old = ap one (member_group slot (before w.tasks event.act)) in
-    let new = ap one (member_group slot (after_of w.groups w.tasks event.act)) in
-    let by_passage = passage_tells event.at slot (group_of (before w.tasks event.act)) (group_of (after_of w.groups w.tasks event.act)) in
+    let new = ap one (member_group slot (task_after w.groups w.tasks event.act)) in
+    let by_passage = passage_tells event.at slot (group_of (before w.tasks event.act)) (group_of (task_after w.groups w.tasks event.act)) in
     omega (arith, came_all, went_all, tasks, by_act, old, new, by_passage, sample_comings slot event.at w.groups event.act, sample_goings slot event.at w.groups event.act, before_it)
 
-none_first : (slot : ℕ) → counted (is_member slot) no_tasks ≡ 0
-none_first slot = ap (λ (es : List (ℕ × Task)). tally (is_member slot) (map (λ e. e.1) es)) no_entries
+none_first : (slot : ℕ) → counted (is_of slot) no_tasks ≡ 0
+none_first slot = ap (λ (es : List (ℕ × Task)). tally (is_of slot) (map (λ e. e.1) es)) no_entries
 
 members_told : (limits : Limits) (slot : ℕ) (events : List Event) → AreLegal limits first_world events → Tells slot events
 members_told limits slot events legal = by_legal limits (Tells slot) (let none = none_first slot in omega (arith, none)) (tells-push limits slot) events legal
@@ -127,10 +104,10 @@ members_told limits slot events legal = by_legal limits (Tells slot) (let none =
 pub members_are_told : MembersAreTold
 members_are_told limits events legal slot =
     let tasks = (after events).tasks in
-    let same = tallied (is_member slot) (tasks_by.values tasks) in
+    let same = tallied (is_of slot) (tasks_by.values tasks) in
     let few = (legal_after limits events legal).few_tasks in
     let all : length (tasks_by.values tasks) ≡ tasks_by.len tasks = length-map (tasks_by.entries tasks) (λ e. e.1) ∙ sym (tasks_by.len-entries tasks) in
-    (omega (arith, members_told limits slot events legal, same), omega (arith, chosen_fewer (is_member slot) (tasks_by.values tasks), all, few))
+    (omega (arith, members_told limits slot events legal, same), omega (arith, chosen_fewer (is_of slot) (tasks_by.values tasks), all, few))
 
 -- ---- slots
 
@@ -146,20 +123,10 @@ on_more few many more side on = some_more (slot_of_side side.what) on
     some_more (Some slot) is = omega (arith, is, more)
 
 sample_on : (limits : Limits) (w : World) (at : ℕ) (a : Act) → cause_of limits w (record { at = at; act = a }) ≡ None → AllByRecursion (IsOn (length w.groups)) (sample_by at w.groups a)
-sample_on limits w at (act.Group path) legal = tt
-sample_on limits w at (act.Remove path) legal = tt
 sample_on limits w at (act.Prefer path preference) legal = (slot_room w.groups path (none_stands limits w _ legal).unknown_group, tt)
-sample_on limits w at (act.Fork pid path cpu) legal = tt
-sample_on limits w at (act.Wake pid cpu) legal = tt
-sample_on limits w at (act.Switch cpu next how) legal = tt
-sample_on limits w at (act.Stall pid) legal = tt
-sample_on limits w at (act.Unstall pid) legal = tt
-sample_on limits w at (act.Migrate pid cpu) legal = tt
-sample_on limits w at (act.Move pid path) legal = tt
 sample_on limits w at (act.Mem path current swap scan) legal = (slot_room w.groups path (none_stands limits w _ legal).unknown_group, tt)
 sample_on limits w at (act.Host mem_total swap_total swap_free) legal = (tt, tt)
-sample_on limits w at (act.Trigger path res level threshold_us window_us) legal = tt
-sample_on limits w at act.End legal = tt
+sample_on limits w at _ legal = tt
 
 group_on : (cpus slots : ℕ) (o : Option Task) → Fits cpus slots o → IfSome (group_of o) (λ slot. slot.0 < slots)
 group_on cpus slots None fits = tt
@@ -178,12 +145,12 @@ event_on limits events event legal =
     let slots : ℕ = length w.groups in
     let allowed = legal_last limits first_world events event legal in
     let within = (legal_after limits events (legal_front limits first_world events (event ∷ []) legal)).within in
-    let pass = passage_on event.at slots (group_of (before w.tasks event.act)) (group_of (after_of w.groups w.tasks event.act))
+    let pass = passage_on event.at slots (group_of (before w.tasks event.act)) (group_of (task_after w.groups w.tasks event.act))
     (group_on limits.cpus slots (before w.tasks event.act) (fits_before limits.cpus slots w.tasks within event.act))
-    (group_on limits.cpus slots (after_of w.groups w.tasks event.act) (fits_after limits w event.at event.act allowed within)) in
-    All-append (IsOn slots) (sample_by event.at w.groups event.act) (passage event.at (group_of (before w.tasks event.act)) (group_of (after_of w.groups w.tasks event.act)))
+    (group_on limits.cpus slots (task_after w.groups w.tasks event.act) (fits_after limits w event.at event.act allowed within)) in
+    All-append (IsOn slots) (sample_by event.at w.groups event.act) (passage event.at (group_of (before w.tasks event.act)) (group_of (task_after w.groups w.tasks event.act)))
     (All-from_recursion (IsOn slots) (sample_by event.at w.groups event.act) (sample_on limits w event.at event.act allowed))
-    (All-from_recursion (IsOn slots) (passage event.at (group_of (before w.tasks event.act)) (group_of (after_of w.groups w.tasks event.act))) pass)
+    (All-from_recursion (IsOn slots) (passage event.at (group_of (before w.tasks event.act)) (group_of (task_after w.groups w.tasks event.act))) pass)
 
 pub sides_are_on_groups : SidesAreOnGroups
 sides_are_on_groups limits events legal = by_legal limits (λ es. All (IsOn (length (after es).groups)) (sides_of es)) (λ k d low. absurd (omega (arith, low)))

@@ -7,7 +7,7 @@ use Rattle.psi_base.specs.declared.event.Act.{Act}
 use Rattle.psi_base.specs.declared.event.Act.TheVariants as act
 use Rattle.psi_spec.specs.declared.machine.GroupLife.{GroupLife}
 use Rattle.psi_spec.specs.World.{first_world}
-use Rattle.psi_laws.specs.Touch.{after_of}
+use Rattle.psi_laws.specs.Touch.{task_after}
 use Rattle.psi_spec.specs.Changes.{before}
 use Rattle.psi_laws.proofs.MomentsTold.{TellsAtOnce, told_in_order, told_until}
 use Rattle.proc_plan.specs.declared.side.Side.{Side}
@@ -25,20 +25,10 @@ both_at_once at [] more now later = later
 both_at_once at (side ∷ some) more now later = (now.0, both_at_once at some more now.1 later)
 
 sample_at_once : (at : ℕ) (groups : List GroupLife) (a : Act) → AtOnce at (sample_by at groups a)
-sample_at_once at groups (act.Group path) = tt
-sample_at_once at groups (act.Remove path) = tt
 sample_at_once at groups (act.Prefer path preference) = (refl, tt)
-sample_at_once at groups (act.Fork pid path cpu) = tt
-sample_at_once at groups (act.Wake pid cpu) = tt
-sample_at_once at groups (act.Switch cpu next how) = tt
-sample_at_once at groups (act.Stall pid) = tt
-sample_at_once at groups (act.Unstall pid) = tt
-sample_at_once at groups (act.Migrate pid cpu) = tt
-sample_at_once at groups (act.Move pid path) = tt
 sample_at_once at groups (act.Mem path current swap scan) = (refl, tt)
 sample_at_once at groups (act.Host mem_total swap_total swap_free) = (refl, tt)
-sample_at_once at groups (act.Trigger path res level threshold_us window_us) = tt
-sample_at_once at groups act.End = tt
+sample_at_once at groups _ = tt
 
 passage_at_once : (at : ℕ) (old new : Option Slot) → AtOnce at (passage at old new)
 passage_at_once at None None = tt
@@ -47,7 +37,7 @@ passage_at_once at (Some old) None = (refl, tt)
 passage_at_once at (Some old) (Some new) = elim (old.0 == new.0) as (λ b. AtOnce at (if b then [] else went at old ++ came at new)) [ true ↦ tt | false ↦ (refl, (refl, tt)) ]
 
 tells_at_once : TellsAtOnce sides_by (λ (side : Side). side.at)
-tells_at_once w event = both_at_once event.at (sample_by event.at w.groups event.act) _ (sample_at_once event.at w.groups event.act) (passage_at_once event.at (group_of (before w.tasks event.act)) (group_of (after_of w.groups w.tasks event.act)))
+tells_at_once w event = both_at_once event.at (sample_by event.at w.groups event.act) _ (sample_at_once event.at w.groups event.act) (passage_at_once event.at (group_of (before w.tasks event.act)) (group_of (task_after w.groups w.tasks event.act)))
 
 pub sides_up_to : SidesUpTo
 sides_up_to limits events legal at = told_until sides_by (λ (side : Side). side.at) tells_at_once limits first_world events at legal

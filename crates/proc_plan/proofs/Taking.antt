@@ -16,11 +16,12 @@ use Rattle.psi_spec.specs.Trace.{AllFit}
 use Rattle.psi_spec.specs.World.{World, Limits, after, after_event, after_from, first_world, tasks_after}
 use Rattle.psi_spec.specs.Refusal.{AreLegal, cause_of}
 use Rattle.psi_laws.specs.Legal.{with_change}
-use Rattle.psi_laws.specs.Touch.{AllTouched, IsTouch, after_of, change_of, change_on, told_first, told_of}
+use Rattle.psi_laws.specs.Touch.{AllTouched, IsTouch, change_of, change_on, task_after, told_first, told_of}
 use Rattle.psi_spec.specs.Changes.{before, touched}
 use Rattle.psi_laws.proofs.PlanLaws.{after-push, changes_from-push}
+use Rattle.task_table.specs.Stands.{HasPlayed}
 use Rattle.proc_plan.specs.declared.side.Side.{Side}
-use Rattle.group_tree.specs.Tree.{IsFault}
+use Rattle.group_tree.specs.Tree.{IsGroupFault}
 use Rattle.proc_plan.specs.Plans.{HasTaken, PlannerView, changes_at}
 use Rattle.proc_plan.specs.Room.{ChangesView, HasRoom, HasRoomFor}
 use Rattle.psi_spec.specs.Told.{listed, told_from, trigger_by}
@@ -58,14 +59,14 @@ pub cause_in : (planner : PlannerView) (limits : Limits) (events : List Event) (
 cause_in planner limits events event taken = rw (taken.limits_are, taken.world) refl
 
 -- so the fault of the event there is its fault
-pub fault_in : (planner : PlannerView) (limits : Limits) (events : List Event) (event : Event) (fault : Fault Cause) → HasTaken planner limits events → IsFault (cause_of planner.table.limits planner.table.world event) fault → IsFault (cause_of limits (after events) event) fault
-fault_in planner limits events event fault taken is = subst (λ why. IsFault why fault) (sym (cause_in planner limits events event taken)) is
+pub fault_in : (planner : PlannerView) (limits : Limits) (events : List Event) (event : Event) (fault : Fault Cause) → HasTaken planner limits events → IsGroupFault (cause_of planner.table.limits planner.table.world event) fault → IsGroupFault (cause_of limits (after events) event) fault
+fault_in planner limits events event fault taken is = subst (λ why. IsGroupFault why fault) (sym (cause_in planner limits events event taken)) is
 
 -- ---- room for what it changes
 
 touched_here : (w : World) (event : Event) (cpu : ℕ) → IsSome (change_of w event cpu) → touched event.act (before w.tasks event.act) cpu ≡ true
 unfolding change_of
-touched_here w event cpu some = only_then (touched event.act (before w.tasks event.act) cpu) (change_on event.at (before w.tasks event.act) (after_of w.groups w.tasks event.act) (tasks_after w.groups w.tasks event.act) cpu) some
+touched_here w event cpu some = only_then (touched event.act (before w.tasks event.act) cpu) (change_on event.at (before w.tasks event.act) (task_after w.groups w.tasks event.act) (tasks_after w.groups w.tasks event.act) cpu) some
   where
     only_then : (here : Bool) (change : Change) → IsSome (if here then Some change else None) → here ≡ true
     only_then true change some = refl
@@ -99,10 +100,7 @@ room_for w event touch task changes cpus same is all each room cpu some =
 -- what is known of a planner after an event that it took
 pub record HasStepped (old new : PlannerView) (event : Event) (touch : Touch) (trigger : Option TriggerSpec) (first second : Option Side) : Type 0 where
   pub fits : Fits event
-  pub limits : new.table.limits ≡ old.table.limits
-  pub legal : cause_of old.table.limits old.table.world event ≡ None
-  pub world : new.table.world ≡ after_event old.table.world event
-  pub few : new.table.world.lines ≤ 4000000
+  pub played : HasPlayed old.table event new.table
   pub told : IsTouch old.table.limits.cpus old.table.world event touch
   pub changes : (cpu : ℕ) → changes_at new cpu ≡ changes_at old cpu ++ with_change (told_of touch cpu) []
   pub trigger_is : listed trigger ≡ trigger_by event.at old.table.world.groups event.act
@@ -113,12 +111,12 @@ pub record HasStepped (old new : PlannerView) (event : Event) (touch : Touch) (t
 pub taken_more : (old new : PlannerView) (event : Event) (touch : Touch) (trigger : Option TriggerSpec) (first second : Option Side) (limits : Limits) (events : List Event) → HasStepped old new event touch trigger first second → HasTaken old limits events
     → (cause_of limits (after events) event ≡ None) × HasTaken new limits (events ++ event ∷ []) × (length events < 4000000)
 taken_more old new event touch trigger first second limits events step taken =
-    let allowed : cause_of limits (after events) event ≡ None = cause_in old limits events event taken ∙ step.legal in
-    let world : new.table.world ≡ after (events ++ event ∷ []) = step.world ∙ ap (λ w. after_event w event) taken.world ∙ sym (after-push events event) in
+    let allowed : cause_of limits (after events) event ≡ None = cause_in old limits events event taken ∙ step.played.legal in
+    let world : new.table.world ≡ after (events ++ event ∷ []) = step.played.world ∙ ap (λ w. after_event w event) taken.world ∙ sym (after-push events event) in
     let lines : new.table.world.lines ≡ length (events ++ event ∷ []) = ap (λ (w : World). w.lines) world ∙ lines_of (events ++ event ∷ []) in (
       allowed,
       record {
-        limits_are = step.limits ∙ taken.limits_are;
+        limits_are = step.played.limits ∙ taken.limits_are;
         counted = taken.counted;
         short = taken.short;
         fit = fit_push events event taken.fit step.fits;
@@ -141,5 +139,5 @@ taken_more old new event touch trigger first second limits events step taken =
             ∙ ap (λ sides. sides ++ sides_by (after events) event) taken.sides
             ∙ sym (told_from-push sides_by first_world events event);
       },
-      omega (arith, step.few, lines, length-append events (event ∷ [])),
+      omega (arith, step.played.lines, lines, length-append events (event ∷ [])),
     )

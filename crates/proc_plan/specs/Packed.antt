@@ -5,16 +5,16 @@ use Rattle.psi_laws.specs.declared.changes.Counts.{Counts}
 use Rattle.proc_plan.specs.declared.changes.Marks.{Marks}
 
 -- the count that a mark stands for: 1 for a task that counts there, and 0 for none
-abbrev pub count_by : Bool → ℕ
-count_by mark = if mark then 1 else 0
+abbrev pub marked_count : Bool → ℕ
+marked_count mark = if mark then 1 else 0
 
 -- the counts of one task at most, by their marks
 abbrev pub counts_by : Marks → Counts
-counts_by marks = record { io = count_by marks.io; stalled = count_by marks.stalled; running = count_by marks.running; stalled_running = count_by marks.stalled_running }
+counts_by marks = record { io = marked_count marks.io; stalled = marked_count marks.stalled; running = marked_count marks.running; stalled_running = marked_count marks.stalled_running }
 
--- one side of a change, where it has that side
-abbrev pub side_by : Bool → Slot → Marks → Option (Slot × Counts)
-side_by there slot marks = if there then Some (slot, counts_by marks) else None
+-- one part of a change, what it takes or what it adds, where it has that part
+abbrev pub part_by : Bool → Slot → Marks → Option (Slot × Counts)
+part_by there slot marks = if there then Some (slot, counts_by marks) else None
 
 -- the running task that a change shows, where one runs
 abbrev pub current_by : Bool → Slot → Bool → Option (Slot × Bool)

@@ -11,7 +11,7 @@ use Rattle.psi_base.specs.declared.event.Slot.{Slot}
 use Rattle.psi_base.specs.declared.event.TriggerSpec.{TriggerSpec}
 use Rattle.psi_laws.specs.declared.changes.Change.{Change}
 use Rattle.psi_spec.specs.declared.machine.GroupLife.{GroupLife}
-use Rattle.psi_spec.specs.World.{Limits, after, first_world}
+use Rattle.psi_spec.specs.World.{Limits, after, first_world, most_events}
 use Rattle.psi_spec.specs.Refusal.{AreLegal, cause_of}
 use Rattle.psi_spec.specs.Groups.{AreGroups, leads_to}
 use Rattle.psi_spec.specs.Stall.{number_of_slot, parents_of}
@@ -19,8 +19,8 @@ use Rattle.psi_spec.specs.Trace.{AllFit, IsAccepted, IsCpuCount, last_moment}
 use Rattle.psi_laws.specs.Legal.{changes_from}
 use Rattle.psi_laws.specs.Plan.{IsAside, IsPlan, PlanView, change_at, current_after, no_plan, plan_of}
 use Rattle.psi_spec.specs.Changes.{changes_of}
-use Rattle.group_tree.specs.Tree.{IsFault}
-use Rattle.slot_clocks.specs.Clocks.{numbers_of}
+use Rattle.group_tree.specs.Tree.{IsGroupFault}
+use Rattle.slot_clocks.specs.Clocks.{parent_numbers}
 use Rattle.slot_clocks.specs.Walk.{slot_in}
 use Rattle.std.specs.Coded.{Coded, code_by, coded×, coded_list}
 use Rattle.psi_base.specs.contracts.event.TriggerSpec as trigger_row
@@ -36,7 +36,7 @@ use Rattle.proc_plan.specs.Sides.{IsSmall, sides_of}
 
 -- a plan of these changes and parents
 abbrev pub plan_view : List Change → List (Option Slot) → PlanView
-plan_view changes parents = record { changes = changes; parents = numbers_of parents }
+plan_view changes parents = record { changes = changes; parents = parent_numbers parents }
 
 -- the plan that has the parents of groups, with these changes
 abbrev pub plan_over : List GroupLife → List Change → PlanView
@@ -116,8 +116,7 @@ PlansAreOfEvents = (plans : PlansView) (cpus : ℕ) (events : List Event) → St
 abbrev pub limits_by : ℕ → ℕ → Limits
 limits_by cpus latest = record { cpus = cpus; latest = latest }
 
--- events are refused at an event, whose line is by two behind the number of events before it, with its first cause: those
--- before it are legal
+-- events are refused at an event with its first cause, and those before it are legal; its line is their number and two
 pub record IsRefusedAt (limits : Limits) (events : List Event) (line : ℕ) (why : Cause) : Type 0 where
   pub front : List Event
   pub event : Event
@@ -203,11 +202,11 @@ HasTrace planner = (limits : Limits) × (events : List Event) × HasTaken planne
 
 -- What an event does to a planner: it is legal behind the events that were taken and taken with them, or the fault is the first
 -- cause against it. Memory is wanted only where there is no cause.
-abbrev pub Takes : PlannerView → PlannerView → Event → Result (Unit {0}) (Fault Cause) → Type 0
-Takes old new event (Ok x) = (limits : Limits) (events : List Event) → HasTaken old limits events →
-    (cause_of limits (after events) event ≡ None) × HasTaken new limits (events ++ event ∷ []) × (length events < 4000000)
-Takes old new event (Err fault) = (limits : Limits) (events : List Event) → HasTaken old limits events →
-    IsFault (cause_of limits (after events) event) fault
+abbrev pub PlannerTakes : PlannerView → PlannerView → Event → Result (Unit {0}) (Fault Cause) → Type 0
+PlannerTakes old new event (Ok x) = (limits : Limits) (events : List Event) → HasTaken old limits events →
+    (cause_of limits (after events) event ≡ None) × HasTaken new limits (events ++ event ∷ []) × (length events < most_events)
+PlannerTakes old new event (Err fault) = (limits : Limits) (events : List Event) → HasTaken old limits events →
+    IsGroupFault (cause_of limits (after events) event) fault
 
 -- Events that a planner has taken make up a trace, where they ended it.
 abbrev pub EndedIsAccepted : Type 0

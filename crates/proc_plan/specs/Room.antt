@@ -20,12 +20,12 @@ abbrev pub lists_of : List ChangesView → List (List Change)
 lists_of changes = map (λ (changes : ChangesView). changes.list) changes
 
 -- the changes of a processor
-abbrev pub list_at : List ChangesView → ℕ → List Change
-list_at changes cpu = (slice_index_or changes cpu no_room).list
+abbrev pub changes_in : List ChangesView → ℕ → List Change
+changes_in changes cpu = (slice_index_or changes cpu no_room).list
 
 -- the changes of each processor have one more behind them, where one is told for it
 abbrev pub AddsTold : List ChangesView → List ChangesView → (ℕ → Option Change) → Type 0
-AddsTold old new told = (cpu : ℕ) → list_at new cpu ≡ list_at old cpu ++ with_change (told cpu) []
+AddsTold old new told = (cpu : ℕ) → changes_in new cpu ≡ changes_in old cpu ++ with_change (told cpu) []
 
 -- there is room for one more change of a processor
 abbrev pub HasRoom : List ChangesView → ℕ → Type 0

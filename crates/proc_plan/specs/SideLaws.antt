@@ -5,9 +5,10 @@ use Rattle.std.specs.List.Sorted.{IsNonDecreasingBy}
 use Rattle.psi_base.specs.declared.event.Slot.{Slot}
 use Rattle.psi_base.specs.declared.event.Event.{Event}
 use Rattle.psi_spec.specs.declared.machine.Task.{Task}
-use Rattle.psi_spec.specs.World.{Tasks, Limits, first_world, after, up_to}
+use Rattle.psi_spec.specs.World.{Tasks, Limits, first_world, after, up_to, most_tasks}
 use Rattle.psi_spec.specs.Refusal.{AreLegal}
 use Rattle.psi_laws.specs.Counts.{how_many}
+use Rattle.task_table.specs.Stands.{is_of}
 use Rattle.proc_plan.specs.declared.side.Side.{Side}
 use Rattle.proc_plan.specs.declared.side.SideAct.{SideAct}
 use Rattle.proc_plan.specs.declared.side.SideAct.TheVariants as side
@@ -37,20 +38,16 @@ abbrev pub goes : ℕ → SideAct → Bool
 goes slot (side.Tasks out (negsuc n)) = out.0 == slot
 goes slot _ = false
 
--- a task is in the very group of a slot
-abbrev pub is_member : ℕ → Task → Bool
-is_member slot task = task.slot.0 == slot
-
 -- how many live tasks are in the very group of a slot
 abbrev pub members : ℕ → Tasks → ℕ
-members slot tasks = how_many (is_member slot) (tasks_by.values tasks)
+members slot tasks = how_many (is_of slot) (tasks_by.values tasks)
 
 -- As many tasks came into a group as left it and are in it. They are at most 65,536, as many as may live.
 abbrev pub MembersAreTold : Type 0
 MembersAreTold = (limits : Limits) (events : List Event) → AreLegal limits first_world events → (slot : ℕ) →
     (count_by (λ (side : Side). comes slot side.what) (sides_of events)
     ≡ count_by (λ (side : Side). goes slot side.what) (sides_of events) + members slot (after events).tasks)
-    × (members slot (after events).tasks ≤ 65536)
+    × (members slot (after events).tasks ≤ most_tasks)
 
 -- ---- slots
 

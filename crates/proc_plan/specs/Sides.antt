@@ -9,7 +9,7 @@ use Rattle.psi_spec.specs.declared.machine.Task.{Task}
 use Rattle.psi_spec.specs.declared.machine.GroupLife.{GroupLife}
 use Rattle.psi_spec.specs.World.{World, first_world}
 use Rattle.psi_spec.specs.Told.{slot_named, told_from}
-use Rattle.psi_laws.specs.Touch.{after_of}
+use Rattle.psi_laws.specs.Touch.{task_after}
 use Rattle.psi_spec.specs.Changes.{before}
 use Rattle.proc_plan.specs.declared.side.Side.{Side}
 use Rattle.proc_plan.specs.declared.side.SideAct.{SideAct}
@@ -42,7 +42,7 @@ abbrev pub group_of : Option Task → Option Slot
 group_of None = None
 group_of (Some task) = Some task.slot
 
--- the memory or the preference of which an act tells, if it tells of one
+-- the sample of a group's memory or of the host's, or the preference, that an act tells, if it tells one
 abbrev pub sample_by : ℕ → List GroupLife → Act → List Side
 sample_by at groups (act.Mem path current swap scan) = side_at at (side.Mem (slot_named groups path) current swap scan)
 sample_by at groups (act.Prefer path preference) = side_at at (side.Prefer (slot_named groups path) preference)
@@ -51,7 +51,7 @@ sample_by at groups _ = []
 
 -- the sides that an event tells: what it samples, and how the task that it changes came and went
 abbrev pub sides_by : World → Event → List Side
-sides_by w event = sample_by event.at w.groups event.act ++ passage event.at (group_of (before w.tasks event.act)) (group_of (after_of w.groups w.tasks event.act))
+sides_by w event = sample_by event.at w.groups event.act ++ passage event.at (group_of (before w.tasks event.act)) (group_of (task_after w.groups w.tasks event.act))
 
 -- the sides of events in their order
 abbrev pub sides_of : List Event → List Side

@@ -2,7 +2,7 @@
 
 ghost use Rattle.std.specs.Prelude.{◌≡◌, ◌++◌, ◌<◌, ◌≤◌, [], ◌∷◌, length, IfSome, OnOk};
 ghost use Rattle.psi_laws.specs.Touch.{AreAtMost, IsOfOne};
-ghost use Rattle.proc_plan.specs.Packed.{counts_by, current_by, side_by};
+ghost use Rattle.proc_plan.specs.Packed.{counts_by, current_by, part_by};
 
 use psi_base::{NoMemory, Ns, Slot};
 use psi_laws::{Change, Counts};
@@ -65,24 +65,24 @@ pub(crate) struct Packed {
 
 impl Model for Packed {
     ghost use Rattle.psi_laws.specs.declared.changes.Change.{Change};
-    ghost use Rattle.proc_plan.specs.Packed.{current_by, side_by};
+    ghost use Rattle.proc_plan.specs.Packed.{current_by, part_by};
 
     ghost Value = { Change };
 
     ghost view = { λ p. record {
       at = p.at;
-      minus = side_by p.takes p.minus p.minus_marks;
-      plus = side_by p.adds p.plus p.plus_marks;
+      minus = part_by p.takes p.minus p.minus_marks;
+      plus = part_by p.adds p.plus p.plus_marks;
       current = current_by p.runs p.current p.stalled;
     } };
 }
 
-// Whether a side of a change is there, its slot and its marks.
-fn pack_side(side: Option<(Slot, Counts)>) -> (bool, Slot, Marks)
-    requires { IfSome side (λ part. AreAtMost 1 part.1) }
-    ensures { side_by result.0 result.1 result.2 ≡ side }
+// Whether a part of a change is there, its slot and its marks.
+fn pack_part(part: Option<(Slot, Counts)>) -> (bool, Slot, Marks)
+    requires { IfSome part (λ p. AreAtMost 1 p.1) }
+    ensures { part_by result.0 result.1 result.2 ≡ part }
 {
-    match side {
+    match part {
         Some((slot, counts)) => (true, slot, Marks::of(counts)),
         None => {
             let none = Marks {
@@ -96,9 +96,9 @@ fn pack_side(side: Option<(Slot, Counts)>) -> (bool, Slot, Marks)
     }
 }
 
-// A side of a change that is there or isn't, with its slot and its marks.
-fn unpack_side(there: bool, slot: Slot, marks: Marks) -> Option<(Slot, Counts)>
-    ensures { result ≡ side_by there slot marks }
+// A part of a change that is there or isn't, with its slot and its marks.
+fn unpack_part(there: bool, slot: Slot, marks: Marks) -> Option<(Slot, Counts)>
+    ensures { result ≡ part_by there slot marks }
 {
     if there {
         Some((slot, marks.counts()))
@@ -130,8 +130,8 @@ impl Packed {
         requires { IsOfOne change }
         ensures { result ≡ change }
     {
-        let (takes, minus, minus_marks) = pack_side(change.minus);
-        let (adds, plus, plus_marks) = pack_side(change.plus);
+        let (takes, minus, minus_marks) = pack_part(change.minus);
+        let (adds, plus, plus_marks) = pack_part(change.plus);
         let (runs, current, stalled) = pack_current(change.current);
         Packed {
             at: change.at,
@@ -160,8 +160,8 @@ impl Packed {
     {
         Change {
             at: self.at,
-            minus: unpack_side(self.takes, self.minus, self.minus_marks),
-            plus: unpack_side(self.adds, self.plus, self.plus_marks),
+            minus: unpack_part(self.takes, self.minus, self.minus_marks),
+            plus: unpack_part(self.adds, self.plus, self.plus_marks),
             current: unpack_current(self.runs, self.current, self.stalled),
         }
     }

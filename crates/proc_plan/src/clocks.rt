@@ -56,7 +56,7 @@ pub struct PlainClocks<'a> {
 
 impl<'a> Model for PlainClocks<'a> {
     ghost use Rattle.std.specs.Prelude.{◌≡◌};
-    ghost use Rattle.slot_clocks.specs.Clocks.{numbers_of};
+    ghost use Rattle.slot_clocks.specs.Clocks.{parent_numbers};
     ghost use Rattle.proc_plan.specs.Clocks.{AreClocks, OnPlan};
 
     ghost Value = { OnPlan };
@@ -64,7 +64,8 @@ impl<'a> Model for PlainClocks<'a> {
     ghost view = { λ c. record { plan = c.plan.now; made = c.count } };
 
     ghost invariant = { λ c.
-        AreClocks c.plan.now c.clocks c.count × (numbers_of c.parents.now ≡ c.plan.now.parents) };
+        AreClocks c.plan.now c.clocks c.count
+        × (parent_numbers c.parents.now ≡ c.plan.now.parents) };
 }
 
 impl<'a> PlainClocks<'a> {

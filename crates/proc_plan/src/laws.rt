@@ -3,7 +3,7 @@
 ghost use Rattle.proc_plan.specs.Plans.{EndedIsAccepted, PlansAreOfEvents};
 
 /// The plans that stand for events are the plans of these events, of which the laws of plans speak.
-pub fn standing_plans()
+pub fn law_standing_plans()
     ensures { PlansAreOfEvents }
 {}
 

@@ -13,7 +13,7 @@ mod side_laws;
 mod sides;
 
 pub use clocks::{PlainClocks, ProcClocks};
-pub use laws::{law_ended_traces, standing_plans};
+pub use laws::{law_ended_traces, law_standing_plans};
 pub use plan::Plan;
 pub use planner::Planner;
 pub use plans::Plans;

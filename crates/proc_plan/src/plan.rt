@@ -3,7 +3,7 @@
 ghost use Rattle.std.specs.Prelude.{◌≡◌, ◌+◌, ◌-◌, ◌<◌, ◌≤◌, ◌↔◌, length, nat_le, slice_get, slice_index_or, None, Some};
 ghost use Rattle.psi_spec.specs.Stall.{number_of_slot};
 ghost use Rattle.psi_laws.specs.Plan.{IsPlan, changes_up_to, current_after, last_change};
-ghost use Rattle.slot_clocks.specs.Clocks.{numbers_of};
+ghost use Rattle.slot_clocks.specs.Clocks.{parent_numbers};
 ghost use Rattle.slot_clocks.specs.Walk.{slot_in};
 ghost use Rattle.proc_plan.specs.Plans.{AreConcerned, OthersAreAside, plan_view};
 
@@ -36,11 +36,11 @@ impl Model for Plan {
     ghost invariant = { λ plan. IsPlan (plan_view plan.changes.list plan.parents.items) };
 }
 
-// The slot whose counts one side of a change has.
-fn part_slot(side: Option<(Slot, Counts)>) -> Option<Slot>
-    ensures { result ≡ slot_in side }
+// The slot whose counts one part of a change has.
+fn part_slot(part: Option<(Slot, Counts)>) -> Option<Slot>
+    ensures { result ≡ slot_in part }
 {
-    side.map(|(slot, _)| slot)
+    part.map(|(slot, _)| slot)
 }
 
 // The slot of the running task.
@@ -140,7 +140,7 @@ impl Plan {
 
     /// The parents of all slots, in the order of the slots.
     pub(crate) fn parents(&self) -> &[Option<Slot>]
-        ensures parents { numbers_of result.now ≡ self.now.parents }
+        ensures parents { parent_numbers result.now ≡ self.now.parents }
         ensures whole { IsPlan self.now }
     {
         &self.parents

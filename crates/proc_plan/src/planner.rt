@@ -5,10 +5,11 @@ ghost use Rattle.std.specs.List.{All};
 ghost use Rattle.psi_spec.specs.Grammar.{Fits};
 ghost use Rattle.psi_spec.specs.Stall.{parents_of};
 ghost use Rattle.psi_spec.specs.Trace.{IsCpuCount, last_moment};
+ghost use Rattle.psi_spec.specs.World.{most_events};
 ghost use Rattle.psi_laws.specs.Plan.{IsPlan};
-ghost use Rattle.slot_clocks.specs.Clocks.{numbers_of};
-ghost use Rattle.proc_plan.specs.Plans.{HasTaken, HasTrace, StandForTaken, Takes, limits_by, plan_over, plans_over};
-ghost use Rattle.proc_plan.specs.Room.{list_at};
+ghost use Rattle.slot_clocks.specs.Clocks.{parent_numbers};
+ghost use Rattle.proc_plan.specs.Plans.{HasTaken, HasTrace, PlannerTakes, StandForTaken, limits_by, plan_over, plans_over};
+ghost use Rattle.proc_plan.specs.Room.{changes_in};
 
 use crate::changes::Changes;
 use crate::plan::Plan;
@@ -50,7 +51,7 @@ impl Model for Planner {
 // No change, for each of so many processors.
 fn no_changes(alloc: Global, cpus: u32) -> Result<Vec<Changes>, NoMemory>
     ensures each { IfOk result (λ changes. length changes.items ≡ cpus) }
-    ensures none { IfOk result (λ changes. (cpu : ℕ) → list_at changes.items cpu ≡ []) }
+    ensures none { IfOk result (λ changes. (cpu : ℕ) → changes_in changes.items cpu ≡ []) }
 {
     let mut changes = Vec::new(alloc);
     'cpus: for _ in 0..cpus {
@@ -63,7 +64,7 @@ fn no_changes(alloc: Global, cpus: u32) -> Result<Vec<Changes>, NoMemory>
 
 // The parents of all groups, in the order of their slots.
 fn parents_of(alloc: Global, groups: &Tree) -> Result<Vec<Option<Slot>>, NoMemory>
-    ensures { IfOk result (λ parents. numbers_of parents.items ≡ parents_of groups.now) }
+    ensures { IfOk result (λ parents. parent_numbers parents.items ≡ parents_of groups.now) }
 {
     let mut parents = Vec::new(alloc);
     'groups: for life in groups.lives() {
@@ -107,7 +108,7 @@ impl Planner {
     /// How many events were taken, 4,000,000 at most.
     pub fn lines(&self) -> u32
         ensures lines { result ≡ self.now.table.world.lines }
-        ensures few { result ≤ 4000000 }
+        ensures few { result ≤ most_events }
     {
         self.table.lines()
     }
@@ -123,7 +124,7 @@ impl Planner {
     /// Nothing changes then.
     pub fn take(&mut self, event: &Event) -> Result<(), Fault<Cause>>
         requires { Fits event.now }
-        ensures takes { Takes self.old self.new event.now result }
+        ensures takes { PlannerTakes self.old self.new event.now result }
         ensures same { OnErr result (self.new ≡ self.old) }
     {
         let task = self.table.task_before(&event.act);

@@ -5,7 +5,7 @@ ghost use Rattle.psi_spec.specs.Names.{names};
 ghost use Rattle.psi_spec.specs.Refusal.{cause_of};
 ghost use Rattle.psi_spec.specs.Told.{listed};
 ghost use Rattle.psi_laws.specs.Touch.{AllTouched, IsBeside, IsOfOne, told_first, told_of};
-ghost use Rattle.group_tree.specs.Tree.{IsFault};
+ghost use Rattle.group_tree.specs.Tree.{IsGroupFault};
 ghost use Rattle.proc_plan.specs.Plans.{AreSmall};
 ghost use Rattle.proc_plan.specs.Room.{AddsTold, HasRoom, HasRoomFor, HasRoomWithin, lists_of};
 ghost use Rattle.proc_plan.specs.Sides.{IsSmall};
@@ -87,7 +87,7 @@ pub(crate) fn make_room(
 
 /// Why an event isn't taken where memory is wanting. A cause against it comes first.
 pub(crate) fn lacking(table: &Table, event: &Event) -> Fault<Cause>
-    ensures { IsFault (cause_of table.now.limits table.now.world event.now) result }
+    ensures { IsGroupFault (cause_of table.now.limits table.now.world event.now) result }
 {
     match table.check(event) {
         Some(cause) => Fault::Refused(cause),

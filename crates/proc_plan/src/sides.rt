@@ -23,7 +23,7 @@ pub(crate) struct Told {
 }
 
 // The slot of the live group with this path, or the root's where there is none.
-fn slot_of(groups: &Tree, path: &Path) -> Slot
+fn slot_named(groups: &Tree, path: &Path) -> Slot
     ensures { result ≡ slot_named groups.now path.now }
 {
     groups.find(path).unwrap_or(Slot(0))
@@ -42,7 +42,7 @@ fn trigger_by(groups: &Tree, at: Ns, act: &Act) -> Option<TriggerSpec>
             window_us,
         } => Some(TriggerSpec {
             at,
-            slot: slot_of(groups, path),
+            slot: slot_named(groups, path),
             res: *res,
             level: *level,
             threshold_us: *threshold_us,
@@ -52,7 +52,7 @@ fn trigger_by(groups: &Tree, at: Ns, act: &Act) -> Option<TriggerSpec>
     }
 }
 
-// The memory or the preference of which an act tells, if it tells of one.
+// The sample of a group's memory or of the host's, or the preference, that an act tells, if it tells one.
 fn sample_by(groups: &Tree, at: Ns, act: &Act) -> Option<Side>
     requires { ActFits act.now }
     ensures side { listed result ≡ sample_by at groups.now act.now }
@@ -65,13 +65,13 @@ fn sample_by(groups: &Tree, at: Ns, act: &Act) -> Option<Side>
             swap,
             scan,
         } => SideAct::Mem {
-            slot: slot_of(groups, path),
+            slot: slot_named(groups, path),
             current: *current,
             swap: *swap,
             scan: *scan,
         },
         Act::Prefer { path, preference } => SideAct::Prefer {
-            slot: slot_of(groups, path),
+            slot: slot_named(groups, path),
             preference: *preference,
         },
         Act::Host {
@@ -125,10 +125,10 @@ fn sides_by(table: &Table, event: &Event, task: Option<Task>) -> (Option<Side>, 
     let groups = table.groups();
     let old = group_of(task);
     match &event.act {
-        Act::Fork { path, .. } => passage(event.at, None, Some(slot_of(groups, path))),
+        Act::Fork { path, .. } => passage(event.at, None, Some(slot_named(groups, path))),
         Act::Switch { how: How::Exit, .. } => passage(event.at, old, None),
         Act::Move { path, .. } => match old {
-            Some(old) => passage(event.at, Some(old), Some(slot_of(groups, path))),
+            Some(old) => passage(event.at, Some(old), Some(slot_named(groups, path))),
             None => (None, None),
         },
         // At other acts a task stays in its group.

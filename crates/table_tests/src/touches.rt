@@ -12,7 +12,7 @@ use task_table::Table;
 ///
 /// Behind a line stands each processor that it changes: its number, the task that is taken from the chain of a slot
 /// there, the task that is added to one, and afterwards the slot of the running task. Before each task stands the slot of
-/// its group. A task is `a` asleep, `w` waiting for IO, `r` ready or running, and in a stall `A` or `R`. A running task
+/// its group. A task is `a` blocked, `w` waiting for IO, `r` ready or running, and in a stall `A` or `R`. A running task
 /// is `!` in a stall, and else `=`.
 const LINES: &str = "1 group /a;\
     1 fork 1 /a 0 | 0 .. 1r ..;\

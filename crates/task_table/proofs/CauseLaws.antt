@@ -43,20 +43,9 @@ before_act a b c d rest other same = rw same refl
 -- for each act, both compute to the same
 by_verb : (limits : Limits) (w : World) (at : ℕ) (a : Act) → cause_of limits w (record { at = at; act = a }) ≡ line_cause limits w (record { at = at; act = a })
 unfolding cause_of
-by_verb limits w at (act.Group path) = refl
 by_verb limits w at (act.Remove path) = before_act w.ended (nat_lt at w.last) (nat_lt limits.latest at) (nat_le 4000000 w.lines) _ _ (busy_parts (lacks_group w.groups (Some path)) (is_root path) (has_child w.groups (slot_of w.groups path)) (has_member w.tasks (slot_of w.groups path)))
-by_verb limits w at (act.Prefer path preference) = refl
-by_verb limits w at (act.Fork pid path cpu) = refl
-by_verb limits w at (act.Wake pid cpu) = refl
 by_verb limits w at (act.Switch cpu next how) = before_act w.ended (nat_lt at w.last) (nat_lt limits.latest at) (nat_le 4000000 w.lines) _ _ (switch_parts limits.cpus w.tasks cpu.0 next (how_cause how (running_on w.tasks cpu.0)))
-by_verb limits w at (act.Stall pid) = refl
-by_verb limits w at (act.Unstall pid) = refl
-by_verb limits w at (act.Migrate pid cpu) = refl
-by_verb limits w at (act.Move pid path) = refl
-by_verb limits w at (act.Mem path current swap scan) = refl
-by_verb limits w at (act.Host mem_total swap_total swap_free) = refl
-by_verb limits w at (act.Trigger path res level threshold_us window_us) = refl
-by_verb limits w at act.End = refl
+by_verb limits w at _ = refl
 
 -- the first cause in the order of causes is the first by verbs
 pub first_is : (limits : Limits) (w : World) (event : Event) → cause_of limits w event ≡ line_cause limits w event

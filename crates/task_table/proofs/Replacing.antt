@@ -26,9 +26,9 @@ inactive Blocked h = refl
 inactive Waiting h = refl
 
 -- a task that sleeps doesn't run
-pub asleep : (o : Option Task) → test_task o (λ t. is_active t.mode) ≡ false → IfSome o (λ t. is_running t.mode ≡ false)
-asleep None h = tt
-asleep (Some t) h = inactive t.mode h
+pub blocked_off : (o : Option Task) → test_task o (λ t. is_active t.mode) ≡ false → IfSome o (λ t. is_running t.mode ≡ false)
+blocked_off None h = tt
+blocked_off (Some t) h = inactive t.mode h
 
 -- nor does one that is ready
 pub not_running : (o : Option Task) → test_task o (λ t. not (is_ready t.mode)) ≡ false → IfSome o (λ t. is_running t.mode ≡ false)

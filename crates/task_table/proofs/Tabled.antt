@@ -12,7 +12,7 @@ use Rattle.std.proofs.Math.Seq.{take-append_seam}
 use Rattle.psi_spec.specs.World.{Tasks, no_tasks, placed, put, remove, task_of}
 use Rattle.psi_spec.specs.declared.machine.Task.{Task}
 use Rattle.psi_spec.proofs.TaskLaws.{itself, same_tasks, task_placed}
-use Rattle.task_table.specs.Listed.{listed_from, tasks_in}
+use Rattle.task_table.specs.Listed.{listed_from, listed_tasks}
 
 -- ---- what is found
 
@@ -49,13 +49,13 @@ get_beyond first (task ∷ listed) others q past =
     ∙ get_beyond (first + 1) listed others q (omega arith)
 
 -- the task under a number for which the list has a place
-pub get_listed : (listed : List (Option Task)) (es : List (ℕ × Task)) (q : ℕ) → q < length listed → task_of (tasks_in listed es) q ≡ slice_index_or listed q None
+pub get_listed : (listed : List (Option Task)) (es : List (ℕ × Task)) (q : ℕ) → q < length listed → task_of (listed_tasks listed es) q ≡ slice_index_or listed q None
 get_listed listed es q below =
     let same : q ≡ 0 + q = omega arith in
-    ap (task_of (tasks_in listed es)) same ∙ get_within 0 listed (map.from_entries es) q below
+    ap (task_of (listed_tasks listed es)) same ∙ get_within 0 listed (map.from_entries es) q below
 
 -- the task under a number for which the list has none
-pub get_other : (listed : List (Option Task)) (es : List (ℕ × Task)) (q : ℕ) → length listed ≤ q → task_of (tasks_in listed es) q ≡ lookup (nat_eq q) es
+pub get_other : (listed : List (Option Task)) (es : List (ℕ × Task)) (q : ℕ) → length listed ≤ q → task_of (listed_tasks listed es) q ≡ lookup (nat_eq q) es
 get_other listed es q past = get_beyond 0 listed (map.from_entries es) q (omega (arith, past)) ∙ get_entry es q
 
 -- ---- changes
@@ -65,8 +65,8 @@ flip : (k q : ℕ) → (k == q) ≡ (q == k)
 flip k q = nat_eq_equiv.symm k q
 
 -- another task, or none, in a place
-pub placed_listed : (listed : List (Option Task)) (es : List (ℕ × Task)) (k : ℕ) (task : Option Task) → k < length listed → tasks_in (slice_set listed k task) es ≡ placed (tasks_in listed es) k task
-placed_listed listed es k task room = same_tasks (tasks_in (slice_set listed k task) es) (placed (tasks_in listed es) k task) (λ q.
+pub placed_listed : (listed : List (Option Task)) (es : List (ℕ × Task)) (k : ℕ) (task : Option Task) → k < length listed → listed_tasks (slice_set listed k task) es ≡ placed (listed_tasks listed es) k task
+placed_listed listed es k task room = same_tasks (listed_tasks (slice_set listed k task) es) (placed (listed_tasks listed es) k task) (λ q.
     ⊎_elim
     (λ below.
     get_listed (slice_set listed k task) es q (omega (arith, below, length-set listed k task))
@@ -74,31 +74,31 @@ placed_listed listed es k task room = same_tasks (tasks_in (slice_set listed k t
     (λ same. rw (same.1, itself k) (get_or-set_same listed k task None room))
     (λ other. rw other.0 (get_or-set_other listed k q task None other.1 ∙ sym (get_listed listed es q below)))
     (eqb_tells q k)
-    ∙ sym (task_placed (tasks_in listed es) k task q))
+    ∙ sym (task_placed (listed_tasks listed es) k task q))
     (λ past.
     let other : (q == k) ≡ false = grind (arith, nat_tests) in
     get_other (slice_set listed k task) es q (omega (arith, past, length-set listed k task))
     ∙ sym (get_other listed es q past)
-    ∙ ap (λ b. cond b task (task_of (tasks_in listed es) q)) (sym other)
-    ∙ sym (task_placed (tasks_in listed es) k task q))
+    ∙ ap (λ b. cond b task (task_of (listed_tasks listed es) q)) (sym other)
+    ∙ sym (task_placed (listed_tasks listed es) k task q))
     (cases_lt q (length listed)))
 
 -- entries that differ by another task, or none, under a number for which the list has no place
-pub placed_other : (listed : List (Option Task)) (es fs : List (ℕ × Task)) (k : ℕ) (task : Option Task) → length listed ≤ k → ((q : ℕ) → lookup (nat_eq q) fs ≡ cond (k == q) task (lookup (nat_eq q) es)) → tasks_in listed fs ≡ placed (tasks_in listed es) k task
-placed_other listed es fs k task beyond h = same_tasks (tasks_in listed fs) (placed (tasks_in listed es) k task) (λ q.
+pub placed_other : (listed : List (Option Task)) (es fs : List (ℕ × Task)) (k : ℕ) (task : Option Task) → length listed ≤ k → ((q : ℕ) → lookup (nat_eq q) fs ≡ cond (k == q) task (lookup (nat_eq q) es)) → listed_tasks listed fs ≡ placed (listed_tasks listed es) k task
+placed_other listed es fs k task beyond h = same_tasks (listed_tasks listed fs) (placed (listed_tasks listed es) k task) (λ q.
     ⊎_elim
     (λ below.
     let other : (q == k) ≡ false = grind (arith, nat_tests) in
     get_listed listed fs q below
     ∙ sym (get_listed listed es q below)
-    ∙ ap (λ b. cond b task (task_of (tasks_in listed es) q)) (sym other)
-    ∙ sym (task_placed (tasks_in listed es) k task q))
+    ∙ ap (λ b. cond b task (task_of (listed_tasks listed es) q)) (sym other)
+    ∙ sym (task_placed (listed_tasks listed es) k task q))
     (λ past.
     get_other listed fs q past
     ∙ h q
     ∙ ap (λ b. cond b task (lookup (nat_eq q) es)) (flip k q)
     ∙ ap (cond (q == k) task) (sym (get_other listed es q past))
-    ∙ sym (task_placed (tasks_in listed es) k task q))
+    ∙ sym (task_placed (listed_tasks listed es) k task q))
     (cases_lt q (length listed)))
 
 -- no task is found where there is none
@@ -106,8 +106,8 @@ lacks : (q : ℕ) → task_of no_tasks q ≡ None
 lacks q = map.get-empty nat_cmp q
 
 -- no task is in empty places and no entries
-pub none_in : (places : ℕ) (listed : List (Option Task)) (es : List (ℕ × Task)) → listed ≡ replicate places None → es ≡ [] → tasks_in listed es ≡ no_tasks
-none_in places listed es empty none = same_tasks (tasks_in listed es) no_tasks (λ q.
+pub none_in : (places : ℕ) (listed : List (Option Task)) (es : List (ℕ × Task)) → listed ≡ replicate places None → es ≡ [] → listed_tasks listed es ≡ no_tasks
+none_in places listed es empty none = same_tasks (listed_tasks listed es) no_tasks (λ q.
     ⊎_elim
     (λ below.
     get_listed listed es q below
@@ -117,7 +117,7 @@ none_in places listed es empty none = same_tasks (tasks_in listed es) no_tasks (
     (cases_lt q (length listed)))
 
 -- so the count of their tasks is 0
-pub count_none : (places : ℕ) (listed : List (Option Task)) (es : List (ℕ × Task)) → listed ≡ replicate places None → es ≡ [] → 0 ≡ map.len (tasks_in listed es)
+pub count_none : (places : ℕ) (listed : List (Option Task)) (es : List (ℕ × Task)) → listed ≡ replicate places None → es ≡ [] → 0 ≡ map.len (listed_tasks listed es)
 count_none places listed es empty none = rw (none_in places listed es empty none) (sym (map.len-empty nat_cmp Task))
 
 -- a list as long as the one whose place it takes stands there whole

@@ -1,5 +1,5 @@
 -- What a table's step tells is the touch of its event.
-use Rattle.std.proofs.Common.{◌≡◌, ℕ, ◌+◌, ◌<◌, List, Bool, Some, None, length}
+use Rattle.std.proofs.Common.{◌≡◌, ℕ, ◌+◌, ◌<◌, List, Bool, Some, None, length, ap}
 use Rattle.std.specs.Prelude.{Option, ◌||◌, if◌then◌else◌, slice_index_or}
 use Rattle.psi_base.specs.declared.event.Event.{Event}
 use Rattle.psi_spec.specs.declared.machine.Task.{Task}
@@ -9,45 +9,49 @@ use Rattle.psi_spec.specs.declared.machine.GroupLife.{GroupLife}
 use Rattle.psi_laws.specs.Legal.{IsLegalWorld}
 use Rattle.psi_laws.proofs.LegalLaws.{legal_kept}
 use Rattle.task_table.proofs.Index.{running_told}
-use Rattle.task_table.specs.declared.changed.Changed.{Changed}
+use Rattle.task_table.specs.declared.task_update.TaskUpdate.{TaskUpdate}
 use Rattle.task_table.specs.Named.{IsChanged, change_for}
-use Rattle.task_table.specs.Stands.{IsIndex, table_of}
+use Rattle.task_table.specs.Stands.{HasPlayed, IsIndex, TableView, table_of}
 use Rattle.psi_spec.specs.Refusal.{cause_of}
-use Rattle.psi_laws.specs.Touch.{change_of, told_of, IsBeside, AllTouched, HasSlotsBelow, IsOfOne, AreWithin}
+use Rattle.psi_laws.specs.Touch.{change_of, told_of, IsBeside, IsTouch, AllTouched, HasSlotsBelow, IsOfOne, AreWithin}
 use Rattle.psi_spec.specs.Changes.{touched}
 use Rattle.psi_laws.proofs.TouchWithin.{changes_are_within, all_touched}
 
 -- what is read off the task that an event changes, and off the tasks that run after it, is what the event changes
-pub touch_told : (w : World) (event : Event) (tasks : Tasks) (changed : Changed) (running : List (Option (ℕ × Task))) (touch : Touch) → IsChanged w.groups w.tasks event.act changed → tasks ≡ tasks_after w.groups w.tasks event.act → IsIndex running tasks
+touch_told : (w : World) (event : Event) (tasks : Tasks) (changed : TaskUpdate) (running : List (Option (ℕ × Task))) (touch : Touch) → IsChanged w.groups w.tasks event.act changed → tasks ≡ tasks_after w.groups w.tasks event.act → IsIndex running tasks
     → ((cpu : ℕ) → told_of touch cpu ≡ (if touched event.act changed.old cpu then Some (change_for event.at changed (slice_index_or running cpu None) cpu) else None))
     → (cpu : ℕ) → told_of touch cpu ≡ change_of w event cpu
 unfolding change_of
 touch_told w event tasks changed running touch is are index told cpu = rw (← are, running_told running tasks index cpu, ← is.new, ← is.old) (told cpu)
 
--- what is so of each change of a touch: its processor, its slots, its counts and its moment
-pub record IsWithin (limits : Limits) (w : World) (event : Event) (touch : Touch) : Type 0 where
+-- The touch that a table tells of an event is the event's, and each of its changes is on a processor that there is, in
+-- slots that there are, of one task, and at the event's moment.
+pub record IsTold (limits : Limits) (w : World) (event : Event) (touch : Touch) : Type 0 where
+  pub is : IsTouch limits.cpus w event touch
   pub cpus : AllTouched (λ cpu change. cpu < limits.cpus) touch
   pub slots : AllTouched (λ cpu change. HasSlotsBelow (length w.groups) change) touch
   pub ones : AllTouched (λ cpu change. IsOfOne change) touch
-  pub moments : AllTouched (λ cpu change. change.at ≡ event.at) touch
+  pub moment : AllTouched (λ cpu change. change.at ≡ event.at) touch
 
-pub touch_within : (limits : Limits) (w : World) (event : Event) (touch : Touch) → cause_of limits w event ≡ None → AreWithin limits.cpus (length w.groups) w.tasks
-    → ((cpu : ℕ) → told_of touch cpu ≡ change_of w event cpu) → IsBeside touch.first touch.second → IsWithin limits w event touch
-touch_within limits w event touch legal within told beside =
+-- a touch that tells each change of a legal event is so
+told_legal : (limits : Limits) (w : World) (event : Event) (touch : Touch) → cause_of limits w event ≡ None → AreWithin limits.cpus (length w.groups) w.tasks
+    → ((cpu : ℕ) → told_of touch cpu ≡ change_of w event cpu) → IsBeside touch.first touch.second → IsTold limits w event touch
+told_legal limits w event touch legal within told beside =
     let laws = changes_are_within limits w event legal within in
     record {
+      is = record { told = λ cpu below. told cpu; beside = beside };
       cpus = all_touched (λ cpu change. cpu < limits.cpus) w event touch told beside (λ cpu change so. (laws cpu change so).0);
       slots = all_touched (λ cpu change. HasSlotsBelow (length w.groups) change) w event touch told beside (λ cpu change so. (laws cpu change so).1);
       ones = all_touched (λ cpu change. IsOfOne change) w event touch told beside (λ cpu change so. (laws cpu change so).2);
-      moments = all_touched (λ cpu change. change.at ≡ event.at) w event touch told beside (λ cpu change so. (laws cpu change so).3);
+      moment = all_touched (λ cpu change. change.at ≡ event.at) w event touch told beside (λ cpu change so. (laws cpu change so).3);
     }
 
--- the same of what is read off the changed task and the running ones
-pub within_told : (limits : Limits) (w : World) (event : Event) (tasks : Tasks) (changed : Changed) (running : List (Option (ℕ × Task))) (touch : Touch) → IsChanged w.groups w.tasks event.act changed → tasks ≡ tasks_after w.groups w.tasks event.act → IsIndex running tasks
-    → ((cpu : ℕ) → told_of touch cpu ≡ (if touched event.act changed.old cpu then Some (change_for event.at changed (slice_index_or running cpu None) cpu) else None)) → IsBeside touch.first touch.second
-    → cause_of limits w event ≡ None → AreWithin limits.cpus (length w.groups) w.tasks → IsWithin limits w event touch
-within_told limits w event tasks changed running touch is are index told beside legal within =
-    touch_within limits w event touch legal within (touch_told w event tasks changed running touch is are index told) beside
+-- so is what a table that played an event reads off the changed task and the running ones
+pub told_played : (old new : TableView) (event : Event) (changed : TaskUpdate) (running : List (Option (ℕ × Task))) (touch : Touch) → HasPlayed old event new → IsChanged old.world.groups old.world.tasks event.act changed → IsIndex running new.world.tasks
+    → ((cpu : ℕ) → told_of touch cpu ≡ (if touched event.act changed.old cpu then Some (change_for event.at changed (slice_index_or running cpu None) cpu) else None)) → IsBeside touch.first touch.second → IsTold old.limits old.world event touch
+told_played old new event changed running touch played is index told beside =
+    let tasks : new.world.tasks ≡ tasks_after old.world.groups old.world.tasks event.act = ap (λ (w : World). w.tasks) played.world in
+    told_legal old.limits old.world event touch played.legal played.legal_before.within (touch_told old.world event new.world.tasks changed running touch is tasks index told) beside
 
 -- the table's values after an event are those of a legal world
 pub legal_next : (cpus cpus_next latest : ℕ) (tasks tasks_next : Tasks) (groups groups_next : List GroupLife) (triggers triggers_next lines last : ℕ) (ended ended_next : Bool) (event : Event)

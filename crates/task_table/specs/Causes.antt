@@ -12,7 +12,7 @@ use Rattle.psi_base.specs.declared.event.Fault.{Fault}
 use Rattle.psi_base.specs.declared.event.Fault.TheVariants as fault
 use Rattle.psi_spec.specs.declared.machine.Task.{Task}
 use Rattle.psi_spec.specs.declared.machine.GroupLife.{GroupLife}
-use Rattle.psi_spec.specs.World.{World, Limits, Tasks, task_of, test_task, running_on, task_part, is_active, is_ready, is_ready_on, is_running, slot_of}
+use Rattle.psi_spec.specs.World.{World, Limits, Tasks, task_of, test_task, running_on, task_part, is_active, is_ready, is_ready_on, is_running, slot_of, most_tasks, most_events}
 use Rattle.psi_spec.specs.Refusal.{has_member, is_window, is_wrong, is_exit, lacks_group}
 use Rattle.group_tree.specs.Tree.{add_cause, remove_cause}
 use Rattle.task_table.specs.Named.{next_task}
@@ -33,7 +33,7 @@ path_cause groups path = if lacks_group groups (Some path) then Some cause.Unkno
 -- a fork is refused: too many tasks, no such group, a task that lives, a processor that isn't there
 abbrev pub fork_cause : ℕ → List GroupLife → ℕ → Option Task → List ℕ → ℕ → Option Cause
 fork_cause cpus groups live task path cpu =
-    if nat_le 65536 live then Some cause.TooManyTasks else
+    if nat_le most_tasks live then Some cause.TooManyTasks else
     if not (is_some (slot_of groups path)) then Some cause.UnknownGroup else
     if is_some task then Some cause.TaskExists else
     if nat_le cpus cpu then Some cause.BadCpu else None
@@ -126,7 +126,7 @@ line_cause limits w event =
     if w.ended then Some cause.AfterEnd else
     if nat_lt event.at w.last then Some cause.TimeBack else
     if nat_lt limits.latest event.at then Some cause.TimeTooLate else
-    if nat_le 4000000 w.lines then Some cause.TooManyEvents else
+    if nat_le most_events w.lines then Some cause.TooManyEvents else
     act_cause limits.cpus w.groups w.tasks w.triggers event.act
 
 -- the act makes a group

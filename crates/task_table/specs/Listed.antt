@@ -10,5 +10,5 @@ listed_from first [] others = others
 listed_from first (task ∷ listed) others = placed (listed_from (first + 1) listed others) first task
 
 -- the tasks of a list and of entries, whose numbers come after the places of the list
-abbrev pub tasks_in : List (Option Task) → List (ℕ × Task) → Tasks
-tasks_in listed entries = listed_from 0 listed (tasks_by.from_entries entries)
+abbrev pub listed_tasks : List (Option Task) → List (ℕ × Task) → Tasks
+listed_tasks listed entries = listed_from 0 listed (tasks_by.from_entries entries)

@@ -7,9 +7,9 @@ use Rattle.psi_laws.specs.declared.changes.Change.{Change}
 use Rattle.psi_spec.specs.declared.machine.GroupLife.{GroupLife}
 use Rattle.psi_spec.specs.declared.machine.Task.{Task}
 use Rattle.psi_spec.specs.World.{Tasks, is_running_on, task_of}
-use Rattle.psi_laws.specs.Touch.{after_of, part, shown}
+use Rattle.psi_laws.specs.Touch.{part, shown, task_after}
 use Rattle.psi_spec.specs.Changes.{before}
-use Rattle.task_table.specs.declared.changed.Changed.{Changed}
+use Rattle.task_table.specs.declared.task_update.TaskUpdate.{TaskUpdate}
 
 -- the task that runs next, if one is named and lives
 abbrev pub next_task : Tasks → Option Pid → Option Task
@@ -28,9 +28,9 @@ named_task tasks (act.Move pid path) = task_of tasks pid.0
 named_task tasks _ = None
 
 -- the task whose counts an act changes is this before it, and this after it
-pub record IsChanged (groups : List GroupLife) (tasks : Tasks) (a : Act) (changed : Changed) : Type 0 where
+pub record IsChanged (groups : List GroupLife) (tasks : Tasks) (a : Act) (changed : TaskUpdate) : Type 0 where
   pub old : changed.old ≡ before tasks a
-  pub new : changed.new ≡ after_of groups tasks a
+  pub new : changed.new ≡ task_after groups tasks a
 
 -- A task may take the place of another: it runs on the same processor, or on none as that one, and its slot is one of so
 -- many.
@@ -43,5 +43,5 @@ abbrev pub MayReplaceIf : ℕ → Option Task → Option Task → Type 0
 MayReplaceIf slots old new = IfSome old (λ o. IfSome new (λ n. MayReplace slots o n))
 
 -- the change of a processor at a moment (ns), by the task that an act changes and the task that runs there afterwards
-abbrev pub change_for : ℕ → Changed → Option (ℕ × Task) → ℕ → Change
+abbrev pub change_for : ℕ → TaskUpdate → Option (ℕ × Task) → ℕ → Change
 change_for at changed running cpu = record { at = at; minus = part cpu changed.old; plus = part cpu changed.new; current = shown running }

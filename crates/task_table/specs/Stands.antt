@@ -1,5 +1,5 @@
 -- What a table stands for: its limits and a world, and what its indexes say.
-use Rattle.std.specs.Prelude.{◌≡◌, ℕ, ◌≤◌, ◌==◌, List, length, slice_index_or, Option, None, Some, Bool, if◌then◌else◌, refl}
+use Rattle.std.specs.Prelude.{◌≡◌, ℕ, ◌≤◌, ◌==◌, List, length, slice_index_or, Option, None, Some, Bool, if◌then◌else◌, refl, Result, Ok, Err}
 use Rattle.std.specs.FinMap as tasks_by
 use Rattle.std.specs.Coded.{Coded, code_by, coded×, coded_ℕ, coded_bool, coded_list}
 use Rattle.psi_spec.specs.declared.machine.GroupLife.{GroupLife}
@@ -7,10 +7,13 @@ use Rattle.psi_spec.specs.declared.machine.Task.{Task}
 use Rattle.psi_spec.specs.contracts.machine.GroupLife as group_row
 use Rattle.psi_spec.specs.contracts.machine.Task as task_row
 use Rattle.psi_base.specs.declared.event.Event.{Event}
-use Rattle.psi_spec.specs.World.{World, Limits, Tasks, after_event, task_of, is_running_on}
+use Rattle.psi_base.specs.declared.event.Cause.{Cause}
+use Rattle.psi_base.specs.declared.event.Fault.{Fault}
+use Rattle.psi_spec.specs.World.{World, Limits, Tasks, after_event, task_of, is_running_on, most_events}
 use Rattle.psi_spec.specs.Refusal.{cause_of}
 use Rattle.psi_laws.specs.Counts.{how_many}
 use Rattle.psi_laws.specs.Legal.{IsLegalWorld}
+use Rattle.task_table.specs.Causes.{IsFault}
 
 -- the value of a table
 pub record TableView : Type 0 where
@@ -52,15 +55,27 @@ pub record IsTable (table : TableView) (running : List (Option (ℕ × Task))) (
   pub cover : length table.world.groups ≤ length members
   pub cpus : length running ≤ 64
 
--- A table has advanced by an event: it is legal in a legal world and not earlier than the last, and the world after it is
--- the one that it makes, which is legal too.
-pub record IsAdvanced (old : TableView) (event : Event) (new : TableView) : Type 0 where
+-- A table has played an event: it is legal in a legal world, and the world after it is the one that it makes. That is legal
+-- too, it has no more lines than a trace may have, and its last moment is neither too late nor before the old one.
+pub record HasPlayed (old : TableView) (event : Event) (new : TableView) : Type 0 where
   pub limits : new.limits ≡ old.limits
   pub legal : cause_of old.limits old.world event ≡ None
   pub world : new.world ≡ after_event old.world event
   pub legal_before : IsLegalWorld old.limits old.world
   pub legal_after : IsLegalWorld new.limits new.world
+  pub lines : new.world.lines ≤ most_events
+  pub early : new.world.last ≤ new.limits.latest
   pub forward : old.world.last ≤ new.world.last
+
+-- A table has refused an event for such a reason, and nothing has changed.
+pub record HasRefused (old : TableView) (event : Event) (new : TableView) (why : Fault Cause) : Type 0 where
+  pub fault : IsFault (cause_of old.limits old.world event) event.act why
+  pub same : new ≡ old
+
+-- the table plays the event, or refuses it
+abbrev pub PlaysEvent : {T : Type 0} → TableView → Event → TableView → Result T (Fault Cause) → Type 0
+PlaysEvent old event new (Ok x) = HasPlayed old event new
+PlaysEvent old event new (Err why) = HasRefused old event new why
 
 -- the value of a table with these fields
 abbrev pub table_of : ℕ → ℕ → Tasks → List GroupLife → ℕ → ℕ → ℕ → Bool → TableView

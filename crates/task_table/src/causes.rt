@@ -37,7 +37,7 @@ fn lacks_path(tree: &Tree, path: &Path) -> Option<Cause>
 }
 
 /// A live task is in the group with this path.
-fn is_manned(tree: &Tree, members: &Members, path: &Path) -> bool
+fn has_tasks(tree: &Tree, members: &Members, path: &Path) -> bool
     ensures { (tasks : Tasks) → AreMembers members.now tasks →
         result ≡ has_member tasks (slot_of tree.now path.now) }
 {
@@ -55,7 +55,7 @@ fn remove_refused(tree: &Tree, members: &Members, path: &Path) -> Option<Cause>
     if let Some(cause) = tree.remove_cause(path) {
         return Some(cause);
     }
-    if is_manned(tree, members, path) {
+    if has_tasks(tree, members, path) {
         return Some(Cause::GroupBusy);
     }
     None

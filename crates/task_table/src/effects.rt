@@ -1,7 +1,7 @@
 //! What a legal act does to tasks and groups.
 ghost use Rattle.std.specs.Prelude.{◌≡◌, ◌≢◌, ℕ, ◌+◌, ◌<◌, ◌≤◌, ◌++◌, ◌||◌, if◌then◌else◌, List, [], ◌∷◌, Option, None, Some, IfOk, IfSome, OnOk, OnErr, true, false, length, slice_index_or, unwrap_or};
 ghost use Rattle.std.specs.FinMap as tasks_by;
-ghost use Rattle.psi_spec.specs.World.{change, ends, groups_after, is_ready, is_running, is_trigger, leave, left_by, new_group, new_task, put, readied, running_on, slot_of, start, task_of, task_part, tasks_after};
+ghost use Rattle.psi_spec.specs.World.{change, ends, groups_after, is_ready, is_running, is_trigger, leave, left_by, most_tasks, new_group, new_task, put, readied, running_on, slot_of, start, task_of, task_part, tasks_after};
 ghost use Rattle.psi_laws.specs.Touch.{changed, left_if};
 ghost use Rattle.psi_spec.specs.Refusal.{is_wrong};
 ghost use Rattle.group_tree.specs.Tree.{add_cause};
@@ -10,10 +10,10 @@ ghost use Rattle.task_table.specs.Named.{IsChanged, MayReplaceIf, named_task, ne
 ghost use Rattle.task_table.specs.Stands.{AreMembers, IsIndex};
 ghost use Rattle.psi_base.specs.declared.event.How.TheVariants.{Idle};
 
-use crate::changed::Changed;
 use crate::members::Members;
-use crate::running::{Running, running_at, show};
+use crate::running::{Running, running_at, set_running};
 use crate::task_map::TaskMap;
+use crate::task_update::TaskUpdate;
 use group_tree::Tree;
 use psi_base::{Act, Cpu, How, NoMemory, Ns, Path, Pid, Slot};
 use psi_spec::{Mode, Task};
@@ -48,7 +48,7 @@ fn forked(tree: &Tree, path: &Path, cpu: Cpu) -> Task
     ensures { result ≡ new_task tree.now path.now cpu.0 }
 {
     Task {
-        slot: slot_at(tree, path),
+        slot: slot_named(tree, path),
         cpu,
         mode: Mode::Ready,
         stalled: false,
@@ -56,7 +56,7 @@ fn forked(tree: &Tree, path: &Path, cpu: Cpu) -> Task
 }
 
 /// The slot of the live group with this path, or the root's where there is none.
-fn slot_at(tree: &Tree, path: &Path) -> Slot
+fn slot_named(tree: &Tree, path: &Path) -> Slot
     ensures { result.0 ≡ unwrap_or (slot_of tree.now path.now) 0 }
 {
     tree.find(path).unwrap_or(Slot(0))
@@ -140,13 +140,13 @@ pub(crate) fn named_task(tasks: &TaskMap, act: &Act) -> Option<Task>
 }
 
 /// The running task of a processor leaves it.
-fn take_off(
+fn switch_out(
     tasks: &mut TaskMap,
     running: &mut [Running],
     members: &mut Members,
     cpu: u32,
     how: How,
-) -> Changed
+) -> TaskUpdate
     requires index { IsIndex running.old tasks.old }
     requires members { AreMembers members.old tasks.old }
     requires room { cpu < length running.old }
@@ -161,7 +161,7 @@ fn take_off(
     ensures after { result.new ≡ left_if how (task_part (running_on tasks.old cpu)) }
 {
     let Some((pid, task)) = running_at(running, cpu) else {
-        return Changed {
+        return TaskUpdate {
             old: None,
             new: None,
         };
@@ -175,14 +175,14 @@ fn take_off(
             tasks.remove(pid);
         }
     }
-    Changed {
+    TaskUpdate {
         old: Some(task),
         new,
     }
 }
 
 /// A ready task starts on a processor on which none runs.
-fn put_on(
+fn switch_in(
     tasks: &mut TaskMap,
     running: &mut [Running],
     cpu: u32,
@@ -224,10 +224,10 @@ fn replace(
     pid: u32,
     old: Option<Task>,
     new: Option<Task>,
-) -> Changed
+) -> TaskUpdate
     requires index { IsIndex running.old tasks.old }
     requires members { AreMembers members.old tasks.old }
-    requires few { tasks_by.len tasks.old ≤ 65536 }
+    requires few { tasks_by.len tasks.old ≤ most_tasks }
     requires old { old ≡ task_of tasks.old pid }
     requires new { MayReplaceIf (length members.old) old new }
     ensures tasks { (f : Task → Task) → new ≡ changed f old →
@@ -239,7 +239,7 @@ fn replace(
     ensures before { result.old ≡ old }
     ensures after { result.new ≡ new }
 {
-    let changed = Changed { old, new };
+    let changed = TaskUpdate { old, new };
     let Some(old) = old else {
         return changed;
     };
@@ -249,7 +249,7 @@ fn replace(
     members.leave(old.slot);
     members.join(new.slot);
     tasks.set(pid, new);
-    show(running, pid, new);
+    set_running(running, pid, new);
     changed
 }
 
@@ -259,12 +259,12 @@ fn add_task(
     members: &mut Members,
     pid: u32,
     task: Task,
-) -> Result<Changed, NoMemory>
+) -> Result<TaskUpdate, NoMemory>
     requires members { AreMembers members.old tasks.old }
     requires new { task_of tasks.old pid ≡ None }
     requires off { is_running task.mode ≡ false }
     requires room { task.slot.0 < length members.old }
-    requires few { tasks_by.len tasks.old ≤ 65536 }
+    requires few { tasks_by.len tasks.old ≤ most_tasks }
     ensures tasks { OnOk result (tasks.new ≡ put tasks.old pid task) }
     ensures err { OnErr result (tasks.new ≡ tasks.old) }
     ensures index { (running : List (Option (ℕ × Task))) → IsIndex running tasks.old →
@@ -276,7 +276,7 @@ fn add_task(
     match tasks.add(pid, task) {
         Ok(()) => {
             members.join(task.slot);
-            Ok(Changed {
+            Ok(TaskUpdate {
                 old: None,
                 new: Some(task),
             })
@@ -311,7 +311,7 @@ fn switch(
     next: Option<Pid>,
     task: Option<Task>,
     how: How,
-) -> Changed
+) -> TaskUpdate
     requires index { IsIndex running.old tasks.old }
     requires members { AreMembers members.old tasks.old }
     requires task { task ≡ next_task tasks.old next }
@@ -325,8 +325,8 @@ fn switch(
     ensures before { result.old ≡ task_part (running_on tasks.old cpu) }
     ensures after { result.new ≡ left_if how (task_part (running_on tasks.old cpu)) }
 {
-    let changed = take_off(tasks, running, members, cpu, how);
-    put_on(tasks, running, cpu, next, task);
+    let changed = switch_out(tasks, running, members, cpu, how);
+    switch_in(tasks, running, cpu, next, task);
     changed
 }
 
@@ -339,11 +339,11 @@ pub(crate) fn change_tasks(
     tree: &Tree,
     act: &Act,
     named: Option<Task>,
-) -> Result<Changed, NoMemory>
+) -> Result<TaskUpdate, NoMemory>
     requires index { IsIndex running.old tasks.old }
     requires members { AreMembers members.old tasks.old }
     requires cover { length tree.now ≤ length members.old }
-    requires few { tasks_by.len tasks.old ≤ 65536 }
+    requires few { tasks_by.len tasks.old ≤ most_tasks }
     requires named { named ≡ named_task tasks.old act.now }
     requires legal { (triggers : ℕ)
         × (act_cause (length running.old) tree.now tasks.old triggers act.now ≡ None) }
@@ -375,7 +375,7 @@ pub(crate) fn change_tasks(
             Ok(replace(tasks, running, members, pid.0, named, new))
         }
         Act::Move { pid, path } => {
-            let new = moved(named, slot_at(tree, path));
+            let new = moved(named, slot_named(tree, path));
             Ok(replace(tasks, running, members, pid.0, named, new))
         }
         Act::Group { .. }
@@ -384,7 +384,7 @@ pub(crate) fn change_tasks(
         | Act::Mem { .. }
         | Act::Host { .. }
         | Act::Trigger { .. }
-        | Act::End => Ok(Changed {
+        | Act::End => Ok(TaskUpdate {
             old: None,
             new: None,
         }),

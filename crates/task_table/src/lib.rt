@@ -2,12 +2,12 @@
 #![tactic(auto)]
 
 mod causes;
-mod changed;
 mod effects;
 mod members;
 mod running;
 mod table;
 mod task_map;
+mod task_update;
 mod touch;
 
 pub use table::Table;

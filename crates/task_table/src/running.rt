@@ -15,7 +15,7 @@ pub(crate) fn running_at(running: &[Running], cpu: u32) -> Running
 }
 
 /// Shows a task as it is now, if it runs.
-pub(crate) fn show(running: &mut [Running], pid: u32, task: Task)
+pub(crate) fn set_running(running: &mut [Running], pid: u32, task: Task)
     requires { is_running task.mode ≡ true → task.cpu.0 < length running.old }
     ensures { running.new
         ≡ (if is_running task.mode then slice_set running.old task.cpu.0 (Some (pid, task))

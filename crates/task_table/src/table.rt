@@ -1,20 +1,18 @@
 //! The table of tasks.
-ghost use Rattle.std.specs.Prelude.{◌≡◌, ◌<◌, ◌≤◌, IfNone, IfOk, OnErr, OnOk, MatchResult, None, length};
-ghost use Rattle.psi_spec.specs.World.{after_event, first_world, running_on, task_of, task_part};
+ghost use Rattle.std.specs.Prelude.{◌≡◌, ◌<◌, ◌≤◌, IfNone, IfOk, length};
+ghost use Rattle.psi_spec.specs.World.{first_world, most_events, running_on, task_of, task_part};
 ghost use Rattle.psi_laws.specs.Touch.{AllTouched, HasSlotsBelow, IsOfOne, IsTouch};
 ghost use Rattle.psi_spec.specs.Changes.{before};
 ghost use Rattle.psi_spec.specs.Refusal.{cause_of};
-ghost use Rattle.psi_laws.specs.Legal.{IsLegalWorld};
-ghost use Rattle.task_table.specs.Causes.{IsFault};
 ghost use Rattle.task_table.specs.Named.{IsChanged, named_task};
-ghost use Rattle.task_table.specs.Stands.{IsAdvanced};
+ghost use Rattle.task_table.specs.Stands.{PlaysEvent};
 
 use crate::causes::act_refused;
-use crate::changed::Changed;
 use crate::effects::{change_groups, change_tasks, has_ended, named_task, triggers_with};
 use crate::members::Members;
 use crate::running::{Running, running_at};
 use crate::task_map::TaskMap;
+use crate::task_update::TaskUpdate;
 use crate::touch::touch_of;
 use group_tree::Tree;
 use psi_base::{Act, Cause, Cpu, Event, Fault, NoMemory, Ns, Pid};
@@ -24,7 +22,7 @@ use std::alloc::Global;
 use std::marker::Model;
 
 /// The most lines that a trace may have after its header.
-const MOST_LINES: u32 = 4_000_000;
+const MOST_EVENTS: u32 = 4_000_000;
 
 /// The world so far, and the limits of its trace.
 #[derive(Drop)]
@@ -92,7 +90,7 @@ impl Table {
     /// How many events there were, 4,000,000 at most.
     pub fn lines(&self) -> u32
         ensures lines { result ≡ self.now.world.lines }
-        ensures few { result ≤ 4000000 }
+        ensures few { result ≤ most_events }
     {
         self.lines
     }
@@ -161,7 +159,7 @@ impl Table {
     /// The first cause against the event, in this profile's order of causes, or none where it is legal.
     pub fn check(&self, event: &Event) -> Option<Cause>
         ensures cause { result ≡ cause_of self.now.limits self.now.world event.now }
-        ensures room { IfNone result (self.now.world.lines < 4000000) }
+        ensures room { IfNone result (self.now.world.lines < most_events) }
         ensures forward { IfNone result (self.now.world.last ≤ event.now.at) }
         ensures early { IfNone result (event.now.at ≤ self.now.limits.latest) }
     {
@@ -173,7 +171,7 @@ impl Table {
     fn refused(&self, event: &Event, named: Option<Task>) -> Option<Cause>
         requires { named ≡ named_task self.now.world.tasks event.now.act }
         ensures cause { result ≡ cause_of self.now.limits self.now.world event.now }
-        ensures room { IfNone result (self.now.world.lines < 4000000) }
+        ensures room { IfNone result (self.now.world.lines < most_events) }
         ensures forward { IfNone result (self.now.world.last ≤ event.now.at) }
         ensures early { IfNone result (event.now.at ≤ self.now.limits.latest) }
     {
@@ -186,7 +184,7 @@ impl Table {
         if self.latest < event.at {
             return Some(Cause::TimeTooLate);
         }
-        if self.lines >= MOST_LINES {
+        if self.lines >= MOST_EVENTS {
             return Some(Cause::TooManyEvents);
         }
         act_refused(
@@ -203,16 +201,7 @@ impl Table {
     /// The world after the event. Where it is refused, or there is no memory for a new task or group, nothing changes:
     /// `Refused` with the first cause, and `NoMemory` for a legal fork or a legal new group alone.
     pub fn play(&mut self, event: &Event) -> Result<(), Fault<Cause>>
-        ensures limits { self.new.limits ≡ self.old.limits }
-        ensures legal { OnOk result (cause_of self.old.limits self.old.world event.now ≡ None) }
-        ensures world { OnOk result (self.new.world ≡ after_event self.old.world event.now) }
-        ensures legal_world { OnOk result (IsLegalWorld self.new.limits self.new.world) }
-        ensures lines { OnOk result (self.new.world.lines ≤ 4000000) }
-        ensures early { OnOk result (self.new.world.last ≤ self.new.limits.latest) }
-        ensures forward { OnOk result (self.old.world.last ≤ self.new.world.last) }
-        ensures fault { MatchResult result (λ _. Unit {0})
-            (IsFault (cause_of self.old.limits self.old.world event.now) event.now.act) }
-        ensures err { OnErr result (self.new ≡ self.old) }
+        ensures { PlaysEvent self.old event.now self.new result }
     {
         self.advance(event)?;
         Ok(())
@@ -221,16 +210,7 @@ impl Table {
     /// The world after the event as [`Table::play`] makes it, and what the event changes on each processor that it
     /// touches.
     pub fn step(&mut self, event: &Event) -> Result<Touch, Fault<Cause>>
-        ensures limits { self.new.limits ≡ self.old.limits }
-        ensures legal { OnOk result (cause_of self.old.limits self.old.world event.now ≡ None) }
-        ensures world { OnOk result (self.new.world ≡ after_event self.old.world event.now) }
-        ensures legal_world { OnOk result (IsLegalWorld self.new.limits self.new.world) }
-        ensures lines { OnOk result (self.new.world.lines ≤ 4000000) }
-        ensures early { OnOk result (self.new.world.last ≤ self.new.limits.latest) }
-        ensures forward { OnOk result (self.old.world.last ≤ self.new.world.last) }
-        ensures fault { MatchResult result (λ _. Unit {0})
-            (IsFault (cause_of self.old.limits self.old.world event.now) event.now.act) }
-        ensures err { OnErr result (self.new ≡ self.old) }
+        ensures plays { PlaysEvent self.old event.now self.new result }
         ensures touch { IfOk result (λ touch.
             IsTouch self.old.limits.cpus self.old.world event.now touch) }
         ensures cpus { IfOk result
@@ -246,13 +226,10 @@ impl Table {
     }
 
     /// The world after the event as [`Table::play`] makes it, and the task that the event changes.
-    fn advance(&mut self, event: &Event) -> Result<Changed, Fault<Cause>>
-        ensures advanced { OnOk result (IsAdvanced self.old event.now self.new) }
+    fn advance(&mut self, event: &Event) -> Result<TaskUpdate, Fault<Cause>>
+        ensures plays { PlaysEvent self.old event.now self.new result }
         ensures changed { IfOk result (λ c.
             IsChanged self.old.world.groups self.old.world.tasks event.now.act c) }
-        ensures fault { MatchResult result (λ _. Unit {0})
-            (IsFault (cause_of self.old.limits self.old.world event.now) event.now.act) }
-        ensures err { OnErr result (self.new ≡ self.old) }
     {
         let act = &event.act;
         let named = named_task(&self.tasks, act);

@@ -1,8 +1,8 @@
 //! Tasks by their numbers.
 ghost use Rattle.std.specs.Prelude.{◌≡◌, ◌≤◌, IfOk, OnOk, OnErr, IsSome, None, length, replicate};
-ghost use Rattle.psi_spec.specs.World.{no_tasks, task_of, put, remove};
+ghost use Rattle.psi_spec.specs.World.{no_tasks, task_of, put, remove, most_tasks};
 ghost use Rattle.std.specs.FinMap as tasks_by;
-ghost use Rattle.task_table.specs.Listed.{tasks_in};
+ghost use Rattle.task_table.specs.Listed.{listed_tasks};
 
 use psi_base::NoMemory;
 use psi_spec::Task;
@@ -30,15 +30,16 @@ impl Model for TaskMap {
     ghost use Rattle.std.specs.Coded.{coded_ℕ};
     ghost use Rattle.psi_spec.specs.World.{Tasks};
     ghost use Rattle.psi_spec.specs.contracts.machine.Task as task_row;
-    ghost use Rattle.task_table.specs.Listed.{tasks_in};
+    ghost use Rattle.task_table.specs.Listed.{listed_tasks};
 
     ghost Value = { Tasks };
 
     ghost coded = { tasks_by.code coded_ℕ task_row.the_row.coded };
 
-    ghost view = { λ m. tasks_in m.listed.items m.others.entries };
+    ghost view = { λ m. listed_tasks m.listed.items m.others.entries };
 
-    ghost invariant = { λ m. m.count ≡ tasks_by.len (tasks_in m.listed.items m.others.entries) };
+    ghost invariant = { λ m.
+        m.count ≡ tasks_by.len (listed_tasks m.listed.items m.others.entries) };
 }
 
 impl TaskMap {
@@ -72,7 +73,7 @@ impl TaskMap {
 
     /// Puts a task under a number. Where there is no memory for it, nothing changes.
     pub(crate) fn add(&mut self, pid: u32, task: Task) -> Result<(), NoMemory>
-        requires few { tasks_by.len self.old ≤ 65536 }
+        requires few { tasks_by.len self.old ≤ most_tasks }
         ensures ok { OnOk result (self.new ≡ put self.old pid task) }
         ensures err { OnErr result (self.new ≡ self.old) }
     {
@@ -128,10 +129,10 @@ fn put(
     task: Task,
 ) -> Result<Option<Task>, NoMemory>
     ensures old { IfOk result (λ old.
-        old ≡ task_of (tasks_in listed.old others.old.entries) pid) }
+        old ≡ task_of (listed_tasks listed.old others.old.entries) pid) }
     ensures ok { OnOk result
-        (tasks_in listed.new others.new.entries
-        ≡ put (tasks_in listed.old others.old.entries) pid task) }
+        (listed_tasks listed.new others.new.entries
+        ≡ put (listed_tasks listed.old others.old.entries) pid task) }
     ensures err { OnErr result
         ((listed.new ≡ listed.old) × (others.new.entries ≡ others.old.entries)) }
     ensures length { length listed.new ≡ length listed.old }
@@ -150,9 +151,9 @@ fn put(
 
 /// Takes the task with a number away, if there is one.
 fn take(listed: &mut [Option<Task>], others: &mut HashMap<u32, Task>, pid: u32) -> Option<Task>
-    ensures old { result ≡ task_of (tasks_in listed.old others.old.entries) pid }
-    ensures tasks { tasks_in listed.new others.new.entries
-        ≡ remove (tasks_in listed.old others.old.entries) pid }
+    ensures old { result ≡ task_of (listed_tasks listed.old others.old.entries) pid }
+    ensures tasks { listed_tasks listed.new others.new.entries
+        ≡ remove (listed_tasks listed.old others.old.entries) pid }
     ensures length { length listed.new ≡ length listed.old }
 {
     let place = pid as usize;

@@ -6,8 +6,8 @@ ghost use Rattle.psi_laws.specs.Touch.{part, shown, told_of, IsBeside};
 ghost use Rattle.psi_spec.specs.Changes.{touched};
 ghost use Rattle.task_table.specs.Named.{change_for};
 
-use crate::changed::Changed;
 use crate::running::{Running, running_at};
+use crate::task_update::TaskUpdate;
 use psi_base::{Act, Cpu, Ns, Slot};
 use psi_laws::{Change, Counts, Touch};
 use psi_spec::{Mode, Task};
@@ -60,7 +60,7 @@ fn current_on(running: &[Running], cpu: Cpu) -> Option<(Slot, bool)>
 }
 
 /// The change of a processor at a moment (ns), by the task that an act changes and by the tasks that run after it.
-fn change_of(at: Ns, changed: Changed, running: &[Running], cpu: Cpu) -> Change
+fn change_of(at: Ns, changed: TaskUpdate, running: &[Running], cpu: Cpu) -> Change
     ensures { result ≡ change_for at changed (slice_index_or running.now cpu.0 None) cpu.0 }
 {
     Change {
@@ -73,7 +73,7 @@ fn change_of(at: Ns, changed: Changed, running: &[Running], cpu: Cpu) -> Change
 
 /// The changes at a moment (ns) of the processors that an act touches, by the task that it changes and by the tasks that
 /// run after it. Where a task comes from another processor, that one is the second.
-pub(crate) fn touch_of(at: Ns, act: &Act, changed: Changed, running: &[Running]) -> Touch
+pub(crate) fn touch_of(at: Ns, act: &Act, changed: TaskUpdate, running: &[Running]) -> Touch
     ensures told { (cpu : ℕ) →
         told_of result cpu
         ≡ (if touched act.now changed.old cpu

@@ -16,7 +16,7 @@ use Rattle.run_spec.specs.declared.command.Shape.{Shape}
 use Rattle.run_spec.specs.Generated.{drawn_events, first_events, next_drawn, next_event}
 use Rattle.run_spec.specs.Words.{IsShape}
 use Rattle.task_table.specs.Causes.{IsFault, takes_memory}
-use Rattle.task_table.specs.Stands.{TableView}
+use Rattle.task_table.specs.Stands.{HasPlayed, TableView}
 use Rattle.trace_gen.specs.Generating.{limits_in}
 use Rattle.trace_gen.specs.Left.{IsGenerator, events_left}
 use Rattle.trace_gen.proofs.FirstEvents.{founded}
@@ -76,16 +76,16 @@ never_refused shape table left some so state event is f fails =
     no_fault (cause_of table.limits table.world event) event legal light f fails
 
 -- behind the next one
-pub generator_on : (shape : Shape) (table later : TableView) (left : ℕ) → 0 < left → IsGenerator shape table left → (state : ℕ) (event : Event) → event ≡ next_event shape table.world state → later.limits ≡ table.limits → later.world ≡ after_event table.world event → IsGenerator shape later (left - 1)
-generator_on shape table later left some so state event is limits world =
+pub generator_on : (shape : Shape) (table later : TableView) (left : ℕ) → 0 < left → IsGenerator shape table left → (state : ℕ) (event : Event) → event ≡ next_event shape table.world state → HasPlayed table event later → IsGenerator shape later (left - 1)
+generator_on shape table later left some so state event is played =
     let next = generator_next shape table left some so state in
     let all = so.all in
     record {
       shaped = so.shaped;
-      limits = limits ∙ so.limits;
+      limits = played.limits ∙ so.limits;
       count = so.count + 1;
       all = omega (arith, all, some);
-      world = rw (world, is) next.later;
+      world = rw (played.world, is) next.later;
     }
 
 -- the events from here on are the next one and those behind it

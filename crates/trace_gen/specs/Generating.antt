@@ -5,7 +5,7 @@ use Rattle.psi_spec.specs.Trace.{IsTrace, accepts_all, limits_of}
 use Rattle.psi_spec.specs.World.{Limits, Tasks, World, task_of}
 use Rattle.run_spec.specs.declared.command.Shape.{Shape}
 use Rattle.run_spec.specs.Generated.{gen_text, generated, task_count}
-use Rattle.run_spec.specs.Outputs.{of_s}
+use Rattle.kill_spec.specs.Detectors.{of_seconds}
 use Rattle.run_spec.specs.Words.{IsShape}
 
 -- how many events make the groups and tasks
@@ -18,7 +18,7 @@ event_count shape = first_count shape + shape.events + 1
 
 -- what a generated trace can name: its processors, and the moments that the default tick of 2 s allows
 abbrev pub limits_in : Shape → Limits
-limits_in shape = limits_of (of_s 2) shape.cpus
+limits_in shape = limits_of (of_seconds 2) shape.cpus
 
 -- ---- while a trace is generated
 
@@ -28,7 +28,7 @@ pub record AreLive (shape : Shape) (tasks : Tasks) : Type 0 where
   pub within : (pid : ℕ) → IfSome (task_of tasks pid) (λ task. task.cpu.0 < shape.cpus)
 
 -- The world of a shape after so many events behind those that made its groups and tasks: all tasks live, each event was
--- a line, none came 2 ms or more behind the one before, and none was the end.
+-- a line, the last moment is at most 2 ms for each, and none was the end.
 pub record IsGenerating (shape : Shape) (count : ℕ) (w : World) : Type 0 where
   pub tasks : AreLive shape w.tasks
   pub lines : w.lines ≡ first_count shape + count
@@ -40,7 +40,7 @@ pub record IsGenerating (shape : Shape) (count : ℕ) (w : World) : Type 0 where
 -- Each generated text is one of the generated trace, which is accepted at the default tick.
 abbrev pub GeneratedIsTrace : Type 0
 GeneratedIsTrace = (shape : Shape) → IsShape shape
-    → IsTrace (accepts_all (of_s 2)) (gen_text shape) (generated shape)
+    → IsTrace (accepts_all (of_seconds 2)) (gen_text shape) (generated shape)
 
 -- A generated trace has an event for each group and each task, as many more as were asked for, and the end.
 abbrev pub GeneratedCount : Type 0

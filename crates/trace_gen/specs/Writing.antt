@@ -18,8 +18,8 @@ abbrev pub Misses : {E : Type 0} → List ℕ → ℕ → ℕ → Option (List �
 Misses text before now had has (Refused failed) = AppendsFront had has text × Rose before now
 Misses text before now had has NoMemory = Keeps had has × (now ≡ before)
 
--- what writing a text gave: all of it, and the count of failed writes is as before, or less
-abbrev pub Writes :
+-- what writing a text gave: all of it, with the count of failed writes as before; or what Misses says of a fault
+abbrev pub WritesWhole :
     {T E : Type 0} → List ℕ → ℕ → ℕ → Option (List ℕ) → Option (List ℕ) → Result T (Fault E) → Type 0
-Writes text before now had has (Ok done) = Appends had has text × (now ≡ before)
-Writes text before now had has (Err fault) = Misses text before now had has fault
+WritesWhole text before now had has (Ok done) = Appends had has text × (now ≡ before)
+WritesWhole text before now had has (Err fault) = Misses text before now had has fault

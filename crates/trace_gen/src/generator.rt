@@ -149,7 +149,7 @@ fn act_of(shape: Shape, table: &Table, draws: &mut Draws, pid: Pid, task: Task) 
     }
 }
 
-/// A task that sleeps is woken on any processor.
+/// A blocked task is woken on any processor.
 fn woken(shape: Shape, draws: &mut Draws, pid: Pid) -> Act
     requires { IsShape shape }
     ensures { drawn_act result draws.new ≡ woken shape draws.old pid.0 }

@@ -5,7 +5,7 @@ ghost use Rattle.psi_spec.specs.Grammar.{Fits, header, spelling};
 ghost use Rattle.psi_spec.specs.Trace.{AllFit, lines_of};
 ghost use Rattle.run_spec.specs.Generated.{gen_text, generated};
 ghost use Rattle.run_spec.specs.Words.{IsShape};
-ghost use Rattle.trace_gen.specs.Writing.{Writes, shape_by};
+ghost use Rattle.trace_gen.specs.Writing.{WritesWhole, shape_by};
 
 use crate::generator::Generator;
 use psi_base::{Event, Fault, Sink, WriteFailed, put_all};
@@ -109,7 +109,7 @@ pub fn generate<K: Sink>(
     out: &mut K,
 ) -> Result<(), Fault<WriteFailed>>
     requires { IsShape (shape_by seed cpus groups events) }
-    ensures writes { Writes (gen_text (shape_by seed cpus groups events))
+    ensures writes { WritesWhole (gen_text (shape_by seed cpus groups events))
         (K.faults out.old) (K.faults out.new) (K.has out.old) (K.has out.new) result }
     ensures below { StaysOver (K.below out.old) (K.below out.new) }
 {

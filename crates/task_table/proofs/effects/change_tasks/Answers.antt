@@ -18,8 +18,8 @@ pub replace-requires-in-Move-clause-new : goal.replace-requires-in-Move-clause-n
 replace-requires-in-Move-clause-new c =
     let legal = rw c.in-Move.is at c.requires.legal.1 in
     let room = slot_room c.args.tree.now c.in-Move.path (causes.move_group c.args.tree.now (task_of c.args.tasks.now c.in-Move.pid.0) c.in-Move.path legal) in
-    let fits : c.slot_at.result.0 < length c.args.members.now = omega (arith, room, c.slot_at.ensures, c.requires.cover) in
-    rw c.moved-new.ensures (replacing.may_move (length c.args.members.now) c.slot_at.result c.args.named fits)
+    let fits : c.slot_named.result.0 < length c.args.members.now = omega (arith, room, c.slot_named.ensures, c.requires.cover) in
+    rw c.moved-new.ensures (replacing.may_move (length c.args.members.now) c.slot_named.result c.args.named fits)
 
 pub replace-requires-clause-new : goal.replace-requires-clause-new
 replace-requires-clause-new c =
@@ -35,7 +35,7 @@ pub replace-requires-in-Wake-clause-new : goal.replace-requires-in-Wake-clause-n
 replace-requires-in-Wake-clause-new c =
     let named : c.args.named ≡ task_of c.args.tasks.now c.in-Wake.pid.0 = ⊎_elim (λ is. rw is at c.requires.named) (λ is. rw is at c.requires.named) c.in-Wake.is in
     let off : IfSome c.args.named (λ t. is_running t.mode ≡ false) = rw named (⊎_elim
-    (λ is. replacing.asleep _ (causes.wake_off (length c.args.running.now) (task_of c.args.tasks.now c.in-Wake.pid.0) c.in-Wake.cpu.0 (rw is at c.requires.legal.1)))
+    (λ is. replacing.blocked_off _ (causes.wake_off (length c.args.running.now) (task_of c.args.tasks.now c.in-Wake.pid.0) c.in-Wake.cpu.0 (rw is at c.requires.legal.1)))
     (λ is. replacing.not_running _ (causes.migrate_off (length c.args.running.now) (task_of c.args.tasks.now c.in-Wake.pid.0) c.in-Wake.cpu.0 (rw is at c.requires.legal.1)))
     c.in-Wake.is) in
     rw c.readied-new.ensures (replacing.may_ready (length c.args.members.now) c.in-Wake.cpu.0 c.args.named off (replacing.live_room c.args.members.now c.args.tasks.now c.in-Wake.pid.0 c.args.named c.requires.members named))

@@ -14,15 +14,15 @@ join-requires-clause-fits c =
     let room = members.member_room c.args.members.now c.args.tasks.now c.args.pid c.in-Some.old c.requires.members (sym c.requires.old ∙ c.in-Some.is) in
     omega (arith, members.fewer_members c.args.members.now c.leave.new.self c.in-Some.old.slot.0 c.in-Some-new.new.slot.0 c.leave.ensures room (members.members_few c.args.members.now c.args.tasks.now c.in-Some-new.new.slot.0 c.requires.members c.requires.few))
 
-pub show-requires : goal.show-requires
-show-requires c =
+pub set_running-requires : goal.set_running-requires
+set_running-requires c =
     let may = rw (c.in-Some.is, c.in-Some-new.is) at c.requires.new in
     index.replaced_room c.args.running.now c.args.tasks.now c.requires.index c.args.pid c.in-Some.old c.in-Some-new.new (sym c.requires.old ∙ c.in-Some.is) may.runs
 
 pub returns-clause-index : goal.returns-clause-index
 returns-clause-index c =
     let may = rw (c.in-Some.is, c.in-Some-new.is) at c.requires.new in
-    rw (c.show.ensures, c.set.ensures) (index.index_replaced c.args.running.now c.args.tasks.now c.requires.index c.args.pid c.in-Some.old c.in-Some-new.new (sym c.requires.old ∙ c.in-Some.is) may.runs)
+    rw (c.set_running.ensures, c.set.ensures) (index.index_replaced c.args.running.now c.args.tasks.now c.requires.index c.args.pid c.in-Some.old c.in-Some-new.new (sym c.requires.old ∙ c.in-Some.is) may.runs)
 
 pub returns-clause-members : goal.returns-clause-members
 returns-clause-members c =

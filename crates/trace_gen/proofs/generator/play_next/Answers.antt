@@ -7,7 +7,7 @@ unreachable-requires c =
 
 pub returns-clause-so : goal.returns-clause-so
 returns-clause-so c =
-    generator_on c.args.shape c.args.table.now c.play.new.self c.args.left.now c.requires.some c.requires.so c.args.draws.now c.next_event-event.result c.next_event-event.ensures.event c.in-Ok.ensures.limits c.in-Ok.ensures.world
+    generator_on c.args.shape c.args.table.now c.play.new.self c.args.left.now c.requires.some c.requires.so c.args.draws.now c.next_event-event.result c.next_event-event.ensures.event c.in-Ok.ensures
 
 pub returns-clause-event : goal.returns-clause-event
 returns-clause-event c =

@@ -7,7 +7,7 @@ use Rattle.psi_spec.specs.Told.{listed}
 use Rattle.psi_laws.specs.Legal.{with_change}
 use Rattle.psi_laws.specs.Touch.{told_of}
 use Rattle.proc_plan.specs.Plans.{HasTaken, changes_at, planner_view}
-use Rattle.proc_plan.specs.Room.{ChangesView, list_at, lists_of, no_room}
+use Rattle.proc_plan.specs.Room.{ChangesView, changes_in, lists_of, no_room}
 use Rattle.proc_plan.proofs.Taking.{HasStepped, room_for, taken_more}
 use Rattle.proc_plan.proofs.planner.Planner.take.Goals as goal
 
@@ -26,21 +26,17 @@ pub returns-clause-takes : goal.returns-clause-takes
 returns-clause-takes c = λ limits events taken.
     let old = planner_view c.self.inside.table (lists_of c.self.inside.changes.items) c.self.inside.triggers.items c.self.inside.sides.items in
     let new = planner_view c.step.new.self (lists_of c.add_changes.new.changes) c.add_trigger.new.triggers.items c.add_side-2.new.sides.items in
-    let e = c.in_ok-touch.ensures in
     let told = c.told_by-told.result in
     let there : c.deref_mut-2.result.now ≡ c.make_room.new.changes = c.deref_mut-2.ensures.value ∙ written c.self.inside.changes.len c.make_room.new.changes c.self.inside.changes.items (c.in-Ok.ensures.each ∙ c.deref_mut.ensures.len) in
     let kept : lists_of c.make_room.new.changes ≡ lists_of c.self.inside.changes.items = c.in-Ok.ensures.changes ∙ ap lists_of c.deref_mut.ensures.value in
     let changes : (cpu : ℕ) → changes_at new cpu ≡ changes_at old cpu ++ with_change (told_of c.in_ok-touch.touch cpu) [] = λ cpu.
     get_or-map (λ (changes : ChangesView). changes.list) c.add_changes.new.changes cpu no_room
     ∙ c.add_changes.ensures.added cpu
-    ∙ ap (λ list. list ++ with_change (told_of c.in_ok-touch.touch cpu) []) (ap (λ changes. list_at changes cpu) there ∙ sym (get_or-map (λ (changes : ChangesView). changes.list) c.make_room.new.changes cpu no_room) ∙ ap (λ lists. slice_index_or lists cpu []) kept) in
+    ∙ ap (λ list. list ++ with_change (told_of c.in_ok-touch.touch cpu) []) (ap (λ changes. changes_in changes cpu) there ∙ sym (get_or-map (λ (changes : ChangesView). changes.list) c.make_room.new.changes cpu no_room) ∙ ap (λ lists. slice_index_or lists cpu []) kept) in
     let step : HasStepped old new c.args.event.now c.in_ok-touch.touch told.trigger told.first told.second = record {
       fits = c.requires;
-      limits = e.limits;
-      legal = e.legal;
-      world = e.world;
-      few = e.lines;
-      told = e.touch;
+      played = c.in_ok-touch.ensures.plays;
+      told = c.in_ok-touch.ensures.touch;
       changes = changes;
       trigger_is = c.told_by-told.ensures.trigger;
       triggers = c.add_trigger.ensures ∙ ap (λ triggers. triggers ++ listed told.trigger) c.in-Ok.ensures.triggers;

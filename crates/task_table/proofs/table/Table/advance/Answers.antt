@@ -16,21 +16,24 @@ change_groups-requires-clause-legal c =
     let legal = causes.let_through c.args.self.now.limits c.args.self.now.world c.args.event.now (sym c.in_default.ensures.cause) in
     causes.groups_through _ c.self.inside.tree _ _ c.args.event.now.act (rw (← c.self.view_is) at legal)
 
-pub returns-clause-advanced : goal.returns-clause-advanced
-returns-clause-advanced c =
+pub returns-clause-plays : goal.returns-clause-plays
+returns-clause-plays c =
     let kept : take c.self.inside.running.len (c.change_tasks.new.running ++ drop (length c.change_tasks.new.running) c.self.inside.running.items) ≡ c.change_tasks.new.running = rw (let size : c.self.inside.running.len ≡ length c.change_tasks.new.running = search rules in size) (take-append_seam _ _) in
     let size : length c.change_tasks.new.running ≡ length c.self.inside.running.items = search rules in
     let tasks : c.change_tasks.new.tasks ≡ tasks_after c.self.inside.tree c.self.inside.tasks c.args.event.now.act = search rules in
     let groups : c.change_groups.new.tree ≡ groups_after c.args.event.now.at c.self.inside.tree c.args.event.now.act = search rules in
     let count = ap length kept ∙ size in
     let limits : ℕ → Limits = λ n. record { cpus = n; latest = c.self.inside.latest } in
+    let after = touching.legal_next _ _ c.self.inside.latest _ _ _ _ c.self.inside.triggers _ c.self.inside.lines c.self.inside.last c.self.inside.ended _ c.args.event.now count tasks groups c.triggers_with-self-inside.ensures c.has_ended-self-inside.ensures
+    (rw (← c.self.view_is) at (sym c.in_default.ensures.cause)) c.self.invariant.legal in
     record {
       limits = rw (← c.self.view_is) (ap limits count);
       legal = sym c.in_default.ensures.cause;
       world = rw (← c.self.view_is, tasks, groups, c.triggers_with-self-inside.ensures, c.has_ended-self-inside.ensures) refl;
       legal_before = rw (← c.self.view_is) c.self.invariant.legal;
-      legal_after = touching.legal_next _ _ c.self.inside.latest _ _ _ _ c.self.inside.triggers _ c.self.inside.lines c.self.inside.last c.self.inside.ended _ c.args.event.now count tasks groups c.triggers_with-self-inside.ensures c.has_ended-self-inside.ensures
-          (rw (← c.self.view_is) at (sym c.in_default.ensures.cause)) c.self.invariant.legal;
+      legal_after = after;
+      lines = after.few_lines;
+      early = after.early;
       forward = c.in_default.ensures.forward;
     }
 

@@ -1,7 +1,7 @@
 use Rattle.std.proofs.Common.{sym, ◌∙◌}
 use Rattle.psi_spec.specs.World.{slot_of}
 use Rattle.task_table.proofs.MemberLaws as members
-use Rattle.task_table.proofs.causes.is_manned.Goals as goal
+use Rattle.task_table.proofs.causes.has_tasks.Goals as goal
 
 pub returns-in-Some : goal.returns-in-Some
 returns-in-Some c = λ tasks are.
