@@ -17,7 +17,7 @@ use Rattle.run_spec.specs.Replay.{Pace, kills_in, lives_of, tick_count}
 use Rattle.proc_plan.specs.Plans.{PlansView}
 use Rattle.tick_engine.specs.Engine.{EngineView}
 use Rattle.replay_rules.specs.Judged.{EvaluatorView, HasJudged, HasRead, HasReadAll, IsToEvaluate}
-use Rattle.replay_rules.specs.Judged.{IsToJudge, JudgeView, Rests, kills_of, readings_of, told_last}
+use Rattle.replay_rules.specs.Judged.{IsToJudge, JudgeView, Rests, judge_kills, readings_of, told_last}
 use Rattle.replay_rules.specs.Laws.{KillsAtReading, NoKillsBetween, NoneWithoutRules}
 use Rattle.replay_rules.specs.Laws.{OneReadingMore, ReadingsStay}
 
@@ -130,12 +130,12 @@ to_evaluate judge evaluator plans engine order trace pace rules i number at is k
     }
 
 -- one that keeps no evaluator tells none
-tells_none : (judge : JudgeView) → judge.evaluator ≡ None → kills_of judge ≡ []
+tells_none : (judge : JudgeView) → judge.evaluator ≡ None → judge_kills judge ≡ []
 tells_none judge none =
     ap (λ e. if judge.evaluated then told_last e else []) none ∙ none_either judge.evaluated
 
 -- and neither does one that evaluated no rules
-tells_no_old : (judge : JudgeView) → judge.evaluated ≡ false → kills_of judge ≡ []
+tells_no_old : (judge : JudgeView) → judge.evaluated ≡ false → judge_kills judge ≡ []
 tells_no_old judge none = ap (λ b. if b then told_last judge.evaluator else []) none
 
 -- a judge that keeps no evaluator decides the same at all ticks: there are no rules
@@ -192,7 +192,7 @@ judged_next old new evaluator trace pace rules i number length interval kept on 
     let now = readings_of trace pace number in
     let all : HasReadAll (Some evaluator) trace rules now =
     subst (HasReadAll (Some evaluator) trace rules) (sym readings) read in
-    let told : kills_of new ≡ evaluator.killer.found =
+    let told : judge_kills new ≡ evaluator.killer.found =
     ap (λ b. if b then told_last new.evaluator else []) on ∙ ap told_last kept in
     let killed : kills_in trace pace rules number
     ≡ deciding.kills (lives_of trace) rules this (readings_of trace pace i) =

@@ -29,12 +29,13 @@ use Rattle.proc_plan.specs.Plans.{PlansView}
 use Rattle.tick_engine.specs.Engine.{EngineView, averages_in}
 use Rattle.tick_engine.specs.declared.group.Group.{Group}
 use Rattle.detectors.specs.Views.{IsAfter, ReadingView, reading_of}
-use Rattle.detectors.specs.Stands.{last_of}
-use Rattle.kill_engine.specs.Killers.{Takes}
-use Rattle.side_watch.specs.Sides.{sample_of}
-use Rattle.side_watch.specs.Watch.{Advances, IsNotAfter, IsWatching, WatchView, cell_at, has_tasks}
-use Rattle.replay_rules.specs.Planned.{HasTicked, IsPlanned, numbers_of}
-use Rattle.replay_rules.specs.Seen.{HasRows, group_by, groups_by, live_slots, reading_by}
+use Rattle.detectors.specs.Stands.{newest_moment}
+use Rattle.kill_engine.specs.Killers.{KillerTakes}
+use Rattle.side_watch.specs.Sides.{side_sample}
+use Rattle.side_watch.specs.Watch.{Advances, HasFollowed, IsNotAfter, SideView, has_tasks, side_cell_at}
+use Rattle.group_tree.specs.Tree.{numbers_of}
+use Rattle.replay_rules.specs.Planned.{HasTicked, IsPlanned}
+use Rattle.replay_rules.specs.Seen.{HasRows, group_by, groups_by, reading_by, slots_live_at}
 use Rattle.replay_rules.specs.Judged.{EvaluatorView, HasRead, IsToEvaluate, readings_of}
 
 -- ---- slots of an order
@@ -107,16 +108,16 @@ group_told trace pace i slot =
     (averages_at trace.cpus trace.events pace.length i slot) slot
 
 -- an engine and a watch that stand at a tick tell the same of it
-group_is : (engine : EngineView) (watch : WatchView) (trace : Trace) (pace : Pace) (i slot : ℕ) →
+group_is : (engine : EngineView) (watch : SideView) (trace : Trace) (pace : Pace) (i slot : ℕ) →
     HasTicked engine trace pace i →
-    IsWatching trace.events (Some (tick_moment pace.length i)) watch →
+    HasFollowed trace.events (Some (tick_moment pace.length i)) watch →
     slot < length (lives_of trace) → group_by engine watch slot ≡ group_told trace pace i slot
 group_is engine watch trace pace i slot ticked watching room =
     let averages = ap (λ a. a.averages) (averages_are engine trace pace i slot ticked room) in
-    ap (λ a. group_with slot a (sample_of (cell_at watch slot).memory)
-    (cell_at watch slot).preference (has_tasks watch slot)) averages
+    ap (λ a. group_with slot a (side_sample (side_cell_at watch slot).memory)
+    (side_cell_at watch slot).preference (has_tasks watch slot)) averages
     ∙ ap (λ m. group_with slot (averages_at trace.cpus trace.events pace.length i slot) m
-    (cell_at watch slot).preference (has_tasks watch slot)) (watching.memory slot room)
+    (side_cell_at watch slot).preference (has_tasks watch slot)) (watching.memory slot room)
     ∙ ap (λ p. group_with slot (averages_at trace.cpus trace.events pace.length i slot)
     (memory_of slot (up_to trace.events (tick_moment pace.length i))) p (has_tasks watch slot))
     (watching.preference slot room)
@@ -139,10 +140,10 @@ groups_are f g n same lives (slot ∷ slots) below =
 -- ---- the reading
 
 -- the reading of an order of all slots by path is that of the trace
-pub reading_is : (engine : EngineView) (watch : WatchView) (plans : PlansView) (order : List ℕ)
+pub reading_is : (engine : EngineView) (watch : SideView) (plans : PlansView) (order : List ℕ)
     (trace : Trace) (pace : Pace) (i : ℕ) →
     IsPlanned plans trace pace → HasTicked engine trace pace i →
-    IsWatching trace.events (Some (tick_moment pace.length i)) watch →
+    HasFollowed trace.events (Some (tick_moment pace.length i)) watch →
     IsPathOrder (lives_of trace) order →
     reading_by engine watch (lives_of trace) (tick_moment pace.length i) order
     ≡ reading_at trace.cpus trace.events pace.length i
@@ -159,7 +160,7 @@ reading_is engine watch plans order trace pace i planned ticked watching by_path
     ≡ map told (live_groups (after (up_to trace.events at)).groups) =
     groups_are (group_by engine watch) (group_told trace pace i) (length lives)
     (λ slot room. group_is engine watch trace pace i slot ticked watching room) lives
-    (live_slots lives at order) below
+    (slots_live_at lives at order) below
     ∙ ap (map told) (sym
     (order_tells_live limits trace.events planned.accepted.legal order by_path at)) in
     rw (groups, watching.host) refl
@@ -168,14 +169,14 @@ reading_is engine watch plans order trace pace i planned ticked watching by_path
 
 -- the last of the evaluations among the first ticks comes before each moment behind these
 pub last_before : (trace : Trace) (pace : Pace) (i at : ℕ) → tick_moment pace.length i < at →
-    IsAfter (last_of (readings_of trace pace i)) at
+    IsAfter (newest_moment (readings_of trace pace i)) at
 unfolding readings_until reading_at
 last_before trace pace zero at late = tt
 last_before trace pace (suc i) at late =
     let earlier : tick_moment pace.length i < at = omega (arith, late) in
     let rest = last_before trace pace i at earlier in
     elim (is_evaluation pace.interval pace.length (suc i)) as (λ b. IsAfter
-    (last_of (map (reading_at trace.cpus trace.events pace.length)
+    (newest_moment (map (reading_at trace.cpus trace.events pace.length)
     (if b then suc i ∷ evaluations pace.interval pace.length i else evaluations pace.interval
     pace.length i))) at) [
       | true ↦ late
@@ -189,14 +190,14 @@ not_after (Some before) at is = omega (arith, is)
 -- so a tick comes behind the evaluations among those before it
 pub behind : (plans : PlansView) (trace : Trace) (pace : Pace) (i : ℕ) →
     IsPlanned plans trace pace →
-    IsAfter (last_of (readings_of trace pace i)) (tick_moment pace.length (i + 1))
+    IsAfter (newest_moment (readings_of trace pace i)) (tick_moment pace.length (i + 1))
 behind plans trace pace i planned =
     last_before trace pace i (tick_moment pace.length (i + 1)) (omega (arith, planned.some))
 
 -- ---- one evaluation
 
 last_is : (cpus : ℕ) (events : List Event) (length i : ℕ) (past : List Reading) →
-    last_of (reading_at cpus events length i ∷ past) ≡ Some (tick_moment length i)
+    newest_moment (reading_at cpus events length i ∷ past) ≡ Some (tick_moment length i)
 unfolding reading_at
 last_is cpus events length i past = refl
 
@@ -209,7 +210,7 @@ pub read_next : (old new : EvaluatorView) (plans : PlansView) (engine : EngineVi
     Advances old.watch new.watch plans.sides at →
     new.reading ≡ reading_of old.reading.lives
     (reading_by engine new.watch old.reading.lives at (numbers_of order)) →
-    Takes old.killer new.reading new.killer →
+    KillerTakes old.killer new.reading new.killer →
     HasRead new trace rules (reading_at trace.cpus trace.events pace.length (i + 1) ∷ readings_of
     trace pace i)
 read_next old new plans engine order trace pace rules i at is advances filled takes =
@@ -217,11 +218,11 @@ read_next old new plans engine order trace pace rules i at is advances filled ta
     let past : List Reading = readings_of trace pace i in
     let this : Reading = reading_at trace.cpus trace.events pace.length (i + 1) in
     let legal = is.planned.accepted.legal in
-    let before = not_after (last_of past) now (behind plans trace pace i is.planned) in
-    let watching : IsWatching trace.events (Some now) new.watch =
-    subst (λ t. IsWatching trace.events (Some t) new.watch) is.at_is
-    (advances (limits_of pace.length trace.cpus) trace.events (last_of past) legal
-    is.planned.stand.sides (subst (IsNotAfter (last_of past)) (sym is.at_is) before)
+    let before = not_after (newest_moment past) now (behind plans trace pace i is.planned) in
+    let watching : HasFollowed trace.events (Some now) new.watch =
+    subst (λ t. HasFollowed trace.events (Some t) new.watch) is.at_is
+    (advances (limits_of pace.length trace.cpus) trace.events (newest_moment past) legal
+    is.planned.stand.sides (subst (IsNotAfter (newest_moment past)) (sym is.at_is) before)
     is.read.watch) in
     let by_path : IsPathOrder (lives_of trace) (numbers_of order) =
     subst (λ lives. IsPathOrder lives (numbers_of order)) is.planned.stand.lives is.by_path in
@@ -233,11 +234,11 @@ read_next old new plans engine order trace pace rules i at is advances filled ta
     ∙ ap (λ t. reading_of (lives_of trace)
     (reading_by engine new.watch (lives_of trace) t (numbers_of order))) is.at_is
     ∙ ap (reading_of (lives_of trace)) seen in
-    let taken : Takes old.killer (reading_of (lives_of trace) this) new.killer =
-    subst (λ r. Takes old.killer r new.killer) reading takes in
+    let taken : KillerTakes old.killer (reading_of (lives_of trace) this) new.killer =
+    subst (λ r. KillerTakes old.killer r new.killer) reading takes in
     record {
       killer = taken rules past is.read.killer;
-      watch = subst (λ m. IsWatching trace.events m new.watch)
+      watch = subst (λ m. HasFollowed trace.events m new.watch)
           (sym (last_is trace.cpus trace.events pace.length (i + 1) past)) watching;
       lives = ap (λ (r : ReadingView). r.lives) reading;
     }

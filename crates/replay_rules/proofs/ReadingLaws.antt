@@ -34,7 +34,7 @@ use Rattle.kill_spec.specs.Evaluations.{host_of, host_told, last_or, memory_of, 
 use Rattle.kill_spec.specs.Evaluations.{no_memory, reading_at, readings_until}
 use Rattle.run_spec.specs.Replay.{Pace, lives_of}
 use Rattle.detectors.specs.Views.{IsAfter}
-use Rattle.detectors.specs.Stands.{last_of}
+use Rattle.detectors.specs.Stands.{newest_moment}
 use Rattle.replay_rules.specs.Judged.{readings_of}
 use Rattle.replay_rules.specs.Laws.{ReadingsAreReadings}
 use Rattle.replay_rules.proofs.SeenLaws.{in_order_sorted, keys_ascend}
@@ -86,21 +86,10 @@ IsSmallSample m = (m.current ≤ 2 ^ 60) × (m.swap ≤ 2 ^ 60) × (m.scan ≤ 2
 memory_fits : (slot : ℕ) (groups : List GroupLife) (a : Act) → ActFits a →
     AllByRecursion IsSmallSample (memory_told slot groups a)
 memory_fits slot groups (act.Group path) fits = tt
-memory_fits slot groups (act.Remove path) fits = tt
-memory_fits slot groups (act.Prefer path preference) fits = tt
-memory_fits slot groups (act.Fork pid path cpu) fits = tt
-memory_fits slot groups (act.Wake pid cpu) fits = tt
-memory_fits slot groups (act.Switch cpu next how) fits = tt
-memory_fits slot groups (act.Stall pid) fits = tt
-memory_fits slot groups (act.Unstall pid) fits = tt
-memory_fits slot groups (act.Migrate pid cpu) fits = tt
-memory_fits slot groups (act.Move pid path) fits = tt
 memory_fits slot groups (act.Mem path current swap scan) fits =
     alone_where IsSmallSample (record { current = current; swap = swap; scan = scan })
     ((slot_named groups path).0 == slot) (fits.1.0, fits.1.1.0, fits.1.1.1.0)
-memory_fits slot groups (act.Host mem_total swap_total swap_free) fits = tt
-memory_fits slot groups (act.Trigger path res level threshold_us window_us) fits = tt
-memory_fits slot groups act.End fits = tt
+memory_fits slot groups _ fits = tt
 
 memory_small : (slot : ℕ) (events : List Event) → AllFit events →
     IsSmallSample (memory_of slot events)
@@ -112,20 +101,9 @@ memory_small slot events fit =
 
 host_fits : (a : Act) → ActFits a → AllByRecursion IsHostReading (host_told a)
 host_fits (act.Group path) fits = tt
-host_fits (act.Remove path) fits = tt
-host_fits (act.Prefer path preference) fits = tt
-host_fits (act.Fork pid path cpu) fits = tt
-host_fits (act.Wake pid cpu) fits = tt
-host_fits (act.Switch cpu next how) fits = tt
-host_fits (act.Stall pid) fits = tt
-host_fits (act.Unstall pid) fits = tt
-host_fits (act.Migrate pid cpu) fits = tt
-host_fits (act.Move pid path) fits = tt
-host_fits (act.Mem path current swap scan) fits = tt
 host_fits (act.Host mem_total swap_total swap_free) fits =
     (record { mem_total = fits.0; swap_total = fits.1.0; swap_free = fits.1.1.0 }, tt)
-host_fits (act.Trigger path res level threshold_us window_us) fits = tt
-host_fits act.End fits = tt
+host_fits _ fits = tt
 
 host_small : (events : List Event) → AllFit events → IsHostReading (host_of events)
 host_small events fit =
@@ -261,7 +239,7 @@ is_reading trace pace i accepted =
 
 -- ---- one after another
 
-later_than : (now : Reading) (past : List Reading) → IsAfter (last_of past) now.at →
+later_than : (now : Reading) (past : List Reading) → IsAfter (newest_moment past) now.at →
     IsLater now past
 later_than now [] after_all = tt
 later_than now (before ∷ past) after_all = after_all

@@ -21,9 +21,9 @@ use Rattle.psi_laws.specs.Moments.{is_live_slot, with_path}
 use Rattle.psi_laws.proofs.MomentsOrder.{order_tells_live}
 use Rattle.kill_spec.specs.Readings.{Ascend, path_of}
 use Rattle.tick_engine.specs.Engine.{EngineView}
-use Rattle.side_watch.specs.Watch.{WatchView}
-use Rattle.replay_rules.specs.Planned.{numbers_of}
-use Rattle.replay_rules.specs.Seen.{group_by, groups_by, live_slots}
+use Rattle.side_watch.specs.Watch.{SideView}
+use Rattle.group_tree.specs.Tree.{numbers_of}
+use Rattle.replay_rules.specs.Seen.{group_by, groups_by, slots_live_at}
 
 -- six rows, one by one
 pub six_rows : (rows : List (List ℕ)) → length rows ≡ 6 →
@@ -79,14 +79,14 @@ paths_alone lives (slot ∷ slots) = ap (λ rest. path_at lives slot ∷ rest) (
 -- the paths of the live slots of an order by path ascend strictly
 pub live_ascend : (limits : Limits) (events : List Event) → AreLegal limits first_world events →
     (order : List ℕ) → IsPathOrder (after events).groups order → (at : ℕ) →
-    Ascend (map (path_at (after events).groups) (live_slots (after events).groups at order))
+    Ascend (map (path_at (after events).groups) (slots_live_at (after events).groups at order))
 live_ascend limits events legal order is at =
     let all : List GroupLife = (after events).groups in
     let pairs : List (List ℕ × ℕ) = live_groups (after (up_to events at)).groups in
     let same : map (λ (pair : List ℕ × ℕ). pair.0) pairs
-    ≡ map (path_at all) (live_slots all at order) =
+    ≡ map (path_at all) (slots_live_at all at order) =
     ap (map (λ (pair : List ℕ × ℕ). pair.0)) (order_tells_live limits events legal order is at)
-    ∙ paths_alone all (live_slots all at order) in
+    ∙ paths_alone all (slots_live_at all at order) in
     subst Ascend same (keys_ascend pairs
     (in_order_sorted (live_from 0 (after (up_to events at)).groups)))
 
@@ -106,20 +106,20 @@ numbers_more order i d inside =
 
 slots_more : (lives : List GroupLife) (at : ℕ) (order : List Slot) (i : ℕ) (d : Slot) →
     i < length order
-    → live_slots lives at (numbers_of (take (i + 1) order))
-    ≡ live_slots lives at (numbers_of (take i order)) ++ live_slots lives at
+    → slots_live_at lives at (numbers_of (take (i + 1) order))
+    ≡ slots_live_at lives at (numbers_of (take i order)) ++ slots_live_at lives at
     ((get_or order i d).0 ∷ [])
 slots_more lives at order i d inside =
-    ap (live_slots lives at) (numbers_more order i d inside)
+    ap (slots_live_at lives at) (numbers_more order i d inside)
     ∙ filter-append (is_live_slot lives at) (numbers_of (take i order))
     ((get_or order i d).0 ∷ [])
 
 alone_live : (lives : List GroupLife) (at slot : ℕ) → is_live_slot lives at slot ≡ true →
-    live_slots lives at (slot ∷ []) ≡ slot ∷ []
+    slots_live_at lives at (slot ∷ []) ≡ slot ∷ []
 alone_live lives at slot live = ap (λ b. cond b (slot ∷ []) []) live
 
 alone_gone : (lives : List GroupLife) (at slot : ℕ) → is_live_slot lives at slot ≡ false →
-    live_slots lives at (slot ∷ []) ≡ []
+    slots_live_at lives at (slot ∷ []) ≡ []
 alone_gone lives at slot gone = ap (λ b. cond b (slot ∷ []) []) gone
 
 -- the group in a slot that there is tells whether the slot is live
@@ -129,7 +129,7 @@ live_is lives at slot d b room is =
     ap (λ (life : GroupLife). is_live_at life at) (get_or_default lives slot root d room) ∙ is
 
 -- a live slot more is a group more
-pub groups_more : (engine : EngineView) (watch : WatchView) (lives : List GroupLife) (at : ℕ)
+pub groups_more : (engine : EngineView) (watch : SideView) (lives : List GroupLife) (at : ℕ)
     (order : List Slot) (i : ℕ) (d : Slot) → i < length order →
     is_live_slot lives at (get_or order i d).0 ≡ true
     → groups_by engine watch lives at (numbers_of (take (i + 1) order))
@@ -137,35 +137,35 @@ pub groups_more : (engine : EngineView) (watch : WatchView) (lives : List GroupL
     (get_or order i d).0 ∷ []
 groups_more engine watch lives at order i d inside live =
     let slots = slots_more lives at order i d inside
-    ∙ ap (λ more. live_slots lives at (numbers_of (take i order)) ++ more)
+    ∙ ap (λ more. slots_live_at lives at (numbers_of (take i order)) ++ more)
     (alone_live lives at (get_or order i d).0 live) in
     ap (map (group_by engine watch)) slots
-    ∙ map-append (group_by engine watch) (live_slots lives at (numbers_of (take i order)))
+    ∙ map-append (group_by engine watch) (slots_live_at lives at (numbers_of (take i order)))
     ((get_or order i d).0 ∷ [])
 
 -- a slot more that isn't live is none
-pub groups_same : (engine : EngineView) (watch : WatchView) (lives : List GroupLife) (at : ℕ)
+pub groups_same : (engine : EngineView) (watch : SideView) (lives : List GroupLife) (at : ℕ)
     (order : List Slot) (i : ℕ) (d : Slot) → i < length order →
     is_live_slot lives at (get_or order i d).0 ≡ false
     → groups_by engine watch lives at (numbers_of (take (i + 1) order))
     ≡ groups_by engine watch lives at (numbers_of (take i order))
 groups_same engine watch lives at order i d inside gone =
-    let none = append-nil (live_slots lives at (numbers_of (take i order))) in
+    let none = append-nil (slots_live_at lives at (numbers_of (take i order))) in
     ap (map (group_by engine watch))
     (slots_more lives at order i d inside
-    ∙ ap (λ more. live_slots lives at (numbers_of (take i order)) ++ more)
+    ∙ ap (λ more. slots_live_at lives at (numbers_of (take i order)) ++ more)
     (alone_gone lives at (get_or order i d).0 gone) ∙ none)
 
-paths_by : (engine : EngineView) (watch : WatchView) (lives : List GroupLife) (slots : List ℕ) →
+paths_by : (engine : EngineView) (watch : SideView) (lives : List GroupLife) (slots : List ℕ) →
     map (path_of lives) (map (group_by engine watch) slots) ≡ map (path_at lives) slots
 paths_by engine watch lives [] = refl
 paths_by engine watch lives (slot ∷ slots) =
     ap (λ rest. path_at lives slot ∷ rest) (paths_by engine watch lives slots)
 
 -- the paths of the groups of the first slots ascend where those of all do
-pub groups_ascend : (engine : EngineView) (watch : WatchView) (lives : List GroupLife) (at : ℕ)
+pub groups_ascend : (engine : EngineView) (watch : SideView) (lives : List GroupLife) (at : ℕ)
     (order : List Slot) (i : ℕ) → Ascend
-    (map (path_at lives) (live_slots lives at (numbers_of order)))
+    (map (path_at lives) (slots_live_at lives at (numbers_of order)))
     → Ascend (map (path_of lives) (groups_by engine watch lives at (numbers_of (take i order))))
 groups_ascend engine watch lives at order i all =
     let number : Slot → ℕ = λ (slot : Slot). slot.0 in
@@ -174,13 +174,13 @@ groups_ascend engine watch lives at order i all =
     let parts : numbers_of order ≡ front ++ behind =
     ap numbers_of (sym (take-append-drop i order))
     ∙ map-append number (take i order) (drop i order) in
-    let live : live_slots lives at (numbers_of order)
-    ≡ live_slots lives at front ++ live_slots lives at behind =
-    ap (live_slots lives at) parts ∙ filter-append (is_live_slot lives at) front behind in
-    let paths : map (path_at lives) (live_slots lives at (numbers_of order))
-    ≡ map (path_at lives) (live_slots lives at front) ++ map (path_at lives)
-    (live_slots lives at behind) =
-    ap (map (path_at lives)) live ∙ map-append (path_at lives) (live_slots lives at front)
-    (live_slots lives at behind) in
-    subst Ascend (sym (paths_by engine watch lives (live_slots lives at front)))
+    let live : slots_live_at lives at (numbers_of order)
+    ≡ slots_live_at lives at front ++ slots_live_at lives at behind =
+    ap (slots_live_at lives at) parts ∙ filter-append (is_live_slot lives at) front behind in
+    let paths : map (path_at lives) (slots_live_at lives at (numbers_of order))
+    ≡ map (path_at lives) (slots_live_at lives at front) ++ map (path_at lives)
+    (slots_live_at lives at behind) =
+    ap (map (path_at lives)) live ∙ map-append (path_at lives) (slots_live_at lives at front)
+    (slots_live_at lives at behind) in
+    subst Ascend (sym (paths_by engine watch lives (slots_live_at lives at front)))
     (ascend_front _ _ (subst Ascend paths all))

@@ -14,17 +14,18 @@ use Rattle.run_spec.specs.Replay.{Pace, kills_in, lives_of, tick_count}
 use Rattle.proc_plan.specs.Plans.{PlansView}
 use Rattle.tick_engine.specs.Engine.{EngineView}
 use Rattle.detectors.specs.Views.{ReadingView}
-use Rattle.detectors.specs.Stands.{last_of}
+use Rattle.detectors.specs.Stands.{newest_moment}
 use Rattle.kill_engine.specs.Killers.{KillerView, StandsFor}
-use Rattle.side_watch.specs.Watch.{IsWatching, WatchView}
-use Rattle.replay_rules.specs.Planned.{HasTicked, IsPlanned, numbers_of}
+use Rattle.side_watch.specs.Watch.{HasFollowed, SideView}
+use Rattle.group_tree.specs.Tree.{numbers_of}
+use Rattle.replay_rules.specs.Planned.{HasTicked, IsPlanned}
 
 -- ---- what a judge keeps
 
 -- An evaluator: the killer, the watch of what events tell beside pressure, and room for a reading.
 pub record EvaluatorView : Type 0 where
   pub killer : KillerView
-  pub watch : WatchView
+  pub watch : SideView
   pub reading : ReadingView
 
 -- A judge: the length of a tick (ns), the interval of evaluations (ns), an evaluator where there
@@ -50,13 +51,13 @@ told_last None = []
 told_last (Some evaluator) = evaluator.killer.found
 
 -- the kills of a judge at the last tick: none where it evaluated no rules then
-abbrev pub kills_of : JudgeView → List Kill
-kills_of judge = if judge.evaluated then told_last judge.evaluator else []
+abbrev pub judge_kills : JudgeView → List Kill
+judge_kills judge = if judge.evaluated then told_last judge.evaluator else []
 
 -- the rulesets of a rules file, and none where there is no file
-abbrev pub rules_in : Option Rules → List Rule
-rules_in None = []
-rules_in (Some given) = given.rules
+abbrev pub given_rules : Option Rules → List Rule
+given_rules None = []
+given_rules (Some given) = given.rules
 
 -- ---- what it stands for
 
@@ -73,7 +74,7 @@ readings_of trace pace i = readings_until trace.cpus trace.events pace.length pa
 pub record HasRead (evaluator : EvaluatorView) (trace : Trace) (rules : List Rule)
     (readings : List Reading) : Type 0 where
   pub killer : StandsFor evaluator.killer (lives_of trace) rules readings
-  pub watch : IsWatching trace.events (last_of readings) evaluator.watch
+  pub watch : HasFollowed trace.events (newest_moment readings) evaluator.watch
   pub lives : evaluator.reading.lives ≡ lives_of trace
 
 -- So it is of an evaluator that there may be: without one there are no rules.
@@ -89,12 +90,12 @@ pub record HasJudged (judge : JudgeView) (trace : Trace) (pace : Pace) (rules : 
   pub length : judge.length ≡ pace.length
   pub interval : judge.interval ≡ pace.interval
   pub read : HasReadAll judge.evaluator trace rules (readings_of trace pace i)
-  pub kills : kills_of judge ≡ kills_in trace pace rules i
+  pub kills : judge_kills judge ≡ kills_in trace pace rules i
 
 -- At a tick that is no evaluation a judge keeps what it has, and there are no kills.
 pub record Rests (old new : JudgeView) : Type 0 where
   pub evaluator : new.evaluator ≡ old.evaluator
-  pub kills : kills_of new ≡ []
+  pub kills : judge_kills new ≡ []
 
 -- ---- one tick
 

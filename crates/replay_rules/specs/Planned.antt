@@ -1,16 +1,11 @@
 -- What a replay stands on: plans of an accepted trace, and an engine that has taken its ticks.
-use Rattle.std.specs.Prelude.{◌≡◌, ℕ, ◌<◌, ◌≤◌, List, map}
-use Rattle.psi_base.specs.declared.event.Slot.{Slot}
+use Rattle.std.specs.Prelude.{◌≡◌, ℕ, ◌<◌, ◌≤◌}
 use Rattle.psi_spec.specs.Told.{triggers_of}
 use Rattle.psi_spec.specs.Trace.{IsAccepted, IsCpuCount, Trace, limits_of, longest_tick}
 use Rattle.pressure_spec.specs.Ticks.{ticks_of}
 use Rattle.run_spec.specs.Replay.{Pace, lives_of}
 use Rattle.proc_plan.specs.Plans.{PlansView, StandFor}
 use Rattle.tick_engine.specs.Engine.{EngineView, StandsFor}
-
--- the numbers of slots
-abbrev pub numbers_of : List Slot → List ℕ
-numbers_of slots = map (λ (slot : Slot). slot.0) slots
 
 -- plans stand for an accepted trace, which may be replayed at a pace
 pub record IsPlanned (plans : PlansView) (trace : Trace) (pace : Pace) : Type 0 where

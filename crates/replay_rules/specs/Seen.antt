@@ -8,43 +8,43 @@ use Rattle.kill_spec.specs.declared.reading.GroupReading.{GroupReading}
 use Rattle.kill_spec.specs.Readings.{Ascend, Reading}
 use Rattle.tick_engine.specs.Engine.{EngineView, averages_in}
 use Rattle.detectors.specs.Views.{ReadingView, reading_of, seen_at}
-use Rattle.side_watch.specs.Watch.{WatchView, cell_at, has_tasks}
+use Rattle.side_watch.specs.Watch.{SideView, has_tasks, side_cell_at}
 
 -- an engine has the averages of a group of each pressure quantity
 abbrev pub HasRows : EngineView → ℕ → Type 0
 HasRows engine slot = length (averages_in engine slot).averages ≡ length pressure_places
 
 -- the group in a slot as an engine and a watch tell of it
-abbrev pub group_by : EngineView → WatchView → ℕ → GroupReading
+abbrev pub group_by : EngineView → SideView → ℕ → GroupReading
 group_by engine watch slot = record {
   slot = record { 0 = slot };
   averages = (averages_in engine slot).averages;
-  current = (cell_at watch slot).memory.current;
-  swap = (cell_at watch slot).memory.swap;
-  scan = (cell_at watch slot).memory.scan;
-  preference = (cell_at watch slot).preference;
+  current = (side_cell_at watch slot).memory.current;
+  swap = (side_cell_at watch slot).memory.swap;
+  scan = (side_cell_at watch slot).memory.scan;
+  preference = (side_cell_at watch slot).preference;
   populated = has_tasks watch slot;
 }
 
 -- the slots of an order whose groups are live at a moment (ns)
-abbrev pub live_slots : List GroupLife → ℕ → List ℕ → List ℕ
-live_slots lives at order = filter (is_live_slot lives at) order
+abbrev pub slots_live_at : List GroupLife → ℕ → List ℕ → List ℕ
+slots_live_at lives at order = filter (is_live_slot lives at) order
 
 -- their paths ascend in byte order
 abbrev pub LiveAscend : List GroupLife → ℕ → List ℕ → Type 0
-LiveAscend lives at order = Ascend (map (path_at lives) (live_slots lives at order))
+LiveAscend lives at order = Ascend (map (path_at lives) (slots_live_at lives at order))
 
 -- the groups of an order that are live at a moment (ns), as an engine and a watch tell of them
 abbrev pub groups_by :
-    EngineView → WatchView → List GroupLife → ℕ → List ℕ → List GroupReading
-groups_by engine watch lives at order = map (group_by engine watch) (live_slots lives at order)
+    EngineView → SideView → List GroupLife → ℕ → List ℕ → List GroupReading
+groups_by engine watch lives at order = map (group_by engine watch) (slots_live_at lives at order)
 
 -- the reading of them, with the host as the watch tells of it
-abbrev pub reading_by : EngineView → WatchView → List GroupLife → ℕ → List ℕ → Reading
+abbrev pub reading_by : EngineView → SideView → List GroupLife → ℕ → List ℕ → Reading
 reading_by engine watch lives at order =
     seen_at at watch.host (groups_by engine watch lives at order)
 
 -- it, of groups with these lives
-abbrev pub read_by : EngineView → WatchView → List GroupLife → ℕ → List ℕ → ReadingView
+abbrev pub read_by : EngineView → SideView → List GroupLife → ℕ → List ℕ → ReadingView
 read_by engine watch lives at order =
     reading_of lives (reading_by engine watch lives at order)

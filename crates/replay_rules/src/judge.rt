@@ -5,10 +5,10 @@ ghost use Rattle.pressure_spec.specs.Ticks.{is_evaluation};
 ghost use Rattle.ruleset_json.specs.declared.types.Rule.{Rule};
 ghost use Rattle.run_spec.specs.Replay.{Pace};
 ghost use Rattle.replay_rules.specs.Judged.{HasJudged, IsToBegin, IsToJudge, Rests};
-ghost use Rattle.replay_rules.specs.Judged.{kills_of, rules_in};
+ghost use Rattle.replay_rules.specs.Judged.{given_rules, judge_kills};
 
 use crate::evaluator::Evaluator;
-use crate::schedule::Schedule;
+use crate::schedule::{Schedule, tick_moment};
 use kill_spec::Kill;
 use proc_plan::Plans;
 use psi_base::{NoMemory, Ns, Slot};
@@ -48,7 +48,7 @@ impl Judge {
     ) -> Result<Judge, NoMemory>
         ensures judged { IfOk result (λ judge. (trace : Trace) (pace : Pace) →
             IsToBegin plans.now trace pace length interval →
-            HasJudged judge trace pace (rules_in rules) 0) }
+            HasJudged judge trace pace (given_rules rules) 0) }
         ensures bare { IfOk result (λ judge. rules ≡ None → judge.evaluator ≡ None) }
     {
         let evaluator = match rules {
@@ -80,14 +80,15 @@ impl Judge {
         };
         self.evaluated = self.schedule.is_evaluation(number);
         if self.evaluated {
-            evaluator.evaluate(plans, engine, order, self.schedule.moment(number));
+            let at = tick_moment(self.schedule.length, number);
+            evaluator.evaluate(plans, engine, order, at);
         }
     }
 
     /// The kills at the last tick, by ruleset and action. None where it was no evaluation, and
     /// before the first.
     pub fn kills(&self) -> &[Kill]
-        ensures { result.now ≡ kills_of self.now }
+        ensures { result.now ≡ judge_kills self.now }
     {
         match &self.evaluator {
             Some(evaluator) if self.evaluated => evaluator.kills(),

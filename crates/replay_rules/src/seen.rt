@@ -4,7 +4,7 @@ ghost use Rattle.pressure_spec.specs.Average.{IsRow};
 ghost use Rattle.psi_spec.specs.Groups.{is_live_at};
 ghost use Rattle.kill_spec.specs.Readings.{IsGroupReading};
 ghost use Rattle.tick_engine.specs.Engine.{averages_in};
-ghost use Rattle.replay_rules.specs.Planned.{numbers_of};
+ghost use Rattle.group_tree.specs.Tree.{numbers_of};
 ghost use Rattle.replay_rules.specs.Seen.{HasRows, LiveAscend, group_by, read_by};
 
 use detectors::Reading;

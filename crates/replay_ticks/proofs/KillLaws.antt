@@ -25,7 +25,8 @@ use Rattle.kill_spec.proofs.VictimLaws.{victims_match}
 use Rattle.proc_plan.specs.Plans.{PlansView}
 use Rattle.run_spec.specs.Replay.{Pace, kills_in, kills_until, lives_of, tick_count}
 use Rattle.run_laws.proofs.OneMore.{kills_more}
-use Rattle.replay_rules.specs.Planned.{IsPlanned, numbers_of}
+use Rattle.group_tree.specs.Tree.{numbers_of}
+use Rattle.replay_rules.specs.Planned.{IsPlanned}
 use Rattle.replay_ticks.proofs.PutLaws.{order_below}
 use Rattle.psi_laws.proofs.PlanStates.{legal_after}
 use Rattle.std.proofs.Math.Nat.{le-div_iff_mul-le}

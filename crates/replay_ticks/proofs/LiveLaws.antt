@@ -11,26 +11,25 @@ use Rattle.psi_spec.specs.declared.machine.GroupLife.{GroupLife}
 use Rattle.psi_spec.specs.Stall.{number_of_slot}
 use Rattle.psi_spec.specs.Trace.{Trace, last_moment, limits_of}
 use Rattle.psi_laws.specs.declared.changes.Change.{Change}
-use Rattle.psi_laws.specs.Clock.{ClockView, IsInTime, opened, opened_time}
-use Rattle.psi_laws.specs.Plan.{AreInOrder, IsClock, IsPlan, PlanView, changes_up_to, last_change, plan_of, planned_time}
-use Rattle.psi_laws.proofs.ClockLaws.{map_states}
-use Rattle.psi_laws.proofs.PlanClocks.{clock_is_in_time}
+use Rattle.psi_laws.specs.Clock.{ClockView, IsInTime, opened}
+use Rattle.psi_laws.specs.Plan.{AreInOrder, IsClock, IsPlan, PlanView, changes_up_to, last_change, plan_of}
+use Rattle.psi_laws.proofs.PlanClocks.{clock_is_in_time, clock_tells_planned}
 use Rattle.psi_laws.proofs.PlanLaws.{changes_are_numbered}
 use Rattle.psi_laws.proofs.PlanPlanned.{planned_after}
 use Rattle.psi_laws.proofs.PlanUpTo.{counts_by_plan}
 use Rattle.pressure_spec.specs.Ticks.{tick_moment}
 use Rattle.run_spec.specs.Lines.{live_line}
-use Rattle.run_spec.specs.Live.{AreCounts, IsLiveOf, IsLiveText, Watch, changes_until, live_lines, sample_lines, slot_at}
+use Rattle.run_spec.specs.Live.{AreCounts, IsLiveOf, IsLiveText, Watch, changes_until, live_lines, live_slot_at, sample_lines}
 use Rattle.run_spec.specs.Replay.{Pace, tick_count}
 use Rattle.run_laws.specs.Live.{live_slot}
 use Rattle.run_laws.proofs.LiveSlots.{slot_by_lives}
 use Rattle.proc_plan.specs.Plans.{PlansView, plan_at}
 use Rattle.proc_plan.proofs.Finishing.{standing_plans}
 use Rattle.clock_row.specs.declared.reader.Sample.{Sample}
-use Rattle.replay_workers.specs.Crew.{AreAt, AreSampled, CrewView, IsSampled, WatchView, clocks_at, counts_of, watch_at}
+use Rattle.replay_workers.specs.Crew.{AreAt, AreSampled, CrewView, IsSampled, WatchView, clocks_at, counts_sampled, watch_at}
 use Rattle.replay_rules.specs.Planned.{IsPlanned}
 use Rattle.replay_ticks.specs.declared.pacing.Pacing.{Pacing}
-use Rattle.replay_ticks.specs.Replays.{AreIdle, AreInTime, GoesByTick, IsAhead, IsLiveTick, IsPaced, IsReached, IsWatching, asked_by, path_of, handed, samples_text, watched_at, watches_text}
+use Rattle.replay_ticks.specs.Replays.{AreIdle, AreInTime, GoesByTick, IsAhead, IsLiveTick, IsPaced, IsReached, IsWatching, asked_by, watched_path, handed, samples_text, watched_at, watches_text}
 
 -- ---- numbers that never fall
 
@@ -70,21 +69,21 @@ early_enough plan k last at order low within past =
 -- ---- one sample
 
 -- a clock after some changes of a trace opens to the times after them
-clock_times : (plans : PlansView) (trace : Trace) (pace : Pace) (clock : ClockView) (slot cpu k at : ℕ) → IsPlanned plans trace pace → cpu < trace.cpus → IsClock clock (plan_at plans cpu) slot k → last_change (plan_at plans cpu) k ≤ at
+sample_times : (plans : PlansView) (trace : Trace) (pace : Pace) (clock : ClockView) (slot cpu k at : ℕ) → IsPlanned plans trace pace → cpu < trace.cpus → IsClock clock (plan_at plans cpu) slot k → last_change (plan_at plans cpu) k ≤ at
     → opened clock at ≡ times_after cpu slot trace.events k at
-clock_times plans trace pace clock slot cpu k at planned below is past =
+sample_times plans trace pace clock slot cpu k at planned below is past =
     let plan_is = standing_plans plans trace.cpus trace.events planned.stand cpu below in
     let own : IsClock clock (plan_of cpu trace.events) slot k = subst (λ plan. IsClock clock plan slot k) plan_is is in
     let there : last_change (plan_of cpu trace.events) k ≤ at = subst (λ plan. last_change plan k ≤ at) plan_is past in
     let many = (changes_are_numbered cpu trace.events).2 in
     let within : k ≤ length (changes_of cpu trace.events) = omega (arith, own.within, many) in
-    map_states (opened_time clock at) (λ state. planned_time state (plan_of cpu trace.events) slot k at) (λ state. own.times state at there)
+    clock_tells_planned clock (plan_of cpu trace.events) slot k at own there
     ∙ planned_after (limits_of pace.length trace.cpus) trace.events planned.accepted.legal cpu slot k at within there
 
 -- what the samples of a processor are taken beside: the changes of its plan up to a moment
 pub record AreBeside (plans : PlansView) (slot cpu low high at : ℕ) (samples : List Sample) : Type 0 where
   pub clocks : All (λ (sample : Sample). IsClock sample.clock (plan_at plans cpu) slot sample.count) samples
-  pub rise : RiseWithin low (counts_of samples) high
+  pub rise : RiseWithin low (counts_sampled samples) high
   pub whole : IsPlan (plan_at plans cpu)
   pub within : high ≤ length (plan_at plans cpu).changes
   pub past : last_change (plan_at plans cpu) high ≤ at
@@ -101,15 +100,15 @@ beside_rest plans slot cpu low high at sample samples are = record {
 -- the first of them comes up to the moment
 first_past : (plans : PlansView) (slot cpu low high at : ℕ) (sample : Sample) (samples : List Sample) → AreBeside plans slot cpu low high at (sample ∷ samples) → last_change (plan_at plans cpu) sample.count ≤ at
 first_past plans slot cpu low high at sample samples are =
-    early_enough (plan_at plans cpu) sample.count high at are.whole.order (rise_ends sample.count high (counts_of samples) are.rise.1) are.within are.past
+    early_enough (plan_at plans cpu) sample.count high at are.whole.order (rise_ends sample.count high (counts_sampled samples) are.rise.1) are.within are.past
 
 -- their lines are those of their counts
 sampled_text : (plans : PlansView) (trace : Trace) (pace : Pace) (slot cpu low high at : ℕ) (samples : List Sample) → IsPlanned plans trace pace → cpu < trace.cpus → AreBeside plans slot cpu low high at samples
-    → samples_text at cpu samples ≡ sample_lines trace slot at cpu (counts_of samples)
+    → samples_text at cpu samples ≡ sample_lines trace slot at cpu (counts_sampled samples)
 sampled_text plans trace pace slot cpu low high at [] planned below are = refl
 sampled_text plans trace pace slot cpu low high at (sample ∷ samples) planned below are =
     let past = first_past plans slot cpu low high at sample samples are in
-    let times = clock_times plans trace pace sample.clock slot cpu sample.count at planned below (are.clocks zero sample (omega arith)) past in
+    let times = sample_times plans trace pace sample.clock slot cpu sample.count at planned below (are.clocks zero sample (omega arith)) past in
     let rest = sampled_text plans trace pace slot cpu sample.count high at samples planned below (beside_rest plans slot cpu low high at sample samples are) in
     ap (λ seven. live_line at cpu sample.count seven ++ samples_text at cpu samples) times
     ∙ ap (λ text. live_line at cpu sample.count (times_after cpu slot trace.events sample.count at) ++ text) rest
@@ -188,7 +187,7 @@ made_now plans old new trace pace i at cpu is below =
     ap (count_at cpu trace.events) (is.at_is ∙ ap (tick_moment pace.length) next) ∙ ap (changes_until trace pace.length cpu) (sym next) in
     is.there.there cpu inside ∙ ap (λ plan. changes_up_to plan at) plan_is ∙ sym count ∙ here
 
-length-counts : (samples : List Sample) → length (counts_of samples) ≡ length samples
+length-counts : (samples : List Sample) → length (counts_sampled samples) ≡ length samples
 length-counts [] = refl
 length-counts (sample ∷ samples) = ap (λ n. suc n) (length-counts samples)
 
@@ -196,12 +195,12 @@ length-counts (sample ∷ samples) = ap (λ n. suc n) (length-counts samples)
 counts_allowed : (plans : PlansView) (old new : CrewView) (trace : Trace) (pace : Pace) (i at slot cpu asked : ℕ) → HasReached plans old new trace pace i at → cpu < trace.cpus →
     (clocks_at old.clocks cpu).made ≡ changes_until trace pace.length cpu i →
     IsSampled (plan_at plans cpu) slot asked (clocks_at old.clocks cpu).made (clocks_at new.clocks cpu).made (watch_at old.watches cpu) (watch_at new.watches cpu) →
-    AreCounts trace pace.length (i + 1) cpu asked (counts_of (watch_at new.watches cpu).samples)
+    AreCounts trace pace.length (i + 1) cpu asked (counts_sampled (watch_at new.watches cpu).samples)
 counts_allowed plans old new trace pace i at slot cpu asked is below before sampled =
     let back : i ≡ i + 1 - 1 = omega arith in
     record {
       many = length-counts (watch_at new.watches cpu).samples ∙ sampled.many;
-      rise = rise_between (clocks_at old.clocks cpu).made (clocks_at new.clocks cpu).made (changes_until trace pace.length cpu (i + 1 - 1)) (changes_until trace pace.length cpu (i + 1)) (counts_of (watch_at new.watches cpu).samples) (before ∙ ap (changes_until trace pace.length cpu) back) (made_now plans old new trace pace i at cpu is below) sampled.rise;
+      rise = rise_between (clocks_at old.clocks cpu).made (clocks_at new.clocks cpu).made (changes_until trace pace.length cpu (i + 1 - 1)) (changes_until trace pace.length cpu (i + 1)) (counts_sampled (watch_at new.watches cpu).samples) (before ∙ ap (changes_until trace pace.length cpu) back) (made_now plans old new trace pace i at cpu is below) sampled.rise;
     }
 
 -- their lines are live lines of the slot
@@ -212,7 +211,7 @@ slot_lines plans old new trace pace watch i at slot is by_tick asked sampled =
     subst (λ n. IsSampled (plan_at plans cpu) slot.0 n (clocks_at old.clocks cpu).made (clocks_at new.clocks cpu).made (watch_at old.watches cpu) (watch_at new.watches cpu)) asked
     (subst (λ (p : PlansView). IsSampled (plan_at p cpu) slot.0 old.asked (clocks_at old.clocks cpu).made (clocks_at new.clocks cpu).made (watch_at old.watches cpu) (watch_at new.watches cpu)) is.same
     (sampled cpu (let each = ap (λ (p : PlansView). length p.plans) is.same in omega (arith, below, each, is.planned.stand.each)))) in
-    let counts : ℕ → List ℕ = λ cpu. counts_of (watch_at new.watches cpu).samples in
+    let counts : ℕ → List ℕ = λ cpu. counts_sampled (watch_at new.watches cpu).samples in
     let text = same_pieces (λ cpu. samples_text at cpu (watch_at new.watches cpu).samples) (λ cpu. sample_lines trace slot.0 at cpu (counts cpu)) 0 trace.cpus
     (λ cpu _ below.
     let inside : cpu < length new.clocks = omega (arith, below, is.planned.stand.each, is.there.on_plans.each) in
@@ -274,13 +273,13 @@ pub reached_watched : (plans : PlansView) (old new : CrewView) (trace : Trace) (
     number_of_slot slot ≡ live_slot 0 plans.lives watch.path at → GoesByTick (Some watch) 0 old trace pace.length i → old.asked ≡ watch.count → AreSampled slot old new → IsReached old new trace pace i
 reached_watched plans old new trace pace watch i at slot watches is early found by_tick asked sampled =
     let by_lives = slot_by_lives (limits_of pace.length trace.cpus) trace.events is.planned.accepted.legal watch.path at in
-    let here : number_of_slot slot ≡ slot_at trace.events watch.path (tick_moment pace.length (i + 1)) =
-    found ∙ ap (λ lives. live_slot 0 lives watch.path at) is.planned.stand.lives ∙ sym by_lives ∙ ap (slot_at trace.events watch.path) is.at_is in
+    let here : number_of_slot slot ≡ live_slot_at trace.events watch.path (tick_moment pace.length (i + 1)) =
+    found ∙ ap (λ lives. live_slot 0 lives watch.path at) is.planned.stand.lives ∙ sym by_lives ∙ ap (live_slot_at trace.events watch.path) is.at_is in
     let lines = subst (λ s. IsLiveOf trace pace.length (i + 1) watch.count s (watches_text (tick_moment pace.length (i + 1)) trace.cpus new.watches)) here (lines_of plans old new trace pace watch i at slot is by_tick asked sampled) in
     record {
       live = record {
         watched = slot;
-        slot = here ∙ ap (λ w. watched_at trace (path_of w) (tick_moment pace.length (i + 1))) (sym watches);
+        slot = here ∙ ap (λ w. watched_at trace (watched_path w) (tick_moment pace.length (i + 1))) (sym watches);
         sampled = sampled;
         text = subst (λ w. IsLiveText trace pace.length w (i + 1) (watches_text (tick_moment pace.length (i + 1)) trace.cpus new.watches)) (sym watches) lines;
         in_time = subst (AreInTime trace.cpus new.watches) is.at_is (times_of plans old new trace pace i at slot is early sampled);
@@ -330,7 +329,7 @@ by_tick_new None crew trace tick none idle fresh = idle
 by_tick_new (Some watch) crew trace tick none idle fresh = (ap length none, fresh)
 
 -- a new crew watches what is asked for
-pub watching_new : (crew : CrewView) (live : Option (List ℕ)) (trace : Trace) (pace : Pace) → live ≡ path_of pace.watch → crew.asked ≡ asked_by pace.watch → crew.ready ≡ [] → AreIdle crew.watches →
+pub watching_new : (crew : CrewView) (live : Option (List ℕ)) (trace : Trace) (pace : Pace) → live ≡ watched_path pace.watch → crew.asked ≡ asked_by pace.watch → crew.ready ≡ [] → AreIdle crew.watches →
     ((cpu : ℕ) → cpu < trace.cpus → (clocks_at crew.clocks cpu).made ≡ 0) → IsWatching crew live trace pace 0
 watching_new crew live trace pace path asked none idle fresh = record {
   path = path;
@@ -345,8 +344,8 @@ pub watch_is : (crew : CrewView) (live : Option (List ℕ)) (path : List ℕ) (t
 watch_is crew live path trace pace i named is = by_watch pace.watch refl
   where
     by_watch : (watch : Option Watch) → pace.watch ≡ watch → (found : Watch) × (pace.watch ≡ Some found) × (found.path ≡ path)
-    by_watch None none = absurd (let is_none = sym named ∙ is.path ∙ ap path_of none in let no : ⊥ = cc in no)
-    by_watch (Some watch) some = (watch, some, let paths = sym (is.path ∙ ap path_of some) ∙ named in cc)
+    by_watch None none = absurd (let is_none = sym named ∙ is.path ∙ ap watched_path none in let no : ⊥ = cc in no)
+    by_watch (Some watch) some = (watch, some, let paths = sym (is.path ∙ ap watched_path some) ∙ named in cc)
 
 -- where none is, nothing is watched
 pub watch_none : (crew : CrewView) (live : Option (List ℕ)) (trace : Trace) (pace : Pace) (i : ℕ) → live ≡ None → IsWatching crew live trace pace i → pace.watch ≡ None
@@ -354,7 +353,7 @@ watch_none crew live trace pace i none is = by_watch pace.watch refl
   where
     by_watch : (watch : Option Watch) → pace.watch ≡ watch → pace.watch ≡ None
     by_watch None is_none = is_none
-    by_watch (Some watch) some = absurd (let is_some = sym none ∙ is.path ∙ ap path_of some in let no : ⊥ = cc in no)
+    by_watch (Some watch) some = absurd (let is_some = sym none ∙ is.path ∙ ap watched_path some in let no : ⊥ = cc in no)
 
 -- no table is ready where something is watched
 pub unwatched_ready : (crew : CrewView) (live : Option (List ℕ)) (trace : Trace) (pace : Pace) (i : ℕ) → 0 < length crew.ready → IsWatching crew live trace pace i → pace.watch ≡ None

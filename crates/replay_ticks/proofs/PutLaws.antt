@@ -23,14 +23,15 @@ use Rattle.pressure_spec.specs.Samples.{fired_at, fires_by_number}
 use Rattle.ruleset_json.specs.declared.types.Rule.{Rule}
 use Rattle.kill_spec.specs.declared.kill.Kill.{Kill}
 use Rattle.run_spec.specs.Replay.{Pace, fired_in, kill_lines, kills_in, lives_of, reports, signal_lines, tick_count, tick_text, with_rules}
-use Rattle.run_laws.specs.Reports.{averages_at, slot_report, slot_reports, totals_at}
+use Rattle.run_laws.specs.Reports.{average_state_at, slot_report, slot_reports, totals_at}
 use Rattle.run_laws.proofs.OneMore.{ticks_more}
 use Rattle.run_laws.proofs.ByOrder.{reports_by_order}
 use Rattle.proc_plan.specs.Plans.{PlansView}
 use Rattle.tick_engine.specs.Engine.{EngineView, averages_in, totals_in}
 use Rattle.tick_engine.specs.declared.group.Group.{Group}
 use Rattle.replay_ticks.specs.declared.pacing.Pacing.{Pacing}
-use Rattle.replay_rules.specs.Planned.{HasTicked, IsPlanned, numbers_of}
+use Rattle.group_tree.specs.Tree.{numbers_of}
+use Rattle.replay_rules.specs.Planned.{HasTicked, IsPlanned}
 use Rattle.replay_ticks.specs.Replays.{IsPaced, IsToPut, due_text, tick_lines}
 use Rattle.replay_ticks.proofs.Pieces.{front_of_both, front_then, puts_then}
 use Rattle.replay_ticks.proofs.StartLaws.{latest_within, triggers_within}
@@ -129,12 +130,12 @@ reports_are plans engine order pacing trace pace number is =
     let at = tick_moment pace.length number in
     let lives = lives_of trace in
     let ordered : IsPathOrder lives (numbers_of order) = subst (λ lives. IsPathOrder lives (numbers_of order)) is.planned.stand.lives is.by_path in
-    let same : (slot : ℕ) → slot < length lives → slot_report at lives (totals_in engine) (averages_in engine) slot ≡ slot_report at lives (totals_at trace pace number) (averages_at trace pace number) slot = λ slot below.
-    report_same at lives (totals_in engine) (totals_at trace pace number) (averages_in engine) (averages_at trace pace number) slot
+    let same : (slot : ℕ) → slot < length lives → slot_report at lives (totals_in engine) (averages_in engine) slot ≡ slot_report at lives (totals_at trace pace number) (average_state_at trace pace number) slot = λ slot below.
+    report_same at lives (totals_in engine) (totals_at trace pace number) (averages_in engine) (average_state_at trace pace number) slot
     (ap (λ (group : Group). group.totals) (is.ticked.groups slot below)) (ap (λ (group : Group). group.averages) (is.ticked.groups slot below)) in
     ap (λ n. slot_reports (tick_moment n number) plans.lives (totals_in engine) (averages_in engine) (numbers_of order)) is.paced.length
     ∙ ap (λ lives. slot_reports at lives (totals_in engine) (averages_in engine) (numbers_of order)) is.planned.stand.lives
-    ∙ same_pieces (slot_report at lives (totals_in engine) (averages_in engine)) (slot_report at lives (totals_at trace pace number) (averages_at trace pace number)) (length lives) (numbers_of order) same (order_below lives (numbers_of order) ordered)
+    ∙ same_pieces (slot_report at lives (totals_in engine) (averages_in engine)) (slot_report at lives (totals_at trace pace number) (average_state_at trace pace number)) (length lives) (numbers_of order) same (order_below lives (numbers_of order) ordered)
     ∙ sym (reports_by_order (limits_of pace.length trace.cpus) trace pace number (numbers_of order) is.planned.accepted.legal ordered)
 
 -- ---- the whole text

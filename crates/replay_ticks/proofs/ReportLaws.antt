@@ -19,7 +19,7 @@ use Rattle.kill_spec.specs.declared.kill.Kill.{Kill}
 use Rattle.run_laws.proofs.Pieces.{taken_more}
 use Rattle.run_spec.specs.Lines.{event_line, kill_line}
 use Rattle.run_spec.specs.Replay.{signal_line}
-use Rattle.replay_rules.specs.Planned.{numbers_of}
+use Rattle.group_tree.specs.Tree.{numbers_of}
 
 -- ---- one piece after another
 

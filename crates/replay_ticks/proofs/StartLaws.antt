@@ -20,7 +20,8 @@ use Rattle.tick_engine.specs.Engine.{EngineView, IsLifeWithin, StandsFor}
 use Rattle.replay_workers.specs.Crew.{AreOnPlans, clocks_at}
 use Rattle.ruleset_json.specs.declared.types.Rule.{Rule}
 use Rattle.ruleset_json.specs.RuleRanges.{FitsRules}
-use Rattle.replay_rules.specs.Planned.{HasTicked, IsPlanned, numbers_of}
+use Rattle.group_tree.specs.Tree.{numbers_of}
+use Rattle.replay_rules.specs.Planned.{HasTicked, IsPlanned}
 use Rattle.replay_rules.specs.Judged.{HasJudged}
 use Rattle.replay_ticks.specs.Replays.{IsPaced, IsReplay, IsWatching, ReplayView}
 

@@ -15,7 +15,7 @@ use Rattle.run_laws.proofs.OneMore.{kills_more, signals_more, ticks_more}
 use Rattle.run_laws.proofs.Following.{ticks_follow}
 use Rattle.proc_plan.specs.Plans.{PlansView}
 use Rattle.aggregate.specs.Table.{HasSizes}
-use Rattle.tick_engine.specs.Engine.{EngineView, StandsFor, Takes}
+use Rattle.tick_engine.specs.Engine.{EngineTakes, EngineView, StandsFor}
 use Rattle.tick_engine.specs.Tables.{tick_at}
 use Rattle.replay_workers.specs.Crew.{CrewView, IsTableAt}
 use Rattle.replay_workers.proofs.Tables.{table_is_of_events}
@@ -27,9 +27,10 @@ use Rattle.psi_spec.specs.Groups.{IsPathOrder}
 use Rattle.replay_ticks.specs.declared.replay.TickFault.{TickFault}
 use Rattle.ruleset_json.specs.declared.types.Rule.{Rule}
 use Rattle.kill_spec.specs.declared.kill.Kill.{Kill}
-use Rattle.replay_rules.specs.Planned.{HasTicked, IsPlanned, numbers_of}
-use Rattle.replay_rules.specs.Judged.{HasJudged, IsToJudge, JudgeView, kills_of}
-use Rattle.replay_ticks.specs.Replays.{AreInTime, HasPlaces, IsAhead, IsReady, IsLiveTick, IsReplay, IsSampled, IsToGo, IsToPut, IsToSample, IsWatching, Passes, ReplayView, TickGives, tick_lines, watches_text}
+use Rattle.group_tree.specs.Tree.{numbers_of}
+use Rattle.replay_rules.specs.Planned.{HasTicked, IsPlanned}
+use Rattle.replay_rules.specs.Judged.{HasJudged, IsToJudge, JudgeView, judge_kills}
+use Rattle.replay_ticks.specs.Replays.{AreInTime, HasPlaces, IsAhead, IsReady, IsLiveTick, IsReplay, IsTickSampled, IsToGo, IsToPut, IsToSample, IsWatching, Passes, ReplayView, TickGives, tick_lines, watches_text}
 use Rattle.replay_ticks.proofs.Pieces.{front_of_both, front_then}
 use Rattle.replay_ticks.proofs.PutLaws.{lines_split}
 use Rattle.run_spec.specs.Live.{IsLiveText}
@@ -63,7 +64,7 @@ tick_fits plans engine trace pace i table planned stands sizes =
 
 -- the engine stands for it too then
 pub tick_taken : (plans : PlansView) (engine new : EngineView) (trace : Trace) (pace : Pace) (i at : ℕ) (table : List (List (List ℕ))) → IsPlanned plans trace pace → at ≡ tick_moment pace.length (i + 1)
-    → HasTicked engine trace pace i → IsTableAt table plans at → Takes engine (tick_at at table) new → HasTicked new trace pace (i + 1)
+    → HasTicked engine trace pace i → IsTableAt table plans at → EngineTakes engine (tick_at at table) new → HasTicked new trace pace (i + 1)
 tick_taken plans engine new trace pace i at table planned moment stands is takes =
     let same = tick_is plans trace pace (i + 1) at table planned moment is in
     let after_it = takes trace.cpus (lives_of trace) (triggers_of trace.events) (ticks_of trace.cpus trace.events pace.length i) stands in
@@ -71,7 +72,7 @@ tick_taken plans engine new trace pace i at table planned moment stands is takes
 
 -- the next tick is sampled
 pub is_sampled : (plans : PlansView) (crew : CrewView) (rows : List (List (List ℕ))) (engine new : EngineView) (trace : Trace) (pace : Pace) (i at : ℕ) → IsPlanned plans trace pace → at ≡ tick_moment pace.length (i + 1)
-    → HasTicked engine trace pace i → IsAhead plans crew trace pace (i + 1) → IsTableAt rows plans at → Takes engine (tick_at at rows) new → IsSampled plans crew rows new trace pace (i + 1)
+    → HasTicked engine trace pace i → IsAhead plans crew trace pace (i + 1) → IsTableAt rows plans at → EngineTakes engine (tick_at at rows) new → IsTickSampled plans crew rows new trace pace (i + 1)
 is_sampled plans crew rows engine new trace pace i at planned moment stands ahead is takes = record {
   ahead = ahead;
   sizes = is.sizes;
@@ -145,7 +146,7 @@ ticked_replay old crew rows engine judge = record {
   live = old.live;
   made = old.made + 1;
   signals = old.signals + length engine.fired;
-  kills = old.kills + length (kills_of judge);
+  kills = old.kills + length (judge_kills judge);
 }
 
 -- where not all ticks were made, one is left
@@ -199,9 +200,9 @@ to_sample replay crew trace pace rules i at is open_ moment ready =
 
 -- it was sampled by the plans of the replay
 pub sampled_is : (replay : ReplayView) (crew new : CrewView) (rows : List (List (List ℕ))) (engine : EngineView) (trace : Trace) (pace : Pace) (rules : List Rule) (i : ℕ) → IsReplay replay trace pace rules i → IsReady replay.crew.plans crew trace pace replay.made
-    → IsSampled crew.plans new rows engine trace pace (i + 1) → IsSampled replay.plans new rows engine trace pace (i + 1)
+    → IsTickSampled crew.plans new rows engine trace pace (i + 1) → IsTickSampled replay.plans new rows engine trace pace (i + 1)
 sampled_is replay crew new rows engine trace pace rules i is ready sampled =
-    subst (λ plans. IsSampled plans new rows engine trace pace (i + 1)) (ready.ahead.same ∙ is.ahead.same) sampled
+    subst (λ plans. IsTickSampled plans new rows engine trace pace (i + 1)) (ready.ahead.same ∙ is.ahead.same) sampled
 
 -- all is there to write the lines of the tick that was made last
 pub to_put : (replay : ReplayView) (order : List Slot) (trace : Trace) (pace : Pace) (rules : List Rule) (i : ℕ) → IsReplay replay trace pace rules (i + 1) → order ≡ replay.order → IsToPut replay.plans replay.engine order replay.pacing trace pace replay.made
@@ -219,13 +220,13 @@ to_put replay order trace pace rules i is ordered =
 
 -- its signals can be counted
 pub count_fits : (replay : ReplayView) (crew : CrewView) (rows : List (List (List ℕ))) (engine : EngineView) (trace : Trace) (pace : Pace) (rules : List Rule) (i : ℕ) → IsReplay replay trace pace rules i → (replay.made ≡ replay.pacing.last → ⊥)
-    → IsSampled replay.plans crew rows engine trace pace (i + 1) → replay.signals + length engine.fired < 2 ^ 64
+    → IsTickSampled replay.plans crew rows engine trace pace (i + 1) → replay.signals + length engine.fired < 2 ^ 64
 count_fits replay crew rows engine trace pace rules i is open_ sampled =
     signals_fit replay.plans engine trace pace i replay.signals is.planned (one_left replay trace pace rules i is open_) sampled.ticked is.signals
 
 -- all is there to decide by rules
 pub to_judge : (replay : ReplayView) (crew : CrewView) (rows : List (List (List ℕ))) (engine : EngineView) (order : List Slot) (trace : Trace) (pace : Pace) (rules : List Rule) (i : ℕ) → IsReplay replay trace pace rules i → (replay.made ≡ replay.pacing.last → ⊥)
-    → order ≡ replay.order → IsSampled replay.plans crew rows engine trace pace (i + 1) → IsToJudge replay.judge replay.plans engine order trace pace rules i
+    → order ≡ replay.order → IsTickSampled replay.plans crew rows engine trace pace (i + 1) → IsToJudge replay.judge replay.plans engine order trace pace rules i
 to_judge replay crew rows engine order trace pace rules i is open_ ordered sampled = record {
   planned = is.planned;
   left = one_left replay trace pace rules i is open_;
@@ -235,12 +236,12 @@ to_judge replay crew rows engine order trace pace rules i is open_ ordered sampl
 }
 
 -- a judge tells the kills of the tick
-pub kills_are : (judge : JudgeView) (trace : Trace) (pace : Pace) (rules : List Rule) (number : ℕ) (found : List Kill) → HasJudged judge trace pace rules number → found ≡ kills_of judge → found ≡ kills_in trace pace rules number
+pub kills_are : (judge : JudgeView) (trace : Trace) (pace : Pace) (rules : List Rule) (number : ℕ) (found : List Kill) → HasJudged judge trace pace rules number → found ≡ judge_kills judge → found ≡ kills_in trace pace rules number
 kills_are judge trace pace rules number found judged same = same ∙ judged.kills
 
 -- one tick more was made
 pub is_ticked : (replay : ReplayView) (crew : CrewView) (rows : List (List (List ℕ))) (engine : EngineView) (judge : JudgeView) (trace : Trace) (pace : Pace) (rules : List Rule) (i : ℕ) → IsReplay replay trace pace rules i
-    → (replay.made ≡ replay.pacing.last → ⊥) → IsSampled replay.plans crew rows engine trace pace (i + 1) → IsWatching crew replay.live trace pace (i + 1)
+    → (replay.made ≡ replay.pacing.last → ⊥) → IsTickSampled replay.plans crew rows engine trace pace (i + 1) → IsWatching crew replay.live trace pace (i + 1)
     → HasJudged judge trace pace rules (i + 1) → IsReplay (ticked_replay replay crew rows engine judge) trace pace rules (i + 1)
 is_ticked replay crew rows engine judge trace pace rules i is open_ sampled watching judged =
     let left = one_left replay trace pace rules i is open_ in
@@ -263,7 +264,7 @@ is_ticked replay crew rows engine judge trace pace rules i is open_ sampled watc
     }
 
 -- the kills of the tick that was made last
-pub kills_made : (replay : ReplayView) (trace : Trace) (pace : Pace) (rules : List Rule) (i : ℕ) (found : List Kill) → IsReplay replay trace pace rules (i + 1) → found ≡ kills_of replay.judge → found ≡ kills_in trace pace rules replay.made
+pub kills_made : (replay : ReplayView) (trace : Trace) (pace : Pace) (rules : List Rule) (i : ℕ) (found : List Kill) → IsReplay replay trace pace rules (i + 1) → found ≡ judge_kills replay.judge → found ≡ kills_in trace pace rules replay.made
 kills_made replay trace pace rules i found is same = same ∙ is.judge.kills ∙ ap (kills_in trace pace rules) (sym is.made)
 
 -- its lines are those of the tick with its number

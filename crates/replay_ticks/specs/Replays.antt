@@ -11,11 +11,12 @@ use Rattle.psi_spec.specs.World.{root}
 use Rattle.psi_laws.specs.Clock.{IsInTime, opened}
 use Rattle.pressure_spec.specs.Ticks.{is_report, tick_moment}
 use Rattle.run_spec.specs.Lines.{live_line}
-use Rattle.run_spec.specs.Live.{IsLiveText, Watch, changes_until, slot_at}
+use Rattle.run_spec.specs.Live.{IsLiveText, Watch, changes_until, live_slot_at}
 use Rattle.run_spec.specs.Replay.{Pace, group_report, kills_until, reports, root_group, signals_until, tick_count, tick_text, with_rules}
 use Rattle.ruleset_json.specs.declared.types.Rule.{Rule}
 use Rattle.ruleset_json.specs.RuleRanges.{FitsRules}
-use Rattle.replay_rules.specs.Planned.{HasTicked, IsPlanned, numbers_of}
+use Rattle.group_tree.specs.Tree.{numbers_of}
+use Rattle.replay_rules.specs.Planned.{HasTicked, IsPlanned}
 use Rattle.replay_rules.specs.Judged.{HasJudged, JudgeView}
 use Rattle.proc_plan.specs.Plans.{PlansView}
 use Rattle.aggregate.specs.Table.{HasSizes}
@@ -79,9 +80,9 @@ pub record IsReady (plans : PlansView) (crew : CrewView) (trace : Trace) (pace :
 -- ---- live samples
 
 -- the path that is watched, if one is
-abbrev pub path_of : Option Watch → Option (List ℕ)
-path_of None = None
-path_of (Some watch) = Some watch.path
+abbrev pub watched_path : Option Watch → Option (List ℕ)
+watched_path None = None
+watched_path (Some watch) = Some watch.path
 
 -- how many samples are taken of a processor in an interval
 abbrev pub asked_by : Option Watch → ℕ
@@ -91,7 +92,7 @@ asked_by (Some watch) = watch.count
 -- the slot that is watched at a moment (ns) of a trace: the one that the watched path has then, if it is live
 abbrev pub watched_at : Trace → Option (List ℕ) → ℕ → Option ℕ
 watched_at trace None at = None
-watched_at trace (Some path) at = slot_at trace.events path at
+watched_at trace (Some path) at = live_slot_at trace.events path at
 
 -- no samples are there
 abbrev pub AreIdle : List WatchView → Type 0
@@ -107,7 +108,7 @@ GoesByTick (Some watch) count crew trace tick i =
 
 -- what is watched: the path, how many samples are taken, and how far the crew is after the first so many ticks
 pub record IsWatching (crew : CrewView) (live : Option (List ℕ)) (trace : Trace) (pace : Pace) (i : ℕ) : Type 0 where
-  pub path : live ≡ path_of pace.watch
+  pub path : live ≡ watched_path pace.watch
   pub asked : crew.asked ≡ asked_by pace.watch
   pub by_tick : GoesByTick pace.watch 0 crew trace pace.length i
 
@@ -128,7 +129,7 @@ AreInTime cpus watches at =
 -- which the tick may have.
 pub record IsLiveTick (old new : CrewView) (trace : Trace) (pace : Pace) (i : ℕ) : Type 0 where
   pub watched : Option Slot
-  pub slot : number_of_slot watched ≡ watched_at trace (path_of pace.watch) (tick_moment pace.length i)
+  pub slot : number_of_slot watched ≡ watched_at trace (watched_path pace.watch) (tick_moment pace.length i)
   pub sampled : AreSampled watched old new
   pub text : IsLiveText trace pace.length pace.watch i (watches_text (tick_moment pace.length i) trace.cpus new.watches)
   pub in_time : AreInTime trace.cpus new.watches (tick_moment pace.length i)
@@ -149,7 +150,7 @@ pub record IsToSample (plans : PlansView) (crew : CrewView) (rows : List (List (
   pub ticked : HasTicked engine trace pace i
 
 -- The tick with a number from 1 was sampled.
-pub record IsSampled (plans : PlansView) (crew : CrewView) (rows : List (List (List ℕ))) (engine : EngineView) (trace : Trace) (pace : Pace) (number : ℕ) : Type 0 where
+pub record IsTickSampled (plans : PlansView) (crew : CrewView) (rows : List (List (List ℕ))) (engine : EngineView) (trace : Trace) (pace : Pace) (number : ℕ) : Type 0 where
   pub ahead : IsAhead plans crew trace pace number
   pub sizes : HasPlaces plans rows
   pub ticked : HasTicked engine trace pace number

@@ -1,8 +1,9 @@
 //! Which ticks a trace has, and which of them are reported.
-ghost use Rattle.std.specs.Prelude.{◌≡◌, ◌*◌, ◌<◌, ◌≤◌, ◌^◌};
+ghost use Rattle.std.specs.Prelude.{◌≡◌, ◌<◌, ◌^◌};
 ghost use Rattle.pressure_spec.specs.Ticks.{is_report, tick_moment};
 
 use psi_base::Ns;
+use replay_rules::is_due;
 
 /// How a trace is replayed.
 #[derive(Clone, Copy, Debug, PartialEq, Eq)]
@@ -16,15 +17,7 @@ pub(crate) struct Pacing {
 }
 
 impl Pacing {
-    /// The moment (ns) of the tick with a number from 1.
-    pub(crate) fn moment(self, tick: u64) -> Ns
-        requires { tick_moment self.length tick < 2 ^ 64 }
-        ensures { result ≡ tick_moment self.length tick }
-    {
-        tick * self.length
-    }
-
-    /// Whether a tick is reported: the last one is, and each in whose interval a multiple of the period lies.
+    /// Whether a tick is reported: the last one is, and each at which a report is due.
     pub(crate) fn is_report(self, tick: u64) -> bool
         requires some { 0 < tick }
         requires early { tick_moment self.length tick < 2 ^ 64 }
@@ -33,6 +26,6 @@ impl Pacing {
         if tick == self.last {
             return true;
         }
-        self.report > 0 && self.moment(tick - 1) / self.report < self.moment(tick) / self.report
+        self.report > 0 && is_due(self.report, self.length, tick)
     }
 }

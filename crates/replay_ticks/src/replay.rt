@@ -7,9 +7,9 @@ ghost use Rattle.run_spec.specs.Words.{IsWithin};
 ghost use Rattle.run_spec.specs.Replay.{Pace, kills_in, last_line, tick_count, tick_text, with_rules};
 ghost use Rattle.ruleset_json.specs.declared.types.Rule.{Rule};
 ghost use Rattle.ruleset_json.specs.RuleRanges.{FitsRules};
-ghost use Rattle.replay_rules.specs.Judged.{rules_in};
+ghost use Rattle.replay_rules.specs.Judged.{given_rules};
 ghost use Rattle.replay_rules.specs.Planned.{IsPlanned};
-ghost use Rattle.replay_ticks.specs.Replays.{IsReached, IsReady, IsReplay, IsSampled, IsSomeReplay, IsToGo, IsToPut, IsToPutRoot, IsToSample, IsWatching, Passes, TickGives, asked_by, due_text, handed, path_of, root_report};
+ghost use Rattle.replay_ticks.specs.Replays.{IsReached, IsReady, IsReplay, IsSomeReplay, IsTickSampled, IsToGo, IsToPut, IsToPutRoot, IsToSample, IsWatching, Passes, TickGives, asked_by, due_text, handed, root_report, watched_path};
 
 use crate::live::{put_live, watched_slot};
 use crate::pacing::Pacing;
@@ -18,7 +18,7 @@ use aggregate::Rows;
 use pressure_text::write_end;
 use proc_plan::Plans;
 use psi_base::{Gate, NoMemory, Ns, Path, Sink, Slot, WriteFailed};
-use replay_rules::{Judge, Kill};
+use replay_rules::{Judge, Kill, tick_moment};
 use replay_workers::{Crew, Ticks};
 use ruleset_json::Rules;
 use run_spec::Options;
@@ -119,7 +119,7 @@ fn look_ahead<R: Threads + Sync, G: Gate>(
     if crew.ready() > 0 {
         return;
     }
-    let next = pacing.moment(made + 1);
+    let next = tick_moment(pacing.length, made + 1);
     match live {
         Some(path) => {
             let slot = watched_slot(plans.lives(), path, next);
@@ -144,7 +144,7 @@ fn sample(crew: &mut Crew<'_>, rows: &mut Rows, engine: &mut Engine, at: Ns)
     ensures handed { crew.new ≡ handed crew.old }
     ensures sampled { (trace : Trace) (pace : Pace) (i : ℕ) →
         IsToSample crew.old.plans crew.old rows.old engine.old trace pace i at →
-        IsSampled crew.old.plans crew.new rows.new engine.new trace pace (i + 1) }
+        IsTickSampled crew.old.plans crew.new rows.new engine.new trace pace (i + 1) }
 {
     crew.fill(at, rows);
     engine.tick(at, rows);
@@ -168,7 +168,7 @@ fn put_due<K: Sink>(
     ensures below { StaysOver (K.below out.old) (K.below out.new) }
 {
     if pacing.is_report(tick) {
-        let at = pacing.moment(tick);
+        let at = tick_moment(pacing.length, tick);
         return put_reports(out, at, plans.lives(), order, engine);
     }
     Ok(())
@@ -191,11 +191,12 @@ fn put_tick<K: Sink>(
     ensures bytes { (trace : Trace) (pace : Pace) (rules : List Rule) →
         IsToPut plans.now engine.now order.now pacing trace pace tick →
         kills.now ≡ kills_in trace pace rules tick →
-        PutsAll (K.has out.old) (K.has out.new) result (tick_text trace pace (with_rules rules) tick) }
+        PutsAll (K.has out.old) (K.has out.new) result
+        (tick_text trace pace (with_rules rules) tick) }
     ensures cause { HasCause (K.faults out.old) (K.faults out.new) result }
     ensures below { StaysOver (K.below out.old) (K.below out.new) }
 {
-    let at = pacing.moment(tick);
+    let at = tick_moment(pacing.length, tick);
     let lives = plans.lives();
     put_signals(out, at, lives, plans.triggers(), engine.fired())?;
     put_kills(out, lives, kills)?;
@@ -218,7 +219,7 @@ fn put_root<K: Sink>(
     ensures cause { HasCause (K.faults out.old) (K.faults out.new) result }
     ensures below { StaysOver (K.below out.old) (K.below out.new) }
 {
-    let at = pacing.moment(tick);
+    let at = tick_moment(pacing.length, tick);
     let path = &plans.lives()[0].path;
     let totals = engine.totals(ROOT);
     put_files(out, at, path, ROOT, totals, engine.averages(ROOT))
@@ -226,7 +227,7 @@ fn put_root<K: Sink>(
 
 // The path that options have watched, if they name one, and how many samples they have taken of a processor in an interval.
 fn watched(alloc: Global, options: &Options) -> Result<(Option<Path>, u32), NoMemory>
-    ensures path { IfOk result (λ watched. watched.0 ≡ path_of (watch_of options.now)) }
+    ensures path { IfOk result (λ watched. watched.0 ≡ watched_path (watch_of options.now)) }
     ensures asked { IfOk result (λ watched. watched.1 ≡ asked_by (watch_of options.now)) }
 {
     match &options.live {
@@ -244,12 +245,12 @@ pub fn prepare<'a>(
     options: &Options,
 ) -> Result<Replay<'a>, NoMemory>
     requires planned { (trace : Trace) × IsPlanned plans.now trace (pace_of options.now) }
-    requires fit { FitsRules (rules_in rules) }
+    requires fit { FitsRules (given_rules rules) }
     requires often { options.now.interval_s ≤ 3600 }
     requires workers { IsWithin 1 64 options.now.workers }
     ensures { IfOk result (λ replay.
         (trace : Trace) → IsPlanned plans.now trace (pace_of options.now) →
-        IsReplay replay trace (pace_of options.now) (rules_in rules) 0) }
+        IsReplay replay trace (pace_of options.now) (given_rules rules) 0) }
 {
     let slots = plans.groups().len() as u32;
     let length = Ns::from(options.tick_ms) * MILLISECOND;
@@ -298,7 +299,7 @@ impl<'a> Replay<'a> {
             gate,
         );
         self.made += 1;
-        let at = self.pacing.moment(self.made);
+        let at = tick_moment(self.pacing.length, self.made);
         sample(&mut self.crew, &mut self.rows, &mut self.engine, at);
         self.signals += self.engine.fired().len() as u64;
         self.judge
@@ -325,7 +326,7 @@ impl<'a> Replay<'a> {
         if !self.pass(rt, gate) {
             return Ok(false);
         }
-        let at = self.pacing.moment(self.made);
+        let at = tick_moment(self.pacing.length, self.made);
         put_live(out, at, &self.crew, self.plans.cpus())?;
         put_tick(
             out,
@@ -358,7 +359,8 @@ impl<'a> Replay<'a> {
             × IsReplay self.old trace pace rules (tick_count trace pace) }
         ensures bytes { (trace : Trace) (pace : Pace) (rules : List Rule) →
             IsReplay self.old trace pace rules (tick_count trace pace) →
-            PutsAll (K.has out.old) (K.has out.new) result (last_line trace pace (with_rules rules)) }
+            PutsAll (K.has out.old) (K.has out.new) result
+            (last_line trace pace (with_rules rules)) }
         ensures cause { HasCause (K.faults out.old) (K.faults out.new) result }
         ensures below { StaysOver (K.below out.old) (K.below out.new) }
     {

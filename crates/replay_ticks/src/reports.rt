@@ -8,7 +8,7 @@ ghost use Rattle.run_laws.specs.Reports.{slot_report, slot_reports};
 ghost use Rattle.tick_engine.specs.Engine.{averages_in, totals_in};
 ghost use Rattle.kill_spec.specs.declared.kill.Kill.{Kill};
 ghost use Rattle.run_spec.specs.Replay.{kill_lines};
-ghost use Rattle.replay_rules.specs.Planned.{numbers_of};
+ghost use Rattle.group_tree.specs.Tree.{numbers_of};
 
 use fixed_average::Averages;
 use pressure_text::{write_fired, write_kill, write_report};

@@ -4,7 +4,7 @@ use Rattle.psi_spec.specs.declared.machine.GroupLife.{GroupLife}
 use Rattle.psi_spec.specs.Groups.{is_live_at}
 use Rattle.kill_spec.specs.Readings.{Ascend, path_of}
 use Rattle.detectors.specs.Views.{ComesLast, ReadingView, reading_of}
-use Rattle.replay_rules.specs.Planned.{numbers_of}
+use Rattle.group_tree.specs.Tree.{numbers_of}
 use Rattle.replay_rules.specs.Seen.{reading_by}
 use Rattle.replay_rules.proofs.SeenLaws.{groups_ascend, groups_more, live_is}
 use Rattle.replay_rules.proofs.seen.fill_reading.Goals as goal

@@ -1,6 +1,6 @@
 use Rattle.std.proofs.Common.{◌≡◌, take}
 use Rattle.detectors.specs.Views.{reading_of}
-use Rattle.replay_rules.specs.Planned.{numbers_of}
+use Rattle.group_tree.specs.Tree.{numbers_of}
 use Rattle.replay_rules.specs.Seen.{reading_by}
 use Rattle.replay_rules.proofs.seen.fill_reading.Given as goal
 

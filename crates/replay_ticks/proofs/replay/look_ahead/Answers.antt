@@ -13,38 +13,38 @@ returns-then-ready-gt0 g c = λ trace pace is watching.
     let none = live.unwatched_ready crew c.args.live.now trace pace c.args.made some watching in
     (record { ahead = is.ahead; some = some }, live.reached_unwatched crew crew trace pace c.args.made none (live.idle_unwatched crew c.args.live.now trace pace c.args.made none watching) refl)
 
-pub moment-next-requires : goal.moment-next-requires
-moment-next-requires g c = next_fits c.args.crew.now.plans c.args.crew.now c.args.pacing c.requires.go.0 c.requires.go.1 c.args.made c.requires.go.2
+pub tick_moment-next-requires : goal.tick_moment-next-requires
+tick_moment-next-requires g c = next_fits c.args.crew.now.plans c.args.crew.now c.args.pacing c.requires.go.0 c.requires.go.1 c.args.made c.requires.go.2
 
 -- up to the next tick alone
 pub interval-requires-clause-behind : goal.interval-requires-clause-behind
 interval-requires-clause-behind g c =
     let crew = c.args.crew.now in
     let none : length crew.ready ≡ 0 = grind (arith, c.if-ready-gt0.false, c.ready.ensures) in
-    λ _ _. tick_behind crew.plans crew c.args.pacing c.requires.go.0 c.requires.go.1 c.args.made c.moment-next.result c.requires.go.2 none c.moment-next.ensures
+    λ _ _. tick_behind crew.plans crew c.args.pacing c.requires.go.0 c.requires.go.1 c.args.made c.tick_moment-next.result c.requires.go.2 none c.tick_moment-next.ensures
 
 pub interval-requires-clause-early : goal.interval-requires-clause-early
-interval-requires-clause-early g c = λ _ _. tick_early c.args.crew.now.plans c.args.crew.now c.args.pacing c.requires.go.0 c.requires.go.1 c.args.made c.moment-next.result c.requires.go.2 c.moment-next.ensures
+interval-requires-clause-early g c = λ _ _. tick_early c.args.crew.now.plans c.args.crew.now c.args.pacing c.requires.go.0 c.requires.go.1 c.args.made c.tick_moment-next.result c.requires.go.2 c.tick_moment-next.ensures
 
 pub returns-in-Some : goal.returns-in-Some
 returns-in-Some g c = λ trace pace is watching.
     let crew = c.args.crew.now in
     let new = c.interval.new.self in
     let watch = live.watch_is crew c.args.live.now c.in-Some.path trace pace c.args.made c.in-Some.is watching in
-    let at_is = c.moment-next.ensures ∙ live.moment_same c.args.pacing trace pace c.args.made is.paced in
-    let reached : live.HasReached crew.plans crew new trace pace c.args.made c.moment-next.result = record {
+    let at_is = c.tick_moment-next.ensures ∙ live.moment_same c.args.pacing trace pace c.args.made is.paced in
+    let reached : live.HasReached crew.plans crew new trace pace c.args.made c.tick_moment-next.result = record {
       planned = is.planned;
       left = is.left;
       same = refl;
       at_is = at_is;
-      there = subst (λ plans. live.AreThere plans new c.moment-next.result) c.interval.ensures.plans c.interval.ensures.there;
+      there = subst (λ plans. live.AreThere plans new c.tick_moment-next.result) c.interval.ensures.plans c.interval.ensures.there;
       ready = c.interval.ensures.ready;
       asked = c.interval.ensures.asked;
     } in (
-      tick_ready crew.plans crew new c.args.pacing trace pace c.args.made c.moment-next.result is c.moment-next.ensures c.interval.ensures.plans c.interval.ensures.ready c.interval.ensures.there,
-      live.reached_watched crew.plans crew new trace pace watch.0 c.args.made c.moment-next.result c.watched_slot-slot.result watch.1 reached
-          (tick_early crew.plans crew c.args.pacing trace pace c.args.made c.moment-next.result is c.moment-next.ensures)
-          (live.slot_found crew.plans c.lives.result.now watch.0 c.in-Some.path c.moment-next.result c.watched_slot-slot.result (c.lives.ensures.lives ∙ live.lives_same c.args.plans.now crew.plans c.requires.plans) watch.2 c.watched_slot-slot.ensures.slot)
+      tick_ready crew.plans crew new c.args.pacing trace pace c.args.made c.tick_moment-next.result is c.tick_moment-next.ensures c.interval.ensures.plans c.interval.ensures.ready c.interval.ensures.there,
+      live.reached_watched crew.plans crew new trace pace watch.0 c.args.made c.tick_moment-next.result c.watched_slot-slot.result watch.1 reached
+          (tick_early crew.plans crew c.args.pacing trace pace c.args.made c.tick_moment-next.result is c.tick_moment-next.ensures)
+          (live.slot_found crew.plans c.lives.result.now watch.0 c.in-Some.path c.tick_moment-next.result c.watched_slot-slot.result (c.lives.ensures.lives ∙ live.lives_same c.args.plans.now crew.plans c.requires.plans) watch.2 c.watched_slot-slot.ensures.slot)
           (live.by_tick_is crew c.args.live.now trace pace c.args.made watch.0 watch.1 watching)
           (live.asked_is crew c.args.live.now trace pace c.args.made watch.0 watch.1 watching)
           c.interval.ensures.live,
@@ -54,24 +54,24 @@ returns-in-Some g c = λ trace pace is watching.
 pub intervals-requires-clause-behind : goal.intervals-requires-clause-behind
 intervals-requires-clause-behind g c =
     let crew = c.args.crew.now in
-    let ticks : Ticks = record { first = c.moment-next.result; length = c.args.pacing.length; count = c.min.result } in
-    let next : AreNext ticks crew c.args.pacing c.args.made = record { first = c.moment-next.ensures; length = refl; count = c.min.ensures ∙ ap (min (c.args.pacing.last - c.args.made)) (c.from.ensures ∙ c.room.ensures.room) } in
+    let ticks : Ticks = record { first = c.tick_moment-next.result; length = c.args.pacing.length; count = c.min.result } in
+    let next : AreNext ticks crew c.args.pacing c.args.made = record { first = c.tick_moment-next.ensures; length = refl; count = c.min.ensures ∙ ap (min (c.args.pacing.last - c.args.made)) (c.from.ensures ∙ c.room.ensures.room) } in
     let none : length crew.ready ≡ 0 = grind (arith, c.if-ready-gt0.false, c.ready.ensures) in
     λ _ _. next_behind ticks crew.plans crew c.args.pacing c.requires.go.0 c.requires.go.1 c.args.made c.requires.go.2 none next
 
 pub intervals-requires-clause-early : goal.intervals-requires-clause-early
 intervals-requires-clause-early g c =
     let crew = c.args.crew.now in
-    let ticks : Ticks = record { first = c.moment-next.result; length = c.args.pacing.length; count = c.min.result } in
-    let next : AreNext ticks crew c.args.pacing c.args.made = record { first = c.moment-next.ensures; length = refl; count = c.min.ensures ∙ ap (min (c.args.pacing.last - c.args.made)) (c.from.ensures ∙ c.room.ensures.room) } in
+    let ticks : Ticks = record { first = c.tick_moment-next.result; length = c.args.pacing.length; count = c.min.result } in
+    let next : AreNext ticks crew c.args.pacing c.args.made = record { first = c.tick_moment-next.ensures; length = refl; count = c.min.ensures ∙ ap (min (c.args.pacing.last - c.args.made)) (c.from.ensures ∙ c.room.ensures.room) } in
     let roomy = subst (λ n. 1 ≤ n) c.room.ensures.room c.room.ensures.some in
     λ _ _. next_early ticks crew.plans crew c.args.pacing c.requires.go.0 c.requires.go.1 c.args.made c.requires.go.2 roomy next
 
 pub returns-in-None : goal.returns-in-None
 returns-in-None g c = λ trace pace is watching.
     let crew = c.args.crew.now in
-    let ticks : Ticks = record { first = c.moment-next.result; length = c.args.pacing.length; count = c.min.result } in
-    let next : AreNext ticks crew c.args.pacing c.args.made = record { first = c.moment-next.ensures; length = refl; count = c.min.ensures ∙ ap (min (c.args.pacing.last - c.args.made)) (c.from.ensures ∙ c.room.ensures.room) } in
+    let ticks : Ticks = record { first = c.tick_moment-next.result; length = c.args.pacing.length; count = c.min.result } in
+    let next : AreNext ticks crew c.args.pacing c.args.made = record { first = c.tick_moment-next.ensures; length = refl; count = c.min.ensures ∙ ap (min (c.args.pacing.last - c.args.made)) (c.from.ensures ∙ c.room.ensures.room) } in
     let roomy = subst (λ n. 1 ≤ n) c.room.ensures.room c.room.ensures.some in
     let none = live.watch_none crew c.args.live.now trace pace c.args.made c.in-None.is watching in (
       next_ready ticks crew.plans crew c.intervals.new.self c.args.pacing trace pace c.args.made is roomy next c.intervals.ensures.plans c.intervals.ensures.ready c.intervals.ensures.there,

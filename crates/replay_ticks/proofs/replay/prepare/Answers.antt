@@ -4,8 +4,8 @@ use Rattle.aggregate.specs.Table.{new_table}
 use Rattle.tick_engine.specs.Engine.{StandsFor}
 use Rattle.run_spec.specs.Replay.{tick_count}
 use Rattle.run_spec.specs.Outputs.{pace_of}
-use Rattle.replay_rules.specs.Planned.{numbers_of}
-use Rattle.replay_rules.specs.Judged.{IsToBegin, rules_in}
+use Rattle.group_tree.specs.Tree.{numbers_of}
+use Rattle.replay_rules.specs.Judged.{IsToBegin, given_rules}
 use Rattle.proc_plan.specs.Plans.{PlansView}
 use Rattle.replay_ticks.proofs.LiveLaws.{watching_new}
 use Rattle.replay_ticks.proofs.StartLaws.{lives_within, replay_new, triggers_within}
@@ -29,7 +29,7 @@ returns c = λ trace planned.
     let judged = c.in_ok-make-4.ensures.judged trace (pace_of c.args.options.now) begins in
     let watching = watching_new c.in_ok-make.field-0 c.in_ok-live.live trace (pace_of c.args.options.now) c.in_ok-live.ensures.path (c.in_ok-make.ensures.asked ∙ c.in_ok-live.ensures.asked) c.in_ok-make.ensures.none c.in_ok-make.ensures.unwatched
     (λ cpu below. c.in_ok-make.ensures.fresh cpu (let many = ap (λ (p : PlansView). length p.plans) c.in_ok-make.ensures.plans in omega (arith, below, many, planned.stand.each))) in
-    replay_new _ trace (pace_of c.args.options.now) (rules_in c.args.rules) planned c.in_ok-make.ensures.plans c.in_ok-make.ensures.on c.in_ok-make.ensures.none c.in_ok-make.ensures.fresh rows engine order (record { length = rw c.from-length.ensures refl; report = rw c.from.ensures refl; last = last }) judged c.requires.fit watching refl refl refl
+    replay_new _ trace (pace_of c.args.options.now) (given_rules c.args.rules) planned c.in_ok-make.ensures.plans c.in_ok-make.ensures.on c.in_ok-make.ensures.none c.in_ok-make.ensures.fresh rows engine order (record { length = rw c.from-length.ensures refl; report = rw c.from.ensures refl; last = last }) judged c.requires.fit watching refl refl refl
 
 pub overflow_mul-interval : goal.overflow_mul-interval
 overflow_mul-interval c = grind (arith, c.from-interval.ensures, c.requires.often)

@@ -3,7 +3,7 @@ use Rattle.std.specs.Io.KnownBytes.{Appends}
 use Rattle.psi_base.proofs.Grows.{Appends-then, AppendsFront-then, PutsAll-failed}
 use Rattle.run_laws.specs.Reports.{slot_report, slot_reports}
 use Rattle.tick_engine.specs.Engine.{averages_in, totals_in}
-use Rattle.replay_rules.specs.Planned.{numbers_of}
+use Rattle.group_tree.specs.Tree.{numbers_of}
 use Rattle.replay_ticks.proofs.ReportLaws.{numbers_at, numbers_more}
 use Rattle.replay_ticks.proofs.reports.put_reports.Goals as goal
 

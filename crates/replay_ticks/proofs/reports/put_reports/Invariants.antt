@@ -4,7 +4,7 @@ use Rattle.std.specs.Io.KnownBytes.{Appends}
 use Rattle.psi_base.specs.Outside.{HasCause, StaysOver}
 use Rattle.run_laws.specs.Reports.{slot_reports}
 use Rattle.tick_engine.specs.Engine.{averages_in, totals_in}
-use Rattle.replay_rules.specs.Planned.{numbers_of}
+use Rattle.group_tree.specs.Tree.{numbers_of}
 use Rattle.replay_ticks.proofs.reports.put_reports.Given as goal
 
 abbrev pub invariant-slots : goal.invariant-slots

@@ -7,8 +7,8 @@ use Rattle.pressure_spec.specs.Ticks.{tick_moment}
 use Rattle.kill_spec.specs.Readings.{Ascend}
 use Rattle.detectors.specs.Views.{IsAfter, ReadingView}
 use Rattle.side_watch.specs.Watch.{Advances}
-use Rattle.replay_rules.specs.Planned.{numbers_of}
-use Rattle.replay_rules.specs.Seen.{live_slots}
+use Rattle.group_tree.specs.Tree.{numbers_of}
+use Rattle.replay_rules.specs.Seen.{slots_live_at}
 use Rattle.replay_rules.specs.Judged.{IsToEvaluate}
 use Rattle.replay_rules.proofs.SeenLaws.{live_ascend}
 use Rattle.replay_rules.proofs.ReadLaws.{behind, has_rows, order_made, read_next}
@@ -38,7 +38,7 @@ fill_reading-requires-clause-ascend c =
     is.by_path in
     let ascend = live_ascend (limits_of c.requires.1.length trace.cpus) trace.events
     is.planned.accepted.legal (numbers_of order) by_path c.args.at in
-    subst (λ lives. Ascend (map (path_at lives) (live_slots lives c.args.at (numbers_of order))))
+    subst (λ lives. Ascend (map (path_at lives) (slots_live_at lives c.args.at (numbers_of order))))
     (sym is.read.lives) ascend
 
 pub evaluate-requires-clause-later : goal.evaluate-requires-clause-later

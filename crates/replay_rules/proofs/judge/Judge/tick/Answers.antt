@@ -33,8 +33,8 @@ is_evaluation-self-inside-requires-clause-early c =
     moment_fits _ c.args.plans.now c.args.engine.now c.args.order.now c.requires.0 c.requires.1
     c.requires.2 c.requires.3 c.args.number is c.requires.5
 
-pub moment-requires : goal.moment-requires
-moment-requires c =
+pub tick_moment-at-requires : goal.tick_moment-at-requires
+tick_moment-at-requires c =
     let is = subst (λ j. IsToJudge j c.args.plans.now c.args.engine.now c.args.order.now
     c.requires.0 c.requires.1 c.requires.2 c.requires.3) (sym c.self.view_is) c.requires.4 in
     moment_fits _ c.args.plans.now c.args.engine.now c.args.order.now c.requires.0 c.requires.1
@@ -65,8 +65,8 @@ returns-clause-judged c = λ trace pace rules i given next.
           } in
           let read = w.evaluate.ensures trace pace rules i
           (to_evaluate old c.in-Some.evaluator c.args.plans.now c.args.engine.now
-          c.args.order.now trace pace rules i number w.moment.result is c.in-Some.is next
-          w.moment.ensures) in
+          c.args.order.now trace pace rules i number w.tick_moment-at.result is c.in-Some.is next
+          w.tick_moment-at.ensures) in
           rw w.self-inside-is (judged_next old new w.evaluate.new.self trace pace rules i number
           refl refl refl w.if-self.true next (sym due ∙ w.if-self.true) read is.judged)
       | else-self w ↦

@@ -6,8 +6,8 @@ use Rattle.replay_ticks.proofs.LiveLaws.{live_next, watching_next}
 use Rattle.replay_ticks.proofs.TickLaws as laws
 use Rattle.replay_ticks.proofs.replay.Replay.pass.Goals as goal
 
-pub moment-at-requires : goal.moment-at-requires
-moment-at-requires g c =
+pub tick_moment-at-requires : goal.tick_moment-at-requires
+tick_moment-at-requires g c =
     let trace = c.requires.0 in
     let pace = c.requires.1 in
     let rules = c.requires.2 in
@@ -23,7 +23,7 @@ sample-requires g c =
     let i = c.requires.3 in
     let is = subst (λ replay. IsReplay replay trace pace rules i) (sym c.self.view_is) c.requires.4 in
     let ready = (c.look_ahead.ensures trace pace (laws.to_go _ trace pace rules i is c.if-self.false) (laws.to_watch _ trace pace rules i is)).0 in
-    (trace, pace, i, laws.to_sample _ c.look_ahead.new.crew trace pace rules i c.moment-at.result is c.if-self.false c.moment-at.ensures ready)
+    (trace, pace, i, laws.to_sample _ c.look_ahead.new.crew trace pace rules i c.tick_moment-at.result is c.if-self.false c.tick_moment-at.ensures ready)
 
 pub overflow_add-self-2 : goal.overflow_add-self-2
 overflow_add-self-2 g c =
@@ -34,7 +34,7 @@ overflow_add-self-2 g c =
     let is = subst (λ replay. IsReplay replay trace pace rules i) (sym c.self.view_is) c.requires.4 in
     let ready = (c.look_ahead.ensures trace pace (laws.to_go _ trace pace rules i is c.if-self.false) (laws.to_watch _ trace pace rules i is)).0 in
     let sampled = laws.sampled_is _ c.look_ahead.new.crew c.sample.new.crew c.sample.new.rows c.sample.new.engine trace pace rules i is ready
-    (c.sample.ensures.sampled trace pace i (laws.to_sample _ c.look_ahead.new.crew trace pace rules i c.moment-at.result is c.if-self.false c.moment-at.ensures ready)) in
+    (c.sample.ensures.sampled trace pace i (laws.to_sample _ c.look_ahead.new.crew trace pace rules i c.tick_moment-at.result is c.if-self.false c.tick_moment-at.ensures ready)) in
     let fits = laws.count_fits _ c.sample.new.crew c.sample.new.rows c.sample.new.engine trace pace rules i is c.if-self.false sampled in
     omega (arith, fits, ap length c.fired.ensures)
 
@@ -47,7 +47,7 @@ tick-requires g c =
     let is = subst (λ replay. IsReplay replay trace pace rules i) (sym c.self.view_is) c.requires.4 in
     let ready = (c.look_ahead.ensures trace pace (laws.to_go _ trace pace rules i is c.if-self.false) (laws.to_watch _ trace pace rules i is)).0 in
     let sampled = laws.sampled_is _ c.look_ahead.new.crew c.sample.new.crew c.sample.new.rows c.sample.new.engine trace pace rules i is ready
-    (c.sample.ensures.sampled trace pace i (laws.to_sample _ c.look_ahead.new.crew trace pace rules i c.moment-at.result is c.if-self.false c.moment-at.ensures ready)) in
+    (c.sample.ensures.sampled trace pace i (laws.to_sample _ c.look_ahead.new.crew trace pace rules i c.tick_moment-at.result is c.if-self.false c.tick_moment-at.ensures ready)) in
     let to_judge = laws.to_judge _ c.sample.new.crew c.sample.new.rows c.sample.new.engine c.deref.result.now trace pace rules i is c.if-self.false c.deref.ensures.value sampled in
     let number = ap (λ n. n + 1) is.made in
     (trace, pace, rules, i, to_judge, number)
@@ -61,7 +61,7 @@ overflow_add-self-3 g c =
     let is = subst (λ replay. IsReplay replay trace pace rules i) (sym c.self.view_is) c.requires.4 in
     let ready = (c.look_ahead.ensures trace pace (laws.to_go _ trace pace rules i is c.if-self.false) (laws.to_watch _ trace pace rules i is)).0 in
     let sampled = laws.sampled_is _ c.look_ahead.new.crew c.sample.new.crew c.sample.new.rows c.sample.new.engine trace pace rules i is ready
-    (c.sample.ensures.sampled trace pace i (laws.to_sample _ c.look_ahead.new.crew trace pace rules i c.moment-at.result is c.if-self.false c.moment-at.ensures ready)) in
+    (c.sample.ensures.sampled trace pace i (laws.to_sample _ c.look_ahead.new.crew trace pace rules i c.tick_moment-at.result is c.if-self.false c.tick_moment-at.ensures ready)) in
     let to_judge = laws.to_judge _ c.sample.new.crew c.sample.new.rows c.sample.new.engine c.deref.result.now trace pace rules i is c.if-self.false c.deref.ensures.value sampled in
     let number = ap (λ n. n + 1) is.made in
     let judged = c.tick.ensures.judged trace pace rules i to_judge number in
@@ -77,7 +77,7 @@ returns g c = λ trace pace rules i given.
     let ready = went.0 in
     let reached = subst (λ n. IsReached c.self.inside.crew c.look_ahead.new.crew trace pace n) is.made went.1 in
     let sampled = laws.sampled_is _ c.look_ahead.new.crew c.sample.new.crew c.sample.new.rows c.sample.new.engine trace pace rules i is ready
-    (c.sample.ensures.sampled trace pace i (laws.to_sample _ c.look_ahead.new.crew trace pace rules i c.moment-at.result is c.if-self.false c.moment-at.ensures ready)) in
+    (c.sample.ensures.sampled trace pace i (laws.to_sample _ c.look_ahead.new.crew trace pace rules i c.tick_moment-at.result is c.if-self.false c.tick_moment-at.ensures ready)) in
     let watching = watching_next c.self.inside.crew c.look_ahead.new.crew c.sample.new.crew c.self.inside.live trace pace i is.watching reached c.sample.ensures.handed in
     let to_judge = laws.to_judge _ c.sample.new.crew c.sample.new.rows c.sample.new.engine c.deref.result.now trace pace rules i is c.if-self.false c.deref.ensures.value sampled in
     let number = ap (λ n. n + 1) is.made in

@@ -6,8 +6,8 @@ use Rattle.replay_ticks.specs.Replays.{IsLiveTick, IsReplay, ReplayView, tick_li
 use Rattle.replay_ticks.proofs.TickLaws as laws
 use Rattle.replay_ticks.proofs.replay.Replay.tick.Goals as goal
 
-pub moment-at-requires : goal.moment-at-requires
-moment-at-requires g c =
+pub tick_moment-at-requires : goal.tick_moment-at-requires
+tick_moment-at-requires g c =
     let done : c.pass.result ≡ true = grind (arith, c.if-not-pass.false) in
     let next = laws.passed c.requires.0 c.requires.1 c.requires.2 c.requires.3 c.args.self.now c.pass.new.self c.pass.result (c.pass.ensures c.requires.0 c.requires.1 c.requires.2 c.requires.3 c.requires.4) done in
     laws.made_fits _ c.requires.0 c.requires.1 c.requires.2 c.requires.3 (subst (λ replay. IsReplay replay c.requires.0 c.requires.1 c.requires.2 (c.requires.3 + 1)) (sym c.self.view_is) next.1)
@@ -18,7 +18,7 @@ put_live-requires g c =
     let next = laws.passed c.requires.0 c.requires.1 c.requires.2 c.requires.3 c.args.self.now c.pass.new.self c.pass.result (c.pass.ensures c.requires.0 c.requires.1 c.requires.2 c.requires.3 c.requires.4) done in
     let is = subst (λ replay. IsReplay replay c.requires.0 c.requires.1 c.requires.2 (c.requires.3 + 1)) (sym c.self.view_is) next.1 in
     let taken = subst (λ (replay : ReplayView). IsLiveTick c.args.self.now.crew replay.crew c.requires.0 c.requires.1 (c.requires.3 + 1)) (sym c.self.view_is) next.2 in
-    laws.live_in_time _ c.requires.0 c.requires.1 c.requires.2 c.requires.3 c.moment-at.result c.cpus.result is c.moment-at.ensures c.cpus.ensures.cpus taken.in_time
+    laws.live_in_time _ c.requires.0 c.requires.1 c.requires.2 c.requires.3 c.tick_moment-at.result c.cpus.result is c.tick_moment-at.ensures c.cpus.ensures.cpus taken.in_time
 
 pub put_tick-requires : goal.put_tick-requires
 put_tick-requires g c =
@@ -40,7 +40,7 @@ returns-in_err-put_live-clause-tick g c = λ trace pace rules i given.
     let next = laws.passed trace pace rules i c.args.self.now c.pass.new.self c.pass.result (c.pass.ensures trace pace rules i given) done in
     let is = subst (λ replay. IsReplay replay trace pace rules (i + 1)) (sym c.self.view_is) next.1 in
     let taken = subst (λ (replay : ReplayView). IsLiveTick c.args.self.now.crew replay.crew trace pace (i + 1)) (sym c.self.view_is) next.2 in
-    let text = laws.live_is _ trace pace rules i c.moment-at.result c.cpus.result is c.moment-at.ensures c.cpus.ensures.cpus in
+    let text = laws.live_is _ trace pace rules i c.tick_moment-at.result c.cpus.result is c.tick_moment-at.ensures c.cpus.ensures.cpus in
     let front = subst (AppendsFront (g.K.Sink.has c.args.out.now) (g.K.Sink.has c.put_live.new.out)) text c.in_err-put_live.ensures.bytes in
     laws.gives_front trace pace rules i c.args.self.now c.pass.new.self _ (g.K.Sink.has c.args.out.now) (g.K.Sink.has c.put_live.new.out) c.from_residual.result c.from_residual.ensures.0 next.0 taken.text
     (laws.live_front trace pace rules (i + 1) _ (g.K.Sink.has c.args.out.now) (g.K.Sink.has c.put_live.new.out) front)
@@ -51,7 +51,7 @@ returns-in_err-put_tick-clause-tick g c = λ trace pace rules i given.
     let next = laws.passed trace pace rules i c.args.self.now c.pass.new.self c.pass.result (c.pass.ensures trace pace rules i given) done in
     let is = subst (λ replay. IsReplay replay trace pace rules (i + 1)) (sym c.self.view_is) next.1 in
     let taken = subst (λ (replay : ReplayView). IsLiveTick c.args.self.now.crew replay.crew trace pace (i + 1)) (sym c.self.view_is) next.2 in
-    let text = laws.live_is _ trace pace rules i c.moment-at.result c.cpus.result is c.moment-at.ensures c.cpus.ensures.cpus in
+    let text = laws.live_is _ trace pace rules i c.tick_moment-at.result c.cpus.result is c.tick_moment-at.ensures c.cpus.ensures.cpus in
     let live = subst (Appends (g.K.Sink.has c.args.out.now) (g.K.Sink.has c.put_live.new.out)) text c.in_ok-put_live.ensures.bytes in
     let to_put = laws.to_put _ c.deref.result.now trace pace rules i is c.deref.ensures.value in
     let killed = laws.kills_made _ trace pace rules i c.kills.result.now is c.kills.ensures in
@@ -64,7 +64,7 @@ returns-clause-tick g c = λ trace pace rules i given.
     let done : c.pass.result ≡ true = grind (arith, c.if-not-pass.false) in
     let next = laws.passed trace pace rules i c.args.self.now c.pass.new.self c.pass.result (c.pass.ensures trace pace rules i given) done in
     let is = subst (λ replay. IsReplay replay trace pace rules (i + 1)) (sym c.self.view_is) next.1 in
-    let text = laws.live_is _ trace pace rules i c.moment-at.result c.cpus.result is c.moment-at.ensures c.cpus.ensures.cpus in
+    let text = laws.live_is _ trace pace rules i c.tick_moment-at.result c.cpus.result is c.tick_moment-at.ensures c.cpus.ensures.cpus in
     let live = subst (Appends (g.K.Sink.has c.args.out.now) (g.K.Sink.has c.put_live.new.out)) text c.in_ok-put_live.ensures.bytes in
     let to_put = laws.to_put _ c.deref.result.now trace pace rules i is c.deref.ensures.value in
     let killed = laws.kills_made _ trace pace rules i c.kills.result.now is c.kills.ensures in
