@@ -3,10 +3,10 @@ use Rattle.std.proofs.Common.{◌≡◌, ℕ, ◌+◌, ◌*◌, ◌<◌, ◌≤�
 use Rattle.std.specs.Prelude.{◌≢◌}
 use Rattle.std.proofs.Math.Nat.{mul-le-mul_right}
 use Rattle.std.proofs.lemmas.List.{get_or_append_left, get_or_push, get_or-set_same, get_or-set_other, length-append, length-set}
-use Rattle.psi_laws.specs.Clock.{ClockView, opened, opened_time}
-use Rattle.psi_laws.specs.Plan.{IsClock, PlanView, changes_up_to, last_change, planned_time}
-use Rattle.psi_laws.proofs.ClockLaws.{map_states}
-use Rattle.aggregate.specs.Table.{HasSizes, put, times_at}
+use Rattle.psi_laws.specs.Clock.{ClockView, opened}
+use Rattle.psi_laws.specs.Plan.{IsClock, PlanView, changes_up_to, last_change, planned}
+use Rattle.psi_laws.proofs.PlanClocks.{clock_tells_planned}
+use Rattle.aggregate.specs.Table.{HasSizes, put_times, times_at}
 use Rattle.aggregate.proofs.TableLaws.{keeps_sizes, sets_one_place}
 use Rattle.replay_workers.specs.declared.ticks.Ticks.{Ticks}
 use Rattle.replay_workers.specs.Crew.{moment_in, times_by}
@@ -68,7 +68,7 @@ keeps_more old new plan ticks j at before tick moment = λ k slot early below.
 -- a clock that stands for a slot after the changes up to a moment opens to the slot's times then
 pub times_by_clock : (clock : ClockView) (plan : PlanView) (slot k at : ℕ) → IsClock clock plan slot k → last_change plan k ≤ at → k ≡ changes_up_to plan at → opened clock at ≡ times_by plan slot at
 times_by_clock clock plan slot k at is later all =
-    map_states (opened_time clock at) (λ state. planned_time state plan slot (changes_up_to plan at) at) (λ state. is.times state at later ∙ ap (λ n. planned_time state plan slot n at) all)
+    clock_tells_planned clock plan slot k at is later ∙ ap (λ n. planned plan slot n at) all
 
 -- places in which the times of the first so many groups are kept for a tick
 pub record KeptTo (old new : List (List ℕ)) (slots j slot : ℕ) (plan : PlanView) (at : ℕ) : Type 0 where
@@ -100,7 +100,7 @@ pub record FilledTo (old new : List (List (List ℕ))) (cpus slots cpu slot : �
   pub others : (s other : ℕ) → other ≢ cpu → times_at new s other ≡ times_at old s other
 
 -- one group more is filled in
-pub filled_more : (old table new : List (List (List ℕ))) (cpus slots cpu slot : ℕ) (kept : List (List ℕ)) (j : ℕ) (times : List ℕ) → FilledTo old table cpus slots cpu slot kept j → slot < slots → cpu < cpus → new ≡ put table slot cpu times
+pub filled_more : (old table new : List (List (List ℕ))) (cpus slots cpu slot : ℕ) (kept : List (List ℕ)) (j : ℕ) (times : List ℕ) → FilledTo old table cpus slots cpu slot kept j → slot < slots → cpu < cpus → new ≡ put_times table slot cpu times
     → times ≡ kept_at kept slots j slot → FilledTo old new cpus slots cpu (slot + 1) kept j
 filled_more old table new cpus slots cpu slot kept j times is below there set value =
     let place = keeps_sizes.place cpus slots table slot cpu is.sizes below there in
@@ -110,7 +110,7 @@ filled_more old table new cpus slots cpu slot kept j times is below there set va
           let case : (s < slot) ⊎ (s ≡ slot) = grind (arith, early) in
           ⊎_elim
           (λ before. ap (λ t. times_at t s cpu) set ∙ sets_one_place.elsewhere table slot cpu times s cpu place (inl (λ same. omega (arith, same, before))) ∙ is.here s before)
-          (λ now. ap (λ t. times_at t s cpu) set ∙ ap (λ k. times_at (put table slot cpu times) k cpu) now ∙ sets_one_place.here table slot cpu times place ∙ value ∙ ap (λ k. kept_at kept slots j k) (sym now))
+          (λ now. ap (λ t. times_at t s cpu) set ∙ ap (λ k. times_at (put_times table slot cpu times) k cpu) now ∙ sets_one_place.here table slot cpu times place ∙ value ∙ ap (λ k. kept_at kept slots j k) (sym now))
           case;
       others = λ s other differs. ap (λ t. times_at t s other) set ∙ sets_one_place.elsewhere table slot cpu times s other place (inr differs) ∙ is.others s other differs;
     }

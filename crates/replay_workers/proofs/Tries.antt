@@ -7,7 +7,7 @@ use Rattle.psi_spec.specs.Changes.{RiseWithin}
 use Rattle.clock_row.specs.declared.reader.Sample.{Sample}
 use Rattle.clock_row.specs.declared.view.ReaderView.{ReaderView}
 use Rattle.clock_row.specs.Tries.{IsTried, Tried}
-use Rattle.replay_workers.specs.Crew.{counts_of}
+use Rattle.replay_workers.specs.Crew.{counts_sampled}
 use Rattle.replay_workers.proofs.Steps.{each_more}
 
 -- ---- numbers
@@ -87,29 +87,29 @@ tried_since counts low old before after got met tried = (
 
 -- ---- samples
 
-counts_next : (samples : List Sample) (sample : Sample) → counts_of (samples ++ sample ∷ []) ≡ counts_of samples ++ sample.count ∷ []
+counts_next : (samples : List Sample) (sample : Sample) → counts_sampled (samples ++ sample ∷ []) ≡ counts_sampled samples ++ sample.count ∷ []
 counts_next samples sample = map-append (λ (s : Sample). s.count) samples (sample ∷ [])
 
-pub no_rise : (low last : ℕ) (samples : List Sample) → samples ≡ [] → low ≡ last → Rises low (counts_of samples) last
-no_rise low last samples none same = subst (λ (list : List Sample). Rises low (counts_of list) last) (sym none) same
+pub no_rise : (low last : ℕ) (samples : List Sample) → samples ≡ [] → low ≡ last → Rises low (counts_sampled samples) last
+no_rise low last samples none same = subst (λ (list : List Sample). Rises low (counts_sampled list) last) (sym none) same
 
-pub no_tries : (low : ℕ) (samples : List Sample) (reader : ReaderView) → samples ≡ [] → IsTried (counts_of samples) low reader reader
-no_tries low samples reader none = subst (λ (list : List Sample). IsTried (counts_of list) low reader reader) (sym none) (none_tried low reader)
+pub no_tries : (low : ℕ) (samples : List Sample) (reader : ReaderView) → samples ≡ [] → IsTried (counts_sampled samples) low reader reader
+no_tries low samples reader none = subst (λ (list : List Sample). IsTried (counts_sampled list) low reader reader) (sym none) (none_tried low reader)
 
 pub no_clocks : (plan : PlanView) (slot : ℕ) (samples : List Sample) → samples ≡ [] → All (λ (sample : Sample). IsClock sample.clock plan slot sample.count) samples
 no_clocks plan slot samples none = λ k d below. absurd (let many = ap length none in let no : ⊥ = omega (arith, below, many) in no)
 
-pub rises_grown : (low last seen : ℕ) (samples grown : List Sample) (sample : Sample) → grown ≡ samples ++ sample ∷ [] → Rises low (counts_of samples) last → last ≤ sample.count → seen ≡ sample.count → Rises low (counts_of grown) seen
+pub rises_grown : (low last seen : ℕ) (samples grown : List Sample) (sample : Sample) → grown ≡ samples ++ sample ∷ [] → Rises low (counts_sampled samples) last → last ≤ sample.count → seen ≡ sample.count → Rises low (counts_sampled grown) seen
 rises_grown low last seen samples grown sample is rises later same =
-    subst (λ (list : List Sample). Rises low (counts_of list) seen) (sym is)
-    (subst (λ (number : ℕ). Rises low (counts_of (samples ++ sample ∷ [])) number) (sym same)
-    (subst (λ (list : List ℕ). Rises low list sample.count) (sym (counts_next samples sample)) (rises_next low last sample.count (counts_of samples) rises later)))
+    subst (λ (list : List Sample). Rises low (counts_sampled list) seen) (sym is)
+    (subst (λ (number : ℕ). Rises low (counts_sampled (samples ++ sample ∷ [])) number) (sym same)
+    (subst (λ (list : List ℕ). Rises low list sample.count) (sym (counts_next samples sample)) (rises_next low last sample.count (counts_sampled samples) rises later)))
 
-pub tried_grown : (low last : ℕ) (samples grown : List Sample) (sample : Sample) (start before after : ReaderView) → grown ≡ samples ++ sample ∷ [] → Rises low (counts_of samples) last → IsTried (counts_of samples) low start before → IsTried (sample.count ∷ []) last before after
-    → IsTried (counts_of grown) low start after
+pub tried_grown : (low last : ℕ) (samples grown : List Sample) (sample : Sample) (start before after : ReaderView) → grown ≡ samples ++ sample ∷ [] → Rises low (counts_sampled samples) last → IsTried (counts_sampled samples) low start before → IsTried (sample.count ∷ []) last before after
+    → IsTried (counts_sampled grown) low start after
 tried_grown low last samples grown sample start before after is rises all one =
-    subst (λ (list : List Sample). IsTried (counts_of list) low start after) (sym is)
-    (subst (λ (list : List ℕ). IsTried list low start after) (sym (counts_next samples sample)) (is_tried_next (counts_of samples) low last sample.count start before after rises all one))
+    subst (λ (list : List Sample). IsTried (counts_sampled list) low start after) (sym is)
+    (subst (λ (list : List ℕ). IsTried list low start after) (sym (counts_next samples sample)) (is_tried_next (counts_sampled samples) low last sample.count start before after rises all one))
 
 pub clocks_grown : (plan : PlanView) (slot : ℕ) (samples grown : List Sample) (sample : Sample) → grown ≡ samples ++ sample ∷ [] → IsClock sample.clock plan slot sample.count → All (λ (s : Sample). IsClock s.clock plan slot s.count) samples
     → All (λ (s : Sample). IsClock s.clock plan slot s.count) grown

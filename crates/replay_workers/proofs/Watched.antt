@@ -13,9 +13,9 @@ use Rattle.proc_plan.specs.Plans.{PlansView, plan_at}
 use Rattle.clock_row.specs.declared.reader.Sample.{Sample}
 use Rattle.clock_row.specs.Tries.{IsTried}
 use Rattle.replay_workers.specs.declared.ticks.Ticks.{Ticks}
-use Rattle.replay_workers.specs.Crew.{AreBehind, AreSampled, IsSampled, WatchView, clocks_at, counts_of, last_of, watch_at}
+use Rattle.replay_workers.specs.Crew.{AreBehind, AreSampled, IsSampled, WatchView, clocks_at, counts_sampled, last_of, watch_at}
 use Rattle.replay_workers.specs.Lanes.{AreLanes, HaveAllGone, LaneView, clocks_of, lane_of, no_ticks}
-use Rattle.replay_workers.specs.Watches.{AreNewWatchers, AreSettled, AreWatchers, AreWatching, HasMet, HasSampled, HasWatched, HaveCleared, HaveMet, HaveSampled, HaveSlot, HaveWatched, IsCrew, IsSameWatcher, IsThere, WatcherView, crew_of, no_watcher, watch_of, watcher_at}
+use Rattle.replay_workers.specs.Watches.{AreNewWatchers, AreSettled, AreWatchers, AreWatching, HasMet, HasSampled, HasWatched, HaveCleared, HaveMet, HaveSampled, HaveSlot, HaveWatched, IsCrew, IsLaneThere, IsSameWatcher, WatcherView, crew_of, no_watcher, watch_seen, watcher_at}
 use Rattle.replay_workers.proofs.Dealt.{clocks_are, clocks_many, gone_at, gone_there, lane_is, lane_there}
 use Rattle.psi_laws.proofs.PlanTimes.{changes_more}
 use Rattle.replay_workers.proofs.Tries.{no_clocks, no_tries, rise_wider, tried_since}
@@ -28,7 +28,7 @@ written_back xs new n size = rw size (take-append_seam new (drop (length new) xs
 
 has_watched : (lane_old lane_new : LaneView) (slot : ℕ) (old met new : WatcherView) → HasMet slot lane_old.on old met → HasSampled slot met new → new.knows.seen ≤ lane_new.on.made → HasWatched slot lane_old lane_new old new
 has_watched lane_old lane_new slot old met new one two settled =
-    let counts = counts_of new.samples in
+    let counts = counts_sampled new.samples in
     record {
       same = record {
         cpu = two.same.cpu ∙ one.same.cpu;
@@ -106,22 +106,22 @@ watchers_stay plans lanes_old lanes_new before ticks out room asked old new is g
 
 -- ---- what callers see
 
-watch_found : (watchers : List WatcherView) (cpu : ℕ) → watch_at (map watch_of watchers) cpu ≡ watch_of (watcher_at watchers cpu)
-watch_found watchers cpu = get_or-map watch_of watchers cpu no_watcher
+watch_found : (watchers : List WatcherView) (cpu : ℕ) → watch_at (map watch_seen watchers) cpu ≡ watch_seen (watcher_at watchers cpu)
+watch_found watchers cpu = get_or-map watch_seen watchers cpu no_watcher
 
 -- watchers that have none show no samples
-no_samples : (watchers : List WatcherView) → ((k : ℕ) → k < length watchers → (watcher_at watchers k).samples ≡ []) → (cpu : ℕ) → (watch_at (map watch_of watchers) cpu).samples ≡ []
+no_samples : (watchers : List WatcherView) → ((k : ℕ) → k < length watchers → (watcher_at watchers k).samples ≡ []) → (cpu : ℕ) → (watch_at (map watch_seen watchers) cpu).samples ≡ []
 no_samples watchers none cpu =
     let case : (cpu < length watchers) ⊎ (length watchers ≤ cpu) = grind arith in
     ap (λ (watch : WatchView). watch.samples) (watch_found watchers cpu)
     ∙ ⊎_elim (λ below. none cpu below) (λ beyond. ap (λ (watcher : WatcherView). watcher.samples) (get_or-eq_default watchers no_watcher beyond)) case
 
 -- watchers that put them away show no samples
-pub none_sampled : (old new : List WatcherView) → HaveCleared old new → (cpu : ℕ) → (watch_at (map watch_of new) cpu).samples ≡ []
+pub none_sampled : (old new : List WatcherView) → HaveCleared old new → (cpu : ℕ) → (watch_at (map watch_seen new) cpu).samples ≡ []
 none_sampled old new cleared = no_samples new (λ k below. (cleared.each k (omega (arith, below, cleared.many))).none)
 
 -- new watchers show no samples
-pub new_unsampled : (lanes : List (List LaneView)) (cpus asked : ℕ) (watchers : List WatcherView) → AreNewWatchers lanes cpus asked watchers → (cpu : ℕ) → (watch_at (map watch_of watchers) cpu).samples ≡ []
+pub new_unsampled : (lanes : List (List LaneView)) (cpus asked : ℕ) (watchers : List WatcherView) → AreNewWatchers lanes cpus asked watchers → (cpu : ℕ) → (watch_at (map watch_seen watchers) cpu).samples ≡ []
 new_unsampled lanes cpus asked watchers new = no_samples watchers (λ k below. (new.each k below).none)
 
 -- where no sample is asked for, none was taken
@@ -129,7 +129,7 @@ nothing_asked : (plan : PlanView) (slot asked before now : ℕ) (watch : WatchVi
 nothing_asked plan slot asked before now watch zero none forward = record {
   many = ap length none ∙ sym zero;
   clocks = no_clocks plan slot watch.samples none;
-  rise = subst (λ (samples : List Sample). RiseWithin before (counts_of samples) now) (sym none) forward;
+  rise = subst (λ (samples : List Sample). RiseWithin before (counts_sampled samples) now) (sym none) forward;
   tried = no_tries before watch.samples watch.reader none;
   few = omega arith;
 }
@@ -154,34 +154,34 @@ are_sampled plans lanes_old lanes_new before ticks out room asked slot old new r
     let made_old = (clocks_at (clocks_of lanes_old cpus) cpu).made in
     let made_new = (clocks_at (clocks_of lanes_new cpus) cpu).made in
     let case : (asked ≡ 0) ⊎ (0 < asked) = grind arith in
-    let at_watchers : IsSampled plan slot.0 asked made_old made_new (watch_of (watcher_at old cpu)) (watch_of (watcher_at new cpu)) =
+    let at_watchers : IsSampled plan slot.0 asked made_old made_new (watch_seen (watcher_at old cpu)) (watch_seen (watcher_at new cpu)) =
     ⊎_elim
     (λ zero.
     let none : length old ≡ 0 = is.watched.none zero in
     let old_none : watcher_at old cpu ≡ no_watcher = get_or-eq_default old no_watcher (omega (arith, none)) in
     let new_none : watcher_at new cpu ≡ no_watcher = get_or-eq_default new no_watcher (omega (arith, none, watched.many)) in
     let forward = made_more plans lanes_old lanes_new before ticks out room cpu is.lanes within behind gone below in
-    subst (λ (w : WatcherView). IsSampled plan slot.0 asked made_old made_new (watch_of (watcher_at old cpu)) (watch_of w)) (sym new_none)
-    (subst (λ (w : WatcherView). IsSampled plan slot.0 asked made_old made_new (watch_of w) (watch_of no_watcher)) (sym old_none) (nothing_asked plan slot.0 asked made_old made_new (watch_of no_watcher) zero refl forward)))
+    subst (λ (w : WatcherView). IsSampled plan slot.0 asked made_old made_new (watch_seen (watcher_at old cpu)) (watch_seen w)) (sym new_none)
+    (subst (λ (w : WatcherView). IsSampled plan slot.0 asked made_old made_new (watch_seen w) (watch_seen no_watcher)) (sym old_none) (nothing_asked plan slot.0 asked made_old made_new (watch_seen no_watcher) zero refl forward)))
     (λ some.
     let inside : cpu < length old = omega (arith, below, is.watched.all some) in
     let own = is.watched.each cpu inside in
     let one = (watched.each cpu inside).sampled in
     let made_was : (lane_of lanes_old cpu).on.made ≡ made_old = ap (λ (on : OnPlan). on.made) (sym (clocks_are lanes_old cpus cpu below)) in
     let made_is : (lane_of lanes_new cpu).on.made ≡ made_new = ap (λ (on : OnPlan). on.made) (sym (clocks_are lanes_new cpus cpu below)) in
-    subst (λ (p : PlanView). IsSampled p slot.0 asked made_old made_new (watch_of (watcher_at old cpu)) (watch_of (watcher_at new cpu))) own.plan
-    (subst (λ n. IsSampled (watcher_at old cpu).knows.plan slot.0 n made_old made_new (watch_of (watcher_at old cpu)) (watch_of (watcher_at new cpu))) own.asked_is
-    (subst (λ n. IsSampled (watcher_at old cpu).knows.plan slot.0 (watcher_at old cpu).asked n made_new (watch_of (watcher_at old cpu)) (watch_of (watcher_at new cpu))) made_was
-    (subst (λ n. IsSampled (watcher_at old cpu).knows.plan slot.0 (watcher_at old cpu).asked (lane_of lanes_old cpu).on.made n (watch_of (watcher_at old cpu)) (watch_of (watcher_at new cpu))) made_is one))))
+    subst (λ (p : PlanView). IsSampled p slot.0 asked made_old made_new (watch_seen (watcher_at old cpu)) (watch_seen (watcher_at new cpu))) own.plan
+    (subst (λ n. IsSampled (watcher_at old cpu).knows.plan slot.0 n made_old made_new (watch_seen (watcher_at old cpu)) (watch_seen (watcher_at new cpu))) own.asked_is
+    (subst (λ n. IsSampled (watcher_at old cpu).knows.plan slot.0 (watcher_at old cpu).asked n made_new (watch_seen (watcher_at old cpu)) (watch_seen (watcher_at new cpu))) made_was
+    (subst (λ n. IsSampled (watcher_at old cpu).knows.plan slot.0 (watcher_at old cpu).asked (lane_of lanes_old cpu).on.made n (watch_seen (watcher_at old cpu)) (watch_seen (watcher_at new cpu))) made_is one))))
     case
     in
-    subst (λ (w : WatchView). IsSampled plan slot.0 asked made_old made_new w (watch_at (map watch_of new) cpu)) (sym (watch_found old cpu))
-    (subst (λ (w : WatchView). IsSampled plan slot.0 asked made_old made_new (watch_of (watcher_at old cpu)) w) (sym (watch_found new cpu)) at_watchers)
+    subst (λ (w : WatchView). IsSampled plan slot.0 asked made_old made_new w (watch_at (map watch_seen new) cpu)) (sym (watch_found old cpu))
+    (subst (λ (w : WatchView). IsSampled plan slot.0 asked made_old made_new (watch_seen (watcher_at old cpu)) w) (sym (watch_found new cpu)) at_watchers)
 
 -- ---- a new crew
 
 -- the lanes of new workers are there
-pub new_there : (plans : PlansView) (lanes : List (List LaneView)) (room cpu : ℕ) → AreLanes plans lanes no_ticks 0 room → cpu < length plans.plans → IsThere lanes cpu
+pub new_there : (plans : PlansView) (lanes : List (List LaneView)) (room cpu : ℕ) → AreLanes plans lanes no_ticks 0 room → cpu < length plans.plans → IsLaneThere lanes cpu
 new_there plans lanes room cpu is below = record { some = is.some; place = lane_there plans lanes no_ticks 0 room cpu is below }
 
 -- new watchers of all processors, or of none where no sample is asked for, are those of a crew

@@ -91,8 +91,8 @@ abbrev pub watch_at : List WatchView → ℕ → WatchView
 watch_at watches cpu = slice_index_or watches cpu (record { samples = []; reader = new_reader no_plan 0 })
 
 -- after how many changes samples were taken
-abbrev pub counts_of : List Sample → List ℕ
-counts_of samples = map (λ (sample : Sample). sample.count) samples
+abbrev pub counts_sampled : List Sample → List ℕ
+counts_sampled samples = map (λ (sample : Sample). sample.count) samples
 
 -- A reader took so many samples of a slot's clocks on a processor, beside the changes from one number to another: each is the
 -- clock after its number of changes, these numbers never fall and lie between the two, and the reader took them by its own
@@ -100,8 +100,8 @@ counts_of samples = map (λ (sample : Sample). sample.count) samples
 pub record IsSampled (plan : PlanView) (slot asked before now : ℕ) (old new : WatchView) : Type 0 where
   pub many : length new.samples ≡ asked
   pub clocks : All (λ (sample : Sample). IsClock sample.clock plan slot sample.count) new.samples
-  pub rise : RiseWithin before (counts_of new.samples) now
-  pub tried : IsTried (counts_of new.samples) before old.reader new.reader
+  pub rise : RiseWithin before (counts_sampled new.samples) now
+  pub tried : IsTried (counts_sampled new.samples) before old.reader new.reader
   pub few : tries_of new.reader ≤ tries_of old.reader + 8 * asked
 
 -- Where a slot is watched, so many samples of it were taken on each processor, beside the changes that were made; else there is

@@ -24,9 +24,9 @@ clocks_in (Plain clocks) = clocks
 clocks_in (Row writer) = on_of writer
 
 -- the row that they are in, if they are in one
-abbrev pub row_in : LaneClocks → Option TableId
-row_in (Plain clocks) = None
-row_in (Row writer) = Some writer.row
+abbrev pub row_of_clocks : LaneClocks → Option TableId
+row_of_clocks (Plain clocks) = None
+row_of_clocks (Row writer) = Some writer.row
 
 -- A lane: a processor's number, the row that its clocks are in, if they are in one, these, and the times (ns) that it keeps,
 -- tick by tick and slot by slot.

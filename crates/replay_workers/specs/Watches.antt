@@ -12,13 +12,13 @@ use Rattle.clock_row.specs.declared.view.ReaderView.{ReaderView}
 use Rattle.clock_row.specs.Steps.{new_reader}
 use Rattle.clock_row.specs.Tries.{IsTried, tries_of}
 use Rattle.replay_workers.specs.declared.ticks.Ticks.{Ticks}
-use Rattle.replay_workers.specs.Crew.{CrewView, IsSampled, WatchView, counts_of, moments_of}
+use Rattle.replay_workers.specs.Crew.{CrewView, IsSampled, WatchView, counts_sampled, moments_of}
 use Rattle.replay_workers.specs.Lanes.{AreLanes, LaneView, batch_at, clocks_of, lane_of}
 
 -- ---- one watcher
 
--- A watcher: a processor's number, the row of its clocks and what is known of it, the last sample, those of the last interval,
--- and how many it takes in one.
+-- A watcher: a processor's number, the row of its clocks and what is known of it, the writer's own clock when they met, the
+-- samples of the last interval, and how many it takes in one.
 pub record WatcherView : Type 0 where
   pub cpu : ℕ
   pub row : TableId
@@ -28,20 +28,20 @@ pub record WatcherView : Type 0 where
   pub asked : ℕ
 
 -- no row
-abbrev pub no_row : TableId
-no_row = record { words = 0; slots = 0; views_name = 0; atom = 0; block = 0; offset = 0; slot_names = [] }
+abbrev pub no_table_id : TableId
+no_table_id = record { words = 0; slots = 0; views_name = 0; atom = 0; block = 0; offset = 0; slot_names = [] }
 
 -- no watcher
 abbrev pub no_watcher : WatcherView
-no_watcher = record { cpu = 0; row = no_row; knows = new_reader no_plan 0; last = record { count = 0; clock = zero_clock }; samples = []; asked = 0 }
+no_watcher = record { cpu = 0; row = no_table_id; knows = new_reader no_plan 0; last = record { count = 0; clock = zero_clock }; samples = []; asked = 0 }
 
 -- a watcher, by its place
 abbrev pub watcher_at : List WatcherView → ℕ → WatcherView
 watcher_at watchers k = slice_index_or watchers k no_watcher
 
 -- what callers see of a watcher
-abbrev pub watch_of : WatcherView → WatchView
-watch_of watcher = record { samples = watcher.samples; reader = watcher.knows }
+abbrev pub watch_seen : WatcherView → WatchView
+watch_seen watcher = record { samples = watcher.samples; reader = watcher.knows }
 
 -- it is the same watcher: of the same processor and row, with the same plan, and takes as many samples
 pub record IsSameWatcher (old new : WatcherView) : Type 0 where
@@ -79,14 +79,14 @@ pub record HasSampled (slot : ℕ) (old new : WatcherView) : Type 0 where
   pub same : IsSameWatcher old new
   pub many : length new.samples ≡ old.asked
   pub clocks : All (λ (sample : Sample). IsClock sample.clock old.knows.plan slot sample.count) new.samples
-  pub rise : RiseWithin old.last.count (counts_of new.samples) new.knows.seen
-  pub tried : IsTried (counts_of new.samples) old.last.count old.knows new.knows
+  pub rise : RiseWithin old.last.count (counts_sampled new.samples) new.knows.seen
+  pub tried : IsTried (counts_sampled new.samples) old.last.count old.knows new.knows
   pub few : tries_of new.knows ≤ tries_of old.knows + 8 * old.asked
 
 -- A watcher took its samples of a slot beside the changes of a lane.
 pub record HasWatched (slot : ℕ) (lane_old lane_new : LaneView) (old new : WatcherView) : Type 0 where
   pub same : IsSameWatcher old new
-  pub sampled : IsSampled old.knows.plan slot old.asked lane_old.on.made lane_new.on.made (watch_of old) (watch_of new)
+  pub sampled : IsSampled old.knows.plan slot old.asked lane_old.on.made lane_new.on.made (watch_seen old) (watch_seen new)
 
 -- A watcher put its samples away.
 pub record HasCleared (old new : WatcherView) : Type 0 where
@@ -100,20 +100,20 @@ abbrev pub IsInRow : LaneView → Type 0
 IsInRow lane = is_some lane.row ≡ true
 
 -- the lane of a processor is there
-pub record IsThere (batches : List (List LaneView)) (cpu : ℕ) : Type 0 where
+pub record IsLaneThere (batches : List (List LaneView)) (cpu : ℕ) : Type 0 where
   pub some : 0 < length batches
   pub place : cpu / length batches < length (batch_at batches (cpu % length batches))
 
 -- A watcher is that of a processor whose lane is there: it has its row, and its plan.
-pub record IsWatching (batches : List (List LaneView)) (cpu : ℕ) (watcher : WatcherView) : Type 0 where
-  pub there : IsThere batches cpu
+pub record IsWatcherThere (batches : List (List LaneView)) (cpu : ℕ) (watcher : WatcherView) : Type 0 where
+  pub there : IsLaneThere batches cpu
   pub cpu_is : watcher.cpu ≡ cpu
   pub row : Some watcher.row ≡ (lane_of batches cpu).row
   pub plan : watcher.knows.plan ≡ (lane_of batches cpu).on.plan
 
 -- so is each of them
 abbrev pub AreWatching : List (List LaneView) → List WatcherView → Type 0
-AreWatching batches watchers = (k : ℕ) → k < length watchers → IsWatching batches k (watcher_at watchers k)
+AreWatching batches watchers = (k : ℕ) → k < length watchers → IsWatcherThere batches k (watcher_at watchers k)
 
 -- the plan of each has this slot
 abbrev pub HaveSlot : ℕ → List WatcherView → Type 0
@@ -180,5 +180,5 @@ crew_of plans batches ticks out room asked watchers = record {
   ready = drop out (moments_of ticks);
   room = room;
   asked = asked;
-  watches = map watch_of watchers;
+  watches = map watch_seen watchers;
 }

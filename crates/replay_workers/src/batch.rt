@@ -40,55 +40,37 @@ impl<'a> Batch<'a> {
         }
     }
 
-    /// How many changes of all lanes are left up to a moment (ns).
-    fn left(&self, until: Ns) -> u64 {
-        self.lanes
-            .iter()
-            .fold(0u64, |sum, lane| sum.saturating_add(lane.left(until)))
+    /// Whether a processor has a change left up to a moment (ns).
+    fn is_busy(&self, until: Ns) -> bool {
+        self.lanes.iter().any(|lane| lane.is_busy(until))
     }
 }
 
-/// So many changes beside a reader are worth a thread.
-const CHANGES_A_THREAD: u64 = 1024;
-
-/// In how many threads to make the changes up to a moment (ns) where nothing is watched: in the caller's alone, where no more
-/// than one batch has a change.
-pub(crate) fn threads_for(batches: &[Batch<'_>], until: Ns) -> usize
+// In how many threads to work: in the caller's alone, where no more than one batch has a change up to a moment (ns).
+fn threads_for(batches: &[Batch<'_>], until: Ns) -> usize
     requires { 0 < length batches.now }
     ensures { 0 < result }
 {
-    let busy = batches.iter().filter(|batch| batch.left(until) > 0).count();
+    let busy = batches.iter().filter(|batch| batch.is_busy(until)).count();
     if busy > 1 { batches.len() } else { 1 }
 }
 
-/// In how many threads to make the changes up to a moment (ns) beside a reader, which has a thread of its own: in the fewer, the
-/// fewer changes there are, since threads are started at each tick.
-pub(crate) fn threads_beside(batches: &[Batch<'_>], until: Ns) -> usize
-    requires { 0 < length batches.now }
-    ensures { 0 < result }
-{
-    let left = batches
-        .iter()
-        .fold(0u64, |sum, batch| sum.saturating_add(batch.left(until)));
-    let worth = (left / CHANGES_A_THREAD) as usize;
-    worth.clamp(1, batches.len())
-}
-
-/// Makes the changes of all batches up to each tick, and keeps the times of all groups there, in so many threads where these can
-/// be started: the batches tell nothing of one another.
+/// Makes the changes of all batches up to each tick, and keeps the times of all groups there, each batch in a thread of its own
+/// where one can be started: they tell nothing of one another.
 pub(crate) fn go_all<R: Threads + Sync, G: Gate>(
     rt: &R,
     batches: &mut [Batch<'_>],
     ticks: Ticks,
-    threads: usize,
     gate: &G,
 )
-    requires threads { 0 < threads }
+    requires any { 0 < length batches.old }
     requires some { 0 < ticks.count }
     requires early { last_of ticks ≤ last_moment }
     requires may { All (MayAllGo ticks) batches.old }
     ensures { HaveAllGone ticks batches.old batches.new }
 {
+    let last = ticks.last();
+    let threads = threads_for(batches, last);
     thread::for_each_mut(
         rt,
         batches,

@@ -5,9 +5,9 @@ ghost use Rattle.std.specs.Thread.{IsSync};
 ghost use Rattle.psi_spec.specs.Trace.{last_moment};
 ghost use Rattle.replay_workers.specs.Crew.{last_of};
 ghost use Rattle.replay_workers.specs.Lanes.{HaveAllGone, MayAllGo, lane_of};
-ghost use Rattle.replay_workers.specs.Watches.{AreNewWatchers, AreSettled, AreWatching, HasMet, HaveCleared, HaveMet, HaveSampled, HaveSlot, HaveWatched, IsInRow, IsNewWatcher, IsThere, IsWatching, MayAllSample};
+ghost use Rattle.replay_workers.specs.Watches.{AreNewWatchers, AreSettled, AreWatching, HasMet, HaveCleared, HaveMet, HaveSampled, HaveSlot, HaveWatched, IsInRow, IsLaneThere, IsNewWatcher, IsWatcherThere, MayAllSample};
 
-use crate::batch::{Batch, go_all, threads_beside, threads_for};
+use crate::batch::{Batch, go_all};
 use crate::ticks::Ticks;
 use crate::watch::Watcher;
 use psi_base::{Cpu, Gate, NoMemory, Slot};
@@ -21,7 +21,7 @@ fn watcher_of(
     cpu: Cpu,
     asked: u32,
 ) -> Result<Watcher, NoMemory>
-    requires there { IsThere batches.old cpu.0 }
+    requires there { IsLaneThere batches.old cpu.0 }
     requires row { IsInRow (lane_of batches.old cpu.0) }
     ensures same { batches.new ≡ batches.old }
     ensures new { IfOk result (IsNewWatcher (lane_of batches.old cpu.0).cpu asked
@@ -40,7 +40,7 @@ pub(crate) fn watch(
     cpus: u32,
     asked: u32,
 ) -> Result<Vec<Watcher>, NoMemory>
-    requires there { (cpu : ℕ) → cpu < cpus → IsThere batches.old cpu }
+    requires there { (cpu : ℕ) → cpu < cpus → IsLaneThere batches.old cpu }
     requires rows { (cpu : ℕ) → cpu < cpus → IsInRow (lane_of batches.old cpu) }
     requires own { (cpu : ℕ) → cpu < cpus → (lane_of batches.old cpu).cpu ≡ cpu }
     ensures same { batches.new ≡ batches.old }
@@ -65,7 +65,7 @@ pub(crate) fn clear(watchers: &mut [Watcher])
 
 // The lane of a watcher's processor meets it.
 fn meet(batches: &mut [Batch<'_>], watcher: &mut Watcher, slot: Slot)
-    requires pair { IsWatching batches.old watcher.old.cpu watcher.old }
+    requires pair { IsWatcherThere batches.old watcher.old.cpu watcher.old }
     requires slot { slot.0 < length watcher.old.knows.plan.parents }
     ensures same { batches.new ≡ batches.old }
     ensures met { HasMet slot.0 (lane_of batches.old watcher.old.cpu).on
@@ -91,7 +91,7 @@ fn meet_all(batches: &mut [Batch<'_>], watchers: &mut [Watcher], slot: Slot)
 
 // The lane of a watcher's processor settles with it.
 fn settle(batches: &mut [Batch<'_>], watcher: &mut Watcher)
-    requires { IsWatching batches.old watcher.old.cpu watcher.old }
+    requires { IsWatcherThere batches.old watcher.old.cpu watcher.old }
     ensures lanes { batches.new ≡ batches.old }
     ensures same { watcher.new ≡ watcher.old }
     ensures settled { watcher.old.knows.seen
@@ -115,21 +115,20 @@ fn settle_all(batches: &mut [Batch<'_>], watchers: &mut [Watcher])
     }
 }
 
-// The batches, after the changes up to each tick, made in so many threads.
+// The batches, after the changes up to each tick.
 fn gone<'a, R: Threads + Sync, G: Gate>(
     rt: &R,
     mut batches: Vec<Batch<'a>>,
     ticks: Ticks,
-    threads: usize,
     gate: &G,
 ) -> Vec<Batch<'a>>
-    requires threads { 0 < threads }
+    requires any { 0 < length batches.items }
     requires some { 0 < ticks.count }
     requires early { last_of ticks ≤ last_moment }
     requires may { All (MayAllGo ticks) batches.items }
     ensures { HaveAllGone ticks batches.entry.items result.items }
 {
-    go_all(rt, &mut batches, ticks, threads, gate);
+    go_all(rt, &mut batches, ticks, gate);
     batches
 }
 
@@ -166,23 +165,21 @@ pub(crate) fn go_beside<'a, R: Threads + Sync, G: Gate>(
         watchers.items result.1.items }
 {
     if watchers.is_empty() {
-        let threads = threads_for(&batches, ticks.last());
-        return (gone(rt, batches, ticks, threads, gate), watchers);
+        return (gone(rt, batches, ticks, gate), watchers);
     }
     let mut batches = batches;
     let mut watchers = watchers;
     meet_all(&mut batches, &mut watchers, slot);
-    let threads = threads_beside(&batches, ticks.last());
     let (mut batches, mut watchers) = join(
         rt,
         || -> Vec<Batch>
             requires sync { IsSync R.row }
-            requires threads { 0 < threads }
+            requires any { 0 < length batches.items }
             requires some { 0 < ticks.count }
             requires early { last_of ticks ≤ last_moment }
             requires may { All (MayAllGo ticks) batches.items }
             ensures { HaveAllGone ticks batches.entry.items result.items }
-        { gone(rt, batches, ticks, threads, gate) },
+        { gone(rt, batches, ticks, gate) },
         || -> Vec<Watcher>
             requires { MayAllSample slot.0 watchers.items }
             ensures { HaveSampled slot.0 watchers.items result.items }

@@ -6,7 +6,7 @@ ghost use Rattle.aggregate.specs.Table.{HasSizes};
 ghost use Rattle.proc_plan.specs.Plans.{plan_at};
 ghost use Rattle.replay_workers.specs.Crew.{AreAt, AreBehind, AreOnPlans, AreSampled, IsTableAt, clocks_at, last_of, moments_of, room_of, watch_at};
 
-use crate::batch::{Batch, go_all, threads_for};
+use crate::batch::{Batch, go_all};
 use crate::beside::{clear, go_beside, watch};
 use crate::deal::{deal, room_for};
 use crate::fill::{fill, lane_in};
@@ -134,8 +134,7 @@ impl<'a> Crew<'a> {
         ensures ready { self.new.ready ≡ moments_of ticks }
         ensures live { AreSampled None self.old self.new }
     {
-        let threads = threads_for(&self.batches, ticks.last());
-        go_all(rt, &mut self.batches, ticks, threads, gate);
+        go_all(rt, &mut self.batches, ticks, gate);
         clear(&mut self.watchers);
         self.ticks = ticks;
         self.out = 0;

@@ -29,13 +29,13 @@ pub(crate) struct Lane<'a> {
 }
 
 impl<'a> Model for Lane<'a> {
-    ghost use Rattle.replay_workers.specs.Lanes.{IsLane, LaneView, clocks_in, row_in};
+    ghost use Rattle.replay_workers.specs.Lanes.{IsLane, LaneView, clocks_in, row_of_clocks};
 
     ghost Value = { LaneView };
 
     ghost view = { λ l. record {
       cpu = l.cpu.0;
-      row = row_in l.clocks;
+      row = row_of_clocks l.clocks;
       on = clocks_in l.clocks;
       kept = l.kept.items;
     } };
@@ -91,9 +91,9 @@ impl<'a> Lane<'a> {
         self.clocks.count()
     }
 
-    /// How many changes are left up to a moment (ns).
-    pub(crate) fn left(&self, until: Ns) -> u64 {
-        self.plan.until(until).saturating_sub(self.clocks.count())
+    /// Whether a change is left up to a moment (ns).
+    pub(crate) fn is_busy(&self, until: Ns) -> bool {
+        self.clocks.count() < self.plan.until(until)
     }
 
     /// The clock of a slot, after the changes that were made.

@@ -3,7 +3,7 @@ ghost use Rattle.std.specs.Prelude.{◌≡◌, ◌+◌, ◌*◌, ◌<◌, ◌≤
 ghost use Rattle.psi_laws.specs.Plan.{IsClock, IsPlan, changes_up_to, last_change};
 ghost use Rattle.psi_spec.specs.Trace.{last_moment};
 ghost use Rattle.replay_workers.specs.Crew.{last_of, moment_in};
-ghost use Rattle.replay_workers.specs.Lanes.{KeepsTick, KeepsTicks, clocks_in, row_in};
+ghost use Rattle.replay_workers.specs.Lanes.{KeepsTick, KeepsTicks, clocks_in, row_of_clocks};
 
 use crate::clocks::make_until;
 use crate::ticks::Ticks;
@@ -85,7 +85,7 @@ impl<'a> LaneClocks<'a> {
         requires { slots ≡ length plan.now.parents }
         ensures on { IfOk result (λ clocks.
             clocks_in clocks ≡ record { plan = plan.now; made = 0 }) }
-        ensures row { IfOk result (λ clocks. is_some (row_in clocks) ≡ in_row) }
+        ensures row { IfOk result (λ clocks. is_some (row_of_clocks clocks) ≡ in_row) }
     {
         if in_row {
             return Ok(LaneClocks::Row(Row::make(alloc, plan, slots)?));
@@ -107,7 +107,7 @@ impl<'a> LaneClocks<'a> {
     pub(crate) fn own(&mut self, slot: Slot) -> Clock
         requires { slot.0 < length (clocks_in self.old).plan.parents }
         ensures kept { clocks_in self.new ≡ clocks_in self.old }
-        ensures row { row_in self.new ≡ row_in self.old }
+        ensures row { row_of_clocks self.new ≡ row_of_clocks self.old }
         ensures clock { IsClock result (clocks_in self.old).plan slot.0
             (clocks_in self.old).made }
     {
@@ -136,7 +136,7 @@ impl<'a> LaneClocks<'a> {
         requires early { last_of ticks ≤ last_moment }
         ensures plan { (clocks_in self.new).plan ≡ plan.now }
         ensures made { (clocks_in self.new).made ≡ changes_up_to plan.now (last_of ticks) }
-        ensures row { row_in self.new ≡ row_in self.old }
+        ensures row { row_of_clocks self.new ≡ row_of_clocks self.old }
         ensures past { last_change plan.now (changes_up_to plan.now (last_of ticks))
             ≤ last_of ticks }
         ensures size { length kept.new ≡ length kept.old }

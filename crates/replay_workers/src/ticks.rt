@@ -1,4 +1,4 @@
-//! Ticks that one fork goes over.
+//! Ticks that a crew goes over at once.
 ghost use Rattle.std.specs.Prelude.{◌≡◌, ◌<◌, ◌≤◌, ◌^◌};
 ghost use Rattle.replay_workers.specs.Crew.{last_of, moment_in};
 

@@ -5,7 +5,7 @@ ghost use Rattle.psi_laws.specs.Plan.{IsClock};
 ghost use Rattle.psi_spec.specs.Changes.{RiseWithin};
 ghost use Rattle.clock_row.specs.declared.reader.Sample.{Sample};
 ghost use Rattle.clock_row.specs.Tries.{IsTried, tries_of};
-ghost use Rattle.replay_workers.specs.Crew.{counts_of};
+ghost use Rattle.replay_workers.specs.Crew.{counts_sampled};
 ghost use Rattle.replay_workers.specs.Lanes.{on_of};
 ghost use Rattle.replay_workers.specs.Watches.{HasCleared, HasMet, HasSampled, IsNewWatcher, MaySample};
 
@@ -68,9 +68,9 @@ fn sample_on<G: Gate>(
     ensures many { vec_len samples.new ≡ asked }
     ensures clocks { All (λ (sample : Sample).
         IsClock sample.clock reader.old.knows.plan slot.0 sample.count) samples.new.items }
-    ensures rise { RiseWithin last.now.count (counts_of samples.new.items)
+    ensures rise { RiseWithin last.now.count (counts_sampled samples.new.items)
         reader.new.knows.seen }
-    ensures tried { IsTried (counts_of samples.new.items) last.now.count
+    ensures tried { IsTried (counts_sampled samples.new.items) last.now.count
         reader.old.knows reader.new.knows }
     ensures few { tries_of reader.new.knows ≤ tries_of reader.old.knows + 8 * asked }
 {
@@ -162,7 +162,7 @@ impl Watcher {
         let _told = writer.settle(&mut self.reader);
     }
 
-    /// Takes its samples of a slot, and tells the gate of each. Takes no memory, and ends after eight tries for each.
+    /// Takes its samples of a slot, and tells the gate of each. Takes no memory, and at most eight tries for each.
     pub(crate) fn sample<G: Gate>(&mut self, slot: Slot, gate: &G)
         requires { MaySample slot.0 self.old }
         ensures { HasSampled slot.0 self.old self.new }

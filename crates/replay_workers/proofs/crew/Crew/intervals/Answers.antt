@@ -2,7 +2,7 @@ use Rattle.std.proofs.Common.{◌≡◌, ◌≤◌, ◌++◌, List, [], ℕ, ap,
 use Rattle.std.specs.Prelude.{All}
 use Rattle.replay_workers.specs.Crew.{AreAt, AreBehind, CrewView, last_of, watch_at}
 use Rattle.replay_workers.specs.Lanes.{HaveAllGone, LaneView, MayAllGo, clocks_of}
-use Rattle.replay_workers.specs.Watches.{HaveCleared, IsCrew, WatcherView, watch_of}
+use Rattle.replay_workers.specs.Watches.{HaveCleared, IsCrew, WatcherView, watch_seen}
 use Rattle.replay_workers.proofs.Dealt.{crew_gone, gone_at, may_go}
 use Rattle.replay_workers.proofs.Watched.{none_sampled, watchers_stay, written_back}
 use Rattle.replay_workers.proofs.crew.Crew.intervals.Goals as goal
@@ -47,4 +47,4 @@ returns-clause-live g c =
     let watchers = c.clear.new.watchers in
     let cleared = subst (λ (old : List WatcherView). HaveCleared old watchers) c.deref_mut-2.ensures.value c.clear.ensures in
     let whole = written_back crew.watchers.items watchers crew.watchers.len (omega (arith, cleared.many, c.deref_mut-2.ensures.len, ap length c.deref_mut-2.ensures.value)) in
-    subst (λ (new : List WatcherView). (cpu : ℕ) → (watch_at (map watch_of new) cpu).samples ≡ []) (sym whole) (none_sampled crew.watchers.items watchers cleared)
+    subst (λ (new : List WatcherView). (cpu : ℕ) → (watch_at (map watch_seen new) cpu).samples ≡ []) (sym whole) (none_sampled crew.watchers.items watchers cleared)
