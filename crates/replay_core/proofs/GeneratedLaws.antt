@@ -16,7 +16,8 @@ use Rattle.run_spec.specs.declared.status.Status.TheVariants as status
 use Rattle.run_spec.specs.declared.status.Which.{Which}
 use Rattle.run_spec.specs.declared.status.Which.TheVariants.{RulesFile, TraceFile}
 use Rattle.run_spec.specs.Generated.{generated}
-use Rattle.run_spec.specs.Outputs.{IsOutput, file_of, of_s, pace_of, rules_name, stress_options, tick_length, trace_name}
+use Rattle.kill_spec.specs.Detectors.{of_seconds}
+use Rattle.run_spec.specs.Outputs.{IsOutput, file_of, pace_of, rules_name, stress_options, tick_length, trace_name}
 use Rattle.run_spec.specs.Run.{ReadsTrace, RunCounts, Runs, TakesTrace}
 use Rattle.run_spec.specs.Words.{IsShape, IsWithin}
 use Rattle.replay_rules.specs.Planned.{IsPlanned}
@@ -51,7 +52,7 @@ one_more played left rest all event split is =
 -- A planner has taken the events of a generated trace but those that are left.
 pub record HasPlayed (shape : Shape) (planner : PlannerView) (left : List Event) : Type 0 where
   pub played : List Event
-  pub taken : HasTaken planner (limits_of (of_s 2) shape.cpus) played
+  pub taken : HasTaken planner (limits_of (of_seconds 2) shape.cpus) played
   pub split : played ++ left ≡ (generated shape).events
 
 -- the events of a generated trace are those that were played, the next one and the rest
@@ -73,7 +74,7 @@ pub next_may : (shape : Shape) (planner : PlannerView) (left rest : List Event) 
     → (limits : Limits) × (events : List Event) × HasTaken planner limits events
     × (cause_of limits (after events) event ≡ None)
 next_may shape planner left rest event is so split =
-    let limits = limits_of (of_s 2) shape.cpus in (
+    let limits = limits_of (of_seconds 2) shape.cpus in (
       limits,
       so.played,
       so.taken,
@@ -90,7 +91,7 @@ pub next_taken : (shape : Shape) (old new : PlannerView) (left rest : List Event
     → HasPlayed shape new rest
 next_taken shape old new left rest event played split takes = record {
   played = played.played ++ event ∷ [];
-  taken = takes (limits_of (of_s 2) shape.cpus) played.played played.taken;
+  taken = takes (limits_of (of_seconds 2) shape.cpus) played.played played.taken;
   split = one_more played.played left rest (generated shape).events event played.split split;
 }
 
@@ -186,11 +187,11 @@ none_made old new trace pace false false so none over given =
 -- plans of a generated trace may be replayed as `stress` does
 pub planned_generated : (planner : PlannerView) (plans : PlansView) (shape : Shape) (workers : ℕ)
     → IsShape shape → IsWithin 1 64 workers
-    → HasTaken planner (limits_of (of_s 2) shape.cpus) (generated shape).events
+    → HasTaken planner (limits_of (of_seconds 2) shape.cpus) (generated shape).events
     → StandForTaken planner plans
     → IsPlanned plans (generated shape) (pace_of (stress_options workers))
 planned_generated planner plans shape workers is within taken stand =
-    planned planner plans (stress_options workers) (limits_of (of_s 2) shape.cpus) (generated shape).events
+    planned planner plans (stress_options workers) (limits_of (of_seconds 2) shape.cpus) (generated shape).events
     (record {
       taken = taken;
       ended = (generated_is_trace shape is).accepted;
@@ -221,7 +222,7 @@ without_rules (words.Stress shape workers) unnamed = refl
 
 -- it takes the trace that is generated
 pub takes_generated : (command : Command) (shape : Shape) (files : Option Files)
-    → trace_name command ≡ None → tick_length command ≡ of_s 2 → IsShape shape
+    → trace_name command ≡ None → tick_length command ≡ of_seconds 2 → IsShape shape
     → TakesTrace command files (generated shape)
 takes_generated command shape files unnamed tick is =
     let traced = generated_is_trace shape is in record {

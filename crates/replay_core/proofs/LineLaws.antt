@@ -11,6 +11,9 @@ use Rattle.psi_base.specs.declared.event.Refusal.{Refusal}
 use Rattle.psi_base.specs.declared.event.Fault.{Fault}
 use Rattle.psi_base.specs.declared.event.Fault.TheVariants as fault
 use Rattle.psi_lines.specs.Lines.{BeginsWithLine, IsTooLong, IsCut, Reader, left}
+use Rattle.psi_lines.specs.Next.{NextOf}
+use Rattle.psi_lines.specs.declared.lines.LineFault.{LineFault}
+use Rattle.psi_lines.specs.declared.lines.LineFault.TheVariants as lines
 use Rattle.psi_trace.specs.Front.{HasInFront}
 use Rattle.psi_spec.proofs.GrammarReads.{event_known, reads_spelled, spelled_in_line}
 use Rattle.psi_spec.specs.World.{World, Limits, after, after_event, first_world}
@@ -23,7 +26,7 @@ use Rattle.psi_spec.proofs.Accepting.{last_end, trace_of-line, trace_of-rest}
 use Rattle.proc_plan.proofs.Taking.{legal_push}
 use Rattle.psi_laws.proofs.PlanLaws.{after-push}
 use Rattle.psi_base.specs.Gives.{Gives}
-use Rattle.replay_core.specs.Reads.{Legally, rest_from, FaultOf, IsFaultAt, NextGives, Plays, RestGives, TailGives, Takes, TakesLine, TakesRead, TracePlayed}
+use Rattle.replay_core.specs.Reads.{Legally, rest_from, RefusalOf, IsTraceFault, NextGives, Plays, RestGives, TailGives, PlayerTakes, TakesLine, TakesRead, TracePlayed, trace_fault}
 use Rattle.replay_core.specs.declared.trace.TraceFault.{TraceFault}
 use Rattle.replay_core.specs.declared.trace.TraceFault.TheVariants.{Refused, NoFile, ReadFault, NoMemory}
 
@@ -42,7 +45,7 @@ pub whole_refused : (front : List Event) (rest whole : Events) (refusal : Refusa
 whole_refused front rest whole refusal is refused = sym is ∙ ap (followed front) refused
 
 -- a fault of the rest is one of the whole
-pub whole_fault : (front : List Event) (rest whole : Events) (fault : TraceFault) → followed front rest ≡ whole → FaultOf fault rest → FaultOf fault whole
+pub whole_fault : (front : List Event) (rest whole : Events) (fault : TraceFault) → followed front rest ≡ whole → RefusalOf fault rest → RefusalOf fault whole
 whole_fault front rest whole (Refused refusal) is found = whole_refused front rest whole refusal is found
 whole_fault front rest whole _ is found = tt
 
@@ -70,7 +73,7 @@ refused_line ended long read limits w event why running short is refused = rw (r
 unread_line : (ended long : Bool) (read : Result Event Cause) (limits : Limits) (w : World) (why : Cause) → ended ≡ false → long ≡ false → read ≡ Err why → (if ended then Err cause.AfterEnd else if long then Err cause.LineTooLong else then_legal limits w read) ≡ Err why
 unread_line ended long read limits w why running short is = rw (running, short, is) refl
 
-takes_event : (Before After : Plays) (line : List ℕ) (event : Event) (result : Result (Unit {0}) (Fault Cause)) → length line ≤ 512 → event_of (verbs_of One) line ≡ Ok event → Takes Before After event result → TakesLine Before After line result
+takes_event : (Before After : Plays) (line : List ℕ) (event : Event) (result : Result (Unit {0}) (Fault Cause)) → length line ≤ 512 → event_of (verbs_of One) line ≡ Ok event → PlayerTakes Before After event result → TakesLine Before After line result
 unfolding line_event
 takes_event Before After line event (Ok x) short is takes = λ limits events before running.
     let taken = takes limits events before in
@@ -104,7 +107,7 @@ line_played Before After line part before behind known x takes begins = λ limit
     }
 
 -- the fault of a line is that of the rest
-pub line_faulted : (Before After : Plays) (line : ℕ) (part : List ℕ) (before behind : List ℕ → List ℕ) (known : Option (List ℕ)) (why : Fault Cause) (found : TraceFault) → IsFaultAt line why found → TakesLine Before After part (Err why) → ((bytes : List ℕ) → known ≡ Some bytes → BeginsWithLine (before bytes) part (behind bytes))
+pub line_faulted : (Before After : Plays) (line : ℕ) (part : List ℕ) (before behind : List ℕ → List ℕ) (known : Option (List ℕ)) (why : Fault Cause) (found : TraceFault) → IsTraceFault line why found → TakesLine Before After part (Err why) → ((bytes : List ℕ) → known ≡ Some bytes → BeginsWithLine (before bytes) part (behind bytes))
     → NextGives Before After line before behind known (Err found)
 line_faulted Before After line part before behind known (fault.Refused why) found at takes begins = λ limits events played running bytes tells.
     rw at (line_refused limits (after events) line (before bytes) part (behind bytes) why (begins bytes tells) (takes limits events played running))
@@ -117,7 +120,7 @@ fits_push [] event all one = (one, tt)
 fits_push (first ∷ events) event all one = (all.0, fits_push events event all.1 one)
 
 -- an event that a player takes is taken behind events that can be spelled and are legal, where it can be spelled
-legally : (Before After : Plays) (event : Event) (result : Result (Unit {0}) (Fault Cause)) → Fits event → Takes Before After event result → Takes (Legally Before) (Legally After) event result
+legally : (Before After : Plays) (event : Event) (result : Result (Unit {0}) (Fault Cause)) → Fits event → PlayerTakes Before After event result → PlayerTakes (Legally Before) (Legally After) event result
 legally Before After event (Ok x) fits takes = λ limits events played.
     let taken = takes limits events played.0 in
     (taken.0, (taken.1, fits_push events event played.1 fits, legal_push limits first_world events event played.2 taken.0), taken.2)
@@ -137,7 +140,7 @@ front_begins old new event count bytes front held at =
     }
 
 -- and it takes what its event takes
-pub front_takes : (Before After : Plays) (held : List ℕ) (event : Event) (count : ℕ) (result : Result (Unit {0}) (Fault Cause)) → HasInFront held event count → Takes Before After event result → TakesLine (Legally Before) (Legally After) (spelling event) result
+pub front_takes : (Before After : Plays) (held : List ℕ) (event : Event) (count : ℕ) (result : Result (Unit {0}) (Fault Cause)) → HasInFront held event count → PlayerTakes Before After event result → TakesLine (Legally Before) (Legally After) (spelling event) result
 front_takes Before After held event count result front takes =
     takes_event (Legally Before) (Legally After) (spelling event) event result (spelled_in_line event front.begins.fits).short ((reads_spelled (verbs_of One) (spelling event) event).1 (front.begins.fits, event_known event, refl)) (legally Before After event result front.begins.fits takes)
 
@@ -177,6 +180,16 @@ long_line limits w line bytes is running = ⊎_elim
     ap (rest_from limits w line) c.whole ∙ rest_from-line (verbs_of One) limits w line c.line c.behind c.none
     ∙ ap (λ r. or_refused line r (λ e. followed (e ∷ []) (rest_from limits (after_event w e) (line + 1) c.behind))) (too_long w.ended (length c.line) _ running (long_cut bytes c is)))
     (cut 10 bytes)
+
+-- ---- a line that isn't read
+
+-- a fault of the next line is that of the rest
+pub line_not_read : (limits : Limits) (w : World) (bytes : List ℕ) (old new : Reader) (fault : LineFault) → NextOf bytes old new (Err fault) → w.ended ≡ false → RefusalOf (trace_fault cause.NoEnd fault) (rest_from limits w old.number (left old bytes))
+line_not_read limits w bytes old new (lines.TooLong line) found running = rw found.1 (long_line limits w old.number (left old bytes) found.0 running)
+line_not_read limits w bytes old new (lines.Cut line) found running = rw found.1 (cut_short limits w old.number (left old bytes) found.0 running)
+line_not_read limits w bytes old new lines.NoFile found running = tt
+line_not_read limits w bytes old new lines.ReadFault found running = tt
+line_not_read limits w bytes old new lines.NoMemory found running = tt
 
 -- ---- behind the end
 
@@ -239,6 +252,14 @@ header_long tick bytes is = ⊎_elim
     ap (trace_of (accepts_all tick)) c.whole ∙ trace_of-line (accepts_all tick) c.line c.behind c.none ∙ ap (λ r. headed (accepts_all tick) r (parts_at 10 c.behind)) (line_too_long (length c.line) _ (long_cut bytes c is)))
     (cut 10 bytes)
 
+-- a fault of the first line is that of the trace
+pub header_not_read : (tick : ℕ) (bytes : List ℕ) (old new : Reader) (fault : LineFault) → old.number ≡ 1 → NextOf bytes old new (Err fault) → RefusalOf (trace_fault cause.BadHeader fault) (trace_of (accepts_all tick) (left old bytes))
+header_not_read tick bytes old new (lines.TooLong line) first found = rw (found.1, first) (header_long tick (left old bytes) found.0)
+header_not_read tick bytes old new (lines.Cut line) first found = rw (found.1, first) (header_cut tick (left old bytes) found.0)
+header_not_read tick bytes old new lines.NoFile first found = tt
+header_not_read tick bytes old new lines.ReadFault first found = tt
+header_not_read tick bytes old new lines.NoMemory first found = tt
+
 -- a header line, and another line
 short_first : (long : Bool) (read : Result Header Cause) → long ≡ false → (if long then Err cause.LineTooLong else read) ≡ read
 short_first long read is = rw is refl
@@ -271,66 +292,66 @@ closes Played limits events line before behind known (Err NoFile) played ended r
 closes Played limits events line before behind known (Err ReadFault) played ended read tail = λ bytes tells. tt
 closes Played limits events line before behind known (Err NoMemory) played ended read tail = λ bytes tells. tt
 
--- a player so far: the events that it has played, of which the end isn't one, and what they leave of the input
-pub record SoFar (Played : Plays) (limits : Limits) (count : ℕ) (before behind : List ℕ → List ℕ) (known : Option (List ℕ)) : Type 0 where
+-- a player before the line with this number: the events that it has played, of which the end isn't one, and what they leave
+-- of the input
+pub record SoFar (Played : Plays) (limits : Limits) (line : ℕ) (before behind : List ℕ → List ℕ) (known : Option (List ℕ)) : Type 0 where
   pub events : List Event
   pub played : Played limits events
-  pub counted : length events ≡ count
+  pub counted : length events + 2 ≡ line
   pub running : (after events).ended ≡ false
-  pub read : (bytes : List ℕ) → known ≡ Some bytes → followed events (rest_from limits (after events) (count + 2) (behind bytes)) ≡ rest_from limits first_world 2 (before bytes)
+  pub read : (bytes : List ℕ) → known ≡ Some bytes → followed events (rest_from limits (after events) line (behind bytes)) ≡ rest_from limits first_world 2 (before bytes)
 
 -- before the first line behind the header
-pub none_so_far : (Played : Plays) (limits : Limits) (before : List ℕ → List ℕ) (known : Option (List ℕ)) → Played limits [] → SoFar Played limits 0 before before known
-none_so_far Played limits before known played = record {
+pub none_so_far : (Played : Plays) (limits : Limits) (line : ℕ) (before : List ℕ → List ℕ) (known : Option (List ℕ)) → Played limits [] → line ≡ 2 → SoFar Played limits line before before known
+none_so_far Played limits line before known played is = record {
   events = [];
   played = played;
-  counted = refl;
+  counted = sym is;
   running = refl;
-  read = λ bytes tells. followed-none (rest_from limits first_world 2 (before bytes));
+  read = λ bytes tells. rw is (followed-none (rest_from limits first_world 2 (before bytes)));
 }
 
--- one event more
-pub record OneMore (Played : Plays) (limits : Limits) (count : ℕ) (before behind : List ℕ → List ℕ) (known : Option (List ℕ)) : Type 0 where
+-- one event more, before the line with this number
+pub record OneMore (Played : Plays) (limits : Limits) (line : ℕ) (before behind : List ℕ → List ℕ) (known : Option (List ℕ)) : Type 0 where
   pub events : List Event
   pub played : Played limits events
-  pub counted : length events ≡ count + 1
-  pub few : count < 4000000
-  pub read : (bytes : List ℕ) → known ≡ Some bytes → followed events (rest_from limits (after events) (count + 3) (behind bytes)) ≡ rest_from limits first_world 2 (before bytes)
+  pub counted : length events + 2 ≡ line
+  pub few : line ≤ 4000002
+  pub read : (bytes : List ℕ) → known ≡ Some bytes → followed events (rest_from limits (after events) line (behind bytes)) ≡ rest_from limits first_world 2 (before bytes)
 
-pub one_more : (Before After : Plays) (limits : Limits) (count : ℕ) (before behind later : List ℕ → List ℕ) (known : Option (List ℕ)) (x : Unit {0}) → SoFar Before limits count before behind known → NextGives Before After (count + 2) behind later known (Ok x) → OneMore After limits count before later known
-one_more Before After limits count before behind later known x so next =
+pub one_more : (Before After : Plays) (limits : Limits) (line next_line : ℕ) (before behind later : List ℕ → List ℕ) (known : Option (List ℕ)) (x : Unit {0}) → next_line ≡ line + 1 → SoFar Before limits line before behind known → NextGives Before After line behind later known (Ok x) → OneMore After limits next_line before later known
+one_more Before After limits line next_line before behind later known x is so next =
     let p = next limits so.events so.played so.running in
     record {
       events = so.events ++ p.event ∷ [];
       played = p.played;
-      counted = omega (arith, length-append so.events (p.event ∷ []), so.counted);
-      few = omega (arith, p.few, so.counted);
+      counted = omega (arith, is, length-append so.events (p.event ∷ []), so.counted);
+      few = omega (arith, is, p.few, so.counted);
       read = λ bytes tells.
-          let line : count + 3 ≡ count + 2 + 1 = omega arith in
-          rw line (push_read so.events p.event (rest_from limits (after so.events) (count + 2) (behind bytes)) (rest_from limits (after (so.events ++ p.event ∷ [])) (count + 2 + 1) (later bytes)) (rest_from limits first_world 2 (before bytes)) (so.read bytes tells) (p.read bytes tells));
+          rw is (push_read so.events p.event (rest_from limits (after so.events) line (behind bytes)) (rest_from limits (after (so.events ++ p.event ∷ [])) (line + 1) (later bytes)) (rest_from limits first_world 2 (before bytes)) (so.read bytes tells) (p.read bytes tells));
     }
 
 -- that the end isn't among them
-pub goes_on : (Played : Plays) (limits : Limits) (count next : ℕ) (before behind : List ℕ → List ℕ) (known : Option (List ℕ)) (ended : Bool) → next ≡ count + 1 → OneMore Played limits count before behind known
-    → ((limits : Limits) (events : List Event) → Played limits events → ended ≡ (after events).ended) → ended ≡ false → SoFar Played limits next before behind known
-goes_on Played limits count next before behind known ended is one told running = record {
+pub goes_on : (Played : Plays) (limits : Limits) (line : ℕ) (before behind : List ℕ → List ℕ) (known : Option (List ℕ)) (ended : Bool) → OneMore Played limits line before behind known
+    → ((limits : Limits) (events : List Event) → Played limits events → ended ≡ (after events).ended) → ended ≡ false → SoFar Played limits line before behind known
+goes_on Played limits line before behind known ended one told running = record {
   events = one.events;
   played = one.played;
-  counted = one.counted ∙ sym is;
+  counted = one.counted;
   running = sym (told limits one.events one.played) ∙ running;
-  read = λ bytes tells. let line : next + 2 ≡ count + 3 = omega (arith, is) in rw line (one.read bytes tells);
+  read = one.read;
 }
 
-pub ends_here : (Played : Plays) (limits : Limits) (count : ℕ) (before behind : List ℕ → List ℕ) (known : Option (List ℕ)) (ended : Bool) (result : Result (Unit {0}) TraceFault) → OneMore Played limits count before behind known
+pub ends_here : (Played : Plays) (limits : Limits) (line : ℕ) (before behind : List ℕ → List ℕ) (known : Option (List ℕ)) (ended : Bool) (result : Result (Unit {0}) TraceFault) → OneMore Played limits line before behind known
     → ((limits : Limits) (events : List Event) → Played limits events → ended ≡ (after events).ended) → ended ≡ true
-    → ((bytes : List ℕ) → known ≡ Some bytes → TailGives (count + 3) (behind bytes) result) → RestGives Played limits before known result
-ends_here Played limits count before behind known ended result one told over tail =
-    closes Played limits one.events (count + 3) before behind known result one.played (sym (told limits one.events one.played) ∙ over) one.read tail
+    → ((bytes : List ℕ) → known ≡ Some bytes → TailGives line (behind bytes) result) → RestGives Played limits before known result
+ends_here Played limits line before behind known ended result one told over tail =
+    closes Played limits one.events line before behind known result one.played (sym (told limits one.events one.played) ∙ over) one.read tail
 
 -- a fault of the next line is the whole's
-pub faults_here : (Before After Whole : Plays) (limits : Limits) (count : ℕ) (before behind later : List ℕ → List ℕ) (known : Option (List ℕ)) (found : TraceFault) → SoFar Before limits count before behind known → NextGives Before After (count + 2) behind later known (Err found) → RestGives Whole limits before known (Err found)
-faults_here Before After Whole limits count before behind later known found so next = λ bytes tells.
-    whole_fault so.events (rest_from limits (after so.events) (count + 2) (behind bytes)) (rest_from limits first_world 2 (before bytes)) found (so.read bytes tells) (next limits so.events so.played so.running bytes tells)
+pub faults_here : (Before After Whole : Plays) (limits : Limits) (line : ℕ) (before behind later : List ℕ → List ℕ) (known : Option (List ℕ)) (found : TraceFault) → SoFar Before limits line before behind known → NextGives Before After line behind later known (Err found) → RestGives Whole limits before known (Err found)
+faults_here Before After Whole limits line before behind later known found so next = λ bytes tells.
+    whole_fault so.events (rest_from limits (after so.events) line (behind bytes)) (rest_from limits first_world 2 (before bytes)) found (so.read bytes tells) (next limits so.events so.played so.running bytes tells)
 
 -- ---- the trace
 

@@ -21,13 +21,14 @@ use Rattle.psi_spec.specs.World.{Limits, after, first_world, is_live}
 use Rattle.psi_spec.specs.Refusal.{AreLegal}
 use Rattle.psi_spec.specs.Stall.{stall}
 use Rattle.psi_spec.specs.Groups.{path_at}
-use Rattle.psi_laws.specs.Clock.{ClockView, opened, opened_time}
-use Rattle.psi_laws.specs.Plan.{IsClock, PlanView, last_change, plan_of, planned_time}
+use Rattle.psi_laws.specs.Clock.{ClockView, opened}
+use Rattle.psi_laws.specs.Plan.{IsClock, PlanView, last_change, plan_of, planned, planned_time}
 use Rattle.psi_spec.specs.Changes.{until_change}
 use Rattle.run_spec.specs.Text.{end_of, stall_lines, stall_text, stall_times}
 use Rattle.run_spec.specs.Lines.{stall_line}
 use Rattle.psi_spec.specs.Groups.{in_order, live_from, live_groups}
 use Rattle.psi_laws.proofs.ClockLaws.{map_states}
+use Rattle.psi_laws.proofs.PlanClocks.{clock_tells_planned}
 use Rattle.psi_spec.proofs.GroupLaws.{same_bytes}
 use Rattle.psi_laws.proofs.PlanLaws.{as_many}
 use Rattle.psi_laws.proofs.PlanStalls as stalls
@@ -156,9 +157,8 @@ printed_text limits plans events order last legal stand ordered ended =
 -- ---- times by clocks
 
 -- a clock that stands for a slot after all changes opens to the planned times
-pub clock_times : (clock : ClockView) (plan : PlanView) (slot k at : ℕ) → IsClock clock plan slot k → k ≡ length plan.changes → last_change plan k ≤ at → opened clock at ≡ plan_times plan slot at
-clock_times clock plan slot k at is all later =
-    map_states (opened_time clock at) (λ state. planned_time state plan slot (length plan.changes) at) (λ state. is.times state at later ∙ ap (λ n. planned_time state plan slot n at) all)
+pub times_at_end : (clock : ClockView) (plan : PlanView) (slot k at : ℕ) → IsClock clock plan slot k → k ≡ length plan.changes → last_change plan k ≤ at → opened clock at ≡ plan_times plan slot at
+times_at_end clock plan slot k at is all later = clock_tells_planned clock plan slot k at is later ∙ ap (λ n. planned plan slot n at) all
 
 -- ---- before the lines
 

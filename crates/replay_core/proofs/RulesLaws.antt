@@ -5,11 +5,11 @@ use Rattle.std.proofs.lemmas.List.{take_all}
 use Rattle.kill_spec.proofs.Foremost.{by_test}
 use Rattle.ruleset_json.specs.declared.fault.Place.TheVariants as place
 use Rattle.ruleset_json.specs.declared.fault.RulesCause.TheVariants as cause
-use Rattle.ruleset_json.specs.Arguments.{refused}
+use Rattle.ruleset_json.specs.Arguments.{refused_for}
 use Rattle.ruleset_json.specs.Rules.{rules_of}
 
 -- a file that is too long
-long : (bytes : List ℕ) → 1048576 < length bytes → rules_of bytes ≡ refused place.Whole cause.TooLong
+long : (bytes : List ℕ) → 1048576 < length bytes → rules_of bytes ≡ refused_for place.Whole cause.TooLong
 unfolding rules_of
 long bytes more = grind (arith, more)
 

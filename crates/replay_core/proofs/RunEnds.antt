@@ -18,7 +18,7 @@ use Rattle.run_spec.specs.declared.status.Which.TheVariants.{RulesFile, TraceFil
 use Rattle.run_spec.specs.Outputs.{accepts_of, pace_of, rules_name, trace_name, watch_of_path}
 use Rattle.run_spec.specs.Replay.{IsReplayText, replay_text, with_rules}
 use Rattle.run_laws.proofs.LiveTexts.{one_text_unwatched}
-use Rattle.run_spec.specs.Run.{CountsTell, Ends, IsOfMissing, IsTold, RulesTold, RunCounts, Runs, TakesRules}
+use Rattle.run_spec.specs.Run.{Ends, FailuresAreCounted, IsOfMissing, IsTold, RulesTold, RunCounts, Runs, TakesRules}
 use Rattle.ruleset_json.specs.Rules.{rules_of}
 use Rattle.ruleset_json.specs.declared.fault.RulesFault.{RulesFault}
 use Rattle.ruleset_json.specs.declared.types.Rule.{Rule}
@@ -60,7 +60,7 @@ pub runs_sent : (command : Command) (files : Option Files) (before mid now : Run
 runs_sent command files before mid now had sent below pending left runs kept none same = record {
   ends = (runs.ends.0, runs.ends.1, runs.ends.2, runs.ends.3, (runs.ends.4.0, runs.ends.4.1, flushed had sent below pending left runs.ends.4.0 runs.ends.4.2 kept none));
   missing = runs.missing;
-  counts = subst (λ n. CountsTell before n status.Done) (sym same) runs.counts;
+  counts = subst (λ n. FailuresAreCounted before n status.Done) (sym same) runs.counts;
 }
 
 -- a run isn't done where a file isn't held

@@ -13,7 +13,7 @@ use Rattle.run_spec.specs.declared.status.Status.TheVariants as status
 use Rattle.run_spec.specs.declared.status.Which.{Which}
 use Rattle.run_spec.specs.declared.status.Which.TheVariants.{RulesFile, TraceFile}
 use Rattle.run_spec.specs.Outputs.{IsOutput, accepts_of, file_of, rules_name, tick_length, trace_name}
-use Rattle.run_spec.specs.Run.{CountsTell, IsOfMissing, ReadsTrace, RisesWhere, RunCounts, Runs, TakesRules, TakesTrace}
+use Rattle.run_spec.specs.Run.{FailuresAreCounted, IsOfMissing, ReadsTrace, RisesWhere, RunCounts, Runs, TakesRules, TakesTrace}
 use Rattle.std.proofs.lemmas.List.Elements.{All-nil}
 use Rattle.ruleset_json.specs.RuleRanges.{FitsRule}
 use Rattle.ruleset_json.specs.declared.types.Rule.{Rule}
@@ -60,7 +60,7 @@ takes_trace command name files cpus events named counted accepted read = record 
 
 -- counts of a shelf stay where nothing failed, and the count of writes rose where one did
 pub counts_written : (before now : RunCounts) (result : Status) → now.shelf.faults ≡ before.shelf.faults → now.shelf.absent ≡ before.shelf.absent
-    → (result ≡ status.ReadFault → ⊥) → (((which : _) × (result ≡ status.NoFile which)) → ⊥) → RisesWhere (result ≡ status.WriteFault) before.writes now.writes → CountsTell before now result
+    → (result ≡ status.ReadFault → ⊥) → (((which : _) × (result ≡ status.NoFile which)) → ⊥) → RisesWhere (result ≡ status.WriteFault) before.writes now.writes → FailuresAreCounted before now result
 counts_written before now result faults absent no_read no_file writes = record {
   faults = stays (result ≡ status.ReadFault) before.shelf.faults now.shelf.faults no_read faults;
   absent = stays _ before.shelf.absent now.shelf.absent no_file absent;
@@ -165,7 +165,7 @@ memory_wanting command files before now had faults absent writes = record {
 }
 
 -- counts where a name was missed
-missed_counts : (which : Which) (before now : RunCounts) → now.shelf.faults ≡ before.shelf.faults → Rose before.shelf.absent now.shelf.absent → now.writes ≡ before.writes → CountsTell before now (status.NoFile which)
+missed_counts : (which : Which) (before now : RunCounts) → now.shelf.faults ≡ before.shelf.faults → Rose before.shelf.absent now.shelf.absent → now.writes ≡ before.writes → FailuresAreCounted before now (status.NoFile which)
 missed_counts which before now faults rose writes = record {
   faults = stays _ before.shelf.faults now.shelf.faults (λ is. cc is) faults;
   absent = record { rose = λ _. rose; same = λ not. absurd (not (which, refl)) };

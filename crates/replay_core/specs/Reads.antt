@@ -1,5 +1,5 @@
 -- What reading a trace gives, where its bytes are told.
-use Rattle.std.specs.Prelude.{◌≡◌, ◌≢◌, ℕ, ◌+◌, ◌<◌, List, [], ◌∷◌, ◌++◌, length, Option, None, Some, Result, Ok, Err, IsErrOf, ⊤, true, false}
+use Rattle.std.specs.Prelude.{◌≡◌, ◌≢◌, ℕ, ◌+◌, ◌<◌, ◌≤◌, List, [], ◌∷◌, ◌++◌, length, Option, None, Some, Result, Ok, Err, IsErrOf, OnOk, ⊤, true, false}
 use Rattle.psi_base.specs.Outside.{HasCauses, ShelfCounts}
 use Rattle.psi_base.specs.Path.{parts_at}
 use Rattle.psi_base.specs.declared.event.Event.{Event}
@@ -8,10 +8,14 @@ use Rattle.psi_base.specs.declared.event.Cause.{Cause}
 use Rattle.psi_base.specs.declared.event.Cause.TheVariants as cause
 use Rattle.psi_base.specs.declared.event.Fault.{Fault}
 use Rattle.psi_base.specs.declared.event.Fault.TheVariants as fault
-use Rattle.psi_spec.specs.World.{World, Limits, after, first_world}
+use Rattle.psi_spec.specs.World.{World, Limits, after, first_world, most_events}
 use Rattle.psi_spec.specs.Refusal.{AreLegal, cause_of}
 use Rattle.psi_spec.specs.Grammar.{One, plain_header, verbs_of}
 use Rattle.psi_spec.specs.Trace.{AllFit, IsAccepted, IsCpuCount, Trace, accepts_all, events_from, followed, limits_of, line_event, refused, trace_of, with_events}
+use Rattle.psi_lines.specs.Lines.{Reader}
+use Rattle.psi_lines.specs.Next.{furthest}
+use Rattle.psi_lines.specs.declared.lines.LineFault.{LineFault}
+use Rattle.psi_lines.specs.declared.lines.LineFault.TheVariants as lines
 use Rattle.replay_core.specs.declared.trace.TraceFault.{TraceFault}
 use Rattle.replay_core.specs.declared.trace.TraceFault.TheVariants.{Refused, NoFile, ReadFault, NoMemory}
 
@@ -32,14 +36,14 @@ Legally Played limits events = Played limits events × AllFit events × AreLegal
 
 -- What an event does to a player that has played any events: it is legal and played behind them, and there were fewer
 -- than 4,000,000; or it is refused with the first cause. Of want of memory nothing is said.
-abbrev pub Takes : Plays → Plays → Event → Result (Unit {0}) (Fault Cause) → Type 0
-Takes Before After event (Ok x) = (limits : Limits) (events : List Event) → Before limits events → (cause_of limits (after events) event ≡ None) × After limits (events ++ event ∷ []) × (length events < 4000000)
-Takes Before After event (Err (fault.Refused why)) = (limits : Limits) (events : List Event) → Before limits events → cause_of limits (after events) event ≡ Some why
-Takes Before After event (Err fault.NoMemory) = ⊤
+abbrev pub PlayerTakes : Plays → Plays → Event → Result (Unit {0}) (Fault Cause) → Type 0
+PlayerTakes Before After event (Ok x) = (limits : Limits) (events : List Event) → Before limits events → (cause_of limits (after events) event ≡ None) × After limits (events ++ event ∷ []) × (length events < most_events)
+PlayerTakes Before After event (Err (fault.Refused why)) = (limits : Limits) (events : List Event) → Before limits events → cause_of limits (after events) event ≡ Some why
+PlayerTakes Before After event (Err fault.NoMemory) = ⊤
 
 -- what was read of a line does to a player: an event is taken, and a fault is handed on
 abbrev pub TakesRead : Plays → Plays → Result Event (Fault Cause) → Result (Unit {0}) (Fault Cause) → Type 0
-TakesRead Before After (Ok event) result = Takes Before After event result
+TakesRead Before After (Ok event) result = PlayerTakes Before After event result
 TakesRead Before After (Err why) result = result ≡ Err why
 
 -- ---- one line
@@ -47,7 +51,7 @@ TakesRead Before After (Err why) result = result ≡ Err why
 -- What a line does to a player that has played any events and whose trace hasn't ended: its event is played behind them,
 -- and there were fewer than 4,000,000 before it; or the line is refused.
 abbrev pub TakesLine : Plays → Plays → List ℕ → Result (Unit {0}) (Fault Cause) → Type 0
-TakesLine Before After line (Ok x) = (limits : Limits) (events : List Event) → Before limits events → (after events).ended ≡ false → (event : Event) × (line_event (verbs_of One) limits (after events) line ≡ Ok event) × After limits (events ++ event ∷ []) × (length events < 4000000)
+TakesLine Before After line (Ok x) = (limits : Limits) (events : List Event) → Before limits events → (after events).ended ≡ false → (event : Event) × (line_event (verbs_of One) limits (after events) line ≡ Ok event) × After limits (events ++ event ∷ []) × (length events < most_events)
 TakesLine Before After line (Err (fault.Refused why)) = (limits : Limits) (events : List Event) → Before limits events → (after events).ended ≡ false → line_event (verbs_of One) limits (after events) line ≡ Err why
 TakesLine Before After line (Err fault.NoMemory) = ⊤
 
@@ -56,36 +60,36 @@ abbrev pub rest_from : Limits → World → ℕ → List ℕ → Result (List Ev
 rest_from limits w line bytes = events_from (verbs_of One) limits w line (parts_at 10 bytes)
 
 -- a refusal is the definition's; the other faults have clauses of their own
-abbrev pub FaultOf : {A : Type 0} → TraceFault → Result A Refusal → Type 0
-FaultOf (Refused refusal) read = read ≡ Err refusal
-FaultOf NoFile read = ⊤
-FaultOf ReadFault read = ⊤
-FaultOf NoMemory read = ⊤
+abbrev pub RefusalOf : {A : Type 0} → TraceFault → Result A Refusal → Type 0
+RefusalOf (Refused refusal) read = read ≡ Err refusal
+RefusalOf NoFile read = ⊤
+RefusalOf ReadFault read = ⊤
+RefusalOf NoMemory read = ⊤
 
 -- the fault of a line, with its number
-abbrev pub IsFaultAt : ℕ → Fault Cause → TraceFault → Type 0
-IsFaultAt line (fault.Refused why) result = result ≡ Refused (refused line why)
-IsFaultAt line fault.NoMemory result = result ≡ NoMemory
+abbrev pub IsTraceFault : ℕ → Fault Cause → TraceFault → Type 0
+IsTraceFault line (fault.Refused why) result = result ≡ Refused (refused line why)
+IsTraceFault line fault.NoMemory result = result ≡ NoMemory
 
--- no fault is one of reading
-abbrev pub IsNoRead : {A : Type 0} → Result A TraceFault → Type 0
-IsNoRead (Ok x) = ⊤
-IsNoRead (Err (Refused refusal)) = ⊤
-IsNoRead (Err NoFile) = ⊥
-IsNoRead (Err ReadFault) = ⊥
-IsNoRead (Err NoMemory) = ⊤
+-- why there is no trace where a line isn't read: one that the input cuts short is refused with this cause
+abbrev pub trace_fault : Cause → LineFault → TraceFault
+trace_fault cut (lines.TooLong line) = Refused (refused line cause.LineTooLong)
+trace_fault cut (lines.Cut line) = Refused (refused line cut)
+trace_fault cut lines.NoFile = NoFile
+trace_fault cut lines.ReadFault = ReadFault
+trace_fault cut lines.NoMemory = NoMemory
 
 -- an event was played behind those before; where the bytes that were left are told, it is theirs, and others are left
 pub record NextPlayed (After : Plays) (limits : Limits) (events : List Event) (line : ℕ) (before after_bytes : List ℕ → List ℕ) (known : Option (List ℕ)) : Type 0 where
   pub event : Event
   pub played : After limits (events ++ event ∷ [])
-  pub few : length events < 4000000
+  pub few : length events < most_events
   pub read : (bytes : List ℕ) → known ≡ Some bytes → rest_from limits (after events) line (before bytes) ≡ followed (event ∷ []) (rest_from limits (after (events ++ event ∷ [])) (line + 1) (after_bytes bytes))
 
 -- what the next line gives
 abbrev pub NextGives : Plays → Plays → ℕ → (List ℕ → List ℕ) → (List ℕ → List ℕ) → Option (List ℕ) → Result (Unit {0}) TraceFault → Type 0
 NextGives Before After line before after_bytes known (Ok x) = (limits : Limits) (events : List Event) → Before limits events → (after events).ended ≡ false → NextPlayed After limits events line before after_bytes known
-NextGives Before After line before after_bytes known (Err fault) = (limits : Limits) (events : List Event) → Before limits events → (after events).ended ≡ false → (bytes : List ℕ) → known ≡ Some bytes → FaultOf fault (rest_from limits (after events) line (before bytes))
+NextGives Before After line before after_bytes known (Err fault) = (limits : Limits) (events : List Event) → Before limits events → (after events).ended ≡ false → (bytes : List ℕ) → known ≡ Some bytes → RefusalOf fault (rest_from limits (after events) line (before bytes))
 
 -- nothing stands behind the end, or its line is refused
 abbrev pub TailGives : {A : Type 0} → ℕ → List ℕ → Result A TraceFault → Type 0
@@ -107,12 +111,12 @@ pub record RestPlayed (Played : Plays) (limits : Limits) (before : List ℕ → 
 -- what the lines behind the header give
 abbrev pub RestGives : Plays → Limits → (List ℕ → List ℕ) → Option (List ℕ) → Result (Unit {0}) TraceFault → Type 0
 RestGives Played limits before known (Ok x) = RestPlayed Played limits before known
-RestGives Played limits before known (Err fault) = (bytes : List ℕ) → known ≡ Some bytes → FaultOf fault (rest_from limits first_world 2 (before bytes))
+RestGives Played limits before known (Err fault) = (bytes : List ℕ) → known ≡ Some bytes → RefusalOf fault (rest_from limits first_world 2 (before bytes))
 
 -- the header was read from the bytes before, and those after are left
 abbrev pub HeadGives : ℕ → List ℕ → List ℕ → Result ℕ TraceFault → Type 0
 HeadGives tick before after (Ok cpus) = trace_of (accepts_all tick) before ≡ with_events (plain_header cpus) (rest_from (limits_of tick cpus) first_world 2 after)
-HeadGives tick before after (Err fault) = FaultOf fault (trace_of (accepts_all tick) before)
+HeadGives tick before after (Err fault) = RefusalOf fault (trace_of (accepts_all tick) before)
 
 -- a trace of version 1
 abbrev pub plain_trace : ℕ → List Event → Trace
@@ -129,11 +133,21 @@ pub record TracePlayed (Played : Plays) (tick : ℕ) (known : Option (List ℕ))
 
 -- a trace that can't be read has its first refusal
 abbrev pub TraceRefused : TraceFault → ℕ → Option (List ℕ) → Type 0
-TraceRefused fault tick known = (bytes : List ℕ) → known ≡ Some bytes → FaultOf fault (trace_of (accepts_all tick) bytes)
+TraceRefused fault tick known = (bytes : List ℕ) → known ≡ Some bytes → RefusalOf fault (trace_of (accepts_all tick) bytes)
 
 -- A shelf counted this fault of a trace and nothing else: a failed read, or a name that it hasn't.
 abbrev pub CausesTraceFault : {A : Type 0} → ShelfCounts → ShelfCounts → Result A TraceFault → Type 0
 CausesTraceFault before now result = HasCauses before now (IsErrOf result ReadFault) (IsErrOf result NoFile)
+
+-- What reading the next line does to the reader and to the shelf, whatever stands on the line: the numbers are how many bytes
+-- the shelf had given before, and has given now.
+pub record ReadsLine {A : Type 0} (known : Option (List ℕ)) (old new : Reader) (counts counts_now : ShelfCounts) (given given_now : ℕ) (result : Result A TraceFault) : Type 0 where
+  pub name : new.name ≡ old.name
+  pub number : OnOk result (new.number ≡ old.number + 1)
+  pub missed : IsErrOf result NoFile → known ≡ None
+  pub cause : CausesTraceFault counts counts_now result
+  pub counted : given_now + old.at ≡ given + new.at
+  pub place : new.at ≤ furthest old.number
 
 -- nothing is said of any bytes
 abbrev pub TellsNothing : {A : Type 0} → Result A TraceFault → Type 0

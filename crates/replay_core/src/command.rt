@@ -4,7 +4,7 @@ ghost use Rattle.psi_base.specs.Outside.{StaysOver};
 ghost use Rattle.psi_base.specs.declared.event.Event.{Event};
 ghost use Rattle.psi_spec.specs.World.{Limits};
 ghost use Rattle.run_spec.specs.Text.{check_text};
-ghost use Rattle.run_spec.specs.Reading.{most_read};
+ghost use Rattle.run_spec.specs.MostRead.{most_read};
 ghost use Rattle.run_spec.specs.Run.{Runs, run_counts};
 ghost use Rattle.run_spec.specs.Words.{IsCommand, IsWithin};
 ghost use Rattle.psi_words.specs.Reads.{HasTextNames};

@@ -8,9 +8,9 @@ ghost use Rattle.psi_words.specs.Reads.{HasTextNames};
 ghost use Rattle.run_spec.specs.declared.command.Command.{Command};
 ghost use Rattle.run_spec.specs.declared.command.Options.{Options};
 ghost use Rattle.run_spec.specs.Outputs.{accepts_of, pace_of, rules_name, trace_name};
-ghost use Rattle.run_spec.specs.Reading.{most_read};
+ghost use Rattle.run_spec.specs.MostRead.{most_read};
 ghost use Rattle.run_spec.specs.Replay.{IsReplayText, replay_text, with_rules};
-ghost use Rattle.run_spec.specs.Run.{CountsTell, IsTold, RulesTold, Runs, run_counts};
+ghost use Rattle.run_spec.specs.Run.{FailuresAreCounted, IsTold, RulesTold, Runs, run_counts};
 ghost use Rattle.run_spec.specs.declared.status.Which.TheVariants.{TraceFile};
 ghost use Rattle.ruleset_json.specs.Rules.{rules_of};
 ghost use Rattle.ruleset_json.specs.declared.fault.RulesFault.{RulesFault};
@@ -144,7 +144,7 @@ pub fn run<R: Threads + Sync, S: Shelf, K: Sink, N: Sink, G: Gate>(
         (result ≡ Status.Done) ⊎ (result ≡ Status.NoMemory) }
 
     // Each count of failures rose exactly where the status tells of its failure.
-    ensures counts { CountsTell
+    ensures counts { FailuresAreCounted
         (run_counts (S.faults shelf.old) (S.absent shelf.old) (K.faults out.old))
         (run_counts (S.faults shelf.new) (S.absent shelf.new) (K.faults out.new)) result }
 

@@ -8,7 +8,8 @@ ghost use Rattle.psi_spec.specs.World.{Limits, after};
 ghost use Rattle.psi_spec.specs.Trace.{Trace, limits_of};
 ghost use Rattle.proc_plan.specs.Plans.{HasTaken};
 ghost use Rattle.run_spec.specs.Generated.{gen_text, generated};
-ghost use Rattle.run_spec.specs.Outputs.{of_s, pace_of, stress_options};
+ghost use Rattle.kill_spec.specs.Detectors.{of_seconds};
+ghost use Rattle.run_spec.specs.Outputs.{pace_of, stress_options};
 ghost use Rattle.run_spec.specs.Replay.{Pace, stress_text};
 ghost use Rattle.run_spec.specs.Words.{IsShape, IsWithin};
 ghost use Rattle.replay_ticks.specs.Replays.{IsReplay};
@@ -67,7 +68,7 @@ fn take_legal(planner: &mut Planner, event: Event) -> Result<(), NoMemory>
 fn plan_generated(alloc: Global, shape: Shape) -> Result<Planner, NoMemory>
     requires { IsShape shape }
     ensures { IfOk result (λ planner.
-        HasTaken planner (limits_of (of_s 2) shape.cpus) (generated shape).events) }
+        HasTaken planner (limits_of (of_seconds 2) shape.cpus) (generated shape).events) }
 {
     let mut planner = Planner::new(alloc, shape.cpus, LATEST)?;
     let mut generator = Generator::make(alloc, shape)?;

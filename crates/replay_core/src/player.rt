@@ -5,7 +5,7 @@ ghost use Rattle.psi_spec.specs.Grammar.{Fits};
 ghost use Rattle.psi_spec.specs.World.{Limits, after};
 ghost use Rattle.psi_spec.specs.Trace.{last_moment};
 ghost use Rattle.psi_spec.specs.Trace.{IsCpuCount};
-ghost use Rattle.replay_core.specs.Reads.{Takes};
+ghost use Rattle.replay_core.specs.Reads.{PlayerTakes};
 
 use proc_plan::Planner;
 use psi_base::{Cause, Event, Fault, NoMemory, Ns};
@@ -24,10 +24,11 @@ pub(crate) trait Player: Sized {
         ensures { IfOk result (λ player.
             Self.Played player (record { cpus = cpus; latest = latest }) []) };
 
-    /// Plays one event more, whose numbers are in the ranges of the grammar: `Refused` with the first cause against it, where it isn't legal.
+    /// Plays one event more, whose numbers are in the ranges of the grammar: `Refused` with the first cause against it, where it
+    /// isn't legal.
     fn take(&mut self, event: &Event) -> Result<(), Fault<Cause>>
         requires { Fits event.now }
-        ensures { Takes (Self.Played self.old) (Self.Played self.new) event.now result };
+        ensures { PlayerTakes (Self.Played self.old) (Self.Played self.new) event.now result };
 
     /// The trace has ended.
     fn is_ended(&self) -> bool

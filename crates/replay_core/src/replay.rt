@@ -10,7 +10,7 @@ ghost use Rattle.ruleset_json.specs.RuleRanges.{FitsRules};
 ghost use Rattle.run_spec.specs.Replay.{IsReplayText, Pace};
 ghost use Rattle.replay_ticks.specs.Replays.{IsReplay};
 ghost use Rattle.replay_core.specs.Reads.{plain_trace};
-ghost use Rattle.replay_rules.specs.Judged.{rules_in};
+ghost use Rattle.replay_rules.specs.Judged.{given_rules};
 ghost use Rattle.replay_core.specs.Writes.{IsToReplay, PutsSome, WritesSome};
 
 use proc_plan::Planner;
@@ -58,11 +58,11 @@ pub(crate) fn write_replay<R: Threads + Sync, K: Sink, G: Gate>(
 ) -> Status
     requires taken { (limits : Limits) × (events : List Event)
         × IsToReplay planner options.now limits events }
-    requires fit { FitsRules (rules_in rules) }
+    requires fit { FitsRules (given_rules rules) }
     ensures writes { (limits : Limits) (events : List Event) →
         IsToReplay planner options.now limits events →
         WritesSome (IsReplayText (plain_trace limits.cpus events) (pace_of options.now)
-        (rules_in rules)) (K.faults out.old) (K.faults out.new)
+        (given_rules rules)) (K.faults out.old) (K.faults out.new)
         (K.has out.old) (K.has out.new) result }
     ensures below { StaysOver (K.below out.old) (K.below out.new) }
 {

@@ -2,9 +2,9 @@
 ghost use Rattle.std.specs.Prelude.{◌≡◌, ◌+◌, ◌≤◌, ℕ, List, Some, IfSome, IsUtf8, MatchResult, option_map};
 ghost use Rattle.psi_base.specs.Outside.{counts_of};
 ghost use Rattle.ruleset_json.specs.RuleRanges.{FitsRules};
-ghost use Rattle.run_spec.specs.Reading.{most_if_named, most_of_rules};
+ghost use Rattle.run_spec.specs.MostRead.{most_if_named, most_of_rules};
 ghost use Rattle.replay_core.specs.Rules.{CausesRulesError, RulesFailed, RulesGiven};
-ghost use Rattle.replay_rules.specs.Judged.{rules_in};
+ghost use Rattle.replay_rules.specs.Judged.{given_rules};
 
 use crate::command::name_of;
 use file_reader::{FileFault, read_front};
@@ -67,7 +67,7 @@ pub(crate) fn read_rules<S: Shelf>(
     ensures kept { S.holds shelf.new ≡ S.holds shelf.old }
     ensures content { MatchResult result
         (λ rules. RulesGiven (option_map (λ name. name.now) named.entry) (S.holds shelf.old)
-        (rules_in rules))
+        (given_rules rules))
         (λ found. (name : List ℕ) × (option_map (λ name. name.now) named.entry ≡ Some name)
         × RulesFailed found (S.holds shelf.old) name) }
     ensures cause { CausesRulesError (counts_of (S.faults shelf.old) (S.absent shelf.old))

@@ -1,20 +1,20 @@
 //! Traces from a shelf.
-ghost use Rattle.std.specs.Prelude.{◌≡◌, ◌+◌, ◌*◌, ◌<◌, ◌≤◌, ◌^◌, ℕ, List, [], Option, OnOk, IfOk, IsErrOf, Some, None, Ok, MatchResult, false, length, IsErr};
-ghost use Rattle.psi_base.specs.Outside.{told, Lacks, counts_of};
+ghost use Rattle.std.specs.Prelude.{◌≡◌, ◌+◌, ◌*◌, ◌<◌, ◌≤◌, ◌^◌, ℕ, List, [], Option, IfOk, IsErrOf, Some, None, Ok, MatchResult, false, length};
+ghost use Rattle.psi_base.specs.Outside.{told, Lacks, ShelfCounts, counts_of};
 ghost use Rattle.psi_base.specs.declared.event.Cause.TheVariants as cause;
 ghost use Rattle.psi_lines.specs.Lines.{left};
 ghost use Rattle.psi_lines.specs.Next.{furthest};
 ghost use Rattle.psi_spec.specs.Grammar.{Fits};
 ghost use Rattle.psi_spec.specs.Trace.{IsCpuCount, limits_of, refused};
 ghost use Rattle.psi_trace.specs.Front.{HasInFront};
-ghost use Rattle.run_spec.specs.Reading.{most_of_trace};
-ghost use Rattle.replay_core.specs.Reads.{CausesTraceFault, HeadGives, IsFaultAt, IsNoRead, Legally, NextGives, RestGives, TailGives, TakesLine, TakesRead, TellsNothing, TracePlayed, TraceRefused};
+ghost use Rattle.run_spec.specs.MostRead.{most_of_trace};
+ghost use Rattle.replay_core.specs.Reads.{CausesTraceFault, HeadGives, IsTraceFault, Legally, NextGives, ReadsLine, RestGives, TailGives, TakesLine, TakesRead, TellsNothing, TracePlayed, TraceRefused, trace_fault};
 
 use crate::player::Player;
 use psi_base::{Cause, Event, Fault, NoMemory, Ns, Refusal, Shelf};
 use psi_lines::{LineFault, Lines};
 use psi_trace::{front_event, read_event, read_header};
-use std::alloc::{AllocFailed, Global};
+use std::alloc::Global;
 
 /// Why there is no trace.
 #[derive(Clone, Copy, Debug, PartialEq, Eq)]
@@ -36,17 +36,6 @@ impl From<NoMemory> for TraceFault {
     }
 }
 
-impl<T: Drop> From<AllocFailed<T>> for TraceFault {
-    ghost use Rattle.std.specs.Prelude.{◌≡◌};
-    ghost use Rattle.replay_core.specs.declared.trace.TraceFault.TheVariants as fault;
-
-    ghost from_gives = { λ _ e. e ≡ fault.NoMemory };
-
-    fn from(_: AllocFailed<T>) -> Self {
-        TraceFault::NoMemory
-    }
-}
-
 // A refused line.
 fn refused(line: u32, cause: Cause) -> TraceFault
     ensures { result ≡ TraceFault.Refused (refused line cause) }
@@ -56,11 +45,24 @@ fn refused(line: u32, cause: Cause) -> TraceFault
 
 // The fault of a line.
 fn fault_at(line: u32, fault: Fault<Cause>) -> TraceFault
-    ensures { IsFaultAt line fault result }
+    ensures { IsTraceFault line fault result }
 {
     match fault {
         Fault::Refused(cause) => refused(line, cause),
         Fault::NoMemory => TraceFault::NoMemory,
+    }
+}
+
+// Why there is no trace where a line isn't read: where the input ends inside it, it is refused with this cause.
+fn trace_fault(fault: LineFault, cut: Cause) -> TraceFault
+    ensures { result ≡ trace_fault cut fault }
+{
+    match fault {
+        LineFault::TooLong(line) => refused(line, Cause::LineTooLong),
+        LineFault::Cut(line) => refused(line, cut),
+        LineFault::NoFile => TraceFault::NoFile,
+        LineFault::ReadFault => TraceFault::ReadFault,
+        LineFault::NoMemory => TraceFault::NoMemory,
     }
 }
 
@@ -78,8 +80,7 @@ fn take_read<P: Player>(
     }
 }
 
-// Plays a line of at most 512 bytes, where the trace hasn't ended. Its event stays where it was read: to copy it would take
-// a third of the time of reading it.
+// Plays a line of at most 512 bytes, where the trace hasn't ended. Its event stays where it was read, which spares a copy.
 fn take_line<P: Player>(alloc: Global, player: &mut P, line: &[u8]) -> Result<(), Fault<Cause>>
     requires short { length line.now ≤ 512 }
     ensures { TakesLine (Legally (P.Played player.old))
@@ -96,18 +97,16 @@ fn play_front<P: Player>(
     player: &mut P,
     event: &Event,
     count: usize,
-    line: u32,
 ) -> Result<(), TraceFault>
-    requires number { lines.old.number ≡ line }
+    requires number { lines.old.number < 2 ^ 32 }
     requires front { HasInFront lines.old.held event.now count }
-    ensures name { lines.new.name ≡ lines.old.name }
-    ensures number { OnOk result (lines.new.number ≡ line + 1) }
     ensures content { (known : Option (List ℕ)) → NextGives (Legally (P.Played player.old))
-        (Legally (P.Played player.new)) line (left lines.old) (left lines.new) known result }
-    ensures faults { IsNoRead result }
-    ensures stays { lines.new.at ≡ lines.old.at }
-    ensures place { lines.new.at ≤ furthest line }
+        (Legally (P.Played player.new)) lines.old.number
+        (left lines.old) (left lines.new) known result }
+    ensures reads { (known : Option (List ℕ)) (counts : ShelfCounts) (given : ℕ)
+        → ReadsLine known lines.old lines.new counts counts given given result }
 {
+    let line = lines.number();
     lines.pass(count);
     match player.take(event) {
         Ok(()) => Ok(()),
@@ -121,32 +120,25 @@ fn next_event<S: Shelf, P: Player>(
     lines: &mut Lines,
     shelf: &mut S,
     player: &mut P,
-    line: u32,
 ) -> Result<(), TraceFault>
-    requires number { lines.old.number ≡ line }
+    requires number { lines.old.number < 2 ^ 32 }
     ensures kept { S.holds shelf.new ≡ S.holds shelf.old }
-    ensures name { lines.new.name ≡ lines.old.name }
-    ensures number { OnOk result (lines.new.number ≡ line + 1) }
-    ensures content { NextGives (Legally (P.Played player.old)) (Legally (P.Played player.new)) line
-        (left lines.old) (left lines.new) (told (S.holds shelf.old) lines.old.name) result }
-    ensures missed { IsErrOf result TraceFault.NoFile →
-        told (S.holds shelf.old) lines.old.name ≡ None }
-    ensures cause { CausesTraceFault (counts_of (S.faults shelf.old) (S.absent shelf.old))
-        (counts_of (S.faults shelf.new) (S.absent shelf.new)) result }
-    ensures given { S.given shelf.new + lines.old.at ≡ S.given shelf.old + lines.new.at }
-    ensures place { lines.new.at ≤ furthest line }
+    ensures content { NextGives (Legally (P.Played player.old)) (Legally (P.Played player.new))
+        lines.old.number (left lines.old) (left lines.new)
+        (told (S.holds shelf.old) lines.old.name) result }
+    ensures reads { ReadsLine (told (S.holds shelf.old) lines.old.name) lines.old lines.new
+        (counts_of (S.faults shelf.old) (S.absent shelf.old))
+        (counts_of (S.faults shelf.new) (S.absent shelf.new))
+        (S.given shelf.old) (S.given shelf.new) result }
 {
+    let line = lines.number();
     match lines.next_bytes(shelf) {
         Ok(Some(bytes)) => match take_line(alloc, player, bytes) {
             Ok(()) => Ok(()),
             Err(fault) => Err(fault_at(line, fault)),
         },
         Ok(None) => Err(refused(line, Cause::NoEnd)),
-        Err(LineFault::Cut(_)) => Err(refused(line, Cause::NoEnd)),
-        Err(LineFault::TooLong(_)) => Err(refused(line, Cause::LineTooLong)),
-        Err(LineFault::NoFile) => Err(TraceFault::NoFile),
-        Err(LineFault::ReadFault) => Err(TraceFault::ReadFault),
-        Err(LineFault::NoMemory) => Err(TraceFault::NoMemory),
+        Err(fault) => Err(trace_fault(fault, Cause::NoEnd)),
     }
 }
 
@@ -158,33 +150,30 @@ fn play_next<S: Shelf, P: Player>(
     lines: &mut Lines,
     shelf: &mut S,
     player: &mut P,
-    line: u32,
 ) -> Result<(), TraceFault>
-    requires number { lines.old.number ≡ line }
+    requires number { lines.old.number < 2 ^ 32 }
     ensures kept { S.holds shelf.new ≡ S.holds shelf.old }
-    ensures name { lines.new.name ≡ lines.old.name }
-    ensures number { OnOk result (lines.new.number ≡ line + 1) }
-    ensures content { NextGives (Legally (P.Played player.old)) (Legally (P.Played player.new)) line
-        (left lines.old) (left lines.new) (told (S.holds shelf.old) lines.old.name) result }
-    ensures missed { IsErrOf result TraceFault.NoFile →
-        told (S.holds shelf.old) lines.old.name ≡ None }
-    ensures cause { CausesTraceFault (counts_of (S.faults shelf.old) (S.absent shelf.old))
-        (counts_of (S.faults shelf.new) (S.absent shelf.new)) result }
-    ensures given { S.given shelf.new + lines.old.at ≡ S.given shelf.old + lines.new.at }
-    ensures place { lines.new.at ≤ furthest line }
+    ensures content { NextGives (Legally (P.Played player.old)) (Legally (P.Played player.new))
+        lines.old.number (left lines.old) (left lines.new)
+        (told (S.holds shelf.old) lines.old.name) result }
+    ensures reads { ReadsLine (told (S.holds shelf.old) lines.old.name) lines.old lines.new
+        (counts_of (S.faults shelf.old) (S.absent shelf.old))
+        (counts_of (S.faults shelf.new) (S.absent shelf.new))
+        (S.given shelf.old) (S.given shelf.new) result }
 {
     match front_event(lines.held()) {
-        Some((event, count)) => play_front(lines, player, &event, count, line),
-        None => next_event(alloc, lines, shelf, player, line),
+        Some((event, count)) => play_front(lines, player, &event, count),
+        None => next_event(alloc, lines, shelf, player),
     }
 }
 
 // Looks behind the end, where nothing may stand, with at most one read.
-fn close<S: Shelf>(lines: &mut Lines, shelf: &mut S, line: u32) -> Result<(), TraceFault>
+fn close<S: Shelf>(lines: &mut Lines, shelf: &mut S) -> Result<(), TraceFault>
+    requires number { lines.old.number < 2 ^ 32 }
     ensures kept { S.holds shelf.new ≡ S.holds shelf.old }
     ensures content { (bytes : List ℕ) →
         told (S.holds shelf.old) lines.old.name ≡ Some bytes →
-        TailGives line (left lines.old bytes) result }
+        TailGives lines.old.number (left lines.old bytes) result }
     ensures missed { IsErrOf result TraceFault.NoFile →
         told (S.holds shelf.old) lines.old.name ≡ None }
     ensures cause { CausesTraceFault (counts_of (S.faults shelf.old) (S.absent shelf.old))
@@ -194,15 +183,12 @@ fn close<S: Shelf>(lines: &mut Lines, shelf: &mut S, line: u32) -> Result<(), Tr
 {
     match lines.is_at_end(shelf) {
         Ok(true) => Ok(()),
-        Ok(false) => Err(refused(line, Cause::AfterEnd)),
-        Err(LineFault::NoFile) => Err(TraceFault::NoFile),
-        Err(LineFault::ReadFault) => Err(TraceFault::ReadFault),
-        Err(LineFault::NoMemory) => Err(TraceFault::NoMemory),
-        Err(LineFault::Cut(_)) | Err(LineFault::TooLong(_)) => unreachable!(),
+        Ok(false) => Err(refused(lines.number(), Cause::AfterEnd)),
+        Err(fault) => Err(trace_fault(fault, Cause::AfterEnd)),
     }
 }
 
-// Reads and plays the event lines of a trace with these limits.
+// Reads and plays the event lines of a trace with these limits. A player takes at most 4,000,000 events, so this ends.
 fn play_events<S: Shelf, P: Player>(
     alloc: Global,
     lines: &mut Lines,
@@ -222,36 +208,31 @@ fn play_events<S: Shelf, P: Player>(
         (counts_of (S.faults shelf.new) (S.absent shelf.new)) result }
     ensures given { S.given shelf.new + lines.old.at ≤ S.given shelf.old + most_of_trace }
 {
-    'lines: for count in 0..4_000_001u32 {
-        match play_next(alloc, lines, shelf, player, count + 2) {
+    'lines: loop {
+        match play_next(alloc, lines, shelf, player) {
             Ok(()) => {}
             Err(fault) => return Err(fault),
         }
         if player.is_ended() {
-            return close(lines, shelf, count + 3);
+            return close(lines, shelf);
         }
     }
-    unreachable!()
 }
 
 // Reads the header line: the number of processors.
 fn read_cpus<S: Shelf>(lines: &mut Lines, shelf: &mut S, tick: Ns) -> Result<u32, TraceFault>
     requires { lines.old.number ≡ 1 }
     ensures kept { S.holds shelf.new ≡ S.holds shelf.old }
-    ensures name { lines.new.name ≡ lines.old.name }
-    ensures number { OnOk result (lines.new.number ≡ 2) }
     ensures counted { IfOk result IsCpuCount }
     ensures content { (bytes : List ℕ) →
         told (S.holds shelf.old) lines.old.name ≡ Some bytes →
         HeadGives tick (left lines.old bytes) (left lines.new bytes) result }
     ensures missing { lines.old.held ≡ [] → Lacks (S.holds shelf.old) lines.old.name →
         TellsNothing result }
-    ensures missed { IsErrOf result TraceFault.NoFile →
-        told (S.holds shelf.old) lines.old.name ≡ None }
-    ensures cause { CausesTraceFault (counts_of (S.faults shelf.old) (S.absent shelf.old))
-        (counts_of (S.faults shelf.new) (S.absent shelf.new)) result }
-    ensures given { S.given shelf.new + lines.old.at ≡ S.given shelf.old + lines.new.at }
-    ensures place { lines.new.at ≤ furthest 1 }
+    ensures reads { ReadsLine (told (S.holds shelf.old) lines.old.name) lines.old lines.new
+        (counts_of (S.faults shelf.old) (S.absent shelf.old))
+        (counts_of (S.faults shelf.new) (S.absent shelf.new))
+        (S.given shelf.old) (S.given shelf.new) result }
 {
     match lines.next_bytes(shelf) {
         Ok(Some(bytes)) => match read_header(bytes) {
@@ -259,11 +240,7 @@ fn read_cpus<S: Shelf>(lines: &mut Lines, shelf: &mut S, tick: Ns) -> Result<u32
             Err(_) => Err(refused(1, Cause::BadHeader)),
         },
         Ok(None) => Err(refused(1, Cause::BadHeader)),
-        Err(LineFault::Cut(_)) => Err(refused(1, Cause::BadHeader)),
-        Err(LineFault::TooLong(_)) => Err(refused(1, Cause::LineTooLong)),
-        Err(LineFault::NoFile) => Err(TraceFault::NoFile),
-        Err(LineFault::ReadFault) => Err(TraceFault::ReadFault),
-        Err(LineFault::NoMemory) => Err(TraceFault::NoMemory),
+        Err(fault) => Err(trace_fault(fault, Cause::BadHeader)),
     }
 }
 

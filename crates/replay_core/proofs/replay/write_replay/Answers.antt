@@ -1,6 +1,6 @@
 use Rattle.std.proofs.Common.{refl}
 use Rattle.run_spec.specs.Outputs.{pace_of}
-use Rattle.replay_rules.specs.Judged.{rules_in}
+use Rattle.replay_rules.specs.Judged.{given_rules}
 use Rattle.replay_core.specs.Reads.{plain_trace}
 use Rattle.replay_core.proofs.ReplayLaws.{planned, some_text}
 use Rattle.replay_core.proofs.RunLaws.{keeps_same}
@@ -14,12 +14,12 @@ prepare-requires-clause-planned g c =
 
 pub returns-in_default-clause-writes : goal.returns-in_default-clause-writes
 returns-in_default-clause-writes g c = λ limits events to_replay.
-    let some = some_text c.args.planner c.args.options.now limits events (rules_in c.args.rules) to_replay in
+    let some = some_text c.args.planner c.args.options.now limits events (given_rules c.args.rules) to_replay in
     (some.0, some.1, (keeps_same (g.K.Sink.has c.args.out.now), refl))
 
 pub returns-in_default-prepare-clause-writes : goal.returns-in_default-prepare-clause-writes
 returns-in_default-prepare-clause-writes g c = λ limits events to_replay.
-    let some = some_text c.args.planner c.args.options.now limits events (rules_in c.args.rules) to_replay in
+    let some = some_text c.args.planner c.args.options.now limits events (given_rules c.args.rules) to_replay in
     (some.0, some.1, (keeps_same (g.K.Sink.has c.args.out.now), refl))
 
 pub put_replay-requires-after_bounds : goal.put_replay-requires-after_bounds
@@ -27,20 +27,20 @@ put_replay-requires-after_bounds g c κs within =
     let limits = c.requires.taken.0 in
     let events = c.requires.taken.1 in
     let trace = plain_trace limits.cpus events in
-    (trace, pace_of c.args.options.now, rules_in c.args.rules, c.in-Ok-prepare.ensures trace (planned c.args.planner c.in-Ok.plans c.args.options.now limits events c.requires.taken.2 c.in-Ok.ensures))
+    (trace, pace_of c.args.options.now, given_rules c.args.rules, c.in-Ok-prepare.ensures trace (planned c.args.planner c.in-Ok.plans c.args.options.now limits events c.requires.taken.2 c.in-Ok.ensures))
 
 pub returns-in-Ok-put_replay-clause-writes : goal.returns-in-Ok-put_replay-clause-writes
 returns-in-Ok-put_replay-clause-writes g c = λ limits events to_replay.
     let trace = plain_trace limits.cpus events in
     let fresh = c.in-Ok-prepare.ensures trace (planned c.args.planner c.in-Ok.plans c.args.options.now limits events to_replay c.in-Ok.ensures) in
-    let put = c.in-Ok-put_replay.ensures.bytes trace (pace_of c.args.options.now) (rules_in c.args.rules) fresh in
+    let put = c.in-Ok-put_replay.ensures.bytes trace (pace_of c.args.options.now) (given_rules c.args.rules) fresh in
     (put.0, put.1, (put.2, c.in-Ok-put_replay.ensures.cause.same))
 
 pub returns-clause-writes : goal.returns-clause-writes
 returns-clause-writes g c = λ limits events to_replay.
     let trace = plain_trace limits.cpus events in
     let fresh = c.in-Ok-prepare.ensures trace (planned c.args.planner c.in-Ok.plans c.args.options.now limits events to_replay c.in-Ok.ensures) in
-    let put = c.in-Err.ensures.bytes trace (pace_of c.args.options.now) (rules_in c.args.rules) fresh in
+    let put = c.in-Err.ensures.bytes trace (pace_of c.args.options.now) (given_rules c.args.rules) fresh in
     (put.0, put.1, (put.2, c.in-Err.ensures.cause.failed))
 
 pub prepare-requires-clause-often : goal.prepare-requires-clause-often

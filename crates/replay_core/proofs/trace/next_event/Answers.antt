@@ -6,28 +6,22 @@ use Rattle.replay_core.proofs.trace.next_event.Goals as goal
 
 pub returns-in-Ok-clause-content : goal.returns-in-Ok-clause-content
 returns-in-Ok-clause-content g c =
-    laws.line_played (Legally (g.P.Player.Played c.args.player.now)) (Legally (g.P.Player.Played c.take_line.new.player)) c.args.line c.in-Ok-Some.bytes.now (left c.args.lines.now) (left c.next_bytes.follows.lender-at-none) (told (g.S.Shelf.holds c.args.shelf.now) c.args.lines.now.name) tt c.in-Ok.ensures
+    laws.line_played (Legally (g.P.Player.Played c.args.player.now)) (Legally (g.P.Player.Played c.take_line.new.player)) c.args.lines.now.number c.in-Ok-Some.bytes.now (left c.args.lines.now) (left c.next_bytes.follows.lender-at-none) (told (g.S.Shelf.holds c.args.shelf.now) c.args.lines.now.name) tt c.in-Ok.ensures
     (λ bytes tells. let found = rw (c.in-Ok-Some.is, c.in-Ok-Some.field-0-is) at c.next_bytes.follows.holds-at-none.line bytes tells in found.0)
 
-pub returns-in-Err-clause-content : goal.returns-in-Err-clause-content
-returns-in-Err-clause-content g c =
-    laws.line_faulted (Legally (g.P.Player.Played c.args.player.now)) (Legally (g.P.Player.Played c.take_line.new.player)) c.args.line c.in-Ok-Some.bytes.now (left c.args.lines.now) (left c.next_bytes.follows.lender-at-none) (told (g.S.Shelf.holds c.args.shelf.now) c.args.lines.now.name) c.in-Err.fault _ c.fault_at.ensures c.in-Err.ensures
+pub returns-in-Err-take_line-clause-content : goal.returns-in-Err-take_line-clause-content
+returns-in-Err-take_line-clause-content g c =
+    laws.line_faulted (Legally (g.P.Player.Played c.args.player.now)) (Legally (g.P.Player.Played c.take_line.new.player)) c.args.lines.now.number c.in-Ok-Some.bytes.now (left c.args.lines.now) (left c.next_bytes.follows.lender-at-none) (told (g.S.Shelf.holds c.args.shelf.now) c.args.lines.now.name) c.in-Err-take_line.fault _ (rw c.number-line.ensures at c.fault_at.ensures) c.in-Err-take_line.ensures
     (λ bytes tells. let found = rw (c.in-Ok-Some.is, c.in-Ok-Some.field-0-is) at c.next_bytes.follows.holds-at-none.line bytes tells in found.0)
 
 pub returns-in-Ok-None-clause-content : goal.returns-in-Ok-None-clause-content
 returns-in-Ok-None-clause-content g c =
     λ limits events played running bytes tells.
     let found = rw (c.in-Ok-None.is, c.in-Ok-None.field-0-is) at c.next_bytes.follows.holds-at-none.line bytes tells in
-    rw c.refused.ensures (laws.none_left limits _ c.args.line _ found.0 running)
+    rw (c.refused.ensures, c.number-line.ensures) (laws.none_left limits _ _ _ found.0 running)
 
-pub returns-in-Err-Cut-clause-content : goal.returns-in-Err-Cut-clause-content
-returns-in-Err-Cut-clause-content g c =
+pub returns-in-Err-clause-content : goal.returns-in-Err-clause-content
+returns-in-Err-clause-content g c =
     λ limits events played running bytes tells.
-    let found = rw (c.in-Err-Cut.is, c.in-Err-Cut.field-0-is) at c.next_bytes.follows.holds-at-none.line bytes tells in
-    rw c.refused-in-Err-Cut.ensures (laws.cut_short limits _ c.args.line _ found.0 running)
-
-pub returns-in-Err-TooLong-clause-content : goal.returns-in-Err-TooLong-clause-content
-returns-in-Err-TooLong-clause-content g c =
-    λ limits events played running bytes tells.
-    let found = rw (c.in-Err-TooLong.is, c.in-Err-TooLong.field-0-is) at c.next_bytes.follows.holds-at-none.line bytes tells in
-    rw c.refused-in-Err-TooLong.ensures (laws.long_line limits _ c.args.line _ found.0 running)
+    let found = rw c.in-Err.is at c.next_bytes.follows.holds-at-none.line bytes tells in
+    rw c.trace_fault.ensures (laws.line_not_read limits _ bytes c.args.lines.now c.next_bytes.follows.lender-at-none c.in-Err.fault found running)

@@ -11,16 +11,15 @@ lines-preserved g c =
     let i = c.lines.invariant in
     let known = told (g.S.Shelf.holds c.args.shelf.now) c.args.lines.now.name in
     let next = rw (i.kept, i.name) at c.in-Ok.ensures.content in
-    let one = laws.one_more (Legally (g.P.Player.Played c.lines.player)) (Legally (g.P.Player.Played c.play_next.new.player)) (limits_of c.args.tick c.args.cpus) c.lines.count (left c.args.lines.now) (left c.lines.lines) (left c.play_next.new.lines) known tt i.so_far next in
+    let one = laws.one_more (Legally (g.P.Player.Played c.lines.player)) (Legally (g.P.Player.Played c.play_next.new.player)) (limits_of c.args.tick c.args.cpus) c.lines.lines.number _ (left c.args.lines.now) (left c.lines.lines) (left c.play_next.new.lines) known tt c.in-Ok.ensures.reads.number i.so_far next in
     record {
       kept = cc;
-      faults = c.in-Ok.ensures.cause.faults_same (λ is. cc is) ∙ i.faults;
-      absent = c.in-Ok.ensures.cause.absent_same (λ is. cc is) ∙ i.absent;
-      given = omega (arith, c.in-Ok.ensures.given, i.given);
+      faults = c.in-Ok.ensures.reads.cause.faults_same (λ is. cc is) ∙ i.faults;
+      absent = c.in-Ok.ensures.reads.cause.absent_same (λ is. cc is) ∙ i.absent;
+      given = omega (arith, c.in-Ok.ensures.reads.counted, i.given);
       name = cc;
-      number = omega (arith, c.in-Ok.ensures.number);
-      few = omega (arith, one.few);
-      so_far = laws.goes_on (Legally (g.P.Player.Played c.play_next.new.player)) (limits_of c.args.tick c.args.cpus) c.lines.count _ (left c.args.lines.now) (left c.play_next.new.lines) known c.is_ended.result (omega arith) one (λ limits events played. c.is_ended.ensures limits events played.0) c.if-is_ended.false;
+      few = one.few;
+      so_far = laws.goes_on (Legally (g.P.Player.Played c.play_next.new.player)) (limits_of c.args.tick c.args.cpus) _ (left c.args.lines.now) (left c.play_next.new.lines) known c.is_ended.result one (λ limits events played. c.is_ended.ensures limits events played.0) c.if-is_ended.false;
     }
 
 pub returns-then-is_ended-clause-content : goal.returns-then-is_ended-clause-content
@@ -28,22 +27,19 @@ returns-then-is_ended-clause-content g c =
     let i = c.lines.invariant in
     let known = told (g.S.Shelf.holds c.args.shelf.now) c.args.lines.now.name in
     let next = rw (i.kept, i.name) at c.in-Ok.ensures.content in
-    let one = laws.one_more (Legally (g.P.Player.Played c.lines.player)) (Legally (g.P.Player.Played c.play_next.new.player)) (limits_of c.args.tick c.args.cpus) c.lines.count (left c.args.lines.now) (left c.lines.lines) (left c.play_next.new.lines) known tt i.so_far next in
-    laws.ends_here (Legally (g.P.Player.Played c.play_next.new.player)) (limits_of c.args.tick c.args.cpus) c.lines.count (left c.args.lines.now) (left c.play_next.new.lines) known c.is_ended.result c.close.result one (λ limits events played. c.is_ended.ensures limits events played.0) c.if-is_ended.true
-    (λ bytes tells. rw (c.play_next.ensures.kept, i.kept, c.play_next.ensures.name, i.name) at (c.close.ensures.content bytes) tells)
+    let one = laws.one_more (Legally (g.P.Player.Played c.lines.player)) (Legally (g.P.Player.Played c.play_next.new.player)) (limits_of c.args.tick c.args.cpus) c.lines.lines.number _ (left c.args.lines.now) (left c.lines.lines) (left c.play_next.new.lines) known tt c.in-Ok.ensures.reads.number i.so_far next in
+    laws.ends_here (Legally (g.P.Player.Played c.play_next.new.player)) (limits_of c.args.tick c.args.cpus) _ (left c.args.lines.now) (left c.play_next.new.lines) known c.is_ended.result c.close.result one (λ limits events played. c.is_ended.ensures limits events played.0) c.if-is_ended.true
+    (λ bytes tells. rw (c.play_next.ensures.kept, i.kept, c.play_next.ensures.reads.name, i.name) at (c.close.ensures.content bytes) tells)
 
 pub returns-in-Err-clause-given : goal.returns-in-Err-clause-given
 returns-in-Err-clause-given g c =
     let i = c.lines.invariant in
-    omega (arith, i.given, i.few, c.in-Err.ensures.given, c.in-Err.ensures.place)
+    omega (arith, i.given, i.few, c.in-Err.ensures.reads.counted, c.in-Err.ensures.reads.place)
 
 pub returns-then-is_ended-clause-given : goal.returns-then-is_ended-clause-given
 returns-then-is_ended-clause-given g c =
     let i = c.lines.invariant in
     let known = told (g.S.Shelf.holds c.args.shelf.now) c.args.lines.now.name in
     let next = rw (i.kept, i.name) at c.in-Ok.ensures.content in
-    let one = laws.one_more (Legally (g.P.Player.Played c.lines.player)) (Legally (g.P.Player.Played c.play_next.new.player)) (limits_of c.args.tick c.args.cpus) c.lines.count (left c.args.lines.now) (left c.lines.lines) (left c.play_next.new.lines) known tt i.so_far next in
-    omega (arith, i.given, one.few, c.in-Ok.ensures.given, c.in-Ok.ensures.number, c.close.ensures.given)
-
-pub unreachable-requires : goal.unreachable-requires
-unreachable-requires g c = absurd (omega (arith, c.lines.invariant.few, c.lines-test.false))
+    let one = laws.one_more (Legally (g.P.Player.Played c.lines.player)) (Legally (g.P.Player.Played c.play_next.new.player)) (limits_of c.args.tick c.args.cpus) c.lines.lines.number _ (left c.args.lines.now) (left c.lines.lines) (left c.play_next.new.lines) known tt c.in-Ok.ensures.reads.number i.so_far next in
+    omega (arith, i.given, one.few, c.in-Ok.ensures.reads.counted, c.close.ensures.given)

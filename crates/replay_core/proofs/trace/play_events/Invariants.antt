@@ -1,4 +1,4 @@
-use Rattle.std.proofs.Common.{◌≡◌, ◌+◌, ◌≤◌}
+use Rattle.std.proofs.Common.{◌≡◌, ◌+◌, ◌-◌, ◌≤◌}
 use Rattle.psi_base.specs.Outside.{told}
 use Rattle.psi_lines.specs.Lines.{left}
 use Rattle.replay_core.specs.Reads.{Legally}
@@ -13,7 +13,9 @@ invariant-lines g l = record {
   absent : g.S.Shelf.absent l.shelf ≡ g.S.Shelf.absent l.fn.shelf;
   given : g.S.Shelf.given l.shelf + l.fn.lines.at ≡ g.S.Shelf.given l.fn.shelf + l.lines.at;
   name : l.lines.name ≡ l.fn.lines.name;
-  number : l.lines.number ≡ l.count + 2;
-  few : l.count ≤ 4000000;
-  so_far : SoFar (Legally (g.P.Player.Played l.player)) (limits_of l.tick l.cpus) l.count (left l.fn.lines) (left l.lines) (told (g.S.Shelf.holds l.fn.shelf) l.fn.lines.name);
+  few : l.lines.number ≤ 4000002;
+  so_far : SoFar (Legally (g.P.Player.Played l.player)) (limits_of l.tick l.cpus) l.lines.number (left l.fn.lines) (left l.lines) (told (g.S.Shelf.holds l.fn.shelf) l.fn.lines.name);
 }
+
+abbrev pub decreases-lines : goal.decreases-lines
+decreases-lines g l = 4000003 - l.lines.number

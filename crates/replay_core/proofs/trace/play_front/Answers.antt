@@ -12,7 +12,7 @@ returns-in-Ok-clause-content g c =
     let before = g.P.Player.Played c.args.player.now in
     let after = g.P.Player.Played c.take.new.self in
     let front = c.requires.front in
-    laws.line_played (Legally before) (Legally after) c.args.line (spelling c.args.event.now) (left c.args.lines.now) (left c.pass.new.self) known tt (laws.front_takes before after c.args.lines.now.held c.args.event.now c.args.count (Ok tt) front c.in-Ok.ensures)
+    laws.line_played (Legally before) (Legally after) c.args.lines.now.number (spelling c.args.event.now) (left c.args.lines.now) (left c.pass.new.self) known tt (laws.front_takes before after c.args.lines.now.held c.args.event.now c.args.count (Ok tt) front c.in-Ok.ensures)
     (λ bytes tells. laws.front_begins c.args.lines.now c.pass.new.self c.args.event.now c.args.count bytes front (ap (λ (l : Reader). l.held) c.pass.ensures.rest) (ap (λ (l : Reader). l.at) c.pass.ensures.rest))
 
 pub returns-in-Err-clause-content : goal.returns-in-Err-clause-content
@@ -21,5 +21,5 @@ returns-in-Err-clause-content g c =
     let before = g.P.Player.Played c.args.player.now in
     let after = g.P.Player.Played c.take.new.self in
     let front = c.requires.front in
-    laws.line_faulted (Legally before) (Legally after) c.args.line (spelling c.args.event.now) (left c.args.lines.now) (left c.pass.new.self) known c.in-Err.fault _ c.fault_at.ensures (laws.front_takes before after c.args.lines.now.held c.args.event.now c.args.count (Err c.in-Err.fault) front c.in-Err.ensures)
+    laws.line_faulted (Legally before) (Legally after) c.args.lines.now.number (spelling c.args.event.now) (left c.args.lines.now) (left c.pass.new.self) known c.in-Err.fault _ (rw c.number-line.ensures at c.fault_at.ensures) (laws.front_takes before after c.args.lines.now.held c.args.event.now c.args.count (Err c.in-Err.fault) front c.in-Err.ensures)
     (λ bytes tells. laws.front_begins c.args.lines.now c.pass.new.self c.args.event.now c.args.count bytes front (ap (λ (l : Reader). l.held) c.pass.ensures.rest) (ap (λ (l : Reader). l.at) c.pass.ensures.rest))

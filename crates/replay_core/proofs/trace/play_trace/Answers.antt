@@ -7,5 +7,5 @@ pub returns-in-Ok-play_events-clause-content : goal.returns-in-Ok-play_events-cl
 returns-in-Ok-play_events-clause-content g c =
     let fresh = c.in_ok-lines.ensures in
     let head = rw fresh at c.in-Ok.ensures.content in
-    let rest = rw (c.in-Ok.ensures.kept, c.in-Ok.ensures.name, fresh) at c.in-Ok-play_events.ensures.content in
+    let rest = rw (c.in-Ok.ensures.kept, c.in-Ok.ensures.reads.name, fresh) at c.in-Ok-play_events.ensures.content in
     laws.trace_played (g.P.Player.Played c.play_events.new.player) c.args.tick c.in-Ok.cpus (λ bytes. bytes) (left c.read_cpus.new.lines) (told (g.S.Shelf.holds c.args.shelf.now) c.args.name.now) tt c.in-Ok.ensures.counted head rest
