@@ -1,8 +1,8 @@
--- A detector beside the reading that it takes.
+-- What a test plays, beside the reading that it takes.
 use Rattle.std.specs.Prelude.{◌≡◌, ℕ, length, Option}
-use Rattle.detectors.specs.Views.{DetectorView, ReadingView, slots_of}
+use Rattle.detectors.specs.Views.{ReadingView}
 
--- the detector is for the groups of the reading, and had its last one then (ns)
-pub record IsRig (last : Option ℕ) (reading : ReadingView) (detector : DetectorView) : Type 0 where
-  pub last_is : detector.last ≡ last
-  pub slots : length reading.lives ≡ slots_of detector
+-- It is for so many groups, which are those of the reading, and its last reading was at the moment (ns) that the test noted.
+pub record IsRig (last noted : Option ℕ) (slots : ℕ) (reading : ReadingView) : Type 0 where
+  pub noted_is : last ≡ noted
+  pub slots_are : length reading.lives ≡ slots

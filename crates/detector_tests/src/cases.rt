@@ -1,9 +1,11 @@
 //! Detectors over rows of readings, each with what is wanted. The numbers are from the rules of detectors.
 
-use crate::rig::{Failed, Rig, Seen};
-use detectors::HostReading;
+use crate::checks::MOST;
+use crate::readings::{Failed, NO_HOST, bare_group, life, scanned, using};
+use crate::rig::Rig;
+use detectors::{GroupReading, HostReading};
 use path_match::Patterns;
-use psi_base::{Path, Res};
+use psi_base::{Res, State};
 use psi_spec::GroupLife;
 use ruleset_json::{DetectorSpec, Size};
 use std::alloc::Global;
@@ -15,55 +17,19 @@ use std::test::Fail;
 struct Case {
     at_s: u32,
     host: HostReading,
-    groups: [Option<Seen>; 2],
+    groups: [Option<GroupReading>; 2],
     is_true: bool,
 }
 
-/// A host of which nothing was told.
-const NO_HOST: HostReading = HostReading {
-    mem_total: 0,
-    swap_total: 0,
-    swap_free: 0,
-};
-
-/// The most bytes that a sample tells (2^60).
-const MOST: u64 = 1 << 60;
-
 /// A group with pressure of IO over 10 s and over 60 s.
-fn pressed(slot: u32, ten: u64, sixty: u64) -> Option<Seen> {
-    Some(Seen {
-        slot,
-        io: [ten, sixty],
-        memory: [0, 0],
-        current: 0,
-        scan: 0,
-    })
-}
-
-/// A group that uses memory (bytes).
-fn using(slot: u32, current: u64) -> Option<Seen> {
-    Some(Seen {
-        slot,
-        io: [0, 0],
-        memory: [0, 0],
-        current,
-        scan: 0,
-    })
-}
-
-/// A group with a count of scans.
-fn scanned(slot: u32, scan: u64) -> Option<Seen> {
-    Some(Seen {
-        slot,
-        io: [0, 0],
-        memory: [0, 0],
-        current: 0,
-        scan,
-    })
+fn pressed(slot: u32, ten: u64, sixty: u64) -> Option<GroupReading> {
+    let mut group = bare_group(slot);
+    group.averages[State::IoFull as usize] = [ten, sixty, 0];
+    Some(group)
 }
 
 /// A reading of groups, of a host of which nothing was told.
-fn row(at_s: u32, groups: [Option<Seen>; 2], is_true: bool) -> Case {
+fn row(at_s: u32, groups: [Option<GroupReading>; 2], is_true: bool) -> Case {
     Case {
         at_s,
         host: NO_HOST,
@@ -102,27 +68,13 @@ fn swapped(at_s: u32, swap_total: u64, swap_free: u64, is_true: bool) -> Case {
     }
 }
 
-/// The group with a path, made at 0.
-fn group(alloc: Global, path: &str) -> Result<GroupLife, Fail> {
-    let path = match Path::read(alloc, path.as_bytes())? {
-        Some(path) => path,
-        None => Path::root(alloc)?,
-    };
-    Ok(GroupLife {
-        path,
-        parent: None,
-        made: 0,
-        gone: None,
-    })
-}
-
 /// Four groups: the root, two below it, and one below the first of them.
 fn groups(alloc: Global) -> Result<Vec<GroupLife>, Fail> {
     let mut lives = Vec::new(alloc);
-    lives.push(group(alloc, "/")?)?;
-    lives.push(group(alloc, "/a")?)?;
-    lives.push(group(alloc, "/b")?)?;
-    lives.push(group(alloc, "/a/x")?)?;
+    lives.push(life(alloc, "/", None)?)?;
+    lives.push(life(alloc, "/a", None)?)?;
+    lives.push(life(alloc, "/b", None)?)?;
+    lives.push(life(alloc, "/a/x", None)?)?;
     Ok(lives)
 }
 
@@ -136,7 +88,7 @@ fn answer(rig: &mut Rig, row: &Case) -> Result<bool, Failed> {
     rig.start(u64::from(row.at_s) * 1_000_000_000, row.host)?;
     for seen in &row.groups {
         if let Some(seen) = seen {
-            rig.push(seen)?;
+            rig.push(*seen)?;
         }
     }
     rig.step()
@@ -239,13 +191,8 @@ fn pressure_of_memory(rt: HostRuntime) -> Result<(), Fail> {
         threshold: 0,
         duration_s: 0,
     };
-    let seen = Seen {
-        slot: 1,
-        io: [0, 0],
-        memory: [1, 0],
-        current: 0,
-        scan: 0,
-    };
+    let mut seen = bare_group(1);
+    seen.averages[State::MemFull as usize] = [1, 0, 0];
     let rows = [
         row(5, [pressed(1, 90_000, 90_000), None], false),
         row(10, [Some(seen), None], true),

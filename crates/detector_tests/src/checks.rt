@@ -7,8 +7,8 @@ ghost use Rattle.detectors.specs.Views.{ComesLast};
 
 use detectors::{GroupReading, HostReading, Reading};
 
-/// The most bytes and scans (2^60).
-const MOST: u64 = 1 << 60;
+/// The most bytes and scans that a sample tells (2^60).
+pub const MOST: u64 = 1 << 60;
 
 /// The greatest average, 100 percent.
 const WHOLE: u64 = 204_800;
@@ -45,7 +45,7 @@ fn are_rows(rows: &[[u64; 3]]) -> bool
 }
 
 /// A group is, of so many.
-pub fn is_group(group: &GroupReading, slots: usize) -> bool
+pub(crate) fn is_group(group: &GroupReading, slots: usize) -> bool
     ensures { result ≡ true → IsGroupReading slots group.now }
 {
     let is_small = group.current <= MOST && group.swap <= MOST && group.scan <= MOST;
@@ -53,7 +53,7 @@ pub fn is_group(group: &GroupReading, slots: usize) -> bool
 }
 
 /// A group's path comes after those of a reading.
-pub fn comes_last(reading: &Reading, group: &GroupReading) -> bool
+pub(crate) fn comes_last(reading: &Reading, group: &GroupReading) -> bool
     requires { group.now.slot.0 < length reading.now.lives }
     ensures { result ≡ true → ComesLast reading.now group.now }
 {

@@ -4,7 +4,9 @@
 #[cfg(test)]
 mod cases;
 mod checks;
+mod readings;
 mod rig;
 
-pub use checks::{comes_last, is_group, is_host};
-pub use rig::{Failed, Rig, Seen};
+pub use checks::{MOST, is_host};
+pub use readings::{Failed, NO_HOST, bare_group, life, put_group, scanned, using};
+pub use rig::Rig;

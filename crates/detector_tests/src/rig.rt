@@ -1,39 +1,13 @@
 //! A detector that a test plays.
 
-use crate::checks::{comes_last, is_group, is_host};
+use crate::checks::is_host;
+use crate::readings::{Failed, put_group};
 use detectors::{Detector, GroupReading, HostReading, Reading};
-use psi_base::{NoMemory, Ns, Preference, Slot};
+use psi_base::Ns;
 use psi_spec::GroupLife;
 use ruleset_json::DetectorSpec;
 use std::alloc::Global;
 use std::marker::Model;
-
-/// What a test asked that can't be had.
-#[derive(Debug, Drop)]
-pub enum Failed {
-    /// A number is out of its range.
-    OutOfRange,
-    /// A group or a reading doesn't come next.
-    NotNext,
-    NoMemory,
-}
-
-impl From<NoMemory> for Failed {
-    fn from(_: NoMemory) -> Self {
-        Failed::NoMemory
-    }
-}
-
-/// What a test has seen of a group: its slot, its full averages of IO and of memory over 10 s and over 60 s, its memory in use
-/// (bytes) and its count of scans.
-#[derive(Clone, Copy, Debug)]
-pub struct Seen {
-    pub slot: u32,
-    pub io: [u64; 2],
-    pub memory: [u64; 2],
-    pub current: u64,
-    pub scan: u64,
-}
 
 /// A detector, the reading that it is given, and the moment of the last one (ns).
 #[derive(Drop)]
@@ -44,30 +18,14 @@ pub struct Rig {
 }
 
 impl Model for Rig {
-    ghost use Rattle.detectors.specs.Views.{DetectorView};
+    ghost use Rattle.detectors.specs.Views.{DetectorView, slots_of};
     ghost use Rattle.detector_tests.specs.Rig.{IsRig};
 
     ghost Value = { DetectorView };
 
     ghost view = { λ r. r.detector };
 
-    ghost invariant = { λ r. IsRig r.last r.reading r.detector };
-}
-
-/// What is read of a group.
-fn group_of(seen: &Seen) -> GroupReading {
-    let none = [0; 3];
-    let io = [seen.io[0], seen.io[1], 0];
-    let memory = [seen.memory[0], seen.memory[1], 0];
-    GroupReading {
-        slot: Slot(seen.slot),
-        averages: [none, io, none, memory, none, none],
-        current: seen.current,
-        swap: 0,
-        scan: seen.scan,
-        preference: Preference::Plain,
-        populated: true,
-    }
+    ghost invariant = { λ r. IsRig r.detector.last r.last (slots_of r.detector) r.reading };
 }
 
 impl Rig {
@@ -93,16 +51,8 @@ impl Rig {
     }
 
     /// Puts a group into it.
-    pub fn push(&mut self, seen: &Seen) -> Result<(), Failed> {
-        let group = group_of(seen);
-        if !is_group(&group, self.reading.lives().len()) {
-            return Err(Failed::OutOfRange);
-        }
-        if !comes_last(&self.reading, &group) {
-            return Err(Failed::NotNext);
-        }
-        self.reading.push(group);
-        Ok(())
+    pub fn push(&mut self, group: GroupReading) -> Result<(), Failed> {
+        put_group(&mut self.reading, group)
     }
 
     /// Steps the detector.

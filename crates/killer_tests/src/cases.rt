@@ -2,8 +2,9 @@
 //! of rests.
 
 use crate::rig::Rig;
+use detector_tests::life;
 use kill_engine::Kill;
-use psi_base::{Fault, NoMemory, Ns, Path};
+use psi_base::{Fault, NoMemory, Ns};
 use psi_spec::GroupLife;
 use ruleset_json::{Rules, read};
 use std::alloc::Global;
@@ -29,25 +30,11 @@ const fn using(current: u64, kills: &'static str) -> Case {
     }
 }
 
-/// The group with a path, made at 0.
-fn group(alloc: Global, path: &str) -> Result<GroupLife, Fail> {
-    let path = match Path::read(alloc, path.as_bytes())? {
-        Some(path) => path,
-        None => Path::root(alloc)?,
-    };
-    Ok(GroupLife {
-        path,
-        parent: None,
-        made: 0,
-        gone: None,
-    })
-}
-
 /// The root and a group below it.
 fn groups(alloc: Global) -> Result<Vec<GroupLife>, Fail> {
     let mut lives = Vec::new(alloc);
-    lives.push(group(alloc, "/")?)?;
-    lives.push(group(alloc, "/a")?)?;
+    lives.push(life(alloc, "/", None)?)?;
+    lives.push(life(alloc, "/a", None)?)?;
     Ok(lives)
 }
 

@@ -5,4 +5,4 @@
 mod cases;
 mod rig;
 
-pub use rig::{Failed, Rig};
+pub use rig::Rig;

@@ -1,10 +1,10 @@
 //! Choices over rows of readings, each with the victim that is wanted. The numbers are from the rules of victims.
 
 use crate::rig::Rig;
-use detector_tests::Failed;
-use detectors::{GroupReading, HostReading};
+use detector_tests::{Failed, MOST, NO_HOST, bare_group, life, scanned, using};
+use detectors::GroupReading;
 use path_match::Patterns;
-use psi_base::{Path, Preference, Res, Slot};
+use psi_base::{Preference, Res, Slot, State};
 use psi_spec::GroupLife;
 use ruleset_json::{Action, After, Size};
 use std::alloc::Global;
@@ -14,76 +14,34 @@ use std::test::Fail;
 /// A reading as a test has it: the groups in the byte order of their paths.
 type Row = [Option<GroupReading>; 3];
 
-/// A host of which nothing was told.
-const NO_HOST: HostReading = HostReading {
-    mem_total: 0,
-    swap_total: 0,
-    swap_free: 0,
-};
-
-/// The most bytes that a sample tells (2^60).
-const MOST: u64 = 1 << 60;
-
-/// A populated group with memory and swap in use (bytes), a count of scans, and full averages of memory over 10 s and 60 s.
-fn group(slot: u32, current: u64, swap: u64, scan: u64, memory: [u64; 2]) -> GroupReading {
-    let none = [0; 3];
-    GroupReading {
-        slot: Slot(slot),
-        averages: [none, none, none, [memory[0], memory[1], 0], none, none],
-        current,
-        swap,
-        scan,
-        preference: Preference::Plain,
-        populated: true,
-    }
-}
-
-/// A group that uses memory (bytes).
-fn using(slot: u32, current: u64) -> Option<GroupReading> {
-    Some(group(slot, current, 0, 0, [0, 0]))
-}
-
-/// The same of a group with a preference.
+/// A group that uses memory (bytes), with a preference.
 fn preferring(slot: u32, current: u64, preference: Preference) -> Option<GroupReading> {
-    let mut group = group(slot, current, 0, 0, [0, 0]);
+    let mut group = bare_group(slot);
+    group.current = current;
     group.preference = preference;
     Some(group)
 }
 
 /// A group without a task.
 fn empty(slot: u32, current: u64) -> Option<GroupReading> {
-    let mut group = group(slot, current, 0, 0, [0, 0]);
+    let mut group = bare_group(slot);
+    group.current = current;
     group.populated = false;
     Some(group)
 }
 
 /// A group with swap in use (bytes).
 fn swapping(slot: u32, swap: u64) -> Option<GroupReading> {
-    Some(group(slot, 0, swap, 0, [0, 0]))
-}
-
-/// A group with a count of scans.
-fn scanned(slot: u32, scan: u64) -> Option<GroupReading> {
-    Some(group(slot, 0, 0, scan, [0, 0]))
+    let mut group = bare_group(slot);
+    group.swap = swap;
+    Some(group)
 }
 
 /// A group with full averages of memory over 10 s and over 60 s.
 fn pressed(slot: u32, ten: u64, sixty: u64) -> Option<GroupReading> {
-    Some(group(slot, 0, 0, 0, [ten, sixty]))
-}
-
-/// The life of a group that was made at 0.
-fn life(alloc: Global, path: &str, parent: Option<Slot>) -> Result<GroupLife, Fail> {
-    let path = match Path::read(alloc, path.as_bytes())? {
-        Some(path) => path,
-        None => Path::root(alloc)?,
-    };
-    Ok(GroupLife {
-        path,
-        parent,
-        made: 0,
-        gone: None,
-    })
+    let mut group = bare_group(slot);
+    group.averages[State::MemFull as usize] = [ten, sixty, 0];
+    Some(group)
 }
 
 /// The root, three groups below it, and two below the first of them, whose paths come before those of the others.
@@ -170,7 +128,7 @@ fn kills(
 
 // ---- size or growth
 
-// None has half of 108. The second grew from a mean of 30 to 38, by 1.26.
+// None has half of 108. The second grew from a mean of 30 to 38, by 1.27.
 #[test]
 fn growth_is_over_the_mean_of_the_past(rt: HostRuntime) -> Result<(), Fail> {
     let before = [using(1, 40), using(2, 30), using(3, 30)];

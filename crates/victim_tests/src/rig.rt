@@ -2,7 +2,7 @@
 ghost use Rattle.std.specs.Prelude.{◌≡◌, ◌≤◌, true};
 ghost use Rattle.ruleset_json.specs.Ranges.{FitsAction, IsSize, IsStallable};
 
-use detector_tests::{Failed, comes_last, is_group, is_host};
+use detector_tests::{Failed, is_host, put_group};
 use detectors::{GroupReading, HostReading, Reading};
 use psi_base::{Res, Slot};
 use psi_spec::GroupLife;
@@ -19,14 +19,14 @@ pub struct Rig {
 }
 
 impl Model for Rig {
+    ghost use Rattle.std.specs.Prelude.{◌≡◌, length};
     ghost use Rattle.victim_rank.specs.Pasts.{Kept};
-    ghost use Rattle.victim_tests.specs.Rig.{IsRig};
 
     ghost Value = { Kept };
 
     ghost view = { λ r. r.past };
 
-    ghost invariant = { λ r. IsRig r.reading r.past };
+    ghost invariant = { λ r. length r.past.sizes ≡ length r.reading.lives };
 }
 
 fn is_size(size: Size) -> bool
@@ -104,14 +104,7 @@ impl Rig {
 
     /// Puts a group into the present reading.
     pub fn push(&mut self, group: GroupReading) -> Result<(), Failed> {
-        if !is_group(&group, self.reading.lives().len()) {
-            return Err(Failed::OutOfRange);
-        }
-        if !comes_last(&self.reading, &group) {
-            return Err(Failed::NotNext);
-        }
-        self.reading.push(group);
-        Ok(())
+        put_group(&mut self.reading, group)
     }
 
     /// The victim of an action at the present reading.
