@@ -4,7 +4,7 @@ use Rattle.std.proofs.Math.Nat.{mul-le-mul_right}
 use Rattle.std.proofs.Math.Seq.{take-set-lt}
 use Rattle.std.proofs.lemmas.List.{get_or_past, length-take, length-drop, length-set, length-replicate, take-set-le, drop-set-lt, drop-set-add, take-replicate, drop-replicate, get_or-replicate, get_or-set_same, get_or-set_other}
 use Rattle.std.proofs.lemmas.List.FromFn.{fill_by_all, get_or-map-range_with_len, length-map-range_with_len}
-use Rattle.aggregate.specs.Table.{row_in, rows_of, new_table, no_times, put, times_at, HasSizes, HaveSameSizes, IsPlace, KeepsSizes, SetsOnePlace}
+use Rattle.aggregate.specs.Table.{row_in, rows_of, new_table, no_times, put_times, times_at, HasSizes, HaveSameSizes, IsPlace, KeepsSizes, SetsOnePlace}
 
 -- a row ends within the rows
 pub row_end : (slot slots cpus : ℕ) → slot < slots → slot * cpus + cpus ≤ slots * cpus
@@ -75,10 +75,10 @@ new_has cpus slots = record {
       rw (get_or-replicate slots slot (replicate cpus no_times) d inside) (length-replicate cpus no_times);
 }
 
-put_has : (cpus slots : ℕ) (table : List (List (List ℕ))) (slot cpu : ℕ) (times : List ℕ) → HasSizes cpus slots table → HasSizes cpus slots (put table slot cpu times)
+put_has : (cpus slots : ℕ) (table : List (List (List ℕ))) (slot cpu : ℕ) (times : List ℕ) → HasSizes cpus slots table → HasSizes cpus slots (put_times table slot cpu times)
 put_has cpus slots table slot cpu times has =
     let row = set (get_or table slot []) cpu times in
-    let long : length (put table slot cpu times) ≡ length table = length-set table slot row in
+    let long : length (put_times table slot cpu times) ≡ length table = length-set table slot row in
     record {
       slots_are = long ∙ has.slots_are;
       cpus_are = λ other d below.
@@ -128,12 +128,12 @@ keeps_sizes = record {
       record { slot = there; cpu = omega (arith, has.cpus_are slot [] there, within) };
 }
 
-put_here : (table : List (List (List ℕ))) (slot cpu : ℕ) (times : List ℕ) → IsPlace table slot cpu → times_at (put table slot cpu times) slot cpu ≡ times
+put_here : (table : List (List (List ℕ))) (slot cpu : ℕ) (times : List ℕ) → IsPlace table slot cpu → times_at (put_times table slot cpu times) slot cpu ≡ times
 put_here table slot cpu times is =
     ap (λ (r : List (List ℕ)). get_or r cpu []) (get_or-set_same table slot (set (get_or table slot []) cpu times) [] is.slot) ∙ get_or-set_same (get_or table slot []) cpu times [] is.cpu
 
 put_elsewhere : (table : List (List (List ℕ))) (slot cpu : ℕ) (times : List ℕ) (other_slot other_cpu : ℕ) → IsPlace table slot cpu → (other_slot ≢ slot) ⊎ (other_cpu ≢ cpu) →
-    times_at (put table slot cpu times) other_slot other_cpu ≡ times_at table other_slot other_cpu
+    times_at (put_times table slot cpu times) other_slot other_cpu ≡ times_at table other_slot other_cpu
 put_elsewhere table slot cpu times other_slot other_cpu is apart =
     let row = set (get_or table slot []) cpu times in
     let case : (other_slot ≡ slot) ⊎ (other_slot ≢ slot) = grind arith in

@@ -16,8 +16,8 @@ pub record IsPlace (table : List (List (List ℕ))) (group processor : ℕ) : Ty
   pub cpu : processor < length (slice_index_or table group [])
 
 -- the table with the times of a group on a processor
-abbrev pub put : List (List (List ℕ)) → ℕ → ℕ → List ℕ → List (List (List ℕ))
-put table slot cpu times = slice_set table slot (slice_set (slice_index_or table slot []) cpu times)
+abbrev pub put_times : List (List (List ℕ)) → ℕ → ℕ → List ℕ → List (List (List ℕ))
+put_times table slot cpu times = slice_set table slot (slice_set (slice_index_or table slot []) cpu times)
 
 -- the row of a group in a list that has the rows one after the other
 abbrev pub row_in : ℕ → List (List ℕ) → ℕ → List (List ℕ)
@@ -46,12 +46,12 @@ pub record HaveSameSizes (table other : List (List (List ℕ))) : Type 0 where
 -- A new table has its sizes, and keeps them as times are set. Tables of the same sizes are as large as one another.
 pub record KeepsSizes : Type 0 where
   pub new : (cpus slots : ℕ) → HasSizes cpus slots (new_table cpus slots)
-  pub set : (cpus slots : ℕ) (table : List (List (List ℕ))) (slot cpu : ℕ) (times : List ℕ) → HasSizes cpus slots table → HasSizes cpus slots (put table slot cpu times)
+  pub set : (cpus slots : ℕ) (table : List (List (List ℕ))) (slot cpu : ℕ) (times : List ℕ) → HasSizes cpus slots table → HasSizes cpus slots (put_times table slot cpu times)
   pub same : (cpus slots : ℕ) (table other : List (List (List ℕ))) → HasSizes cpus slots table → HasSizes cpus slots other → HaveSameSizes table other
   pub place : (cpus slots : ℕ) (table : List (List (List ℕ))) (slot cpu : ℕ) → HasSizes cpus slots table → slot < slots → cpu < cpus → IsPlace table slot cpu
 
 -- What is set at a place stands there, and the other places are as they were.
 pub record SetsOnePlace : Type 0 where
-  pub here : (table : List (List (List ℕ))) (slot cpu : ℕ) (times : List ℕ) → IsPlace table slot cpu → times_at (put table slot cpu times) slot cpu ≡ times
+  pub here : (table : List (List (List ℕ))) (slot cpu : ℕ) (times : List ℕ) → IsPlace table slot cpu → times_at (put_times table slot cpu times) slot cpu ≡ times
   pub elsewhere : (table : List (List (List ℕ))) (slot cpu : ℕ) (times : List ℕ) (other_slot other_cpu : ℕ) → IsPlace table slot cpu → (other_slot ≢ slot) ⊎ (other_cpu ≢ cpu) →
-      times_at (put table slot cpu times) other_slot other_cpu ≡ times_at table other_slot other_cpu
+      times_at (put_times table slot cpu times) other_slot other_cpu ≡ times_at table other_slot other_cpu

@@ -6,6 +6,6 @@ mod rows;
 mod totals;
 mod weighted;
 
-pub use rows::{Rows, tables};
+pub use rows::{Rows, law_rows};
 pub use totals::Totals;
 pub use weighted::share;

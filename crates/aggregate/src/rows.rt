@@ -1,7 +1,7 @@
 //! The times of all groups on all processors at a tick.
 ghost use Rattle.std.specs.Prelude.{◌≡◌, ◌<◌, ◌*◌, [], IfOk, length, slice_index_or, replicate};
 ghost use Rattle.aggregate.specs.Table as table;
-ghost use Rattle.aggregate.specs.Table.{new_table, put, HaveSameSizes, IsPlace, KeepsSizes, SetsOnePlace};
+ghost use Rattle.aggregate.specs.Table.{new_table, put_times, HaveSameSizes, IsPlace, KeepsSizes, SetsOnePlace};
 
 use psi_base::{Cpu, NoMemory, Slot};
 use std::alloc::Global;
@@ -39,7 +39,7 @@ impl Rows {
     /// Sets the times of a group on a processor.
     pub fn set(&mut self, cpu: Cpu, slot: Slot, times: [u64; 7])
         requires { IsPlace self.old slot.0 cpu.0 }
-        ensures { self.new ≡ put self.old slot.0 cpu.0 times }
+        ensures { self.new ≡ put_times self.old slot.0 cpu.0 times }
     {
         let place = slot.0 as usize * self.cpus as usize + cpu.0 as usize;
         self.times[place] = times;
@@ -74,7 +74,7 @@ fn rows_with(cpus: u32, slots: u32, times: Vec<[u64; 7]>) -> Rows
     Rows { cpus, slots, times }
 }
 
-/// So many processors' times, all zeros.
+/// So many places of seven times, all zeros.
 fn no_times(alloc: Global, count: usize) -> Result<Vec<[u64; 7]>, NoMemory>
     ensures { IfOk result (λ times. times.items ≡ replicate count table.no_times) }
 {
@@ -85,7 +85,7 @@ fn no_times(alloc: Global, count: usize) -> Result<Vec<[u64; 7]>, NoMemory>
 }
 
 /// Laws of tables: they keep their sizes, and what is set is found at its place and changes no other.
-pub fn tables()
+pub fn law_rows()
     ensures sizes { KeepsSizes }
     ensures places { SetsOnePlace }
 {}

@@ -7,9 +7,9 @@ use Rattle.std.proofs.lemmas.Bool.{eqb-true}
 use Rattle.atomic_table.specs.Table.{Joins, Splits, keeps, stepped}
 use Rattle.atomic_table.proofs.Lists.{at_longer, at_set, at_snoc, set_again, set_else}
 use Rattle.psi_laws.specs.Plan.{PlanView}
-use Rattle.clock_row.specs.Words.{AreClocks, StoodTogether}
-use Rattle.clock_row.specs.Row.{HoldsRule, IsRow, Knows, KnowsLoaded, RowState, open_bit, sequence, writer_at_start}
-use Rattle.clock_row.specs.Steps.{BeginKeeps, CloseKeeps, EndKeeps, LoadKeeps, OpenKeeps, OwnKeeps, PutKeeps, ReaderTakesNote, SplitKeeps, StartHolds, WriterTakesNote, begun, begun_by, closed, ended, ended_by, loaded_at, loaded_too, note_of, opened, put_at, reader_of, shown, told_of, with_note}
+use Rattle.clock_row.specs.Words.{AreClockWords, StoodTogether}
+use Rattle.clock_row.specs.Row.{HoldsRule, IsWholeRow, Knows, KnowsLoaded, RowState, open_bit, sequence, writer_at_start}
+use Rattle.clock_row.specs.Steps.{BeginKeeps, CloseKeeps, EndKeeps, LoadKeeps, OpenKeeps, OwnKeeps, PutKeeps, ReaderTakesNote, SplitKeeps, StartHolds, WriterTakesNote, begun_by, change_opened, closed, count_shown, count_told, ended, ended_by, loaded_at, loaded_too, note_of, put_at, reader_of, try_begun, with_note}
 use Rattle.clock_row.specs.declared.view.WriterView.{WriterView}
 use Rattle.clock_row.specs.declared.view.ReaderView.{ReaderView}
 use Rattle.clock_row.specs.declared.view.Note.{Note}
@@ -65,8 +65,8 @@ others_know seat w w' plan more grows other apart (Reader r) k = let a : 2 * r.s
 )
 
 -- the seat of a writer's view is the writer's
-mine : (s : RowState) (id : ℕ) (v : View) (w : WriterView) → v ≡ Writer w → HoldsRule s → get_elem? s.views id ≡ some v → IsRow id w s
-mine s id v w is r at = let known = subst (Knows r.0 r.1 id) is (r.2.each id v at) in subst (λ (z : ℕ × WriterView). IsRow z.0 z.1 s) (λ i. (sym known.0 i, sym known.1 i)) r.2
+mine : (s : RowState) (id : ℕ) (v : View) (w : WriterView) → v ≡ Writer w → HoldsRule s → get_elem? s.views id ≡ some v → IsWholeRow id w s
+mine s id v w is r at = let known = subst (Knows r.0 r.1 id) is (r.2.each id v at) in subst (λ (z : ℕ × WriterView). IsWholeRow z.0 z.1 s) (λ i. (sym known.0 i, sym known.1 i)) r.2
 
 -- a reader's seat isn't the writer's
 guest : (s : RowState) (r : HoldsRule s) (id : ℕ) (v : View) (q : ReaderView) → v ≡ Reader q → get_elem? s.views id ≡ some v → id ≢ r.0
@@ -82,8 +82,8 @@ reader_knows s r id v q is at = subst (Knows r.0 r.1 id) is (r.2.each id v at)
 -- ---- what a step leaves of the rule
 
 -- a store of the writer
-writer_steps : (s : RowState) (id : ℕ) (w w' : WriterView) → IsRow id w s → (i x : ℕ) (cs : List (ℕ × Unit {0})) → set (sequence w ∷ w.body) i x ≡ sequence w' ∷ w'.body → w'.plan ≡ w.plan
-    → sequence w ≤ sequence w' → (sequence w' % 2 ≡ 0 → sequence w < sequence w') → 2 * w'.told ≤ sequence w' → (w'.changing ≡ false → AreClocks w'.plan w'.count w'.body)
+writer_steps : (s : RowState) (id : ℕ) (w w' : WriterView) → IsWholeRow id w s → (i x : ℕ) (cs : List (ℕ × Unit {0})) → set (sequence w ∷ w.body) i x ≡ sequence w' ∷ w'.body → w'.plan ≡ w.plan
+    → sequence w ≤ sequence w' → (sequence w' % 2 ≡ 0 → sequence w < sequence w') → 2 * w'.told ≤ sequence w' → (w'.changing ≡ false → AreClockWords w'.plan w'.count w'.body)
     → HoldsRule (stepped s i x id cs (Writer w') keeps)
 writer_steps s id w w' r i x cs words plan more grows told rest = (
   id,
@@ -119,10 +119,10 @@ guest_steps s r i id cs v other knows = let row = r.2 in (
 
 pub open_keeps : OpenKeeps
 open_keeps slots id me w x is number still s r _ at _ = let row = mine s id me.0 w is r at in let zero_bit : open_bit w.changing ≡ 0 = ap open_bit still in let told = row.told in (
-  Writer (opened w),
+  Writer (change_opened w),
   keeps,
   tt,
-  writer_steps s id w (opened w) row 0 x me.1 (ap (λ (z : ℕ). z ∷ w.body) number) refl (omega arith) (λ even. absurd (omega arith)) (omega arith) (λ e. absurd (cc)),
+  writer_steps s id w (change_opened w) row 0 x me.1 (ap (λ (z : ℕ). z ∷ w.body) number) refl (omega arith) (λ even. absurd (omega arith)) (omega arith) (λ e. absurd (cc)),
   λ w' is'. cc,
 )
 
@@ -161,11 +161,11 @@ begun_knows seat now id n q number k false is = let below : 2 * q.seen ≤ seque
 
 pub begin_keeps : BeginKeeps
 begin_keeps slots id me q is s r _ at _ = let n : ℕ = get_or s.words 0 0 in let number : n ≡ sequence r.1 = ap (λ ws. get_or ws 0 0) r.2.words in let k = reader_knows s r id me.0 q is at in let below : 2 * q.seen ≤ sequence r.1 = k.1 in (
-  Reader (begun n q),
+  Reader (try_begun n q),
   keeps,
   tt,
-  guest_steps s r 0 id me.1 (Reader (begun n q)) (guest s r id me.0 q is at) (begun_knows r.0 r.1 id n q number k (eqb (n % 2) 0) refl),
-  λ q' is'. let both : me.0 ≡ Reader q = is in let same : q ≡ q' = cc in subst (λ (z : ReaderView). (Reader (begun n q) ≡ Reader (begun n z)) × (2 * z.seen ≤ n)) same (refl, omega arith),
+  guest_steps s r 0 id me.1 (Reader (try_begun n q)) (guest s r id me.0 q is at) (begun_knows r.0 r.1 id n q number k (eqb (n % 2) 0) refl),
+  λ q' is'. let both : me.0 ≡ Reader q = is in let same : q ≡ q' = cc in subst (λ (z : ReaderView). (Reader (try_begun n q) ≡ Reader (try_begun n z)) × (2 * z.seen ≤ n)) same (refl, omega arith),
 )
 
 loaded_knows : (number : ℕ) (body : List ℕ) (p x : ℕ) → x ≡ get_or body p 0 → (a : Attempt) → KnowsLoaded number body a → KnowsLoaded number body (loaded_too p x a)
@@ -188,13 +188,13 @@ ended_knows seat now id n first q number k true is = let e : n ≡ first = eqb-t
 ended_knows seat now id n first q number k false is = (k.0, k.1, tt)
 
 -- where the number is the first of a try, no change is open, and the words as they stand are those that were loaded
-stood_together : (seat : ℕ) (now : WriterView) (s : RowState) (n first : ℕ) (plan : PlanView) (loaded : List (ℕ × ℕ)) → IsRow seat now s → n ≡ sequence now → plan ≡ now.plan → KnowsLoaded (sequence now) now.body (Open first loaded) → n ≡ first
+stood_together : (seat : ℕ) (now : WriterView) (s : RowState) (n first : ℕ) (plan : PlanView) (loaded : List (ℕ × ℕ)) → IsWholeRow seat now s → n ≡ sequence now → plan ≡ now.plan → KnowsLoaded (sequence now) now.body (Open first loaded) → n ≡ first
     → StoodTogether plan (first / 2) loaded
 stood_together seat now s n first plan loaded row number same k e = let even : first % 2 ≡ 0 = k.0 in let whole : sequence now ≡ first = sym number ∙ e in
     let even' : sequence now % 2 ≡ 0 = ap (λ (z : ℕ). z % 2) whole ∙ even in let still = even_rests now.changing now.count even' in let no_bit : open_bit now.changing ≡ 0 = ap open_bit still in
     let count : now.count ≡ first / 2 = omega arith in (
       now.body,
-      subst (λ (z : PlanView × ℕ). AreClocks z.0 z.1 now.body) (λ i. (sym same i, count i)) (row.at_rest still),
+      subst (λ (z : PlanView × ℕ). AreClockWords z.0 z.1 now.body) (λ i. (sym same i, count i)) (row.at_rest still),
       k.2 whole,
     )
 
@@ -245,39 +245,39 @@ split_keeps id v = (cuts id v (reader_of v) (new_reader_knows v id), cuts id v (
 
 -- ---- 9: a note is taken
 
-reader_meets : (id : ℕ) (q : ReaderView) (other : ℕ) (n : Note) → Joins HoldsRule id (Reader q) other (Noted n) (Reader (shown n.number q)) Spent
-reader_meets id q other n s r at apart there = let row = r.2 in let was : get_elem? s.views other ≡ some (Noted n) = sym (set_else s.views id other (Reader (shown n.number q)) apart) ∙ there in
+reader_meets : (id : ℕ) (q : ReaderView) (other : ℕ) (n : Note) → Joins HoldsRule id (Reader q) other (Noted n) (Reader (count_shown n.number q)) Spent
+reader_meets id q other n s r at apart there = let row = r.2 in let was : get_elem? s.views other ≡ some (Noted n) = sym (set_else s.views id other (Reader (count_shown n.number q)) apart) ∙ there in
     let known = reader_knows s r id (Reader q) q refl at in let seen : 2 * q.seen ≤ sequence r.1 = known.1 in let told : 2 * n.number ≤ sequence r.1 = (row.each other (Noted n) was).1 in
     let first : r.0 ≢ id = λ e. guest s r id (Reader q) q refl at (sym e) in let second : r.0 ≢ other = λ e. note_apart s r other n was (sym e) in
-    let views : List View = set s.views id (Reader (shown n.number q)) in (
+    let views : List View = set s.views id (Reader (count_shown n.number q)) in (
       r.0,
       r.1,
       record {
-        here = set_else views other r.0 Spent second ∙ (set_else s.views id r.0 (Reader (shown n.number q)) first ∙ row.here);
+        here = set_else views other r.0 Spent second ∙ (set_else s.views id r.0 (Reader (count_shown n.number q)) first ∙ row.here);
         words = row.words;
-        each = views_stay (Knows r.0 r.1) views other Spent tt (λ j w _. views_stay (Knows r.0 r.1) s.views id (Reader (shown n.number q)) (known.0, omega arith, known.2) (λ i x _. row.each i x) j w);
+        each = views_stay (Knows r.0 r.1) views other Spent tt (λ j w _. views_stay (Knows r.0 r.1) s.views id (Reader (count_shown n.number q)) (known.0, omega arith, known.2) (λ i x _. row.each i x) j w);
         told = row.told;
         at_rest = row.at_rest;
       },
     )
 
-told_know : (seat : ℕ) (w : WriterView) (k other : ℕ) → other ≢ seat → (v : View) → Knows seat w other v → Knows seat (told_of k w) other v
+told_know : (seat : ℕ) (w : WriterView) (k other : ℕ) → other ≢ seat → (v : View) → Knows seat w other v → Knows seat (count_told k w) other v
 told_know seat w k other apart Spent known = tt
 told_know seat w k other apart (Noted n) known = known
 told_know seat w k other apart (Writer v) known = absurd (apart known.0)
 told_know seat w k other apart (Reader r) known = known
 
-writer_settles : (id : ℕ) (w : WriterView) (other : ℕ) (n : Note) → Joins HoldsRule id (Writer w) other (Noted n) (Writer (told_of n.number w)) Spent
-writer_settles id w other n s r at apart there = let row = mine s id (Writer w) w refl r at in let was : get_elem? s.views other ≡ some (Noted n) = sym (set_else s.views id other (Writer (told_of n.number w)) apart) ∙ there in
+writer_settles : (id : ℕ) (w : WriterView) (other : ℕ) (n : Note) → Joins HoldsRule id (Writer w) other (Noted n) (Writer (count_told n.number w)) Spent
+writer_settles id w other n s r at apart there = let row = mine s id (Writer w) w refl r at in let was : get_elem? s.views other ≡ some (Noted n) = sym (set_else s.views id other (Writer (count_told n.number w)) apart) ∙ there in
     let told : 2 * n.number ≤ sequence w = (row.each other (Noted n) was).1 in let before = row.told in
-    let views : List View = set s.views id (Writer (told_of n.number w)) in (
+    let views : List View = set s.views id (Writer (count_told n.number w)) in (
       id,
-      told_of n.number w,
+      count_told n.number w,
       record {
-        here = set_else views other id Spent (λ e. apart (sym e)) ∙ set_there s.views id (Writer w) (Writer (told_of n.number w)) at;
+        here = set_else views other id Spent (λ e. apart (sym e)) ∙ set_there s.views id (Writer w) (Writer (count_told n.number w)) at;
         words = row.words;
-        each = views_stay (Knows id (told_of n.number w)) views other Spent tt
-            (λ j v _. views_stay (Knows id (told_of n.number w)) s.views id (Writer (told_of n.number w)) (refl, refl) (λ i x away e. told_know id w n.number i away x (row.each i x e)) j v);
+        each = views_stay (Knows id (count_told n.number w)) views other Spent tt
+            (λ j v _. views_stay (Knows id (count_told n.number w)) s.views id (Writer (count_told n.number w)) (refl, refl) (λ i x away e. told_know id w n.number i away x (row.each i x e)) j v);
         told = omega arith;
         at_rest = row.at_rest;
       },

@@ -6,7 +6,7 @@ use Rattle.psi_laws.specs.Clock.{AreWordsOfClock, ClockView, words_of, zero_cloc
 use Rattle.psi_laws.specs.Plan.{IsClock, PlanView}
 use Rattle.psi_laws.proofs.ClockLaws.{words_tell_clock}
 use Rattle.clock_row.specs.Words.{Agrees, AreClock, ClockWasLoaded, ClocksWereLoaded, StaysLoaded, StoodTogether, WereLoaded, words_at}
-use Rattle.clock_row.specs.Steps.{begun, begun_by, loaded_at, loaded_too}
+use Rattle.clock_row.specs.Steps.{begun_by, loaded_at, loaded_too, try_begun}
 use Rattle.clock_row.specs.Seats.{as_reader, loaded_in, with_attempt}
 use Rattle.clock_row.specs.declared.view.ReaderView.{ReaderView}
 use Rattle.clock_row.specs.declared.view.Attempt.{Attempt}
@@ -31,7 +31,7 @@ begun_by_plan : (b : Bool) (n : ℕ) (r : ReaderView) → (begun_by b n r).plan 
 begun_by_plan true n r = refl
 begun_by_plan false n r = refl
 
-pub begun_plan : (n : ℕ) (r : ReaderView) → (begun n r).plan ≡ r.plan
+pub begun_plan : (n : ℕ) (r : ReaderView) → (try_begun n r).plan ≡ r.plan
 begun_plan n r = begun_by_plan (eqb (n % 2) 0) n r
 
 -- a word was loaded in a try that went on since a first view

@@ -7,7 +7,7 @@ use Rattle.psi_laws.specs.Clock.{AreWordsOfClock, ClockView, IsWholeClock, words
 use Rattle.psi_laws.specs.Plan.{IsClock, PlanView}
 use Rattle.psi_laws.proofs.MaskLaws.{masks_are_their_states}
 use Rattle.psi_laws.proofs.PlanClocks.{zero_is_clock}
-use Rattle.clock_row.specs.Words.{AreClock, AreClocks, ArePut, mask_at, words_at}
+use Rattle.clock_row.specs.Words.{AreClock, AreClockWords, ArePut, mask_at, words_at}
 
 -- ---- words at a place
 
@@ -58,7 +58,7 @@ pub clock_words : (plan : PlanView) (slot k : ℕ) (words : List ℕ) → AreClo
 clock_words plan slot k words are = (are.0, are.1, are.2.whole)
 
 -- zeros are a clock before the first change
-pub zeros_are : (plan : PlanView) → AreClocks plan 0 (replicate (9 * length plan.parents) 0)
+pub zeros_are : (plan : PlanView) → AreClockWords plan 0 (replicate (9 * length plan.parents) 0)
 zeros_are plan = record {
   wide = length-replicate (9 * length plan.parents) 0;
   each = λ slot below. let n = length plan.parents in

@@ -19,11 +19,11 @@ use Rattle.psi_laws.proofs.PlanClocks.{kept_is_clock}
 use Rattle.psi_laws.proofs.PlanSteps.{aside_stays}
 use Rattle.proc_plan.specs.Plans.{AreConcerned, IsOnNone, OthersAreAside}
 use Rattle.proc_plan.proofs.ClockSteps.{current_below}
-use Rattle.clock_row.specs.Words.{AreClock, AreClocks, AreOnTheWay, ArePut, GoesOn, StayByMask, StaysOrTurns, mask_at, words_at}
+use Rattle.clock_row.specs.Words.{AreClock, AreClockWords, AreOnTheWay, ArePut, GoesOn, StayByMask, StaysOrTurns, mask_at, words_at}
 use Rattle.clock_row.specs.Seats.{HasStored, IsSameSeat, IsWriter, RowSeat, as_writer, with_body, writer_on}
 use Rattle.clock_row.specs.Turning.{AreBelow, ChainIsDone, ChainsAreDone, HasTurned, IsDone, IsTurning}
 use Rattle.clock_row.specs.Ends.{IsWriterEnd}
-use Rattle.clock_row.specs.Steps.{opened}
+use Rattle.clock_row.specs.Steps.{change_opened}
 use Rattle.proc_plan.specs.Clocks.{OnPlan}
 use Rattle.slot_clocks.specs.Walk.{slot_in}
 use Rattle.clock_row.specs.declared.view.WriterView.{WriterView}
@@ -116,7 +116,7 @@ stay_by_mask plan k before after goes slot below same = ⊎_elim
     (goes.each slot below)
 
 -- before a change each slot is on the way
-pub way_begins : (plan : PlanView) (k : ℕ) (body : List ℕ) → AreClocks plan k body → AreOnTheWay plan k body
+pub way_begins : (plan : PlanView) (k : ℕ) (body : List ℕ) → AreClockWords plan k body → AreOnTheWay plan k body
 way_begins plan k body are = record { wide = are.wide; each = λ slot below. inl (are.each slot below) }
 
 -- ---- seats
@@ -249,7 +249,7 @@ one_or_none parents (start ∷ starts) slot = ⊎_elim
     (true_or_false (leads_to parents (number_of_slot start) slot))
 
 -- the words of each slot are a clock once the chains are done
-pub all_done : (plan : PlanView) (k : ℕ) (body : List ℕ) (starts : List (Option Slot)) → IsPlan plan → k < length plan.changes → AreOnTheWay plan k body → OthersAreAside plan k starts → All (AllDone plan k body) starts → AreClocks plan (k + 1) body
+pub all_done : (plan : PlanView) (k : ℕ) (body : List ℕ) (starts : List (Option Slot)) → IsPlan plan → k < length plan.changes → AreOnTheWay plan k body → OthersAreAside plan k starts → All (AllDone plan k body) starts → AreClockWords plan (k + 1) body
 all_done plan k body starts whole room way aside done = record {
   wide = way.wide;
   each = λ slot below. ⊎_elim
@@ -282,9 +282,9 @@ chain_stays before after start turned done slot below leads =
 -- ---- a change
 
 -- once it is open, the slots may be turned
-pub turning_begins : (row : TableId) (before after : RowSeat) (plan : PlanView) (clocks : OnPlan) → IsWriterEnd row before plan clocks → clocks.made < length plan.changes → IsSameSeat before after → after.me.0 ≡ Writer (opened (writer_on before)) → IsTurning row after
+pub turning_begins : (row : TableId) (before after : RowSeat) (plan : PlanView) (clocks : OnPlan) → IsWriterEnd row before plan clocks → clocks.made < length plan.changes → IsSameSeat before after → after.me.0 ≡ Writer (change_opened (writer_on before)) → IsTurning row after
 turning_begins row before after plan clocks was room seat view =
-    let is : writer_on after ≡ opened (writer_on before) = ap as_writer view in
+    let is : writer_on after ≡ change_opened (writer_on before) = ap as_writer view in
     let plan_is : plan ≡ (writer_on after).plan = sym (ap (λ (w : WriterView). w.plan) is ∙ was.plan_is) in
     let count : clocks.made ≡ (writer_on after).count = was.clocks_made ∙ sym (ap (λ (w : WriterView). w.count) is) in
     record {
@@ -296,11 +296,11 @@ turning_begins row before after plan clocks was room seat view =
       whole = subst IsPlan plan_is was.whole;
       next = subst (λ (z : PlanView × ℕ). z.1 < length z.0.changes) (λ i. (plan_is i, count i)) room;
       way = way_begins (writer_on after).plan (writer_on after).count (writer_on after).body
-          (subst (λ (z : PlanView × WriterView). AreClocks z.0 z.1.count z.1.body) (λ i. (plan_is i, sym is i)) was.words);
+          (subst (λ (z : PlanView × WriterView). AreClockWords z.0 z.1.count z.1.body) (λ i. (plan_is i, sym is i)) was.words);
     }
 
 -- the plan and the count of a writer's seat stay while slots are turned
-pub turned_from : (row : TableId) (before begun after : RowSeat) (plan : PlanView) (clocks : OnPlan) (k : ℕ) → IsWriterEnd row before plan clocks → k ≡ clocks.made → begun.me.0 ≡ Writer (opened (writer_on before)) → HasTurned begun after
+pub turned_from : (row : TableId) (before begun after : RowSeat) (plan : PlanView) (clocks : OnPlan) (k : ℕ) → IsWriterEnd row before plan clocks → k ≡ clocks.made → begun.me.0 ≡ Writer (change_opened (writer_on before)) → HasTurned begun after
     → (plan ≡ (writer_on after).plan) × (k ≡ (writer_on after).count)
 turned_from row before begun after plan clocks k was count view turned =
     let at_open = ap as_writer view in let at_last = stored_view begun after turned.stored in (
@@ -309,10 +309,10 @@ turned_from row before begun after plan clocks k was count view turned =
     )
 
 -- once the chains are done, the words of each slot are a clock after the change
-pub change_done : (row : TableId) (before begun after : RowSeat) (plan : PlanView) (clocks : OnPlan) (k : ℕ) (starts : List (Option Slot)) → IsWriterEnd row before plan clocks → k ≡ clocks.made → begun.me.0 ≡ Writer (opened (writer_on before))
-    → HasTurned begun after → IsTurning row after → OthersAreAside plan k starts → ChainsAreDone after starts → AreClocks plan (k + 1) (writer_on after).body
+pub change_done : (row : TableId) (before begun after : RowSeat) (plan : PlanView) (clocks : OnPlan) (k : ℕ) (starts : List (Option Slot)) → IsWriterEnd row before plan clocks → k ≡ clocks.made → begun.me.0 ≡ Writer (change_opened (writer_on before))
+    → HasTurned begun after → IsTurning row after → OthersAreAside plan k starts → ChainsAreDone after starts → AreClockWords plan (k + 1) (writer_on after).body
 change_done row before begun after plan clocks k starts was count view turned turning aside done =
     let from = turned_from row before begun after plan clocks k was count view turned in
-    subst (λ (z : PlanView × ℕ). AreClocks z.0 (z.1 + 1) (writer_on after).body) (λ i. (sym from.0 i, sym from.1 i))
+    subst (λ (z : PlanView × ℕ). AreClockWords z.0 (z.1 + 1) (writer_on after).body) (λ i. (sym from.0 i, sym from.1 i))
     (all_done (writer_on after).plan (writer_on after).count (writer_on after).body starts turning.whole turning.next turning.way
     (subst (λ (z : PlanView × ℕ). OthersAreAside z.0 z.1 starts) (λ i. (from.0 i, from.1 i)) aside) done)

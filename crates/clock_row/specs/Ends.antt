@@ -4,7 +4,7 @@ use Rattle.atomic_table.specs.Seated.{TableId}
 use Rattle.psi_laws.specs.Clock.{ClockView, zero_clock}
 use Rattle.psi_laws.specs.Plan.{IsClock, IsPlan, PlanView}
 use Rattle.proc_plan.specs.Clocks.{OnPlan}
-use Rattle.clock_row.specs.Words.{AreClocks}
+use Rattle.clock_row.specs.Words.{AreClockWords}
 use Rattle.clock_row.specs.Seats.{IsReader, IsWriter, RowSeat, reader_on, writer_on}
 use Rattle.clock_row.specs.declared.view.WriterView.{WriterView}
 use Rattle.clock_row.specs.declared.view.ReaderView.{ReaderView}
@@ -20,8 +20,8 @@ pub record ReaderEnd : Type 0 where
   pub row : TableId
   pub knows : ReaderView
 
--- A writer between two calls: the row is as wide as its plan has slots, no change is open, the words of each slot are a clock,
--- and clocks of its own have made the same changes of the same plan.
+-- A writer between two calls: the row has one word and nine for each slot of its plan, no change is open, the words of each
+-- slot are a clock, and clocks of its own have made the same changes of the same plan.
 pub record IsWriterEnd (row : TableId) (seat : RowSeat) (plan : PlanView) (clocks : OnPlan) : Type 0 where
   pub on_row : seat.table_id ≡ row
   pub wide : row.words ≡ 9 * length plan.parents + 1
@@ -32,9 +32,9 @@ pub record IsWriterEnd (row : TableId) (seat : RowSeat) (plan : PlanView) (clock
   pub plan_is : (writer_on seat).plan ≡ plan
   pub clocks_plan : clocks.plan ≡ plan
   pub clocks_made : clocks.made ≡ (writer_on seat).count
-  pub words : AreClocks plan (writer_on seat).count (writer_on seat).body
+  pub words : AreClockWords plan (writer_on seat).count (writer_on seat).body
 
--- A reader between two calls: the row is as wide as its plan has slots, and no try is open.
+-- A reader between two calls: the row has one word and nine for each slot of its plan, and no try is open.
 pub record IsReaderEnd (row : TableId) (seat : RowSeat) : Type 0 where
   pub on_row : seat.table_id ≡ row
   pub wide : row.words ≡ 9 * length (reader_on seat).plan.parents + 1
@@ -43,19 +43,19 @@ pub record IsReaderEnd (row : TableId) (seat : RowSeat) : Type 0 where
   pub closed : (reader_on seat).attempt ≡ Closed
 
 -- A try succeeded with so many changes: the number was loaded twice, both times as twice that, and so many were seen.
-abbrev pub sampled : ℕ → ReaderView → ReaderView
-sampled count reader = record reader { seen = count; loads = reader.loads + 2; got = reader.got ++ count ∷ []; first = 2 * count; second = 2 * count }
+abbrev pub sample_taken : ℕ → ReaderView → ReaderView
+sample_taken count reader = record reader { seen = count; loads = reader.loads + 2; got = reader.got ++ count ∷ []; first = 2 * count; second = 2 * count }
 
 -- A try met a change: the number was loaded so often, last as these two, and nothing more was seen.
-abbrev pub refused : ℕ → ℕ → ℕ → ReaderView → ReaderView
-refused loads first second reader = record reader { loads = reader.loads + loads; met = reader.met + 1; first = first; second = second }
+abbrev pub met_change : ℕ → ℕ → ℕ → ReaderView → ReaderView
+met_change loads first second reader = record reader { loads = reader.loads + loads; met = reader.met + 1; first = first; second = second }
 
 -- A try met a change by these two numbers: either one was loaded, which is odd, and stands for both, or two were loaded, the
 -- first even and the second greater.
 abbrev pub IsBusy : ℕ → ℕ → ReaderView → ReaderView → Type 0
 IsBusy first second before after =
-    ((first % 2 ≡ 1) × (second ≡ first) × (after ≡ refused 1 before.second first before))
-    ⊎ ((first % 2 ≡ 0) × (first < second) × (after ≡ refused 2 first second before))
+    ((first % 2 ≡ 1) × (second ≡ first) × (after ≡ met_change 1 before.second first before))
+    ⊎ ((first % 2 ≡ 0) × (first < second) × (after ≡ met_change 2 first second before))
 
 -- the clock of each slot, in the order of the slots, stands for it after the first k changes
 abbrev pub AllAreClocks : PlanView → ℕ → List ClockView → Type 0

@@ -7,7 +7,7 @@ use mathlib.Core.Option.{some}
 use lib.ListN.{get_elem?}
 use Rattle.atomic_table.specs.Table.{State}
 use Rattle.psi_laws.specs.Plan.{PlanView}
-use Rattle.clock_row.specs.Words.{Agrees, AreClocks}
+use Rattle.clock_row.specs.Words.{Agrees, AreClockWords}
 use Rattle.clock_row.specs.declared.view.WriterView.{WriterView}
 use Rattle.clock_row.specs.declared.view.Attempt.{Attempt}
 use Rattle.clock_row.specs.declared.view.Attempt.TheVariants.{Closed, Open}
@@ -44,18 +44,18 @@ Knows seat writer other (Reader reader) = (reader.plan ≡ writer.plan) × (2 * 
 -- A row with this writer: the writer's view is at its seat and has the words as they stand behind the sequence number; each
 -- seat knows of the row what its view says, and so does the writer of what it was told; and where no change is open, the words
 -- of each slot are a clock after the changes that are in the row.
-pub record IsRow (seat : ℕ) (writer : WriterView) (row : RowState) : Type 0 where
+pub record IsWholeRow (seat : ℕ) (writer : WriterView) (row : RowState) : Type 0 where
   pub here : get_elem? row.views seat ≡ some (Writer writer)
   pub words : row.words ≡ sequence writer ∷ writer.body
   pub each : (other : ℕ) (view : View) → get_elem? row.views other ≡ some view → Knows seat writer other view
   pub told : 2 * writer.told ≤ sequence writer
-  pub at_rest : writer.changing ≡ false → AreClocks writer.plan writer.count writer.body
+  pub at_rest : writer.changing ≡ false → AreClockWords writer.plan writer.count writer.body
 
 -- The rule: it is a row with some writer.
 abbrev pub HoldsRule : RowState → Type 0
-HoldsRule row = (seat : ℕ) × (writer : WriterView) × IsRow seat writer row
+HoldsRule row = (seat : ℕ) × (writer : WriterView) × IsWholeRow seat writer row
 
--- the writer's view before the first change, with words of this number
+-- the writer's view before the first change, with these words behind the number
 abbrev pub writer_at_start : PlanView → List ℕ → WriterView
 writer_at_start plan body = record { plan = plan; count = 0; body = body; changing = false; told = 0 }
 

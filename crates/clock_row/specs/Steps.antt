@@ -3,7 +3,7 @@ use Rattle.std.specs.Prelude.{◌≡◌, ℕ, ◌+◌, ◌*◌, ◌-◌, ◌/◌
 use mathlib.Core.Option.{none}
 use Rattle.atomic_table.specs.Table.{Allows, Joins, Me, Splits, Step, opening, step}
 use Rattle.psi_laws.specs.Plan.{PlanView}
-use Rattle.clock_row.specs.Words.{AreClocks, StoodTogether}
+use Rattle.clock_row.specs.Words.{AreClockWords, StoodTogether}
 use Rattle.clock_row.specs.Row.{HoldsRule, sequence, writer_at_start}
 use Rattle.clock_row.specs.declared.view.WriterView.{WriterView}
 use Rattle.clock_row.specs.declared.view.ReaderView.{ReaderView}
@@ -13,7 +13,7 @@ use Rattle.clock_row.specs.declared.view.Attempt.TheVariants.{Closed, Open}
 use Rattle.clock_row.specs.declared.view.View.{View}
 use Rattle.clock_row.specs.declared.view.View.TheVariants.{Spent, Noted, Writer, Reader}
 
--- a seat's view, and its slots of the table: a row has none
+-- a seat's view, and what `atomic_table` calls its slots: on a row there are none
 abbrev pub Sitter : Type 0
 Sitter = Me (Unit {0}) View
 
@@ -32,8 +32,8 @@ Reads change before after = (reader : ReaderView) → before ≡ Reader reader �
 -- ---- 1 to 4: the writer
 
 -- a change is open
-abbrev pub opened : WriterView → WriterView
-opened writer = record writer { changing = true }
+abbrev pub change_opened : WriterView → WriterView
+change_opened writer = record writer { changing = true }
 
 -- this word is at its place
 abbrev pub put_at : ℕ → ℕ → WriterView → WriterView
@@ -45,7 +45,7 @@ closed writer = record writer { count = writer.count + 1; changing = false }
 
 -- 1: the store of the odd number opens a change.
 abbrev pub Opens : RowStep → Sitter → ℕ → Sitter → Type 0
-Opens step before number after = Writes opened before.0 after.0
+Opens step before number after = Writes change_opened before.0 after.0
 
 -- 2: the store of a word behind the number puts it there.
 abbrev pub Puts : RowStep → Sitter → ℕ → Sitter → Type 0
@@ -69,8 +69,8 @@ begun_by true number reader = record reader { loads = reader.loads + 1; first = 
 begun_by false number reader = record reader { loads = reader.loads + 1; met = reader.met + 1; first = reader.second; second = number; attempt = Closed }
 
 -- so it is after the first load of a try
-abbrev pub begun : ℕ → ReaderView → ReaderView
-begun number reader = begun_by (number % 2 == 0) number reader
+abbrev pub try_begun : ℕ → ReaderView → ReaderView
+try_begun number reader = begun_by (number % 2 == 0) number reader
 
 -- a try with one value more
 abbrev pub loaded_too : ℕ → ℕ → Attempt → Attempt
@@ -92,8 +92,8 @@ abbrev pub ended : ℕ → ℕ → ReaderView → ReaderView
 ended first number reader = ended_by (number == first) first number reader
 
 -- 5: the first load of the number begins a try. No fewer changes are in the row than the reader has seen.
-abbrev pub Begins : RowStep → Sitter → ℕ → Sitter → Type 0
-Begins step before number after = (reader : ReaderView) → before.0 ≡ Reader reader → (after.0 ≡ Reader (begun number reader)) × (2 * reader.seen ≤ number)
+abbrev pub BeginsTry : RowStep → Sitter → ℕ → Sitter → Type 0
+BeginsTry step before number after = (reader : ReaderView) → before.0 ≡ Reader reader → (after.0 ≡ Reader (try_begun number reader)) × (2 * reader.seen ≤ number)
 
 -- 6: the load of a word behind the number is kept in the try.
 abbrev pub Loads : RowStep → Sitter → ℕ → Sitter → Type 0
@@ -101,8 +101,8 @@ Loads step before value after = Reads (loaded_at (step.word - 1) value) before.0
 
 -- 7: The second load of the number ends a try. The number isn't below the first; and where it is the first, what was loaded
 -- are words that stood together after so many changes.
-abbrev pub Ends : RowStep → Sitter → ℕ → Sitter → Type 0
-Ends step before number after =
+abbrev pub EndsTry : RowStep → Sitter → ℕ → Sitter → Type 0
+EndsTry step before number after =
     (reader : ReaderView) (first : ℕ) (loaded : List (ℕ × ℕ)) → before.0 ≡ Reader reader → reader.attempt ≡ Open first loaded →
     (after.0 ≡ Reader (ended first number reader)) × (first ≤ number) × (number ≡ first → StoodTogether reader.plan (first / 2) loaded)
 
@@ -131,24 +131,24 @@ number_noted (Noted note) = note.number
 number_noted view = 0
 
 -- a reader that has seen at least so many changes now
-abbrev pub shown : ℕ → ReaderView → ReaderView
-shown number reader = record reader { seen = max reader.seen number }
+abbrev pub count_shown : ℕ → ReaderView → ReaderView
+count_shown number reader = record reader { seen = max reader.seen number }
 
 -- a writer that was told of at least so many changes now
-abbrev pub told_of : ℕ → WriterView → WriterView
-told_of number writer = record writer { told = max writer.told number }
+abbrev pub count_told : ℕ → WriterView → WriterView
+count_told number writer = record writer { told = max writer.told number }
 
 -- a reader has then seen what the note says, and a writer was told of it
 abbrev pub with_note : View → View → View
-with_note (Writer writer) note = Writer (told_of (number_noted note) writer)
-with_note (Reader reader) note = Reader (shown (number_noted note) reader)
+with_note (Writer writer) note = Writer (count_told (number_noted note) writer)
+with_note (Reader reader) note = Reader (count_shown (number_noted note) reader)
 with_note view note = view
 
 -- ---- laws: each step keeps the rule, from whatever row that meets it
 
 -- A row of zeros before the first change meets the rule, where zeros are clocks then.
 abbrev pub StartHolds : Type 0
-StartHolds = (plan : PlanView) (body : List ℕ) → AreClocks plan 0 body → HoldsRule (opening (0 ∷ body) [] (Writer (writer_at_start plan body)))
+StartHolds = (plan : PlanView) (body : List ℕ) → AreClockWords plan 0 body → HoldsRule (opening (0 ∷ body) [] (Writer (writer_at_start plan body)))
 
 -- 1: where no change is open, the writer may store the next odd number.
 abbrev pub OpenKeeps : Type 0
@@ -163,7 +163,7 @@ PutKeeps = (slots id : ℕ) (me : Sitter) (writer : WriterView) (place word : �
 -- 3: once the words of each slot are a clock after the change, it may store the next even number.
 abbrev pub CloseKeeps : Type 0
 CloseKeeps = (slots id : ℕ) (me : Sitter) (writer : WriterView) (number : ℕ) → me.0 ≡ Writer writer → number ≡ 2 * writer.count + 2 → writer.changing ≡ true →
-    AreClocks writer.plan (writer.count + 1) writer.body →
+    AreClockWords writer.plan (writer.count + 1) writer.body →
     Allows HoldsRule slots id me 0 (λ _. number) (λ _. Closes (step slots 0 number 0 none) me number)
 
 -- 4: the writer may load any word at any time.
@@ -172,7 +172,7 @@ OwnKeeps = (slots id word : ℕ) (me : Sitter) → Allows HoldsRule slots id me 
 
 -- 5: a reader may begin a try at any time.
 abbrev pub BeginKeeps : Type 0
-BeginKeeps = (slots id : ℕ) (me : Sitter) (reader : ReaderView) → me.0 ≡ Reader reader → Allows HoldsRule slots id me 0 (λ number. number) (Begins (step slots 0 0 0 none) me)
+BeginKeeps = (slots id : ℕ) (me : Sitter) (reader : ReaderView) → me.0 ≡ Reader reader → Allows HoldsRule slots id me 0 (λ number. number) (BeginsTry (step slots 0 0 0 none) me)
 
 -- 6: it may load any word behind the number.
 abbrev pub LoadKeeps : Type 0
@@ -182,7 +182,7 @@ LoadKeeps = (slots id place : ℕ) (me : Sitter) (reader : ReaderView) → me.0 
 -- 7: it may end a try that is open.
 abbrev pub EndKeeps : Type 0
 EndKeeps = (slots id first : ℕ) (me : Sitter) (reader : ReaderView) (loaded : List (ℕ × ℕ)) → me.0 ≡ Reader reader → reader.attempt ≡ Open first loaded →
-    Allows HoldsRule slots id me 0 (λ number. number) (Ends (step slots 0 0 0 none) me)
+    Allows HoldsRule slots id me 0 (λ number. number) (EndsTry (step slots 0 0 0 none) me)
 
 -- 8: a seat may give a reader, and a note.
 abbrev pub SplitKeeps : Type 0

@@ -9,8 +9,8 @@ use Rattle.psi_spec.specs.Stall.{number_of_slot}
 use Rattle.clock_row.specs.Words.{AreClock, AreOnTheWay, GoesOn, words_at}
 use Rattle.clock_row.specs.Seats.{HasStored, IsSameSeat, IsWriter, RowSeat, writer_on}
 
--- A change is open at the writer's seat: the row is as wide as its plan has slots, the plan has a change to make, and the
--- words of each slot are a clock before it or after it.
+-- A change is open at the writer's seat: the row has one word and nine for each slot of its plan, the plan has a change to make,
+-- and the words of each slot are a clock before it or after it.
 pub record IsTurning (row : TableId) (seat : RowSeat) : Type 0 where
   pub on_row : seat.table_id ≡ row
   pub wide : row.words ≡ 9 * length (writer_on seat).plan.parents + 1

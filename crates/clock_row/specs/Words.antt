@@ -19,7 +19,7 @@ AreClock plan slot k words = (clock : ClockView) × (words ≡ words_of clock) �
 
 -- The words are nine for each slot that a plan knows, and those of each slot are a clock that stands for it after the first k
 -- changes.
-pub record AreClocks (plan : PlanView) (k : ℕ) (body : List ℕ) : Type 0 where
+pub record AreClockWords (plan : PlanView) (k : ℕ) (body : List ℕ) : Type 0 where
   pub wide : length body ≡ 9 * length plan.parents
   pub each : (slot : ℕ) → slot < length plan.parents → AreClock plan slot k (words_at body slot)
 
@@ -58,7 +58,7 @@ Agrees body (loaded ∷ more) = (slice_index body loaded.0 ≡ loaded.1) × Agre
 
 -- Some words that stood together after k changes agree with all that was loaded.
 abbrev pub StoodTogether : PlanView → ℕ → List (ℕ × ℕ) → Type 0
-StoodTogether plan k loaded = (body : List ℕ) × AreClocks plan k body × Agrees body loaded
+StoodTogether plan k loaded = (body : List ℕ) × AreClockWords plan k body × Agrees body loaded
 
 -- what agrees with all that is loaded now agrees with what was loaded before
 abbrev pub StaysLoaded : List (ℕ × ℕ) → List (ℕ × ℕ) → Type 0

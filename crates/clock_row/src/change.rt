@@ -2,7 +2,7 @@
 ghost use Rattle.std.specs.Prelude.{◌≡◌, ◌+◌, ◌<◌, length, IfSome};
 ghost use Rattle.psi_laws.specs.Plan.{IsClock};
 ghost use Rattle.clock_row.specs.declared.view.View.TheVariants.{Writer};
-ghost use Rattle.clock_row.specs.Words.{AreClocks, StayByMask};
+ghost use Rattle.clock_row.specs.Words.{AreClockWords, StayByMask};
 ghost use Rattle.clock_row.specs.Ends.{IsWriterEnd};
 ghost use Rattle.clock_row.specs.Seats.{IsSameSeat, changed_to, writer_on};
 ghost use Rattle.clock_row.specs.Turning.{AreBelow, ChainIsDone, ChainsAreDone, HasTurned, IsDone, IsTurning};
@@ -91,7 +91,8 @@ pub(crate) fn make_change(
     ensures seat { IsSameSeat seat.old seat.new }
     ensures view { seat.new.me.0
         ≡ Writer (changed_to (writer_on seat.new).body (writer_on seat.old)) }
-    ensures words { AreClocks plan.now ((writer_on seat.old).count + 1) (writer_on seat.new).body }
+    ensures words { AreClockWords plan.now ((writer_on seat.old).count + 1)
+        (writer_on seat.new).body }
     ensures stay { StayByMask plan.now (writer_on seat.old).body (writer_on seat.new).body }
     ensures clocks { clocks.new
         ≡ record { plan = plan.now; made = (writer_on seat.old).count + 1 } }

@@ -1,5 +1,5 @@
 //! What each kind of step on a row makes of a view, and what it tells.
-ghost use Rattle.clock_row.specs.Steps.{Begins, Closes, Ends, Loads, Opens, Owns, Puts, note_of, reader_of, with_note};
+ghost use Rattle.clock_row.specs.Steps.{BeginsTry, Closes, EndsTry, Loads, Opens, Owns, Puts, note_of, reader_of, with_note};
 ghost use Rattle.clock_row.specs.declared.view.View.TheVariants.{Spent};
 
 use crate::view::View;
@@ -37,7 +37,7 @@ impl Play<(), View> for Owning {
 pub(crate) struct Beginning;
 
 impl Play<(), View> for Beginning {
-    ghost then = { Begins };
+    ghost then = { BeginsTry };
 }
 
 /// A reader loads a word behind the number.
@@ -51,7 +51,7 @@ impl Play<(), View> for Loading {
 pub(crate) struct Ending;
 
 impl Play<(), View> for Ending {
-    ghost then = { Ends };
+    ghost then = { EndsTry };
 }
 
 /// The writer's seat gives a reader.

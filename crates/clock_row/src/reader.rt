@@ -2,7 +2,7 @@
 ghost use Rattle.std.specs.Prelude.{◌≡◌, ◌+◌, ◌<◌, ◌≤◌, ◌∷◌, [], length, IfErr, IfOk};
 ghost use Rattle.std.specs.Arc.{arc_value};
 ghost use Rattle.psi_laws.specs.Plan.{IsClock};
-ghost use Rattle.clock_row.specs.Ends.{AllAreClocks, IsBusy, sampled};
+ghost use Rattle.clock_row.specs.Ends.{AllAreClocks, IsBusy, sample_taken};
 ghost use Rattle.clock_row.specs.Tries.{IsTried, tries_of};
 
 use crate::steps::{begin_try, end_try};
@@ -73,7 +73,7 @@ impl ClockReader {
             IsClock sample.clock self.old.knows.plan slot.0 sample.count) }
         ensures later { IfOk result (λ sample. self.old.knows.seen ≤ sample.count) }
         ensures sampled { IfOk result (λ sample.
-            self.new.knows ≡ sampled sample.count self.old.knows) }
+            self.new.knows ≡ sample_taken sample.count self.old.knows) }
         ensures busy { IfErr result (λ busy.
             IsBusy busy.first busy.second self.old.knows self.new.knows) }
     {
@@ -97,7 +97,7 @@ impl ClockReader {
     }
 
     /// The clock of a slot, after at least as many changes as the last sample of it: the first that a try gives, or the last
-    /// sample again, where eight tries met a change. Takes no memory, and ends after eight tries.
+    /// sample again, where eight tries met a change. Takes no memory, and ends after at most eight tries.
     pub fn sample_or(&mut self, slot: Slot, last: &Sample) -> Sample
         requires slot { slot.0 < length self.old.knows.plan.parents }
         requires last { IsClock last.now.clock self.old.knows.plan slot.0 last.now.count }
@@ -128,7 +128,8 @@ impl ClockReader {
         ensures wide { length into.new ≡ length into.old }
         ensures clocks { IfOk result (λ count. AllAreClocks self.old.knows.plan count into.new) }
         ensures later { IfOk result (λ count. self.old.knows.seen ≤ count) }
-        ensures sampled { IfOk result (λ count. self.new.knows ≡ sampled count self.old.knows) }
+        ensures sampled { IfOk result (λ count.
+            self.new.knows ≡ sample_taken count self.old.knows) }
         ensures busy { IfErr result (λ busy.
             IsBusy busy.first busy.second self.old.knows self.new.knows) }
     {

@@ -1,9 +1,9 @@
 //! The steps on a row, one function for each.
 ghost use Rattle.std.specs.Prelude.{◌≡◌, ℕ, ◌+◌, ◌*◌, ◌/◌, ◌^◌, ◌<◌, ◌≤◌, true, false, [], slice_index};
 ghost use Rattle.clock_row.specs.declared.view.View.TheVariants.{Reader, Writer};
-ghost use Rattle.clock_row.specs.Words.{AreClocks, StoodTogether};
+ghost use Rattle.clock_row.specs.Words.{AreClockWords, StoodTogether};
 ghost use Rattle.clock_row.specs.Row.{sequence};
-ghost use Rattle.clock_row.specs.Steps.{begun, closed, ended, loaded_at, new_reader, number_noted, opened, put_at, shown, told_of};
+ghost use Rattle.clock_row.specs.Steps.{change_opened, closed, count_shown, count_told, ended, loaded_at, new_reader, number_noted, put_at, try_begun};
 ghost use Rattle.clock_row.specs.Seats.{IsNote, IsReader, IsSameSeat, IsTrying, IsWriter, loaded_in, reader_on, writer_on};
 
 use crate::plays::{
@@ -20,7 +20,7 @@ pub(crate) fn open_change(board: &Board, seat: &mut RowSeat, count: u64)
     requires few { count < 2 ^ 32 }
     requires still { (writer_on seat.old).changing ≡ false }
     ensures seat { IsSameSeat seat.old seat.new }
-    ensures view { seat.new.me.0 ≡ Writer (opened (writer_on seat.old)) }
+    ensures view { seat.new.me.0 ≡ Writer (change_opened (writer_on seat.old)) }
 {
     board.shared.store::<Opening>(seat, 0, 2 * count + 1);
 }
@@ -46,7 +46,8 @@ pub(crate) fn close_change(board: &Board, seat: &mut RowSeat, count: u64)
     requires count { (writer_on seat.old).count ≡ count }
     requires few { count < 2 ^ 32 }
     requires changing { (writer_on seat.old).changing ≡ true }
-    requires clocks { AreClocks (writer_on seat.old).plan (count + 1) (writer_on seat.old).body }
+    requires clocks { AreClockWords (writer_on seat.old).plan (count + 1)
+        (writer_on seat.old).body }
     ensures seat { IsSameSeat seat.old seat.new }
     ensures view { seat.new.me.0 ≡ Writer (closed (writer_on seat.old)) }
 {
@@ -84,7 +85,7 @@ pub(crate) fn begin_try(board: &Board, seat: &mut RowSeat) -> u64
     requires words { 0 < board.now.shared.table_id.words }
     requires reader { IsReader seat.old }
     ensures seat { IsSameSeat seat.old seat.new }
-    ensures view { seat.new.me.0 ≡ Reader (begun result (reader_on seat.old)) }
+    ensures view { seat.new.me.0 ≡ Reader (try_begun result (reader_on seat.old)) }
     ensures seen { 2 * (reader_on seat.old).seen ≤ result }
 {
     board.shared.load::<Beginning>(seat, 0)
@@ -171,7 +172,8 @@ pub(crate) fn show_note(board: &Board, seat: &mut RowSeat, note: RowSeat)
     requires note { IsNote note }
     requires reader { IsReader seat.old }
     ensures seat { IsSameSeat seat.old seat.new }
-    ensures view { seat.new.me.0 ≡ Reader (shown (number_noted note.me.0) (reader_on seat.old)) }
+    ensures view { seat.new.me.0
+        ≡ Reader (count_shown (number_noted note.me.0) (reader_on seat.old)) }
 {
     board.shared.join_seat::<TakenNote>(seat, note);
 }
@@ -186,7 +188,7 @@ pub(crate) fn tell_note(board: &Board, seat: &mut RowSeat, note: RowSeat)
     requires writer { IsWriter seat.old }
     ensures seat { IsSameSeat seat.old seat.new }
     ensures view { seat.new.me.0 ≡
-        Writer (told_of (number_noted note.me.0) (writer_on seat.old)) }
+        Writer (count_told (number_noted note.me.0) (writer_on seat.old)) }
 {
     board.shared.join_seat::<TakenNote>(seat, note);
 }

@@ -77,7 +77,7 @@ impl TableRule<(), View, Plan> for RowRule {
     ghost first = { first_view };
 }
 
-/// The shared words of a row. It has no slots.
+/// The shared words of a row. Of what `atomic_table` calls slots it has none.
 pub(crate) type Board = Table<(), View, Plan, RowRule, Global>;
 
 /// Who steps on a row.

@@ -4,8 +4,8 @@ ghost use Rattle.atomic_table.specs.Seated.{TableId};
 ghost use Rattle.psi_laws.specs.Clock.{words_of};
 ghost use Rattle.psi_laws.specs.Plan.{IsClock, IsPlan};
 ghost use Rattle.clock_row.specs.Row.{writer_at_start};
-ghost use Rattle.clock_row.specs.Steps.{new_reader, shown, told_of};
-ghost use Rattle.clock_row.specs.Words.{AreClocks, StayByMask, words_at};
+ghost use Rattle.clock_row.specs.Steps.{count_shown, count_told, new_reader};
+ghost use Rattle.clock_row.specs.Words.{AreClockWords, StayByMask, words_at};
 
 use crate::change::make_change;
 use crate::reader::ClockReader;
@@ -98,7 +98,7 @@ impl<'a> ProcClocks for ClockWriter<'a> {
         ensures made { self.new.knows.count ≡ self.old.knows.count + 1 }
         ensures row { self.new.row ≡ self.old.row }
         ensures told { self.new.knows.told ≡ self.old.knows.told }
-        ensures words { AreClocks self.new.knows.plan self.new.knows.count self.new.knows.body }
+        ensures words { AreClockWords self.new.knows.plan self.new.knows.count self.new.knows.body }
         ensures kept { StayByMask self.new.knows.plan self.old.knows.body self.new.knows.body }
     {
         make_change(&self.board, &mut self.seat, self.plan, &mut self.clocks);
@@ -139,7 +139,7 @@ impl<'a> ClockWriter<'a> {
         ensures ok { result ≡ Ok tt }
         ensures same { self.new ≡ self.old }
         ensures row { reader.new.row ≡ reader.old.row }
-        ensures met { reader.new.knows ≡ shown self.old.knows.count reader.old.knows }
+        ensures met { reader.new.knows ≡ count_shown self.old.knows.count reader.old.knows }
     {
         let note = note_count(&self.board, &mut self.seat);
         show_note(&self.board, &mut reader.seat, note);
@@ -153,7 +153,7 @@ impl<'a> ClockWriter<'a> {
         requires { reader.old.row ≡ self.old.row }
         ensures ok { result ≡ Ok tt }
         ensures row { self.new.row ≡ self.old.row }
-        ensures told { self.new.knows ≡ told_of reader.old.knows.seen self.old.knows }
+        ensures told { self.new.knows ≡ count_told reader.old.knows.seen self.old.knows }
         ensures same { reader.new ≡ reader.old }
         ensures seen { reader.old.knows.seen ≤ self.old.knows.count }
     {

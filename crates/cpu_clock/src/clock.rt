@@ -16,7 +16,7 @@ pub struct Clock {
     pub times: [u64; 7],
     /// The states that hold from the start on.
     pub mask: Mask,
-    /// The moment of the last change, in ns.
+    /// The moment from which on the mask holds, in ns. Changes after it left the mask as it was.
     pub start: Ns,
 }
 
@@ -70,8 +70,8 @@ impl Clock {
         self.times[state as usize] + open
     }
 
-    /// The times at a moment, in ns, in the order of the states: where a state holds, the time since the start is
-    /// added. The kernel's `get_recent_times`.
+    /// The times at a moment, in ns, in the order of the states: where a state holds, the time since the start is added. The
+    /// kernel's `get_recent_times` does this first, and then takes off the times of its last call.
     pub fn opened(&self, at: Ns) -> [u64; 7]
         requires { IsInTime self.now at }
         ensures { result ≡ opened self.now at }
@@ -79,7 +79,8 @@ impl Clock {
         STATES.map(|state| self.opened_time(at, state))
     }
 
-    /// Takes the clock to a moment (ns), from which on the states of the mask hold. The kernel's `record_times`.
+    /// Takes the clock to a moment (ns), from which on the states of the mask hold: the kernel's `record_times`, and then the
+    /// new mask.
     pub fn advance(&mut self, at: Ns, mask: Mask)
         requires { IsInTime self.old at }
         ensures { self.new ≡ advanced self.old at mask }
@@ -93,7 +94,7 @@ impl Clock {
     /// mask stays the clock does too, and goes on from where it started.
     ///
     /// So a clock that stands for a slot after some changes of a plan stands for it after one more, where the mask has the
-    /// states after that: the law of [`psi_laws::plan_clocks`].
+    /// states after that: the law of [`psi_laws::law_plan_clocks`].
     pub fn turn(&mut self, at: Ns, mask: Mask)
         requires { IsInTime self.old at }
         ensures mask { self.new.mask ≡ mask }

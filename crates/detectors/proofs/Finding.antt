@@ -12,7 +12,7 @@ use Rattle.kill_spec.specs.declared.reading.GroupReading.{GroupReading}
 use Rattle.kill_spec.specs.Readings.{Reading, group_in, grown_from, path_of, rise}
 use Rattle.kill_spec.specs.Detectors.{has_match, matches}
 use Rattle.detectors.specs.Tables.{condition_among, found, greatest_of, has, have_risen}
-use Rattle.detectors.specs.Tables.{patterns_of, risen_from, scan_in, scan_of, table_of}
+use Rattle.detectors.specs.Tables.{detector_patterns, match_table, risen_from, scan_in, scan_of}
 use Rattle.detectors.specs.Stands.{condition_of, greatest_kept, last_scan}
 
 -- ---- tables
@@ -20,7 +20,7 @@ use Rattle.detectors.specs.Stands.{condition_of, greatest_kept, last_scan}
 -- a table has a group as matched where some pattern matches its path
 pub has_match_of : (lives : List GroupLife) (patterns : List Pattern) (group : GroupReading) →
     group.slot.0 < length lives →
-    has (table_of lives patterns) group ≡ is_match patterns (path_of lives group)
+    has (match_table lives patterns) group ≡ is_match patterns (path_of lives group)
 has_match_of lives patterns group inside =
     get_or-map (λ (life : GroupLife). is_match patterns life.path) lives group.slot.0 root false inside
     ∙ sym (ap (is_match patterns) (get_or-map (λ (life : GroupLife). life.path) lives group.slot.0 root [] inside))
@@ -47,28 +47,28 @@ same_any p q (group ∷ groups) each =
 
 each_has : (lives : List GroupLife) (patterns : List Pattern) (groups : List GroupReading) →
     AreWithin (length lives) groups →
-    All (λ group. has (table_of lives patterns) group ≡ is_match patterns (path_of lives group)) groups
+    All (λ group. has (match_table lives patterns) group ≡ is_match patterns (path_of lives group)) groups
 each_has lives patterns groups within k d below = has_match_of lives patterns (slice_index_or groups k d) (within k d below)
 
 pub found_matches : (lives : List GroupLife) (patterns : List Pattern) (reading : Reading) →
     AreWithin (length lives) reading.groups →
-    found (table_of lives patterns) reading.groups ≡ matches lives patterns reading
+    found (match_table lives patterns) reading.groups ≡ matches lives patterns reading
 found_matches lives patterns reading within =
-    same_filter (has (table_of lives patterns)) (λ group. is_match patterns (path_of lives group)) reading.groups
+    same_filter (has (match_table lives patterns)) (λ group. is_match patterns (path_of lives group)) reading.groups
     (each_has lives patterns reading.groups within)
 
 pub found_some : (lives : List GroupLife) (patterns : List Pattern) (reading : Reading) →
     AreWithin (length lives) reading.groups →
-    list_any (has (table_of lives patterns)) reading.groups ≡ has_match lives patterns reading
+    list_any (has (match_table lives patterns)) reading.groups ≡ has_match lives patterns reading
 found_some lives patterns reading within =
-    same_any (has (table_of lives patterns)) (λ group. is_match patterns (path_of lives group)) reading.groups
+    same_any (has (match_table lives patterns)) (λ group. is_match patterns (path_of lives group)) reading.groups
     (each_has lives patterns reading.groups within)
 
 -- ---- conditions
 
 pub condition_met : (lives : List GroupLife) (spec : DetectorSpec) (reading : Reading) →
     AreWithin (length lives) reading.groups →
-    condition_among spec reading.host (found (table_of lives (patterns_of spec)) reading.groups) ≡ condition_of lives spec reading
+    condition_among spec reading.host (found (match_table lives (detector_patterns spec)) reading.groups) ≡ condition_of lives spec reading
 condition_met lives (detector.PressureAbove cgroup resource threshold duration_s) reading within =
     rw (found_matches lives cgroup reading within) refl
 condition_met lives (detector.PressureRisingBeyond cgroup resource threshold duration_s ratio) reading within =
@@ -81,7 +81,7 @@ condition_met lives (detector.Exists cgroup negate) reading within = refl
 
 pub greatest_met : (lives : List GroupLife) (spec : DetectorSpec) (reading : Reading) (past : List Reading) →
     AreWithin (length lives) reading.groups →
-    greatest_of spec (found (table_of lives (patterns_of spec)) reading.groups) ≡ greatest_kept lives spec (reading ∷ past)
+    greatest_of spec (found (match_table lives (detector_patterns spec)) reading.groups) ≡ greatest_kept lives spec (reading ∷ past)
 greatest_met lives (detector.PressureAbove cgroup resource threshold duration_s) reading past within = refl
 greatest_met lives (detector.PressureRisingBeyond cgroup resource threshold duration_s ratio) reading past within =
     rw (found_matches lives cgroup reading within) refl

@@ -14,9 +14,9 @@ use Rattle.kill_spec.specs.Detectors.{has_match, is_scanned, is_scanned_within, 
 use Rattle.kill_spec.specs.Detectors.{of_seconds}
 use Rattle.detectors.specs.Views.{DetectorView, IsAfter, IsBy, ReadingView}
 use Rattle.detectors.specs.Tables.{IsTaken, answer_by, answer_of, condition_among, found, has}
-use Rattle.detectors.specs.Tables.{have_risen, is_recent, keeps_scans, matched_after, patterns_of}
-use Rattle.detectors.specs.Tables.{run_after, scan_in, scan_of, table_of, begun}
-use Rattle.detectors.specs.Stands.{IsTable, StandsFor, condition_of, greatest_kept, last_of}
+use Rattle.detectors.specs.Tables.{detector_patterns, have_risen, is_recent, keeps_scans, matched_after}
+use Rattle.detectors.specs.Tables.{run_after, scan_in, scan_of, match_table, begun}
+use Rattle.detectors.specs.Stands.{IsMatchTable, StandsFor, condition_of, greatest_kept, newest_moment}
 use Rattle.detectors.specs.Stands.{last_scan}
 use Rattle.detectors.proofs.Runs.{long_next, recent_next}
 use Rattle.detectors.proofs.Finding.{AreWithin, condition_met, found_matches, found_some}
@@ -26,13 +26,13 @@ use Rattle.detectors.proofs.Finding.{greatest_met, risen_met}
 
 -- once a detector has begun, its table has the matches
 table_known : (lives : List GroupLife) (spec : DetectorSpec) (history : List Reading) (matched : List Bool) →
-    IsTable lives (patterns_of spec) history matched →
-    matched_after (last_of history) matched (table_of lives (patterns_of spec)) ≡ table_of lives (patterns_of spec)
+    IsMatchTable lives (detector_patterns spec) history matched →
+    matched_after (newest_moment history) matched (match_table lives (detector_patterns spec)) ≡ match_table lives (detector_patterns spec)
 table_known lives spec [] matched is = refl
 table_known lives spec (reading ∷ past) matched is = is
 
 begun_table : (old : DetectorView) (lives : List GroupLife) (spec : DetectorSpec) (history : List Reading) →
-    StandsFor old lives spec history → (begun old lives).matched ≡ table_of lives (patterns_of spec)
+    StandsFor old lives spec history → (begun old lives).matched ≡ match_table lives (detector_patterns spec)
 begun_table old lives spec history stands =
     rw (stands.last, stands.spec_is) (table_known lives spec history old.matched stands.matched)
 
@@ -70,12 +70,12 @@ pub stands_next : (old : DetectorView) (reading : ReadingView) (new : DetectorVi
 stands_next old reading new spec history run_by rose_by later within taken stands =
     let lives = reading.lives in
     let seen = reading.seen in
-    let table : new.matched ≡ table_of lives (patterns_of spec) = taken.matched ∙ begun_table old lives spec history stands in
-    let known : (begun old lives).matched ≡ table_of lives (patterns_of spec) = begun_table old lives spec history stands in
+    let table : new.matched ≡ match_table lives (detector_patterns spec) = taken.matched ∙ begun_table old lives spec history stands in
+    let known : (begun old lives).matched ≡ match_table lives (detector_patterns spec) = begun_table old lives spec history stands in
     record {
       spec_is = taken.spec ∙ stands.spec_is;
       last = taken.last;
-      slots = ap length table ∙ length-map lives (λ (life : GroupLife). is_match (patterns_of spec) life.path);
+      slots = ap length table ∙ length-map lives (λ (life : GroupLife). is_match (detector_patterns spec) life.path);
       matched = table;
       run = λ duration at.
           let holds : condition_among old.spec seen.host (found (begun old lives).matched seen.groups) ≡ condition_of lives spec seen =
@@ -90,11 +90,11 @@ stands_next old reading new spec history run_by rose_by later within taken stand
       rose = λ duration at.
           let risen = have_risen old.scans (found (begun old lives).matched seen.groups) in
           let rose : new.rose ≡ (if keeps_scans spec && risen then Some seen.at else old.rose) = taken.rose ∙ rw stands.spec_is refl in
-          let same : keeps_scans spec ≡ true → risen ≡ is_scanned lives (patterns_of spec) seen history = λ keeps.
-          rw (known, found_matches lives (patterns_of spec) seen within)
-          (risen_met old.scans history (matches lives (patterns_of spec) seen) (counts_kept (keeps_scans spec) old.scans history keeps stands.scans)) in
-          rw rose (rises_next (keeps_scans spec) risen (is_scanned lives (patterns_of spec) seen history) old.rose old.last
-          (is_scanned_within lives (patterns_of spec) duration at history) seen.at duration at same rose_by later (stands.rose duration at));
+          let same : keeps_scans spec ≡ true → risen ≡ is_scanned lives (detector_patterns spec) seen history = λ keeps.
+          rw (known, found_matches lives (detector_patterns spec) seen within)
+          (risen_met old.scans history (matches lives (detector_patterns spec) seen) (counts_kept (keeps_scans spec) old.scans history keeps stands.scans)) in
+          rw rose (rises_next (keeps_scans spec) risen (is_scanned lives (detector_patterns spec) seen history) old.rose old.last
+          (is_scanned_within lives (detector_patterns spec) duration at history) seen.at duration at same rose_by later (stands.rose duration at));
     }
 
 -- ---- answers

@@ -9,20 +9,20 @@ use Rattle.kill_spec.specs.Readings.{Reading, group_in, sixty_seconds, ten_secon
 use Rattle.kill_spec.specs.Detectors.{greatest_before, held_for, is_memory_above, is_pressed}
 use Rattle.kill_spec.specs.Detectors.{is_scanned_within, is_true}
 use Rattle.detectors.specs.Views.{DetectorView, IsBy, ReadingView, slots_of}
-use Rattle.detectors.specs.Tables.{is_long, is_recent, keeps_scans, patterns_of, scan_in, scan_of}
-use Rattle.detectors.specs.Tables.{scan_slots, table_of}
+use Rattle.detectors.specs.Tables.{detector_patterns, is_long, is_recent, keeps_scans, scan_in, scan_of}
+use Rattle.detectors.specs.Tables.{match_table, scan_slots}
 
 -- ---- what readings tell a detector
 
 -- the moment (ns) of the newest reading, if there is one
-abbrev pub last_of : List Reading → Option ℕ
-last_of [] = None
-last_of (reading ∷ past) = Some reading.at
+abbrev pub newest_moment : List Reading → Option ℕ
+newest_moment [] = None
+newest_moment (reading ∷ past) = Some reading.at
 
 -- after a reading a table has what the patterns match
-abbrev pub IsTable : List GroupLife → List Pattern → List Reading → List Bool → Type 0
-IsTable lives patterns [] matched = Unit {0}
-IsTable lives patterns (reading ∷ past) matched = matched ≡ table_of lives patterns
+abbrev pub IsMatchTable : List GroupLife → List Pattern → List Reading → List Bool → Type 0
+IsMatchTable lives patterns [] matched = Unit {0}
+IsMatchTable lives patterns (reading ∷ past) matched = matched ≡ match_table lives patterns
 
 -- the condition that a detector wants for its duration; one that wants none has one that never
 -- holds
@@ -56,7 +56,7 @@ scan_kept spec history slot = if keeps_scans spec then last_scan history slot el
 abbrev pub is_scanned_kept : List GroupLife → DetectorSpec → ℕ → ℕ → List Reading → Bool
 is_scanned_kept lives spec duration at history =
     if keeps_scans spec
-    then is_scanned_within lives (patterns_of spec) duration at history
+    then is_scanned_within lives (detector_patterns spec) duration at history
     else false
 
 -- ---- what a detector stands for
@@ -69,9 +69,9 @@ is_scanned_kept lives spec duration at history =
 pub record StandsFor (detector : DetectorView) (lives : List GroupLife) (spec : DetectorSpec)
     (history : List Reading) : Type 0 where
   pub spec_is : detector.spec ≡ spec
-  pub last : detector.last ≡ last_of history
+  pub last : detector.last ≡ newest_moment history
   pub slots : slots_of detector ≡ length lives
-  pub matched : IsTable lives (patterns_of spec) history detector.matched
+  pub matched : IsMatchTable lives (detector_patterns spec) history detector.matched
   pub run : (duration at : ℕ) →
       held_for (condition_of lives spec) duration at history ≡ is_long detector.run duration at
   pub greatest : detector.greatest ≡ greatest_kept lives spec history
@@ -87,8 +87,8 @@ Answers old reading answer = (spec : DetectorSpec) (history : List Reading) →
     answer ≡ is_true reading.lives spec reading.seen history
 
 -- It takes the reading: it stands for it and those before it afterwards.
-abbrev pub Takes : DetectorView → ReadingView → DetectorView → Type 0
-Takes old reading new = (spec : DetectorSpec) (history : List Reading) →
+abbrev pub DetectorTakes : DetectorView → ReadingView → DetectorView → Type 0
+DetectorTakes old reading new = (spec : DetectorSpec) (history : List Reading) →
     StandsFor old reading.lives spec history →
     StandsFor new reading.lives spec (reading.seen ∷ history)
 

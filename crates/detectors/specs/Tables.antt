@@ -20,17 +20,17 @@ use Rattle.detectors.specs.Views.{DetectorView, ReadingView}
 -- ---- matches
 
 -- the patterns of a detector; one of the host's swap has none
-abbrev pub patterns_of : DetectorSpec → List Pattern
-patterns_of (detector.PressureAbove cgroup resource threshold duration_s) = cgroup
-patterns_of (detector.PressureRisingBeyond cgroup resource threshold duration_s ratio) = cgroup
-patterns_of (detector.MemoryAbove cgroup threshold duration_s) = cgroup
-patterns_of (detector.MemoryReclaim cgroup duration_s) = cgroup
-patterns_of (detector.SwapFree threshold_pct) = []
-patterns_of (detector.Exists cgroup negate) = cgroup
+abbrev pub detector_patterns : DetectorSpec → List Pattern
+detector_patterns (detector.PressureAbove cgroup resource threshold duration_s) = cgroup
+detector_patterns (detector.PressureRisingBeyond cgroup resource threshold duration_s ratio) = cgroup
+detector_patterns (detector.MemoryAbove cgroup threshold duration_s) = cgroup
+detector_patterns (detector.MemoryReclaim cgroup duration_s) = cgroup
+detector_patterns (detector.SwapFree threshold_pct) = []
+detector_patterns (detector.Exists cgroup negate) = cgroup
 
 -- by slot, whether some pattern matches the group's path
-abbrev pub table_of : List GroupLife → List Pattern → List Bool
-table_of lives patterns = map (λ (life : GroupLife). is_match patterns life.path) lives
+abbrev pub match_table : List GroupLife → List Pattern → List Bool
+match_table lives patterns = map (λ (life : GroupLife). is_match patterns life.path) lives
 
 -- a table has a group as matched
 abbrev pub has : List Bool → GroupReading → Bool
@@ -75,8 +75,8 @@ greatest_of (detector.PressureRisingBeyond cgroup resource threshold duration_s 
 greatest_of _ groups = 0
 
 -- less of a host's swap is free than so many percent
-abbrev pub is_swap_below : ℕ → HostReading → Bool
-is_swap_below percent host = nat_lt (host.swap_free * 100) (percent * host.swap_total)
+abbrev pub is_host_swap_short : ℕ → HostReading → Bool
+is_host_swap_short percent host = nat_lt (host.swap_free * 100) (percent * host.swap_total)
 
 -- ---- scans
 
@@ -161,7 +161,7 @@ answer_by (detector.MemoryAbove cgroup threshold duration_s) kept before now =
     is_long kept.run (of_seconds duration_s) now.at
 answer_by (detector.MemoryReclaim cgroup duration_s) kept before now =
     is_recent kept.rose (of_seconds duration_s) now.at
-answer_by (detector.SwapFree threshold_pct) kept before now = is_swap_below threshold_pct now.host
+answer_by (detector.SwapFree threshold_pct) kept before now = is_host_swap_short threshold_pct now.host
 answer_by (detector.Exists cgroup negate) kept before now =
     if negate
     then not (list_any (has kept.matched) now.groups)
@@ -179,7 +179,7 @@ matched_after (Some last) known table = known
 -- a detector that has found its matches at its first reading
 abbrev pub begun : DetectorView → List GroupLife → DetectorView
 begun detector lives =
-    let table = table_of lives (patterns_of detector.spec) in
+    let table = match_table lives (detector_patterns detector.spec) in
     record detector { matched = matched_after detector.last detector.matched table }
 
 -- a detector that has found its matches takes a reading

@@ -2,6 +2,7 @@
 use Rattle.std.specs.Prelude.{ℕ, ◌<◌, ◌≤◌, List, [], ◌∷◌, ◌++◌, length, map, Bool, Option, None}
 use Rattle.std.specs.Prelude.{Some}
 use Rattle.psi_spec.specs.declared.machine.GroupLife.{GroupLife}
+use Rattle.psi_spec.specs.World.{most_groups}
 use Rattle.ruleset_json.specs.declared.types.DetectorSpec.{DetectorSpec}
 use Rattle.kill_spec.specs.declared.reading.GroupReading.{GroupReading}
 use Rattle.kill_spec.specs.declared.reading.HostReading.{HostReading}
@@ -33,7 +34,7 @@ ComesLast reading group =
 
 -- What holds of each reading: there are at most 1,024 groups, and it is one of them.
 pub record IsReadingView (reading : ReadingView) : Type 0 where
-  pub few : length reading.lives ≤ 1024
+  pub few : length reading.lives ≤ most_groups
   pub within : IsReading reading.lives reading.seen
 
 -- there is room for as many
@@ -43,9 +44,10 @@ pub record IsRoom (count capacity : ℕ) : Type 0 where
 -- ---- detectors
 
 -- A detector: its arguments; the moment (ns) of its last reading; by slot, whether it matches the
--- group; the moment (ns) at which the present run of its condition began; the greatest full average
--- over 10 s of its matches at the last reading; by slot, the count of scans of the group at the
--- last reading, if it was live; and the last moment (ns) at which a match's count had risen.
+-- group; the moment (ns) at which the present run of its condition began; where it asks whether pressure
+-- rises, the greatest full average over 10 s of its matches at the last reading, else 0; where it asks
+-- for scans, by slot the count of the group at the last reading, if it was live; and the last moment (ns)
+-- at which a match's count had risen.
 pub record DetectorView : Type 0 where
   pub spec : DetectorSpec
   pub last : Option ℕ
@@ -56,9 +58,9 @@ pub record DetectorView : Type 0 where
   pub rose : Option ℕ
 
 -- a detector with these parts
-abbrev pub detector_of : DetectorSpec → Option ℕ → List Bool → Option ℕ → ℕ → List (Option ℕ) →
+abbrev pub detector_with : DetectorSpec → Option ℕ → List Bool → Option ℕ → ℕ → List (Option ℕ) →
     Option ℕ → DetectorView
-detector_of spec last matched run greatest scans rose = record {
+detector_with spec last matched run greatest scans rose = record {
   spec = spec;
   last = last;
   matched = matched;

@@ -9,7 +9,7 @@ ghost use Rattle.kill_spec.specs.Detectors.{is_above};
 ghost use Rattle.kill_spec.specs.Readings.{IsGroupReading, IsHostReading, full_average};
 ghost use Rattle.path_match.specs.Match.{is_match};
 ghost use Rattle.detectors.specs.Tables.{condition_among, found, greatest_among, greatest_of, has};
-ghost use Rattle.detectors.specs.Tables.{is_some_above, is_swap_below, patterns_of, table_of};
+ghost use Rattle.detectors.specs.Tables.{detector_patterns, is_host_swap_short, is_some_above, match_table};
 
 use kill_spec::{GroupReading, HostReading};
 use psi_base::{Path, Res, State};
@@ -34,7 +34,7 @@ pub(crate) fn has(matched: &[bool], group: &GroupReading) -> bool
 /// Some pattern of a detector matches a path. One of the host's swap has no pattern.
 #[tactic(auto, unfolding(path_match::specs::Match::is_match))]
 fn is_match(spec: &DetectorSpec, path: &Path) -> bool
-    ensures { result ≡ is_match (patterns_of spec.now) path.now }
+    ensures { result ≡ is_match (detector_patterns spec.now) path.now }
 {
     match spec {
         DetectorSpec::PressureAbove { cgroup, .. } => cgroup.matches(path),
@@ -49,15 +49,16 @@ fn is_match(spec: &DetectorSpec, path: &Path) -> bool
 /// Finds for each group, by slot, whether the detector matches it.
 pub(crate) fn find_matches(matched: &mut [bool], spec: &DetectorSpec, lives: &[GroupLife])
     requires { length matched.old ≡ length lives.now }
-    ensures { matched.new ≡ table_of lives.now (patterns_of spec.now) }
+    ensures { matched.new ≡ match_table lives.now (detector_patterns spec.now) }
 {
     'lives: for (slot, life) in lives.iter().enumerate() {
         matched[slot] = is_match(spec, &life.path);
     }
 }
 
-/// The state of which a resource's full pressure is told.
-fn full_state(resource: Res) -> State
+/// The state of a resource at which no task gets on. Its number is the place of the resource's full averages in
+/// [`GroupReading::averages`].
+pub fn full_state(resource: Res) -> State
     ensures value { result ≡ state_of resource FullStalled }
     ensures pressure { state_number result < 6 }
 {
@@ -168,7 +169,7 @@ pub(crate) fn has_match(matched: &[bool], groups: &[GroupReading]) -> bool
 
 /// Less of the host's swap is free than so many percent.
 pub(crate) fn is_swap_short(percent: u32, host: &HostReading) -> bool
-    ensures { result ≡ is_swap_below percent host.now }
+    ensures { result ≡ is_host_swap_short percent host.now }
 {
     u128::from(host.swap_free) * 100 < u128::from(percent) * u128::from(host.swap_total)
 }

@@ -4,7 +4,7 @@ ghost use Rattle.psi_spec.specs.declared.machine.GroupLife.{GroupLife};
 ghost use Rattle.detectors.specs.Views.{IsAfter, slots_of};
 ghost use Rattle.detectors.specs.Tables.{IsTaken, answer_of, begun, scan_slots};
 ghost use Rattle.kill_spec.specs.Readings.{IsReading};
-ghost use Rattle.detectors.specs.Stands.{Answers, StandsFor, Takes};
+ghost use Rattle.detectors.specs.Stands.{Answers, DetectorTakes, StandsFor};
 
 use crate::conditions::{find_matches, greatest_of, has_condition, has_match, is_swap_short};
 use crate::copies::copy_spec;
@@ -37,15 +37,15 @@ pub struct Detector {
 }
 
 impl Model for Detector {
-    ghost use Rattle.detectors.specs.Views.{DetectorView, detector_of};
+    ghost use Rattle.detectors.specs.Views.{DetectorView, detector_with};
     ghost use Rattle.detectors.specs.Stands.{IsDetector};
 
     ghost Value = { DetectorView };
 
-    ghost view = { λ d. detector_of d.spec d.last d.matched.items
+    ghost view = { λ d. detector_with d.spec d.last d.matched.items
         d.run d.greatest d.scans.items d.rose };
 
-    ghost invariant = { λ d. IsDetector (detector_of d.spec d.last d.matched.items
+    ghost invariant = { λ d. IsDetector (detector_with d.spec d.last d.matched.items
         d.run d.greatest d.scans.items d.rose) };
 }
 
@@ -83,7 +83,7 @@ impl Detector {
         requires later { IsAfter self.old.last reading.now.seen.at }
         requires slots { length reading.now.lives ≡ slots_of self.old }
         ensures answer { Answers self.old reading.now result }
-        ensures stands { Takes self.old reading.now self.new }
+        ensures stands { DetectorTakes self.old reading.now self.new }
 
         // Also of a detector of which nothing is known.
         ensures last { self.new.last ≡ Some reading.now.seen.at }

@@ -8,6 +8,7 @@ mod moments;
 mod reading;
 mod scans;
 
+pub use conditions::full_state;
 pub use detector::Detector;
 pub use kill_spec::{GroupReading, HostReading};
 pub use reading::Reading;

@@ -1,6 +1,7 @@
 //! Readings.
 ghost use Rattle.std.specs.Prelude.{◌≡◌, ◌<◌, ◌≤◌, [], IfOk, length};
 ghost use Rattle.psi_spec.specs.Groups.{path_at};
+ghost use Rattle.psi_spec.specs.World.{most_groups};
 ghost use Rattle.kill_spec.specs.Readings.{IsGroupReading, IsHostReading, IsReading, no_host};
 ghost use Rattle.detectors.specs.Views.{ComesLast, reading_of, seen_at, with_group};
 
@@ -38,7 +39,7 @@ impl Model for Reading {
 impl Reading {
     /// A reading of none of these groups, at 0, with room for all.
     pub fn make(alloc: Global, lives: &[GroupLife]) -> Result<Reading, NoMemory>
-        requires { length lives.now ≤ 1024 }
+        requires { length lives.now ≤ most_groups }
         ensures { IfOk result (λ reading.
             reading ≡ reading_of lives.now (seen_at 0 no_host [])) }
     {
@@ -103,7 +104,7 @@ impl Reading {
     /// All groups that a trace ever makes, by slot.
     pub fn lives(&self) -> &[GroupLife]
         ensures lives { result.now ≡ self.now.lives }
-        ensures few { length result.now ≤ 1024 }
+        ensures few { length result.now ≤ most_groups }
     {
         &self.lives
     }

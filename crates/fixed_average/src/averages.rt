@@ -17,7 +17,7 @@ const PERIOD: Ns = 2_000_000_000;
 /// How many states have averages: all but nonidle.
 const PRESSURE_STATES: usize = 6;
 
-/// By how much an average over 10, 60 and 300 seconds decays in a period.
+/// What is left of an average over 10, 60 and 300 seconds after a period with nothing active, in parts of 2048.
 const FACTORS: [u64; 3] = [1677, 1981, 2034];
 
 /// The averages of a group's pressure over 10, 60 and 300 seconds, of each state but nonidle: the kernel's `avg` of a
@@ -153,9 +153,9 @@ impl Averages {
         }
     }
 
-    /// A tick at this moment (ns), with the group's totals (ns) of all states but nonidle, in the order of the
-    /// states. Where two seconds have gone by since the last update, each average decays over the periods that were
-    /// missed and is loaded with what is new of its total, of which no more is taken than time went by: the kernel's
+    /// A tick at this moment (ns), with the group's totals (ns) of all states but nonidle, in the order of the states.
+    /// Where an update is due, each average decays over the periods that were missed and is loaded with what is new of its
+    /// total, of which no more is taken than the time since the last update less these periods: the kernel's
     /// `update_averages`. Before that, nothing changes.
     pub fn update(&mut self, now: Ns, totals: [u64; 6])
         requires { now ≤ last_moment }

@@ -12,7 +12,7 @@ use Rattle.std.proofs.lemmas.List.{drop_more, drop_all}
 use Rattle.psi_base.specs.declared.event.Slot.{Slot}
 use Rattle.psi_spec.specs.declared.machine.GroupLife.{GroupLife}
 use Rattle.psi_spec.specs.Groups.{live_from, in_order}
-use Rattle.group_tree.specs.Tree.{slot_at, named}
+use Rattle.group_tree.specs.Tree.{slot_at, paths_and_slots}
 
 -- ---- a map's entries
 
@@ -27,10 +27,10 @@ ordered Equal a b c = b
 ordered Greater a b c = c
 
 -- an entry comes to the same place by its name
-named_put : (es : List (Bor (List ℕ) × Slot)) (k : Bor (List ℕ)) (v : Slot) → named (insert_entry by_path es k v) ≡ fin.put (slice_cmp nat_cmp) k.now v.0 (named es)
+named_put : (es : List (Bor (List ℕ) × Slot)) (k : Bor (List ℕ)) (v : Slot) → paths_and_slots (insert_entry by_path es k v) ≡ fin.put (slice_cmp nat_cmp) k.now v.0 (paths_and_slots es)
 named_put [] k v = refl
 named_put (e ∷ es) k v =
-    elim (slice_cmp nat_cmp k.now e.0.now) as (λ r. named (ordered r ((k, v) ∷ e ∷ es) ((e.0, v) ∷ es) (e ∷ insert_entry by_path es k v)) ≡ ordered r ((k.now, v.0) ∷ named (e ∷ es)) ((e.0.now, v.0) ∷ named es) ((e.0.now, e.1.0) ∷ fin.put (slice_cmp nat_cmp) k.now v.0 (named es))) [
+    elim (slice_cmp nat_cmp k.now e.0.now) as (λ r. paths_and_slots (ordered r ((k, v) ∷ e ∷ es) ((e.0, v) ∷ es) (e ∷ insert_entry by_path es k v)) ≡ ordered r ((k.now, v.0) ∷ paths_and_slots (e ∷ es)) ((e.0.now, v.0) ∷ paths_and_slots es) ((e.0.now, e.1.0) ∷ fin.put (slice_cmp nat_cmp) k.now v.0 (paths_and_slots es))) [
       | Less ↦ refl
       | Equal ↦ refl
       | Greater ↦ ap (λ ps. (e.0.now, e.1.0) ∷ ps) (named_put es k v)
@@ -52,14 +52,14 @@ rest_step groups slot life room is false gone =
     ∙ ap (λ b. in_order (if not b then (life.path, slot) ∷ live_from (slot + 1) (drop (slot + 1) groups) else live_from (slot + 1) (drop (slot + 1) groups))) gone
 
 -- a removed group changes nothing
-pub past_removed : (groups : List GroupLife) (slot : ℕ) (life : GroupLife) (es : List (Bor (List ℕ) × Slot)) → slot < length groups → life ≡ get_or groups slot life → is_some life.gone ≡ true → named es ≡ live_rest groups (slot + 1) → named es ≡ live_rest groups slot
+pub past_removed : (groups : List GroupLife) (slot : ℕ) (life : GroupLife) (es : List (Bor (List ℕ) × Slot)) → slot < length groups → life ≡ get_or groups slot life → is_some life.gone ≡ true → paths_and_slots es ≡ live_rest groups (slot + 1) → paths_and_slots es ≡ live_rest groups slot
 past_removed groups slot life es room is gone rest = rest ∙ sym (rest_step groups slot life room is true gone)
 
 -- a live group comes to its place
-pub past_live : (groups : List GroupLife) (slot : ℕ) (life : GroupLife) (es : List (Bor (List ℕ) × Slot)) (key : Bor (List ℕ)) → slot < length groups → life ≡ get_or groups slot life → is_some life.gone ≡ false → key.now ≡ life.path → named es ≡ live_rest groups (slot + 1) → named (insert_entry by_path es key (slot_at slot)) ≡ live_rest groups slot
+pub past_live : (groups : List GroupLife) (slot : ℕ) (life : GroupLife) (es : List (Bor (List ℕ) × Slot)) (key : Bor (List ℕ)) → slot < length groups → life ≡ get_or groups slot life → is_some life.gone ≡ false → key.now ≡ life.path → paths_and_slots es ≡ live_rest groups (slot + 1) → paths_and_slots (insert_entry by_path es key (slot_at slot)) ≡ live_rest groups slot
 past_live groups slot life es key room is live same rest =
     named_put es key (slot_at slot)
-    ∙ ap (λ path. fin.put (slice_cmp nat_cmp) path slot (named es)) same
+    ∙ ap (λ path. fin.put (slice_cmp nat_cmp) path slot (paths_and_slots es)) same
     ∙ ap (fin.put (slice_cmp nat_cmp) life.path slot) rest
     ∙ sym (rest_step groups slot life room is false live)
 
@@ -70,6 +70,6 @@ none_left groups n past = ap (λ gs. in_order (live_from n gs)) (drop_all n grou
 -- ---- the slots alone
 
 -- the slots of pairs, by their names
-pub slots_of : (es : List (Bor (List ℕ) × Slot)) → map (λ (pair : List ℕ × ℕ). slot_at pair.1) (named es) ≡ values_of es
+pub slots_of : (es : List (Bor (List ℕ) × Slot)) → map (λ (pair : List ℕ × ℕ). slot_at pair.1) (paths_and_slots es) ≡ values_of es
 slots_of [] = refl
 slots_of (e ∷ es) = ap (λ slots. e.1 ∷ slots) (slots_of es)

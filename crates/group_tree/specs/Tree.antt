@@ -7,7 +7,7 @@ use Rattle.psi_base.specs.declared.event.Cause.TheVariants as cause
 use Rattle.psi_base.specs.declared.event.Fault.{Fault}
 use Rattle.psi_base.specs.declared.event.Fault.TheVariants as fault
 use Rattle.psi_spec.specs.declared.machine.GroupLife.{GroupLife}
-use Rattle.psi_spec.specs.World.{is_live, is_root, slot_of, as_slot}
+use Rattle.psi_spec.specs.World.{is_live, is_root, slot_of, as_slot, most_groups}
 use Rattle.psi_spec.specs.Refusal.{has_group, lacks_group, lacks_parent, has_child, is_slot}
 use Rattle.psi_spec.specs.Stall.{parents_of, is_under}
 use Rattle.psi_spec.specs.Groups.{live_groups}
@@ -18,7 +18,7 @@ use Rattle.psi_spec.specs.Groups.{AreGroups}
 -- the first cause against a new group: 1,024 were made, one with the path is live, or none with the path above is
 abbrev pub add_cause : List GroupLife → List ℕ → Option Cause
 add_cause groups path =
-    if nat_le 1024 (length groups) then Some cause.TooManyGroups else
+    if nat_le most_groups (length groups) then Some cause.TooManyGroups else
     if has_group groups (Some path) then Some cause.GroupExists else
     if lacks_parent groups (Some path) then Some cause.NoParent else None
 
@@ -29,9 +29,9 @@ remove_cause groups path =
     if is_root path || has_child groups (slot_of groups path) then Some cause.GroupBusy else None
 
 -- the fault is the first cause; memory is wanted only where there is none
-abbrev pub IsFault : Option Cause → Fault Cause → Type 0
-IsFault why (fault.Refused cause) = why ≡ Some cause
-IsFault why fault.NoMemory = why ≡ None
+abbrev pub IsGroupFault : Option Cause → Fault Cause → Type 0
+IsGroupFault why (fault.Refused cause) = why ≡ Some cause
+IsGroupFault why fault.NoMemory = why ≡ None
 
 -- ---- the groups above a group
 
@@ -64,8 +64,8 @@ abbrev pub live_slots : List GroupLife → List Slot
 live_slots groups = map (λ (pair : List ℕ × ℕ). slot_at pair.1) (live_groups groups)
 
 -- pairs of a path and a slot, by the path's bytes and the slot's number
-abbrev pub named : List (Bor (List ℕ) × Slot) → List (List ℕ × ℕ)
-named groups = map (λ (pair : Bor (List ℕ) × Slot). (pair.0.now, pair.1.0)) groups
+abbrev pub paths_and_slots : List (Bor (List ℕ) × Slot) → List (List ℕ × ℕ)
+paths_and_slots groups = map (λ (pair : Bor (List ℕ) × Slot). (pair.0.now, pair.1.0)) groups
 
 -- ---- what a tree keeps
 

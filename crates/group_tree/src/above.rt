@@ -17,7 +17,7 @@ fn or_root(bytes: &[u8]) -> &[u8]
 
 // The bytes before the last slash, or those of the root's path.
 #[tactic(auto, using(crate::proofs::Slashes::slashes))]
-fn before_last_slash(path: &[u8]) -> &[u8]
+fn parent_bytes(path: &[u8]) -> &[u8]
     ensures { result.now ≡ parent_path path.now }
 {
     let mut end = path.len();
@@ -35,7 +35,7 @@ fn before_last_slash(path: &[u8]) -> &[u8]
 pub(crate) fn path_above(path: &Path) -> &str
     ensures { result.now ≡ parent_path path.now }
 {
-    match str::from_utf8(before_last_slash(path.text().as_bytes())) {
+    match str::from_utf8(parent_bytes(path.text().as_bytes())) {
         Ok(text) => text,
         Err(_) => unreachable!(),
     }

@@ -1,7 +1,7 @@
 //! How groups are made and removed: the parts of a tree change together.
 ghost use Rattle.std.specs.Prelude.{◌≡◌, ◌+◌, ◌<◌, ◌≤◌, ◌++◌, [], ◌∷◌, ℕ, length, map, None, Some, IfOk, OnOk, OnErr, IfSome, slice_index_or, string_bytes, true, false, if◌then◌else◌};
 ghost use Rattle.std.specs.HashMap.{get_by_text};
-ghost use Rattle.psi_spec.specs.World.{slot_of, marked_removed, is_root, is_live};
+ghost use Rattle.psi_spec.specs.World.{slot_of, marked_removed, is_root, is_live, most_groups};
 ghost use Rattle.psi_spec.specs.Refusal.{is_slot};
 ghost use Rattle.psi_spec.specs.Groups.{AreGroups};
 ghost use Rattle.group_tree.specs.Tree.{IsTree};
@@ -13,7 +13,7 @@ use std::collections::HashMap;
 /// Counts one live child more of a group, if there is one.
 fn count_child(children: &mut [u32], parent: Option<Slot>)
     requires made { IfSome parent (λ slot. slot.0 < length children.old) }
-    requires few { IfSome parent (λ slot. slice_index_or children.old slot.0 0 ≤ 1024) }
+    requires few { IfSome parent (λ slot. slice_index_or children.old slot.0 0 ≤ most_groups) }
     ensures len { length children.new ≡ length children.old }
     ensures each { (slot : ℕ) →
         slice_index_or children.new slot 0

@@ -4,7 +4,8 @@ ghost use Rattle.std.specs.List.{range_with_len};
 ghost use Rattle.std.specs.Ordering.{nat_cmp};
 ghost use Rattle.std.specs.Cmp.Lexicographic.{slice_cmp};
 ghost use Rattle.psi_spec.specs.Groups.{IsPathOrder, live_groups, path_at};
-ghost use Rattle.group_tree.specs.Tree.{live_slots, named, numbers_of, slot_at};
+ghost use Rattle.psi_spec.specs.World.{most_groups};
+ghost use Rattle.group_tree.specs.Tree.{live_slots, numbers_of, paths_and_slots, slot_at};
 
 use psi_base::{NoMemory, Path, Slot};
 use psi_spec::GroupLife;
@@ -13,8 +14,8 @@ use std::collections::BTreeMap;
 
 /// The live groups by their paths.
 fn live_by_path(alloc: Global, lives: &[GroupLife]) -> Result<BTreeMap<&Path, Slot>, NoMemory>
-    requires few { length lives.now ≤ 1024 }
-    ensures { IfOk result (λ groups. named groups.entries ≡ live_groups lives.now) }
+    requires few { length lives.now ≤ most_groups }
+    ensures { IfOk result (λ groups. paths_and_slots groups.entries ≡ live_groups lives.now) }
 {
     let mut groups = BTreeMap::new(alloc);
     let mut left = lives.len();
@@ -33,7 +34,7 @@ fn live_by_path(alloc: Global, lives: &[GroupLife]) -> Result<BTreeMap<&Path, Sl
 
 /// The slots of the live groups in the byte order of their paths.
 pub(crate) fn live_order(alloc: Global, lives: &[GroupLife]) -> Result<Vec<Slot>, NoMemory>
-    requires few { length lives.now ≤ 1024 }
+    requires few { length lives.now ≤ most_groups }
     ensures { IfOk result (λ slots. slots.items ≡ live_slots lives.now) }
 {
     let groups = live_by_path(alloc, lives)?;
@@ -69,7 +70,7 @@ fn sorted_by_path(mut slots: Vec<Slot>, lives: &[GroupLife]) -> Vec<Slot>
 
 /// All slots in the byte order of their paths, those of one path in any order.
 pub(crate) fn path_order(alloc: Global, lives: &[GroupLife]) -> Result<Vec<Slot>, NoMemory>
-    requires few { length lives.now ≤ 1024 }
+    requires few { length lives.now ≤ most_groups }
     ensures { IfOk result (λ slots. IsPathOrder lives.now (numbers_of slots.items)) }
 {
     let slots = first_slots(alloc, lives.len() as u32)?;

@@ -1,10 +1,10 @@
 //! The tree of groups.
 ghost use Rattle.std.specs.Prelude.{◌≡◌, ◌<◌, ◌≤◌, ◌++◌, [], ◌∷◌, length, map, slice_index_or, None, Some, IfOk, IfErr, IfSome, OnOk, OnErr, MatchResult, ◌↔◌};
-ghost use Rattle.psi_spec.specs.World.{root, slot_of, as_slot, parent_path, new_group, marked_removed};
+ghost use Rattle.psi_spec.specs.World.{root, slot_of, as_slot, parent_path, new_group, marked_removed, most_groups};
 ghost use Rattle.psi_spec.specs.Stall.{number_of_slot, parents_of, is_under};
 ghost use Rattle.psi_spec.specs.Refusal.{has_child};
 ghost use Rattle.psi_spec.specs.Groups.{AreGroups, IsPathOrder};
-ghost use Rattle.group_tree.specs.Tree.{add_cause, remove_cause, IsFault, chain_of, live_slots, numbers_of};
+ghost use Rattle.group_tree.specs.Tree.{add_cause, remove_cause, IsGroupFault, chain_of, live_slots, numbers_of};
 
 use crate::above::path_above;
 use crate::chain::{Chain, parent_of};
@@ -84,7 +84,7 @@ impl Tree {
     /// How many groups were ever made, 1,024 at most.
     pub fn len(&self) -> usize
         ensures len { result ≡ length self.now }
-        ensures few { result ≤ 1024 }
+        ensures few { result ≤ most_groups }
     {
         self.lives.len()
     }
@@ -194,7 +194,7 @@ impl Tree {
             (self.new ≡ self.old ++ new_group self.old path.now at ∷ []) }
         ensures slot { IfOk result (λ slot. slot.0 ≡ length self.old) }
         ensures fault { MatchResult result (λ _. Unit {0})
-            (IsFault (add_cause self.old path.now)) }
+            (IsGroupFault (add_cause self.old path.now)) }
         ensures err { OnErr result (self.new ≡ self.old) }
     {
         if let Some(cause) = self.add_cause(path) {

@@ -6,33 +6,33 @@ use Rattle.ruleset_json.specs.declared.types.Action.{Action}
 use Rattle.ruleset_json.specs.declared.types.Rule.{Rule}
 use Rattle.kill_spec.specs.declared.kill.Kill.{Kill}
 use Rattle.kill_spec.specs.Readings.{Reading}
-use Rattle.kill_spec.specs.Detectors.{fires}
+use Rattle.kill_spec.specs.Detectors.{ruleset_fires}
 use Rattle.kill_spec.specs.Victims.{◌or_else◌}
-use Rattle.kill_spec.specs.Kills.{chain, ends_chain, is_paused, kills_at, last_ending}
+use Rattle.kill_spec.specs.Kills.{chain, ends_chain, is_resting, kills_at, last_ending}
 use Rattle.kill_engine.specs.Rulesets.{rest_after, rest_of}
 
--- a ruleset is paused where its rest isn't over
-pub paused : (actions : List Action) (at : ℕ) (last : Option Kill) → nat_lt at (rest_after actions last) ≡ is_paused actions at last
+-- a ruleset rests where its rest isn't over
+pub paused : (actions : List Action) (at : ℕ) (last : Option Kill) → nat_lt at (rest_after actions last) ≡ is_resting actions at last
 paused actions at None = grind arith
 paused actions at (Some kill) = refl
 
 -- one that doesn't fire has no kills
-pub not_fired : (lives : List GroupLife) (number : ℕ) (rule : Rule) (now : Reading) (past : List Reading) (earlier : List (List Kill)) → fires lives rule now past ≡ false → kills_at lives number rule now past earlier ≡ []
+pub not_fired : (lives : List GroupLife) (number : ℕ) (rule : Rule) (now : Reading) (past : List Reading) (earlier : List (List Kill)) → ruleset_fires lives rule now past ≡ false → kills_at lives number rule now past earlier ≡ []
 not_fired lives number rule now past earlier off = rw off refl
 
 -- one that rests has none
 pub rested : (lives : List GroupLife) (number : ℕ) (rule : Rule) (now : Reading) (past : List Reading) (earlier : List (List Kill)) → nat_lt now.at (rest_after rule.actions (last_ending rule.actions earlier)) ≡ true → kills_at lives number rule now past earlier ≡ []
 rested lives number rule now past earlier resting =
-    let is : is_paused rule.actions now.at (last_ending rule.actions earlier) ≡ true = rw (sym (paused rule.actions now.at (last_ending rule.actions earlier))) resting in
-    elim (fires lives rule now past) as (λ f. (if f && not (is_paused rule.actions now.at (last_ending rule.actions earlier)) then chain lives number 0 rule.actions now past else []) ≡ []) [
+    let is : is_resting rule.actions now.at (last_ending rule.actions earlier) ≡ true = rw (sym (paused rule.actions now.at (last_ending rule.actions earlier))) resting in
+    elim (ruleset_fires lives rule now past) as (λ f. (if f && not (is_resting rule.actions now.at (last_ending rule.actions earlier)) then chain lives number 0 rule.actions now past else []) ≡ []) [
       | true ↦ rw is refl
       | false ↦ refl
     ]
 
 -- another has those of its chain
-pub taken : (lives : List GroupLife) (number : ℕ) (rule : Rule) (now : Reading) (past : List Reading) (earlier : List (List Kill)) → fires lives rule now past ≡ true → nat_lt now.at (rest_after rule.actions (last_ending rule.actions earlier)) ≡ false → kills_at lives number rule now past earlier ≡ chain lives number 0 rule.actions now past
+pub taken : (lives : List GroupLife) (number : ℕ) (rule : Rule) (now : Reading) (past : List Reading) (earlier : List (List Kill)) → ruleset_fires lives rule now past ≡ true → nat_lt now.at (rest_after rule.actions (last_ending rule.actions earlier)) ≡ false → kills_at lives number rule now past earlier ≡ chain lives number 0 rule.actions now past
 taken lives number rule now past earlier fired over =
-    let is : is_paused rule.actions now.at (last_ending rule.actions earlier) ≡ false = rw (sym (paused rule.actions now.at (last_ending rule.actions earlier))) over in
+    let is : is_resting rule.actions now.at (last_ending rule.actions earlier) ≡ false = rw (sym (paused rule.actions now.at (last_ending rule.actions earlier))) over in
     rw (fired, is) refl
 
 -- without kills it rests as long as before

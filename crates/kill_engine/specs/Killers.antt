@@ -6,7 +6,7 @@ use Rattle.kill_spec.specs.declared.kill.Kill.{Kill}
 use Rattle.kill_spec.specs.Readings.{Reading}
 use Rattle.kill_spec.specs.Kills.{kills}
 use Rattle.detectors.specs.Views.{ReadingView}
-use Rattle.detectors.specs.Stands.{last_of}
+use Rattle.detectors.specs.Stands.{newest_moment}
 use Rattle.victim_rank.specs.Pasts.{IsPastOf, Kept}
 use Rattle.kill_engine.specs.Rulesets.{IsRulesetAt, RulesetStands, RulesetView}
 
@@ -24,8 +24,8 @@ killer_of rulesets past last found =
     record { rulesets = rulesets; past = past; last = last; found = found }
 
 -- of how many groups a killer takes readings
-abbrev pub slots_of : KillerView → ℕ
-slots_of killer = length killer.past.sizes
+abbrev pub killer_slots : KillerView → ℕ
+killer_slots killer = length killer.past.sizes
 
 -- ---- what a killer stands for
 
@@ -49,10 +49,10 @@ newest_kills lives rules (now ∷ past) = kills lives rules now past
 -- kills at it.
 pub record StandsFor (killer : KillerView) (lives : List GroupLife) (rules : List Rule)
     (history : List Reading) : Type 0 where
-  pub slots : slots_of killer ≡ length lives
+  pub slots : killer_slots killer ≡ length lives
   pub rulesets : RulesetsStand lives history 0 killer.rulesets rules
   pub past : IsPastOf killer.past history
-  pub last : killer.last ≡ last_of history
+  pub last : killer.last ≡ newest_moment history
   pub found : killer.found ≡ newest_kills lives rules history
 
 -- A killer decides at a reading: where it stood for readings before, these are the kills at this
@@ -63,8 +63,8 @@ Decides old reading found = (rules : List Rule) (history : List Reading) →
     found ≡ kills reading.lives rules reading.seen history
 
 -- It takes the reading: it stands for it and those before it afterwards.
-abbrev pub Takes : KillerView → ReadingView → KillerView → Type 0
-Takes old reading new = (rules : List Rule) (history : List Reading) →
+abbrev pub KillerTakes : KillerView → ReadingView → KillerView → Type 0
+KillerTakes old reading new = (rules : List Rule) (history : List Reading) →
     StandsFor old reading.lives rules history →
     StandsFor new reading.lives rules (reading.seen ∷ history)
 
@@ -88,4 +88,4 @@ RulesetsTake old reading past new = (rules : List Rule) (history : List Reading)
 -- and had their last reading when it did.
 pub record IsKiller (killer : KillerView) : Type 0 where
   pub few : length killer.rulesets ≤ 64
-  pub at : All (λ state. IsRulesetAt killer.last (slots_of killer) state) killer.rulesets
+  pub at : All (λ state. IsRulesetAt killer.last (killer_slots killer) state) killer.rulesets

@@ -20,7 +20,7 @@ use Rattle.victim_rank.specs.Pasts.{IsPastOf, Kept}
 -- ---- which readings detectors can take
 
 -- a detector can take a reading: it is of as many groups, and later than the detector's last
-pub record IsReady (reading : ReadingView) (detector : DetectorView) : Type 0 where
+pub record IsStateReady (reading : ReadingView) (detector : DetectorView) : Type 0 where
   pub later : IsAfter detector.last reading.seen.at
   pub slots : length reading.lives ≡ slots_of detector
 
@@ -101,8 +101,8 @@ HasChain number act actions reading past before after =
     after ≡ before ++ chain reading.lives number act actions reading.seen history
 
 -- the moment (ns) until which a ruleset rests after its chain, if a kill ends it
-abbrev pub IsRest : ℕ → List Action → ReadingView → Kept → Option ℕ → Type 0
-IsRest number actions reading past until = (history : List Reading) → IsPastOf past history →
+abbrev pub IsRestOf : ℕ → List Action → ReadingView → Kept → Option ℕ → Type 0
+IsRestOf number actions reading past until = (history : List Reading) → IsPastOf past history →
     until ≡
     option_map (rest_of actions)
     (find (ends_chain actions) (chain reading.lives number 0 actions reading.seen history))
@@ -132,7 +132,7 @@ pub record RulesetStands (lives : List GroupLife) (history : List Reading) (numb
 
 -- a ruleset can take a reading: each of its detectors can
 abbrev pub IsRulesetReady : ReadingView → RulesetView → Type 0
-IsRulesetReady reading state = EachDetector (IsReady reading) state.groups
+IsRulesetReady reading state = EachDetector (IsStateReady reading) state.groups
 
 -- each detector of a ruleset is for so many groups, and its last reading was at a moment (ns), if
 -- there was one

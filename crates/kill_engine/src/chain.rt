@@ -2,7 +2,7 @@
 ghost use Rattle.std.specs.Prelude.{◌≡◌, ◌≤◌, ◌+◌, ◌++◌, ◌∷◌, [], length, vec_capacity, vec_len};
 ghost use Rattle.kill_spec.specs.Detectors.{of_seconds};
 ghost use Rattle.kill_spec.specs.Victims as victims;
-ghost use Rattle.kill_engine.specs.Rulesets.{HasChain, IsKillBy, IsRest};
+ghost use Rattle.kill_engine.specs.Rulesets.{HasChain, IsKillBy, IsRestOf};
 ghost use Rattle.ruleset_json.specs.Ranges.{FitsAction, FitsActions};
 
 use detectors::Reading;
@@ -73,7 +73,7 @@ pub(crate) fn take_chain(
     requires room { vec_len found.old + 16 ≤ vec_capacity found.old }
     ensures kills { HasChain number 0 actions.now reading.now past.now
         found.old.items found.new.items }
-    ensures rest { IsRest number actions.now reading.now past.now result }
+    ensures rest { IsRestOf number actions.now reading.now past.now result }
     ensures few { vec_len found.new ≤ vec_len found.old + 16 }
     ensures room { vec_capacity found.old ≤ vec_capacity found.new }
 {

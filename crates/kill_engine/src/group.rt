@@ -1,6 +1,7 @@
 //! A group of detectors.
 ghost use Rattle.std.specs.Prelude.{◌≡◌, ◌≤◌, [], IfOk, All, Some, length};
-ghost use Rattle.kill_engine.specs.Rulesets.{AllAnswer, AllTake, DetectorsStand, IsAt, IsReady};
+ghost use Rattle.psi_spec.specs.World.{most_groups};
+ghost use Rattle.kill_engine.specs.Rulesets.{AllAnswer, AllTake, DetectorsStand, IsAt, IsStateReady};
 
 use detectors::{Detector, Reading};
 use psi_base::NoMemory;
@@ -26,7 +27,7 @@ impl Model for GroupState {
 
 /// Steps all detectors, also behind a false one. True where all are.
 fn step_all(detectors: &mut [Detector], reading: &Reading) -> bool
-    requires ready { All (IsReady reading.now) detectors.old }
+    requires ready { All (IsStateReady reading.now) detectors.old }
     ensures answer { AllAnswer detectors.old reading.now result }
     ensures take { AllTake detectors.old reading.now detectors.new }
     ensures at { All (IsAt (Some reading.now.seen.at) (length reading.now.lives)) detectors.new }
@@ -45,7 +46,7 @@ impl GroupState {
         specs: &[DetectorSpec],
         lives: &[GroupLife],
     ) -> Result<GroupState, NoMemory>
-        requires { length lives.now ≤ 1024 }
+        requires { length lives.now ≤ most_groups }
         ensures { IfOk result (λ group. DetectorsStand lives.now [] group specs.now) }
     {
         let mut detectors = Vec::with_capacity(alloc, specs.len())?;
@@ -60,7 +61,7 @@ impl GroupState {
 
     /// The next reading. True where the group holds at it. Takes no memory.
     pub(crate) fn step(&mut self, reading: &Reading) -> bool
-        requires ready { All (IsReady reading.now) self.old }
+        requires ready { All (IsStateReady reading.now) self.old }
         ensures answer { AllAnswer self.old reading.now result }
         ensures take { AllTake self.old reading.now self.new }
         ensures at { All (IsAt (Some reading.now.seen.at) (length reading.now.lives)) self.new }

@@ -1,7 +1,8 @@
 //! The killer.
 ghost use Rattle.std.specs.Prelude.{◌≡◌, ◌≤◌, ◌+◌, ℕ, [], IfOk, All, Some, length, vec_capacity};
+ghost use Rattle.psi_spec.specs.World.{most_groups};
 ghost use Rattle.detectors.specs.Views.{IsAfter};
-ghost use Rattle.kill_engine.specs.Killers.{Decides, RulesetsStand, StandsFor, Takes, slots_of};
+ghost use Rattle.kill_engine.specs.Killers.{Decides, KillerTakes, RulesetsStand, StandsFor, killer_slots};
 ghost use Rattle.kill_engine.specs.Killers.{AllDecide, RulesetsTake};
 ghost use Rattle.kill_engine.specs.Rulesets.{IsRulesetAt, IsRulesetReady};
 
@@ -48,7 +49,7 @@ fn rulesets_of(
     rules: Vec<Rule>,
     lives: &[GroupLife],
 ) -> Result<Vec<RuleState>, NoMemory>
-    requires { length lives.now ≤ 1024 }
+    requires { length lives.now ≤ most_groups }
     ensures { IfOk result (λ states. RulesetsStand lives.now [] 0 states.items rules.items) }
 {
     let mut rulesets = Vec::with_capacity(alloc, rules.len())?;
@@ -67,7 +68,7 @@ fn evaluate_all(rulesets: &mut [RuleState], reading: &Reading, past: &Past, foun
     requires ready { All (IsRulesetReady reading.now) rulesets.old }
     requires slots { length past.now.sizes ≡ length reading.now.lives }
     requires empty { found.old.items ≡ [] }
-    requires room { 1024 ≤ vec_capacity found.old }
+    requires room { MOST_KILLS ≤ vec_capacity found.old }
     ensures kills { AllDecide rulesets.old reading.now past.now found.new.items }
     ensures take { RulesetsTake rulesets.old reading.now past.now rulesets.new }
     ensures at { All (IsRulesetAt (Some reading.now.seen.at) (length reading.now.lives))
@@ -84,7 +85,7 @@ impl Killer {
     /// A killer by these rules of groups with these lives, by slot, before the first reading. Takes all memory that it
     /// will need.
     pub fn make(alloc: Global, rules: Rules, lives: &[GroupLife]) -> Result<Killer, NoMemory>
-        requires { length lives.now ≤ 1024 }
+        requires { length lives.now ≤ most_groups }
         ensures { IfOk result (λ killer. StandsFor killer lives.now rules.rules []) }
     {
         Ok(Killer {
@@ -99,13 +100,13 @@ impl Killer {
     /// [`Killer::kills`] has the kills then. Takes no memory.
     pub fn evaluate(&mut self, reading: &Reading)
         requires later { IsAfter self.old.last reading.now.seen.at }
-        requires slots { length reading.now.lives ≡ slots_of self.old }
+        requires slots { length reading.now.lives ≡ killer_slots self.old }
         ensures kills { Decides self.old reading.now self.new.found }
-        ensures stands { Takes self.old reading.now self.new }
+        ensures stands { KillerTakes self.old reading.now self.new }
 
         // Also of a killer of which nothing is known.
         ensures last { self.new.last ≡ Some reading.now.seen.at }
-        ensures slots { slots_of self.new ≡ slots_of self.old }
+        ensures slots { killer_slots self.new ≡ killer_slots self.old }
     {
         self.found.clear();
         evaluate_all(&mut self.rulesets, reading, &self.past, &mut self.found);

@@ -1,6 +1,7 @@
 //! A ruleset.
 ghost use Rattle.std.specs.Prelude.{◌≡◌, ◌≤◌, ◌+◌, ℕ, [], IfOk, All, Some, length, nat_lt, vec_capacity, vec_len};
-ghost use Rattle.kill_engine.specs.Rulesets.{EachDetector, GroupsStand, GroupsTake, HasKills, IsAt, IsReady};
+ghost use Rattle.psi_spec.specs.World.{most_groups};
+ghost use Rattle.kill_engine.specs.Rulesets.{EachDetector, GroupsStand, GroupsTake, HasKills, IsAt, IsStateReady};
 ghost use Rattle.kill_engine.specs.Rulesets.{IsRulesetAt, IsRulesetReady, RulesetStands, RulesetTakes, SomeAnswers};
 
 use crate::chain::take_chain;
@@ -37,7 +38,7 @@ fn groups_of(
     specs: &[DetectorGroup],
     lives: &[GroupLife],
 ) -> Result<Vec<GroupState>, NoMemory>
-    requires { length lives.now ≤ 1024 }
+    requires { length lives.now ≤ most_groups }
     ensures { IfOk result (λ groups. GroupsStand lives.now [] groups.items specs.now) }
 {
     let mut groups = Vec::with_capacity(alloc, specs.len())?;
@@ -52,7 +53,7 @@ fn groups_of(
 
 /// Steps the detectors of all groups, also behind one that holds. True where one does.
 fn step_groups(groups: &mut [GroupState], reading: &Reading) -> bool
-    requires ready { EachDetector (IsReady reading.now) groups.old }
+    requires ready { EachDetector (IsStateReady reading.now) groups.old }
     ensures answer { SomeAnswers groups.old reading.now result }
     ensures take { GroupsTake groups.old reading.now groups.new }
     ensures at { EachDetector (IsAt (Some reading.now.seen.at) (length reading.now.lives))
@@ -68,7 +69,7 @@ fn step_groups(groups: &mut [GroupState], reading: &Reading) -> bool
 impl RuleState {
     /// A ruleset before the first reading.
     pub(crate) fn of(alloc: Global, rule: Rule, lives: &[GroupLife]) -> Result<RuleState, NoMemory>
-        requires { length lives.now ≤ 1024 }
+        requires { length lives.now ≤ most_groups }
         ensures { IfOk result (λ state. (number : ℕ) →
             RulesetStands lives.now [] number state rule) }
     {

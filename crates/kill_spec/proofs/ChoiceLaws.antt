@@ -11,7 +11,7 @@ use Rattle.psi_spec.specs.declared.machine.GroupLife.{GroupLife}
 use Rattle.kill_spec.specs.declared.reading.GroupReading.{GroupReading}
 use Rattle.kill_spec.specs.Readings.{Ascend, ComesBefore, path_of}
 use Rattle.kill_spec.specs.Victims.{beats_by, has_path_before, is_greater_by, is_larger, is_less}
-use Rattle.kill_spec.specs.Victims.{rank_of, size_of, unbeaten}
+use Rattle.kill_spec.specs.Victims.{memory_in_use, rank_of, unbeaten}
 use Rattle.kill_spec.specs.Choices.{BeatsBy, IsChoice, IsGreaterBy, IsUnbeaten, LargestIsChoice}
 use Rattle.kill_spec.specs.Choices.{UnbeatenIsChoice}
 use Rattle.kill_spec.proofs.Foremost.{Each, IsBelow, IsBest, Orders, Pairs, best_unbeaten, by_test}
@@ -244,6 +244,6 @@ unbeaten_is_choice lives measure groups ascend =
     groups ascend
 
 pub largest_is_choice : LargestIsChoice
-largest_is_choice lives groups ascend = unbeaten_choice lives (IsGreaterBy lives size_of)
-    (is_larger lives) (leads_larger size_of) (greater_order lives size_of)
-    (greater_tells lives size_of) (greater_told lives size_of) groups ascend
+largest_is_choice lives groups ascend = unbeaten_choice lives (IsGreaterBy lives memory_in_use)
+    (is_larger lives) (leads_larger memory_in_use) (greater_order lives memory_in_use)
+    (greater_tells lives memory_in_use) (greater_told lives memory_in_use) groups ascend

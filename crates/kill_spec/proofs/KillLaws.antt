@@ -7,9 +7,9 @@ use Rattle.ruleset_json.specs.declared.types.Rule.{Rule}
 use Rattle.kill_spec.specs.declared.reading.GroupReading.{GroupReading}
 use Rattle.kill_spec.specs.declared.kill.Kill.{Kill}
 use Rattle.kill_spec.specs.Readings.{Reading}
-use Rattle.kill_spec.specs.Detectors.{fires}
+use Rattle.kill_spec.specs.Detectors.{ruleset_fires}
 use Rattle.kill_spec.specs.Victims.{after_of, victim}
-use Rattle.kill_spec.specs.Kills.{and_then, chain, delay_of, ends_chain, is_paused, kill_by, kill_of, kills_at, kills_of, last_ending, EndedBy, EndingsApart, EndsOnce, KillsAreOfActions}
+use Rattle.kill_spec.specs.Kills.{and_then, chain, delay_of, ends_chain, is_resting, kill_by, kill_of, kills_at, kills_of, last_ending, EndedBy, EndingsApart, EndsOnce, KillsAreOfActions}
 
 -- ---- lists
 
@@ -96,17 +96,17 @@ one_ending lives number act actions (first ∷ rest) now past kill here has ends
 
 -- a ruleset with a kill at a reading fires there, doesn't rest, and its chain has the kill
 record IsTaken (lives : List GroupLife) (number : ℕ) (rule : Rule) (now : Reading) (past : List Reading) (earlier : List (List Kill)) (kill : Kill) : Type 0 where
-  pub fired : fires lives rule now past ≡ true
-  pub rests : is_paused rule.actions now.at (last_ending rule.actions earlier) ≡ false
+  pub fired : ruleset_fires lives rule now past ≡ true
+  pub rests : is_resting rule.actions now.at (last_ending rule.actions earlier) ≡ false
   pub has : Contains (chain lives number 0 rule.actions now past) kill
   pub whole : kills_at lives number rule now past earlier ≡ chain lives number 0 rule.actions now past
 
 taken : (lives : List GroupLife) (number : ℕ) (rule : Rule) (now : Reading) (past : List Reading) (earlier : List (List Kill)) (kill : Kill) → Contains (kills_at lives number rule now past earlier) kill → IsTaken lives number rule now past earlier kill
 taken lives number rule now past earlier kill =
     let whole : List Kill = chain lives number 0 rule.actions now past in
-    elim (fires lives rule now past) as (λ f. fires lives rule now past ≡ f → Contains (if f && not (is_paused rule.actions now.at (last_ending rule.actions earlier)) then whole else []) kill → IsTaken lives number rule now past earlier kill) [
+    elim (ruleset_fires lives rule now past) as (λ f. ruleset_fires lives rule now past ≡ f → Contains (if f && not (is_resting rule.actions now.at (last_ending rule.actions earlier)) then whole else []) kill → IsTaken lives number rule now past earlier kill) [
       | false ↦ λ _ c. contains_none kill _ c
-      | true ↦ λ fired. elim (is_paused rule.actions now.at (last_ending rule.actions earlier)) as (λ p. is_paused rule.actions now.at (last_ending rule.actions earlier) ≡ p → Contains (if not p then whole else []) kill → IsTaken lives number rule now past earlier kill) [
+      | true ↦ λ fired. elim (is_resting rule.actions now.at (last_ending rule.actions earlier)) as (λ p. is_resting rule.actions now.at (last_ending rule.actions earlier) ≡ p → Contains (if not p then whole else []) kill → IsTaken lives number rule now past earlier kill) [
         | true ↦ λ _ c. contains_none kill _ c
         | false ↦ λ rests c. record { fired = fired; rests = rests; has = c; whole = rw (fired, rests) refl }
       ] refl
@@ -132,7 +132,7 @@ record IsOutlasted (actions : List Action) (lists : List (List Kill)) (kill : Ki
   pub longer : rest_of actions kill ≤ rest_of actions last
 
 -- a ruleset that doesn't rest is past the rest of its last chain-ending kill
-over : (actions : List Action) (at : ℕ) (last : Kill) → is_paused actions at (Some last) ≡ false → rest_of actions last ≤ at
+over : (actions : List Action) (at : ℕ) (last : Kill) → is_resting actions at (Some last) ≡ false → rest_of actions last ≤ at
 over actions at last is = grind (arith, is)
 
 outlasted : (lives : List GroupLife) (number : ℕ) (rule : Rule) (readings : List Reading) (kill : Kill) → EndedBy lives number rule readings kill → IsOutlasted rule.actions (kills_of lives number rule readings) kill
@@ -152,7 +152,7 @@ outlasted lives number rule (now ∷ past) kill ((suc i, kills, few, is, has), e
       | Some newest ↦ λ found.
           let t = taken lives number rule now past earlier newest (find_found _ _ newest found).0 in
           let k = chain_kills lives number 0 rule.actions rule.actions now past newest (all_stand rule.actions) t.has in
-          let free : is_paused rule.actions now.at (Some before.last) ≡ false = subst (λ l. is_paused rule.actions now.at l ≡ false) before.is_last t.rests in
+          let free : is_resting rule.actions now.at (Some before.last) ≡ false = subst (λ l. is_resting rule.actions now.at l ≡ false) before.is_last t.rests in
           let past_it = over rule.actions now.at before.last free in
           record { last = newest; is_last = rw found refl; longer = omega (arith, past_it, before.longer, k.at) }
     ] refl
@@ -162,7 +162,7 @@ apart lives number rule now past first second are ended has ends =
     let before = outlasted lives number rule past first ended in
     let t = taken lives number rule now past (kills_of lives number rule past) second has in
     let k = chain_kills lives number 0 rule.actions rule.actions now past second (all_stand rule.actions) t.has in
-    let free : is_paused rule.actions now.at (Some before.last) ≡ false = subst (λ l. is_paused rule.actions now.at l ≡ false) before.is_last t.rests in
+    let free : is_resting rule.actions now.at (Some before.last) ≡ false = subst (λ l. is_resting rule.actions now.at l ≡ false) before.is_last t.rests in
     let past_it = over rule.actions now.at before.last free in
     omega (arith, past_it, before.longer, k.at)
 

@@ -16,8 +16,8 @@ use Rattle.kill_spec.specs.Readings.{IsGroupReading, IsReading, Reading, path_of
 use Rattle.kill_spec.specs.Detectors.{matches}
 use Rattle.kill_spec.specs.Victims.{◌or_else◌, DescentEnds, IsPopulatedIn, VictimsMatch, after_of}
 use Rattle.kill_spec.specs.Victims.{best_of, candidates, children, choice, descended}
-use Rattle.kill_spec.specs.Victims.{growing_choice, is_growing, is_slot, large_choice, largest}
-use Rattle.kill_spec.specs.Victims.{largest_few, patterns_of, unbeaten, victim}
+use Rattle.kill_spec.specs.Victims.{growing_choice, is_growing, large_choice, largest, names_slot}
+use Rattle.kill_spec.specs.Victims.{action_patterns, largest_few, unbeaten, victim}
 use Rattle.kill_spec.proofs.Foremost.{Has, by_test, contains_at}
 use Rattle.kill_spec.proofs.ChoiceLaws.{not_none, same_some}
 
@@ -105,11 +105,11 @@ candidate_is lives patterns now group there =
 
 child_is : (lives : List GroupLife) (slot : ℕ) (now : Reading) (group : GroupReading) →
     Has (children lives slot now) group →
-    IsPopulatedIn now group × (is_slot slot (slice_index_or (parents_of lives) group.slot.0 None) ≡
+    IsPopulatedIn now group × (names_slot slot (slice_index_or (parents_of lives) group.slot.0 None) ≡
     true)
 child_is lives slot now group there =
     let live = filter_has _ now.groups group there in
-    let both = and_parts group.populated (is_slot slot
+    let both = and_parts group.populated (names_slot slot
     (slice_index_or (parents_of lives) group.slot.0 None)) live.1 in
     ((contains_at now.groups group live.0, both.0), both.1)
 
@@ -142,23 +142,23 @@ unfolding victim
 victims_match lives act now past group is = by_test _ (after_of act).recursive
     (λ holds. (
       mapped_some (descended lives act now past (length lives)) (IsPopulatedIn now)
-          (choice lives act now past (candidates lives (patterns_of act) now)) group
+          (choice lives act now past (candidates lives (action_patterns act) now)) group
           (rw holds at is)
           (λ first some. descent_populated lives act now past (length lives) first
-          (candidate_is lives (patterns_of act) now first
-          (choice_has lives act now past (candidates lives (patterns_of act) now) first
+          (candidate_is lives (action_patterns act) now first
+          (choice_has lives act now past (candidates lives (action_patterns act) now) first
           some)).0),
       λ alone. absurd (true≢false (sym holds ∙ alone)),
     ))
     (λ fails.
-    let candidate = candidate_is lives (patterns_of act) now group
-    (choice_has lives act now past (candidates lives (patterns_of act) now) group
+    let candidate = candidate_is lives (action_patterns act) now group
+    (choice_has lives act now past (candidates lives (action_patterns act) now) group
     (rw fails at is)) in
     (candidate.0, λ alone. candidate.1))
 
 -- ---- the descent
 
-parent_is : (slot : ℕ) (parent : Option ℕ) → is_slot slot parent ≡ true → parent ≡ Some slot
+parent_is : (slot : ℕ) (parent : Option ℕ) → names_slot slot parent ≡ true → parent ≡ Some slot
 parent_is slot None is = absurd (false≢true is)
 parent_is slot (Some other) is = ap Some (grind (arith, nat_tests))
 

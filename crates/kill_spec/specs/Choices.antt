@@ -3,7 +3,7 @@ use Rattle.std.specs.Prelude.{◌≡◌, ◌↔◌, ◌⊎◌, ℕ, ◌<◌, Lis
 use Rattle.psi_spec.specs.declared.machine.GroupLife.{GroupLife}
 use Rattle.kill_spec.specs.declared.reading.GroupReading.{GroupReading}
 use Rattle.kill_spec.specs.Readings.{Ascend, ComesBefore, path_of}
-use Rattle.kill_spec.specs.Victims.{beats_by, largest, rank_of, size_of, unbeaten}
+use Rattle.kill_spec.specs.Victims.{beats_by, largest, memory_in_use, rank_of, unbeaten}
 
 -- a group has a greater measure than another, or the same and a path that comes before the other's
 abbrev pub IsGreaterBy : List GroupLife → (GroupReading → ℕ) → GroupReading → GroupReading → Type 0
@@ -42,4 +42,4 @@ UnbeatenIsChoice = (lives : List GroupLife) (measure : GroupReading → ℕ)
 abbrev pub LargestIsChoice : Type 0
 LargestIsChoice = (lives : List GroupLife) (groups : List GroupReading) →
     Ascend (map (path_of lives) groups) →
-    IsChoice (IsGreaterBy lives size_of) groups (largest lives groups)
+    IsChoice (IsGreaterBy lives memory_in_use) groups (largest lives groups)

@@ -121,8 +121,8 @@ group_holds lives group now past =
     list_all (λ (spec : DetectorSpec). is_true lives spec now past) group.detectors
 
 -- a ruleset fires where one of its groups of detectors holds
-abbrev pub fires : List GroupLife → Rule → Reading → List Reading → Bool
-fires lives rule now past =
+abbrev pub ruleset_fires : List GroupLife → Rule → Reading → List Reading → Bool
+ruleset_fires lives rule now past =
     list_any (λ (group : DetectorGroup). group_holds lives group now past) rule.groups
 
 -- ---- laws

@@ -7,7 +7,7 @@ use Rattle.ruleset_json.specs.declared.types.Rule.{Rule}
 use Rattle.kill_spec.specs.declared.reading.GroupReading.{GroupReading}
 use Rattle.kill_spec.specs.declared.kill.Kill.{Kill}
 use Rattle.kill_spec.specs.Readings.{AreReadings, Reading}
-use Rattle.kill_spec.specs.Detectors.{fires, of_seconds}
+use Rattle.kill_spec.specs.Detectors.{of_seconds, ruleset_fires}
 use Rattle.kill_spec.specs.Victims.{◌or_else◌, after_of, victim}
 
 -- ---- chains
@@ -36,7 +36,7 @@ chain lives rule act (first ∷ rest) now past =
     and_then (after_of first).always_continue (kill_by rule act now (victim lives first now past))
     (chain lives rule (act + 1) rest now past)
 
--- ---- pauses
+-- ---- rests
 
 -- a test of an action that may be missing: a missing one passes none
 abbrev pub test_action : Option Action → (Action → Bool) → Bool
@@ -58,9 +58,9 @@ delay_of None = 0
 delay_of (Some act) = of_seconds (after_of act).delay_s
 
 -- a ruleset rests at a moment (ns): its last chain-ending kill is less than its action's delay ago
-abbrev pub is_paused : List Action → ℕ → Option Kill → Bool
-is_paused actions at None = false
-is_paused actions at (Some kill) = nat_lt at (kill.at + delay_of (slice_get actions kill.action))
+abbrev pub is_resting : List Action → ℕ → Option Kill → Bool
+is_resting actions at None = false
+is_resting actions at (Some kill) = nat_lt at (kill.at + delay_of (slice_get actions kill.action))
 
 -- ---- kills
 
@@ -68,7 +68,7 @@ is_paused actions at (Some kill) = nat_lt at (kill.at + delay_of (slice_get acti
 -- and doesn't rest
 abbrev pub kills_at : List GroupLife → ℕ → Rule → Reading → List Reading → List (List Kill) → List Kill
 kills_at lives number rule now past earlier =
-    if fires lives rule now past && not (is_paused rule.actions now.at (last_ending rule.actions earlier))
+    if ruleset_fires lives rule now past && not (is_resting rule.actions now.at (last_ending rule.actions earlier))
     then chain lives number 0 rule.actions now past
     else []
 
@@ -124,7 +124,7 @@ pub record IsKillOf (lives : List GroupLife) (number : ℕ) (rule : Rule) (now :
   pub group : GroupReading
   pub chosen : victim lives act now past ≡ Some group
   pub slot : kill.victim ≡ group.slot
-  pub fired : fires lives rule now past ≡ true
+  pub fired : ruleset_fires lives rule now past ≡ true
 
 -- Each kill of a ruleset is so: no group is killed but as the victim of an action of a ruleset that fires.
 abbrev pub KillsAreOfActions : Type 0

@@ -28,13 +28,13 @@ use Rattle.kill_spec.specs.Detectors.{matches}
 -- ---- what actions say
 
 -- the patterns of an action
-abbrev pub patterns_of : Action → List Pattern
-patterns_of (action.SizeOrGrowth cgroup size_threshold percentile ratio after) = cgroup
-patterns_of (action.SwapUsage cgroup threshold after) = cgroup
-patterns_of (action.Pressure cgroup resource after) = cgroup
-patterns_of (action.PgScan cgroup after) = cgroup
+abbrev pub action_patterns : Action → List Pattern
+action_patterns (action.SizeOrGrowth cgroup size_threshold percentile ratio after) = cgroup
+action_patterns (action.SwapUsage cgroup threshold after) = cgroup
+action_patterns (action.Pressure cgroup resource after) = cgroup
+action_patterns (action.PgScan cgroup after) = cgroup
 
--- what an action says of the time after it
+-- what an action says beside its choice
 abbrev pub after_of : Action → After
 after_of (action.SizeOrGrowth cgroup size_threshold percentile ratio after) = after
 after_of (action.SwapUsage cgroup threshold after) = after
@@ -49,14 +49,14 @@ candidates lives patterns reading =
     filter (λ (group : GroupReading). group.populated) (matches lives patterns reading)
 
 -- a slot, if there is one, is this one
-abbrev pub is_slot : ℕ → Option ℕ → Bool
-is_slot slot None = false
-is_slot slot (Some other) = other == slot
+abbrev pub names_slot : ℕ → Option ℕ → Bool
+names_slot slot None = false
+names_slot slot (Some other) = other == slot
 
 -- the live groups right below the group in a slot in which, or below which, some task is live
 abbrev pub children : List GroupLife → ℕ → Reading → List GroupReading
 children lives slot reading =
-    filter (λ (group : GroupReading). group.populated && is_slot slot (slice_index_or (parents_of lives) group.slot.0 None))
+    filter (λ (group : GroupReading). group.populated && names_slot slot (slice_index_or (parents_of lives) group.slot.0 None))
     reading.groups
 
 -- ---- choices among groups
@@ -118,12 +118,12 @@ chosen_by lives is_eligible measure groups = unbeaten (beats_by lives measure) (
 -- ---- size or growth
 
 -- a group's memory in use (bytes)
-abbrev pub size_of : GroupReading → ℕ
-size_of group = group.current
+abbrev pub memory_in_use : GroupReading → ℕ
+memory_in_use group = group.current
 
 -- one group is larger than another: it uses more memory, or the same and its path comes first
 abbrev pub is_larger : List GroupLife → GroupReading → GroupReading → Bool
-is_larger lives first second = is_greater_by lives size_of first second
+is_larger lives first second = is_greater_by lives memory_in_use first second
 
 -- the largest of groups
 abbrev pub largest : List GroupLife → List GroupReading → Option GroupReading
@@ -135,12 +135,12 @@ best_of groups = filter (λ group. not (list_any (λ other. nat_lt (rank_of grou
 
 -- the memory (bytes) that groups use together
 abbrev pub total_size : List GroupReading → ℕ
-total_size groups = sum_by size_of groups
+total_size groups = sum_by memory_in_use groups
 
 -- the first choice: the largest of the best with at least so many percent of the memory of all
 abbrev pub large_choice : List GroupLife → ℕ → List GroupReading → Option GroupReading
 large_choice lives size_threshold groups =
-    largest lives (filter (λ group. nat_le (size_threshold * total_size groups) (size_of group * 100)) (best_of groups))
+    largest lives (filter (λ group. nat_le (size_threshold * total_size groups) (memory_in_use group * 100)) (best_of groups))
 
 -- how many of so many groups stand above a percentile: rounded up, and at least one
 abbrev pub count_above : ℕ → ℕ → ℕ
@@ -170,12 +170,12 @@ past_of past group = take 4 (sizes_in group.slot.0 past)
 abbrev pub is_growing : ℕ → List Reading → GroupReading → Bool
 is_growing ratio past group =
     nat_lt 0 (sum (past_of past group))
-    && nat_le (ratio * sum (past_of past group)) (size_of group * length (past_of past group) * 1000)
+    && nat_le (ratio * sum (past_of past group)) (memory_in_use group * length (past_of past group) * 1000)
 
 -- a group's size over the mean of its past, times the sums of its own past and another's: compared with
 -- the same of the other it tells which quotient is greater
 abbrev pub growth_by : List Reading → GroupReading → GroupReading → ℕ
-growth_by past group other = size_of group * length (past_of past group) * sum (past_of past other)
+growth_by past group other = memory_in_use group * length (past_of past group) * sum (past_of past other)
 
 -- A group has grown more than another: the quotient of its size and the mean of its past is greater, as
 -- an exact fraction, or the same and the group is larger.
@@ -231,8 +231,8 @@ descended lives act now past (suc n) group =
 unfoldable pub victim : List GroupLife → Action → Reading → List Reading → Option GroupReading
 victim lives act now past =
     if (after_of act).recursive
-    then option_map (descended lives act now past (length lives)) (choice lives act now past (candidates lives (patterns_of act) now))
-    else choice lives act now past (candidates lives (patterns_of act) now)
+    then option_map (descended lives act now past (length lives)) (choice lives act now past (candidates lives (action_patterns act) now))
+    else choice lives act now past (candidates lives (action_patterns act) now)
 
 -- ---- laws
 
@@ -244,7 +244,7 @@ IsPopulatedIn reading group = Contains reading.groups group × (group.populated 
 abbrev pub VictimsMatch : Type 0
 VictimsMatch = (lives : List GroupLife) (act : Action) (now : Reading) (past : List Reading) (group : GroupReading) →
     victim lives act now past ≡ Some group →
-    IsPopulatedIn now group × ((after_of act).recursive ≡ false → is_match (patterns_of act) (path_of lives group) ≡ true)
+    IsPopulatedIn now group × ((after_of act).recursive ≡ false → is_match (action_patterns act) (path_of lives group) ≡ true)
 
 -- More choices below the one that was chosen change nothing, once there are as many as groups.
 abbrev pub DescentEnds : Type 0

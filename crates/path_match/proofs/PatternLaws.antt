@@ -7,7 +7,7 @@ use Rattle.std.proofs.lemmas.List.{length-map}
 use Rattle.psi_base.specs.Path.{parts_at}
 use Rattle.psi_base.proofs.PartLaws.{HasFirst, first_part}
 use Rattle.path_match.specs.declared.matches.PatternFault.TheVariants.{BadPattern, TooMany}
-use Rattle.path_match.specs.Match.{Pattern, components, is_pattern, is_pattern_byte, is_pattern_component, pattern_text, patterns_of, ArePatterns, Spells, SlashIsFree}
+use Rattle.path_match.specs.Match.{Pattern, components, is_pattern, is_pattern_byte, is_pattern_component, pattern_text, patterns_of, ArePatterns, SpellsPattern, SlashIsFree}
 use Rattle.path_match.proofs.JoinedParts.{joined_by-parts, list_all-map, list_all-weaker, none_of, parts-joined_by}
 use Rattle.path_match.proofs.MatchLaws.{components-root}
 
@@ -99,7 +99,7 @@ components-slashed (component ∷ pattern) some formed =
 
 -- ---- a text that spells a pattern
 
-pub spelled_components : (text : List ℕ) (pattern : Pattern) → list_all is_pattern_component pattern ≡ true → Spells text pattern → components text ≡ pattern
+pub spelled_components : (text : List ℕ) (pattern : Pattern) → list_all is_pattern_component pattern ≡ true → SpellsPattern text pattern → components text ≡ pattern
 spelled_components text pattern formed spells = ⊎_elim
     (λ own. ap components own ∙ components-text pattern formed)
     (λ behind. ap components behind.1 ∙ components-slashed pattern behind.0 formed)
@@ -116,19 +116,19 @@ spells_parts : (bytes : List ℕ) → pattern_text (parts_at 47 bytes) ≡ bytes
 spells_parts bytes = pattern_text-parts (parts_at 47 bytes) (first_part 47 bytes) ∙ joined_by-parts 47 bytes
 
 -- a text that is a pattern spells its components
-spells_slashed : (byte : ℕ) (bytes : List ℕ) → Spells (47 ∷ byte ∷ bytes) (components (47 ∷ byte ∷ bytes))
+spells_slashed : (byte : ℕ) (bytes : List ℕ) → SpellsPattern (47 ∷ byte ∷ bytes) (components (47 ∷ byte ∷ bytes))
 spells_slashed byte bytes =
     rw (components-slash byte bytes) (inr (parts_some (parts_at 47 (byte ∷ bytes)) (first_part 47 (byte ∷ bytes)), ap (λ bs. 47 ∷ bs) (sym (spells_parts (byte ∷ bytes)))))
 
-spells_first : (first : ℕ) (bytes : List ℕ) → first ≡ 47 → Spells (first ∷ bytes) (components (first ∷ bytes))
+spells_first : (first : ℕ) (bytes : List ℕ) → first ≡ 47 → SpellsPattern (first ∷ bytes) (components (first ∷ bytes))
 spells_first first [] is = inl (rw (is, components-root) refl)
-spells_first first (byte ∷ bytes) is = subst (λ (b : ℕ). Spells (b ∷ byte ∷ bytes) (components (b ∷ byte ∷ bytes))) (sym is) (spells_slashed byte bytes)
+spells_first first (byte ∷ bytes) is = subst (λ (b : ℕ). SpellsPattern (b ∷ byte ∷ bytes) (components (b ∷ byte ∷ bytes))) (sym is) (spells_slashed byte bytes)
 
 no_text : is_pattern [] ≡ true → ⊥
 unfolding components parts_at
 no_text formed = absurd cc
 
-pub spells_components : (text : List ℕ) → is_pattern text ≡ true → Spells text (components text)
+pub spells_components : (text : List ℕ) → is_pattern text ≡ true → SpellsPattern text (components text)
 spells_components [] formed = absurd (no_text formed)
 spells_components (byte ∷ bytes) formed = ⊎_elim
     (λ is. spells_first byte bytes is)

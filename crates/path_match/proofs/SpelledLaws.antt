@@ -6,7 +6,7 @@ use Rattle.std.proofs.lemmas.Bool.{and_parts, and_from, or_left, le-leb}
 use Rattle.std.proofs.lemmas.List.{length-map}
 use Rattle.psi_base.specs.Path.{parts_at}
 use Rattle.path_match.specs.declared.matches.PatternFault.TheVariants.{BadPattern, TooMany}
-use Rattle.path_match.specs.Match.{Pattern, components, is_pattern, is_pattern_byte, is_pattern_component, pattern_text, patterns_text, patterns_of, ArePatterns, Spells, SpellsEach, ReadsSpelled, ReadAgain}
+use Rattle.path_match.specs.Match.{Pattern, components, is_pattern, is_pattern_byte, is_pattern_component, pattern_text, patterns_text, patterns_of, ArePatterns, SpellsPattern, SpellsEach, ReadsPatterns, ReadAgain}
 use Rattle.path_match.proofs.JoinedParts.{joined_by-parts, list_all-join, list_all-map, list_all-weaker, parts-joined_by}
 use Rattle.path_match.proofs.MatchLaws.{all_cons}
 use Rattle.path_match.proofs.PatternLaws.{formed_bytes, read_if, reads_patterns, spelled_components, spells_components}
@@ -24,7 +24,7 @@ formed_text (component ∷ pattern) formed =
     (list_all-weaker is_pattern_component (list_all is_text_byte) (component ∷ pattern)
     (λ part good. list_all-weaker is_pattern_byte is_text_byte part (λ c known. or_left (is_pattern_byte c) (c == 47) known) (formed_bytes part good)) formed)
 
-spelled_text : (text : List ℕ) (pattern : Pattern) → list_all is_pattern_component pattern ≡ true → Spells text pattern → list_all is_text_byte text ≡ true
+spelled_text : (text : List ℕ) (pattern : Pattern) → list_all is_pattern_component pattern ≡ true → SpellsPattern text pattern → list_all is_text_byte text ≡ true
 spelled_text text pattern formed spells = ⊎_elim
     (λ own. rw own (formed_text pattern formed))
     (λ behind. rw behind.1 (formed_text pattern formed))
@@ -34,7 +34,7 @@ spelled_text text pattern formed spells = ⊎_elim
 
 -- as many parts, each of which spells its pattern
 abbrev pub SpellAll : List (List ℕ) → List Pattern → Type 0
-SpellAll parts patterns = (length parts ≡ length patterns) × All (λ pair. Spells pair.0 pair.1) (zip parts patterns)
+SpellAll parts patterns = (length parts ≡ length patterns) × All (λ pair. SpellsPattern pair.0 pair.1) (zip parts patterns)
 
 all_behind : (part : List ℕ) (parts : List (List ℕ)) (pattern : Pattern) (patterns : List Pattern) → SpellAll (part ∷ parts) (pattern ∷ patterns) → SpellAll parts patterns
 all_behind part parts pattern patterns all = (omega (arith, all.0), λ k d below. all.1 (suc k) d (omega arith))
@@ -59,11 +59,11 @@ all_texts (part ∷ parts) (pattern ∷ patterns) all formed =
     (all_texts parts patterns (all_behind part parts pattern patterns all) both.1)
 
 -- parts that are patterns spell their components
-each_spells : (parts : List (List ℕ)) → list_all is_pattern parts ≡ true → All (λ pair. Spells pair.0 pair.1) (zip parts (map components parts))
+each_spells : (parts : List (List ℕ)) → list_all is_pattern parts ≡ true → All (λ pair. SpellsPattern pair.0 pair.1) (zip parts (map components parts))
 each_spells [] good = λ k d below. absurd (omega arith)
 each_spells (part ∷ parts) good =
     let both = and_parts (is_pattern part) (list_all is_pattern parts) good in
-    let P : List ℕ × Pattern → Type 0 = λ pair. Spells pair.0 pair.1 in
+    let P : List ℕ × Pattern → Type 0 = λ pair. SpellsPattern pair.0 pair.1 in
     all_cons P (part, components part) (zip parts (map components parts)) (spells_components part both.0) (each_spells parts both.1)
 
 -- ---- what is read
@@ -97,16 +97,16 @@ read_spells text patterns is =
       each = rw read.2 (each_spells parts read.0);
     }
 
-pub reads_spelled : ReadsSpelled
+pub reads_spelled : ReadsPatterns
 reads_spelled text patterns = (
   λ is. (reads_patterns text patterns is, read_spells text patterns is),
   λ both. spelled_read text both.1.parts patterns both.0 both.1.joined (both.1.as_many, both.1.each),
 )
 
-own_texts : (patterns : List Pattern) → All (λ pair. Spells pair.0 pair.1) (zip (map pattern_text patterns) patterns)
+own_texts : (patterns : List Pattern) → All (λ pair. SpellsPattern pair.0 pair.1) (zip (map pattern_text patterns) patterns)
 own_texts [] = λ k d below. absurd (omega arith)
 own_texts (pattern ∷ patterns) =
-    let P : List ℕ × Pattern → Type 0 = λ pair. Spells pair.0 pair.1 in
+    let P : List ℕ × Pattern → Type 0 = λ pair. SpellsPattern pair.0 pair.1 in
     all_cons P (pattern_text pattern, pattern) (zip (map pattern_text patterns) patterns) (inl refl) (own_texts patterns)
 
 pub read_again : ReadAgain

@@ -99,15 +99,15 @@ abbrev pub patterns_text : List Pattern → List ℕ
 patterns_text patterns = join_with_byte 44 (map pattern_text patterns)
 
 -- a text spells a pattern: it is the pattern's own, or that behind a slash where the pattern isn't the root's
-abbrev pub Spells : List ℕ → Pattern → Type 0
-Spells text pattern = (text ≡ pattern_text pattern) ⊎ ((pattern ≢ []) × (text ≡ 47 ∷ pattern_text pattern))
+abbrev pub SpellsPattern : List ℕ → Pattern → Type 0
+SpellsPattern text pattern = (text ≡ pattern_text pattern) ⊎ ((pattern ≢ []) × (text ≡ 47 ∷ pattern_text pattern))
 
 -- a text spells patterns: it has as many parts between commas, each of which spells its pattern
 pub record SpellsEach (text : List ℕ) (patterns : List Pattern) : Type 0 where
   pub parts : List (List ℕ)
   pub joined : text ≡ join_with_byte 44 parts
   pub as_many : length parts ≡ length patterns
-  pub each : All (λ pair. Spells pair.0 pair.1) (zip parts patterns)
+  pub each : All (λ pair. SpellsPattern pair.0 pair.1) (zip parts patterns)
 
 -- ---- laws
 
@@ -128,8 +128,8 @@ abbrev pub StarMatchesAny : Type 0
 StarMatchesAny = (bytes : List ℕ) → MatchesComponent (codes "*") bytes
 
 -- Patterns are read from a text exactly where it spells them, and they are one to 16, each well formed.
-abbrev pub ReadsSpelled : Type 0
-ReadsSpelled = (text : List ℕ) (patterns : List Pattern) → (patterns_of text ≡ Ok patterns) ↔ (ArePatterns patterns × SpellsEach text patterns)
+abbrev pub ReadsPatterns : Type 0
+ReadsPatterns = (text : List ℕ) (patterns : List Pattern) → (patterns_of text ≡ Ok patterns) ↔ (ArePatterns patterns × SpellsEach text patterns)
 
 -- Patterns are read again from their text.
 abbrev pub ReadAgain : Type 0

@@ -6,5 +6,5 @@ mod form;
 mod matches;
 mod patterns;
 
-pub use matches::{PatternFault, matching, reading_patterns};
+pub use matches::{PatternFault, law_matching, law_reading_patterns};
 pub use patterns::Patterns;

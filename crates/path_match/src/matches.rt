@@ -1,5 +1,5 @@
 //! Patterns of paths: why a text has none, and laws of `Match`.
-ghost use Rattle.path_match.specs.Match.{PathMatchesItself, ReadAgain, ReadsSpelled, RootAlone, SlashIsFree, StarMatchesAny, TestTells};
+ghost use Rattle.path_match.specs.Match.{PathMatchesItself, ReadAgain, ReadsPatterns, RootAlone, SlashIsFree, StarMatchesAny, TestTells};
 
 /// Why a text is no list of patterns.
 #[derive(Clone, Copy, Debug, PartialEq, Eq)]
@@ -12,7 +12,7 @@ pub enum PatternFault {
 
 /// Laws of matching: the test says what the relation says, the root's pattern matches the root alone, a path matches
 /// itself alone, and a star matches any component.
-pub fn matching()
+pub fn law_matching()
     ensures tells { TestTells }
     ensures root { RootAlone }
     ensures itself { PathMatchesItself }
@@ -21,8 +21,8 @@ pub fn matching()
 
 /// Laws of reading patterns: they are read from the texts that spell them, one to 16 of them, each well formed; they are
 /// read again from their own text; and a slash before the first component changes none.
-pub fn reading_patterns()
-    ensures spelled { ReadsSpelled }
+pub fn law_reading_patterns()
+    ensures spelled { ReadsPatterns }
     ensures again { ReadAgain }
     ensures slash { SlashIsFree }
 {}

@@ -1,20 +1,20 @@
 -- How one more tick changes the samples of a group, its totals and averages, and its triggers.
-use Rattle.std.proofs.Common.{◌≡◌, ℕ, zero, suc, ◌+◌, ◌-◌, ◌*◌, ◌≤◌, ◌<◌, List, [], ◌∷◌, ◌++◌, length, get_or, refl, sym, ap, ◌∙◌, arith, true, false, append_assoc, ◌⊎◌, ⊎_elim}
+use Rattle.std.proofs.Common.{◌≡◌, ℕ, suc, ◌+◌, ◌≤◌, ◌<◌, List, [], ◌∷◌, ◌++◌, length, get_or, refl, sym, ap, ◌∙◌, arith, true, false, append_assoc, ◌⊎◌, ⊎_elim}
 use Rattle.std.specs.Prelude.{All, Bool, map, filter, nat_le, nat_lt, sum_by, if◌then◌else◌, ◌&&◌}
-use Rattle.std.proofs.lemmas.List.{get_or_past, get_or-replicate, get_or_at, get_or-append-add, length-append, map-append, append-nil, length-map, get_or-append_right, get_or_default}
+use Rattle.std.proofs.lemmas.List.{get_or_past, get_or-replicate, get_or_at, get_or-append-add, length-append, map-append, append-nil}
 use Rattle.std.proofs.lemmas.List.Sums.{fold-append, sum_by-append}
 use Rattle.std.proofs.lemmas.List.Folds.{fold-map}
 use Rattle.std.proofs.lemmas.Bool.{false≢true}
 use Rattle.std.proofs.lemmas.List.Elements.{All-cons, All-nil, filter-append}
-use Rattle.std.proofs.lemmas.List.FromFn.{get_or-map-range_with_len, length-map-range_with_len}
+use Rattle.std.proofs.lemmas.List.FromFn.{get_or-map-range_with_len}
 use Rattle.std.specs.List.Sorted.{IsNonDecreasingBy}
 use Rattle.psi_base.specs.declared.event.TriggerSpec.{TriggerSpec}
 use Rattle.psi_spec.specs.declared.machine.GroupLife.{GroupLife}
 use Rattle.psi_spec.specs.Groups.{is_live_at}
 use Rattle.pressure_spec.specs.Ticks.{Tick, no_row, no_tick, last_tick, IsNextTick, AreNextTicks}
-use Rattle.pressure_spec.specs.Share.{at_state, no_totals, plus, pressure_places, shares, totals_of, zip_with}
-use Rattle.pressure_spec.specs.Average.{AverageState, IsAverageState, average_of, average_step, averages_from, averages_after, last_totals, HasTotals}
-use Rattle.pressure_spec.specs.Signal.{TriggerState, new_trigger, trigger_step, trigger_after, fired_after, fires}
+use Rattle.pressure_spec.specs.Share.{at_state, no_totals, plus, pressure_places, shares, totals_of}
+use Rattle.pressure_spec.specs.Average.{AverageState, IsAverageState, average_of, average_step, averages_after, last_totals, HasTotals}
+use Rattle.pressure_spec.specs.Signal.{TriggerState, new_trigger, trigger_step, trigger_after, fires}
 use Rattle.pressure_spec.specs.Samples.{life_of, row_at, growths, samples_from, group_samples, totals_after, with_totals, history_of, group_averages, watched_state, first_value, seen_by, trigger_over, has_fired, TotalIsSum, TotalsNeverFall, GroupsAtMostHundred, FiredApart}
 use Rattle.pressure_spec.proofs.ShareLaws.{totals_grow}
 use Rattle.pressure_spec.proofs.AverageLaws.{at_most_hundred}

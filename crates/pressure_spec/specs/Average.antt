@@ -7,7 +7,7 @@ use Rattle.pressure_spec.specs.Share.{zip_with, pressure_places}
 abbrev pub period : ℕ
 period = 2000000000
 
--- by how much an average over 10, 60 and 300 seconds decays in a period, in parts of 2048
+-- what is left of an average over 10, 60 and 300 seconds after a period with nothing active, in parts of 2048
 abbrev pub factors : List ℕ
 factors = 1677 ∷ 1981 ∷ 2034 ∷ []
 

@@ -1,5 +1,5 @@
 -- The pressure files io.pressure, memory.pressure and cpu.pressure of a group, as Documentation/accounting/psi.rst has them.
-use Rattle.std.specs.Prelude.{◌≡◌, ℕ, ◌+◌, ◌*◌, ◌/◌, ◌%◌, ◌^◌, ◌≤◌, ◌<◌, All, length, List, [], ◌∷◌, ◌++◌, slice_index, slice_index_or, codes, decimal, ◌&&◌, Bool, true, false, if◌then◌else◌}
+use Rattle.std.specs.Prelude.{◌≡◌, ℕ, ◌+◌, ◌*◌, ◌/◌, ◌%◌, ◌^◌, ◌≤◌, ◌<◌, All, length, List, [], ◌++◌, slice_index, slice_index_or, codes, decimal, ◌&&◌, Bool, true, false, if◌then◌else◌}
 use Rattle.psi_base.specs.declared.event.Res.{Res}
 use Rattle.psi_base.specs.declared.event.Res.TheVariants.{Io, Memory, Cpu}
 use Rattle.psi_base.specs.declared.event.Level.{Level}
@@ -12,7 +12,7 @@ use Rattle.pressure_spec.specs.Samples.{state_of}
 abbrev pub two_digits : ℕ → List ℕ
 two_digits n = decimal (n / 10) ++ decimal (n % 10)
 
--- an average (2048 is 1 percent) in hundredths of a percent, rounded down
+-- what an average (2048 is 1 percent) has beyond whole percent, in hundredths of a percent, rounded down
 abbrev pub hundredths : ℕ → ℕ
 hundredths average = (average % 2048) * 100 / 2048
 

@@ -37,7 +37,7 @@ abbrev pub growth : TriggerState → ℕ → ℕ → ℕ
 growth old now value =
     (value - old.start_value) + (if is_over old now then 0 else old.previous * (old.size - (now - old.start)) / old.size)
 
--- a trigger after its total changed: a window that is over begins anew, and growth up to the threshold makes an event pending
+-- a trigger after its total changed: a window that is over begins anew, and growth that reaches the threshold is an event
 abbrev pub grown : TriggerState → ℕ → ℕ → TriggerState
 grown old now value = record {
   threshold = old.threshold;

@@ -7,14 +7,14 @@ ghost use Rattle.pressure_spec.specs.Signal.{PendingIsSignalled, QuietWhenStill,
 ghost use Rattle.pressure_spec.specs.Average.{AtMostHundred, CarriesTheRest, FallsWhenFree, LoadApproaches, PowerHalves, RisesWhenStalled, SamplesWithinTotal};
 
 /// Fixed-point numbers: powers are taken by halves, and an average goes toward what is active and never past it.
-pub fn fixed_point()
+pub fn law_fixed_point()
     ensures power { PowerHalves }
     ensures load { LoadApproaches }
 {}
 
 /// The averages of a group: never above 100 percent, up while all time is stalled and down while none is. What an
 /// update can't sample waits for a later one.
-pub fn averages()
+pub fn law_averages()
     ensures most { AtMostHundred }
     ensures rises { RisesWhenStalled }
     ensures falls { FallsWhenFree }
@@ -23,8 +23,8 @@ pub fn averages()
 {}
 
 /// The signals of a trigger: two are at least its window apart, a pending event is signalled as soon as that lets it,
-/// and there is none while nothing is stalled.
-pub fn signals()
+/// and there is none while the total is what it was when the trigger was set.
+pub fn law_signals()
     ensures apart { SignalsApart }
     ensures pending { PendingIsSignalled }
     ensures remembers { RemembersLast }
@@ -33,7 +33,7 @@ pub fn signals()
 
 /// The shares of an interval: a mean of the processors' times, and nothing where the group was idle. The totals are
 /// their sums.
-pub fn shares()
+pub fn law_shares()
     ensures mean { ShareIsMean }
     ensures within { SharesWithin }
     ensures idle { IdleHasNone }

@@ -5,4 +5,4 @@
 
 mod arithmetic;
 
-pub use arithmetic::{averages, fixed_point, law_ticks, shares, signals};
+pub use arithmetic::{law_averages, law_fixed_point, law_shares, law_signals, law_ticks};

@@ -10,7 +10,7 @@ use Rattle.psi_base.specs.declared.event.Level.{Level}
 use Rattle.psi_spec.specs.Fields.{level_word}
 use Rattle.psi_spec.specs.Grammar.{joined}
 use Rattle.pressure_spec.specs.File.{file_line, percent_text}
-use Rattle.pressure_text.specs.Pieces.{spaced}
+use Rattle.pressure_text.specs.Pieces.{spaced_number}
 
 -- a front of the first text is one of both
 pub front_of_both : (old new : Option (List ℕ)) (xs ys : List ℕ) → AppendsFront old new xs →
@@ -32,7 +32,7 @@ puts_then old mid new (Ok value) xs ys first put = Appends-then old mid new xs y
 puts_then old mid new (Err fault) xs ys first put = front_then old mid new xs ys first put
 
 -- a word, and numbers behind it, with one space between them
-pub joined_numbers : (word ns : List ℕ) → joined (word ∷ map decimal ns) ≡ word ++ flat_map spaced ns
+pub joined_numbers : (word ns : List ℕ) → joined (word ∷ map decimal ns) ≡ word ++ flat_map spaced_number ns
 joined_numbers word [] = sym (append-nil word)
 joined_numbers word (n ∷ ns) = ap (λ w. word ++ 32 ∷ w) (joined_numbers (decimal n) ns)
 

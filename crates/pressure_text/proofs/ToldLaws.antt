@@ -17,9 +17,9 @@ use Rattle.pressure_spec.specs.File.{told_line}
 use Rattle.pressure_spec.specs.Samples.{state_of}
 use Rattle.pressure_text.specs.declared.read.PressureFile.{PressureFile}
 use Rattle.pressure_text.specs.declared.read.PressureLine.{PressureLine}
-use Rattle.pressure_text.specs.Reading.{average_at, behind, file_at, if_end, line_at, number_at}
-use Rattle.pressure_text.specs.Reading.{past}
-use Rattle.pressure_text.specs.Told.{IsTold, ReadsAgain, Tells, spelled_line, told}
+use Rattle.pressure_text.specs.FileRead.{average_at, behind, file_at, if_end, line_at, number_at}
+use Rattle.pressure_text.specs.FileRead.{past}
+use Rattle.pressure_text.specs.Told.{IsTellable, ReadsAgain, Tells, numbers_told, spelled_line}
 use Rattle.pressure_text.proofs.Taken.{average_again, average_is, behind_again, behind_is, bind_some}
 use Rattle.pressure_text.proofs.Taken.{found_same, number_again, number_is, past_is}
 
@@ -136,7 +136,7 @@ made averages total rest =
     Some (numbers, rest)
 
 -- a line that a file can tell is read
-told_again : (level : Level) (found : PressureLine) (rest : List ℕ) → IsTold found →
+told_again : (level : Level) (found : PressureLine) (rest : List ℕ) → IsTellable found →
     line_at level (spelled_line level found ++ rest) ≡ Some (found, rest)
 unfolding made
 told_again level found rest can =
@@ -204,7 +204,7 @@ percent_is average =
 
 -- a line that is written is one that tells whole hundredths and microseconds
 line_told : (level : Level) (averages : List ℕ) (total : ℕ) →
-    file_line level averages total ≡ spelled_line level (told averages total)
+    file_line level averages total ≡ spelled_line level (numbers_told averages total)
 line_told level averages total =
     let first = percent_is (get_or averages 0 0) in
     let second = percent_is (get_or averages 1 0) in
@@ -219,7 +219,7 @@ abbrev Fit : List ℕ → ℕ → Type 0
 Fit averages total = ((k : ℕ) → k < 3 → get_or averages k 0 ≤ 204800) × (total < 2 ^ 64)
 
 -- what a line tells of such, it can tell
-can_tell : (averages : List ℕ) (total : ℕ) → Fit averages total → IsTold (told averages total)
+can_tell : (averages : List ℕ) (total : ℕ) → Fit averages total → IsTellable (numbers_told averages total)
 can_tell averages total fit =
     let most : (k : ℕ) → k < 3 → in_hundredths (get_or averages k 0) ≤ 10000 =
     λ k below. in_most (get_or averages k 0) (fit.0 k below) in
@@ -251,7 +251,7 @@ fit_of totals averages i fit rows = (λ k below. row_most averages i k rows belo
 
 -- the line on all tasks, zeros or not
 abbrev full_of : Bool → List ℕ → ℕ → PressureLine
-full_of zeros averages total = if zeros then told [] 0 else told averages total
+full_of zeros averages total = if zeros then numbers_told [] 0 else numbers_told averages total
 
 full_told : (zeros : Bool) (averages : List ℕ) (total : ℕ) →
     (if zeros then file_line FullStalled [] 0 else file_line FullStalled averages total)
@@ -260,7 +260,7 @@ full_told true averages total = line_told FullStalled [] 0
 full_told false averages total = line_told FullStalled averages total
 
 full_can : (zeros : Bool) (averages : List ℕ) (total : ℕ) → Fit averages total →
-    IsTold (full_of zeros averages total)
+    IsTellable (full_of zeros averages total)
 full_can true averages total fit = can_tell [] 0 (λ k below. omega arith, omega arith)
 full_can false averages total fit = can_tell averages total fit
 
@@ -282,7 +282,7 @@ reads_again res is_root totals averages fit rows =
       full_line = full_can (is_root && is_cpu res) full_row full_total full_fit;
       spelled =
           ap (λ xs. xs ++ full_line res is_root totals averages) first
-          ∙ ap (λ xs. spelled_line SomeStalled (told some_row some_total) ++ xs) second;
+          ∙ ap (λ xs. spelled_line SomeStalled (numbers_told some_row some_total) ++ xs) second;
     }
 
 -- ---- what a call returns that reads as the definition does

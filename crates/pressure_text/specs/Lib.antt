@@ -1,3 +1,3 @@
 pub mod Pieces
-pub mod Reading
+pub mod FileRead
 pub mod Told

@@ -6,8 +6,8 @@ use Rattle.pressure_text.specs.declared.pieces.Piece.{Piece}
 use Rattle.pressure_text.specs.declared.pieces.Piece.TheVariants.{Number, Text, Percent}
 
 -- a number behind a space
-abbrev pub spaced : ℕ → List ℕ
-spaced n = codes " " ++ decimal n
+abbrev pub spaced_number : ℕ → List ℕ
+spaced_number n = codes " " ++ decimal n
 
 -- the bytes of a piece
 abbrev pub piece_bytes : Piece → List ℕ
@@ -17,4 +17,4 @@ piece_bytes (Percent average) = percent_text average
 
 -- pieces, numbers behind them that have a space ahead of each, and a newline
 abbrev pub with_numbers : List Piece → List ℕ → List ℕ
-with_numbers pieces numbers = flat_map piece_bytes pieces ++ flat_map spaced numbers ++ codes "\n"
+with_numbers pieces numbers = flat_map piece_bytes pieces ++ flat_map spaced_number numbers ++ codes "\n"

@@ -16,14 +16,14 @@ abbrev pub spelled_line : Level → PressureLine → List ℕ
 spelled_line level line = told_line level line.hundredths line.total_us
 
 -- the numbers of a line are ones that a line can tell
-abbrev pub IsTold : PressureLine → Type 0
-IsTold line = CanTell line.hundredths line.total_us
+abbrev pub IsTellable : PressureLine → Type 0
+IsTellable line = CanTell line.hundredths line.total_us
 
 -- The bytes are the pressure file that tells these numbers: the line on some tasks, the line on all, and
 -- nothing else.
 pub record Tells (bytes : List ℕ) (file : PressureFile) : Type 0 where
-  pub some_line : IsTold file.some_line
-  pub full_line : IsTold file.full_line
+  pub some_line : IsTellable file.some_line
+  pub full_line : IsTellable file.full_line
   pub spelled : bytes ≡ spelled_line SomeStalled file.some_line ++ spelled_line FullStalled file.full_line
 
 -- three averages in hundredths of a percent
@@ -33,21 +33,21 @@ three_hundredths averages =
     ∷ in_hundredths (slice_index averages 2) ∷ []
 
 -- what a line tells of three averages and a total (ns): whole hundredths of a percent and microseconds
-abbrev pub told : List ℕ → ℕ → PressureLine
-told averages total = record { hundredths = three_hundredths averages; total_us = total / 1000 }
+abbrev pub numbers_told : List ℕ → ℕ → PressureLine
+numbers_told averages total = record { hundredths = three_hundredths averages; total_us = total / 1000 }
 
 -- what the line of a resource on some or all tasks tells
-abbrev pub told_of : Res → Level → List ℕ → List (List ℕ) → PressureLine
-told_of res level totals averages =
-    told (slice_index_or averages (state_number (state_of res level)) [])
+abbrev pub told_by_line : Res → Level → List ℕ → List (List ℕ) → PressureLine
+told_by_line res level totals averages =
+    numbers_told (slice_index_or averages (state_number (state_of res level)) [])
     (slice_index totals (state_number (state_of res level)))
 
 -- what a pressure file tells of totals (ns) and averages; of the processor and all tasks of the root it
 -- tells zeros
 abbrev pub told_file : Res → Bool → List ℕ → List (List ℕ) → PressureFile
 told_file res is_root totals averages = record {
-  some_line = told_of res SomeStalled totals averages;
-  full_line = if is_root && is_cpu res then told [] 0 else told_of res FullStalled totals averages;
+  some_line = told_by_line res SomeStalled totals averages;
+  full_line = if is_root && is_cpu res then numbers_told [] 0 else told_by_line res FullStalled totals averages;
 }
 
 -- What is written of totals of 64 bits (ns) and of averages of at most 100 percent is read again, as

@@ -4,7 +4,7 @@ ghost use Rattle.std.specs.List.{flat_map};
 ghost use Rattle.psi_base.specs.Outside.{HasCause, PutsAll, StaysOver};
 ghost use Rattle.pressure_spec.specs.File.{hundredths, percent_text, two_digits};
 ghost use Rattle.psi_spec.specs.Fields as fields;
-ghost use Rattle.pressure_text.specs.Pieces.{piece_bytes, spaced};
+ghost use Rattle.pressure_text.specs.Pieces.{piece_bytes, spaced_number};
 
 use psi_base::{Level, Res, Sink, WriteFailed, put_all, put_number};
 
@@ -94,7 +94,7 @@ pub(crate) fn put_pieces<K: Sink>(out: &mut K, pieces: &[Piece]) -> Result<(), W
 // A number behind a space.
 #[tactic(auto, using(psi_base::proofs::Grows::chain))]
 fn put_spaced<K: Sink>(out: &mut K, number: u64) -> Result<(), WriteFailed>
-    ensures bytes { PutsAll (K.has out.old) (K.has out.new) result (spaced number) }
+    ensures bytes { PutsAll (K.has out.old) (K.has out.new) result (spaced_number number) }
     ensures cause { HasCause (K.faults out.old) (K.faults out.new) result }
     ensures below { StaysOver (K.below out.old) (K.below out.new) }
 {
@@ -105,7 +105,8 @@ fn put_spaced<K: Sink>(out: &mut K, number: u64) -> Result<(), WriteFailed>
 /// Sends numbers, each behind a space.
 #[tactic(auto, using(psi_base::proofs::Grows::growth))]
 pub(crate) fn put_numbers<K: Sink>(out: &mut K, numbers: &[u64]) -> Result<(), WriteFailed>
-    ensures bytes { PutsAll (K.has out.old) (K.has out.new) result (flat_map spaced numbers.now) }
+    ensures bytes { PutsAll (K.has out.old) (K.has out.new) result
+        (flat_map spaced_number numbers.now) }
     ensures cause { HasCause (K.faults out.old) (K.faults out.new) result }
     ensures below { StaysOver (K.below out.old) (K.below out.new) }
 {

@@ -3,8 +3,8 @@ ghost use Rattle.std.specs.Prelude.{◌≡◌, ◌↔◌, ◌≤◌, ◌<◌, If
 ghost use Rattle.std.specs.Prelude.{length};
 ghost use Rattle.std.specs.Char.{is_ascii_digit};
 ghost use Rattle.std.specs.List.{prefix_len};
-ghost use Rattle.pressure_text.specs.Reading.{Takes, average_at, behind, file_at, line_at};
-ghost use Rattle.pressure_text.specs.Reading.{number_at, past, two_at};
+ghost use Rattle.pressure_text.specs.FileRead.{TakesPiece, average_at, behind, file_at, line_at};
+ghost use Rattle.pressure_text.specs.FileRead.{number_at, past, two_at};
 ghost use Rattle.pressure_text.specs.Told.{ReadsAgain, Tells};
 ghost use Rattle.pressure_text.specs.declared.read.PressureFile.{PressureFile};
 
@@ -74,9 +74,9 @@ impl<'a> Rest<'a> {
     }
 
     // Takes the number of all the digits at the front.
-    #[tactic(auto, unfolding(crate::specs::Reading::number_at))]
+    #[tactic(auto, unfolding(crate::specs::FileRead::number_at))]
     fn number(&mut self) -> Option<u64>
-        ensures { Takes result self.new (number_at self.old) }
+        ensures { TakesPiece result self.new (number_at self.old) }
     {
         let digits = digits_at(self.bytes);
         let number = read_number(&self.bytes[..digits])?;
@@ -85,9 +85,9 @@ impl<'a> Rest<'a> {
     }
 
     // Takes the number of two digits at the front.
-    #[tactic(auto, unfolding(crate::specs::Reading::two_at))]
+    #[tactic(auto, unfolding(crate::specs::FileRead::two_at))]
     fn two_digits(&mut self) -> Option<u32>
-        ensures found { Takes result self.new (two_at self.old) }
+        ensures found { TakesPiece result self.new (two_at self.old) }
         ensures small { IfSome result (λ n. n < 100) }
     {
         if self.bytes.len() < 2 {
@@ -103,9 +103,9 @@ impl<'a> Rest<'a> {
     }
 
     // Takes an average, in hundredths of a percent.
-    #[tactic(auto, unfolding(crate::specs::Reading::average_at))]
+    #[tactic(auto, unfolding(crate::specs::FileRead::average_at))]
     fn average(&mut self) -> Option<u32>
-        ensures { Takes result self.new (average_at self.old) }
+        ensures { TakesPiece result self.new (average_at self.old) }
     {
         let whole = self.number()?;
         self.skip(b".")?;
@@ -122,7 +122,7 @@ impl<'a> Rest<'a> {
 
     // Takes the average behind this label.
     fn average_past(&mut self, label: &[u8]) -> Option<u32>
-        ensures { Takes result self.new (past label.now average_at self.old) }
+        ensures { TakesPiece result self.new (past label.now average_at self.old) }
     {
         self.skip(label)?;
         self.average()
@@ -130,16 +130,16 @@ impl<'a> Rest<'a> {
 
     // Takes the number behind this label.
     fn number_past(&mut self, label: &[u8]) -> Option<u64>
-        ensures { Takes result self.new (past label.now number_at self.old) }
+        ensures { TakesPiece result self.new (past label.now number_at self.old) }
     {
         self.skip(label)?;
         self.number()
     }
 
     // Takes a line.
-    #[tactic(auto, unfolding(crate::specs::Reading::line_at))]
+    #[tactic(auto, unfolding(crate::specs::FileRead::line_at))]
     fn line(&mut self, level: Level) -> Option<PressureLine>
-        ensures { Takes result self.new (line_at level self.old) }
+        ensures { TakesPiece result self.new (line_at level self.old) }
     {
         self.skip(level_word(level))?;
         let short = self.average_past(b" avg10=")?;
@@ -155,7 +155,7 @@ impl<'a> Rest<'a> {
 }
 
 // The whole file, read from its front.
-#[tactic(auto, unfolding(crate::specs::Reading::file_at))]
+#[tactic(auto, unfolding(crate::specs::FileRead::file_at))]
 fn file_of(bytes: &[u8]) -> Option<PressureFile>
     ensures { result ≡ file_at bytes.now }
 {

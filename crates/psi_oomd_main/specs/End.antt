@@ -14,5 +14,5 @@ pub record EndsAs (command : Option Command) (status : Status) (exit faults_befo
   pub whole : (Rose faults_before faults_now → ⊥) → Appends old new (status_text command status)
 
 -- The program ends as some status says.
-abbrev pub Ends : Option Command → ℕ → ℕ → ℕ → Option (List ℕ) → Option (List ℕ) → Type 0
-Ends command exit faults_before faults_now old new = (status : Status) × EndsAs command status exit faults_before faults_now old new
+abbrev pub EndsAsSome : Option Command → ℕ → ℕ → ℕ → Option (List ℕ) → Option (List ℕ) → Type 0
+EndsAsSome command exit faults_before faults_now old new = (status : Status) × EndsAs command status exit faults_before faults_now old new

@@ -9,7 +9,7 @@ ghost use Rattle.std.specs.Prelude.{◌≡◌, IfOk, None, OnErr, map, string_by
 ghost use Rattle.std.specs.Process.{exit_status};
 ghost use Rattle.run_spec.specs.Words.{command_of};
 ghost use Rattle.run_spec.specs.Status.{code_of};
-ghost use Rattle.psi_oomd_main.specs.End.{EndsAs, Ends};
+ghost use Rattle.psi_oomd_main.specs.End.{EndsAs, EndsAsSome};
 
 use host::{HostShelf, HostSink};
 use psi_base::{NoMemory, OpenGate, Shelf, Sink, put_all};
@@ -46,7 +46,7 @@ fn end_of<R: Threads + Sync, S: Shelf, K: Sink, N: Sink>(
     note: &mut N,
 ) -> ExitCode
     ensures words { IfOk words (λ given.
-        Ends (command_of (map string_bytes given.items)) (exit_status result)
+        EndsAsSome (command_of (map string_bytes given.items)) (exit_status result)
         (N.faults note.old) (N.faults note.new) (N.has note.old) (N.has note.new)) }
     ensures none { OnErr words (EndsAs None Status.NoMemory (exit_status result)
         (N.faults note.old) (N.faults note.new) (N.has note.old) (N.has note.new)) }

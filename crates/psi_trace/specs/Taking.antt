@@ -9,9 +9,9 @@ use Rattle.psi_spec.specs.Fields.{Kind, path}
 use Rattle.psi_spec.specs.Grammar.{One, verbs_of, Verb, kinds_of, verb_of}
 
 -- the call took from the words what the definition takes, and these are left
-abbrev pub Takes : {A W : Type 0} → Result A Cause → W → Result (A × W) Cause → Type 0
-Takes (Ok x) rest read = read ≡ Ok (x, rest)
-Takes (Err cause) rest read = read ≡ Err cause
+abbrev pub TakesWords : {A W : Type 0} → Result A Cause → W → Result (A × W) Cause → Type 0
+TakesWords (Ok x) rest read = read ≡ Ok (x, rest)
+TakesWords (Err cause) rest read = read ≡ Err cause
 
 -- the same, unless memory ran out
 abbrev pub TakesAny : {A W : Type 0} → Result A (Fault Cause) → W → Result (A × W) Cause → Type 0

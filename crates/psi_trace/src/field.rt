@@ -5,7 +5,7 @@ ghost use Rattle.psi_base.specs.declared.event.Cause.TheVariants as cause;
 ghost use Rattle.psi_spec.specs.Fields as kind;
 ghost use Rattle.psi_spec.specs.Fields.{number_in, value_of};
 ghost use Rattle.psi_spec.specs.Grammar.{field};
-ghost use Rattle.psi_trace.specs.Taking.{Takes, TakesAny};
+ghost use Rattle.psi_trace.specs.Taking.{TakesAny, TakesWords};
 
 use psi_base::{Cause, Cpu, Fault, How, Level, Parts, Path, Pid, Preference, Res, read_number};
 use std::alloc::Global;
@@ -139,28 +139,28 @@ fn level_in(word: &[u8]) -> Option<Level>
 
 /// The field with this number, read as a task.
 pub fn pid_field(words: &mut Words, index: u8) -> Result<Pid, Cause>
-    ensures { Takes result words.new (field index kind.pid words.old) }
+    ensures { TakesWords result words.new (field index kind.pid words.old) }
 {
     pid_in(next_word(words, index)?).ok_or(Cause::BadField(index))
 }
 
 /// The field with this number, read as a task or none.
 pub fn next_field(words: &mut Words, index: u8) -> Result<Option<Pid>, Cause>
-    ensures { Takes result words.new (field index kind.next words.old) }
+    ensures { TakesWords result words.new (field index kind.next words.old) }
 {
     next_in(next_word(words, index)?).ok_or(Cause::BadField(index))
 }
 
 /// The field with this number, read as a processor.
 pub fn cpu_field(words: &mut Words, index: u8) -> Result<Cpu, Cause>
-    ensures { Takes result words.new (field index kind.cpu words.old) }
+    ensures { TakesWords result words.new (field index kind.cpu words.old) }
 {
     cpu_in(next_word(words, index)?).ok_or(Cause::BadField(index))
 }
 
 /// The field with this number, read as a size or quantity of at most 2^60.
 pub fn amount_field(words: &mut Words, index: u8) -> Result<u64, Cause>
-    ensures { Takes result words.new (field index kind.amount words.old) }
+    ensures { TakesWords result words.new (field index kind.amount words.old) }
 {
     amount_in(next_word(words, index)?).ok_or(Cause::BadField(index))
 }
@@ -168,35 +168,35 @@ pub fn amount_field(words: &mut Words, index: u8) -> Result<u64, Cause>
 /// The field with this number, read as any number of 64 bits.
 #[tactic(auto, unfolding(psi_spec::specs::Fields::value_of))]
 pub fn number_field(words: &mut Words, index: u8) -> Result<u64, Cause>
-    ensures { Takes result words.new (field index kind.number words.old) }
+    ensures { TakesWords result words.new (field index kind.number words.old) }
 {
     read_number(next_word(words, index)?).ok_or(Cause::BadField(index))
 }
 
 /// The field with this number, read as a way to leave a processor.
 pub fn how_field(words: &mut Words, index: u8) -> Result<How, Cause>
-    ensures { Takes result words.new (field index kind.how words.old) }
+    ensures { TakesWords result words.new (field index kind.how words.old) }
 {
     how_in(next_word(words, index)?).ok_or(Cause::BadField(index))
 }
 
 /// The field with this number, read as a group's preference.
 pub fn preference_field(words: &mut Words, index: u8) -> Result<Preference, Cause>
-    ensures { Takes result words.new (field index kind.preference words.old) }
+    ensures { TakesWords result words.new (field index kind.preference words.old) }
 {
     preference_in(next_word(words, index)?).ok_or(Cause::BadField(index))
 }
 
 /// The field with this number, read as a resource.
 pub fn resource_field(words: &mut Words, index: u8) -> Result<Res, Cause>
-    ensures { Takes result words.new (field index kind.resource words.old) }
+    ensures { TakesWords result words.new (field index kind.resource words.old) }
 {
     resource_in(next_word(words, index)?).ok_or(Cause::BadField(index))
 }
 
 /// The field with this number, read as `some` or `full`.
 pub fn level_field(words: &mut Words, index: u8) -> Result<Level, Cause>
-    ensures { Takes result words.new (field index kind.level words.old) }
+    ensures { TakesWords result words.new (field index kind.level words.old) }
 {
     level_in(next_word(words, index)?).ok_or(Cause::BadField(index))
 }

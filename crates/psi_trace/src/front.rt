@@ -92,7 +92,7 @@ fn next_before(bytes: &[u8], end: u8) -> Option<(Option<Pid>, &[u8])>
     Some((Some(Pid(number)), rest))
 }
 
-// How a task that stays leaves its processor, if that ends the line, and the bytes behind the newline.
+// How the running task leaves its processor, any way but exit, if that ends the line, and the bytes behind the newline.
 #[inline(always)]
 fn how_before_newline(bytes: &[u8]) -> Option<(How, &[u8])>
     ensures { IfSome result (λ found. bytes.now ≡ how_word found.0 ++ 10 ∷ found.1.now) }
@@ -193,7 +193,7 @@ fn event_before(bytes: &[u8]) -> Option<(Event, &[u8])>
 }
 
 /// The event of the line that the bytes begin with, and how many bytes that line has before its newline, where it is a
-/// `switch` whose task stays, a `wake`, `stall`, `unstall` or `migrate`. None may also be where the bytes begin with such a
+/// `switch` without an `exit`, a `wake`, `stall`, `unstall` or `migrate`. None may also be where the bytes begin with such a
 /// line; where there is an event, it is the one that [`read_event`](crate::read_event) reads.
 #[inline(always)]
 pub fn front_event(bytes: &[u8]) -> Option<(Event, usize)>

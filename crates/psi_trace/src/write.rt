@@ -60,7 +60,7 @@ fn put_long_act(line: &mut LongLine, act: &Act)
     match act {
         Act::Group { path } => put_group(line, b" group ", path),
         Act::Remove { path } => put_group(line, b" rmgroup ", path),
-        Act::Prefer { path, preference } => put_wish(line, path, *preference),
+        Act::Prefer { path, preference } => put_prefer(line, path, *preference),
         Act::Fork { pid, path, cpu } => put_fork(line, *pid, path, *cpu),
         Act::Move { pid, path } => put_move(line, *pid, path),
         Act::Mem {
@@ -97,9 +97,9 @@ fn put_group(line: &mut LongLine, verb: &[u8], path: &Path)
     line.text(verb);
 }
 
-/// Puts the words of what a group wishes of the killer in front.
+/// Puts the words of how a group is preferred in front.
 #[tactic(auto, using(crate::proofs::InPieces::lines))]
-fn put_wish(line: &mut LongLine, path: &Path, preference: Preference)
+fn put_prefer(line: &mut LongLine, path: &Path, preference: Preference)
     requires { length line.old ≡ 0 }
     ensures bytes { line.new
         ≡ spaced (codes "prefer" ∷ path.now ∷ fields.preference_word preference ∷ []) ++ line.old }
@@ -275,7 +275,7 @@ fn put_how(line: &mut ShortLine, how: How)
     }
 }
 
-/// Puts the word for a wish in front, behind a space.
+/// Puts the word of a preference in front, behind a space.
 fn put_preference(line: &mut LongLine, preference: Preference)
     requires { length line.old ≤ 63 }
     ensures bytes { line.new ≡ 32 ∷ fields.preference_word preference ++ line.old }

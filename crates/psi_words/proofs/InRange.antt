@@ -4,10 +4,10 @@ use Rattle.psi_base.specs.declared.event.Fault.{Fault}
 use Rattle.run_spec.specs.declared.command.Command.{Command}
 use Rattle.run_spec.specs.Words.{◌>>=◌, Given, IsCommand}
 use Rattle.run_spec.proofs.RangeLaws.{GivesCommands, bind_some}
-use Rattle.psi_words.specs.Reads.{Reads}
+use Rattle.psi_words.specs.Reads.{ReadsWord}
 
 pub in_range : {E : Type 0} (result : Result Command (Fault E)) (given : Option Given)
-    (table : Given → Option Command) → GivesCommands table → Reads result (given >>= table)
+    (table : Given → Option Command) → GivesCommands table → ReadsWord result (given >>= table)
     → IfOk result IsCommand
 in_range (Ok command) given table gives reads =
     let found = bind_some given table command reads in gives found.0 command found.2

@@ -13,10 +13,10 @@ Finds (Ok x) read = read ≡ Some x
 Finds (Err why) read = read ≡ None
 
 -- the call returned what is read, or refused where nothing is, unless memory ran out
-abbrev pub Reads : {A E : Type 0} → Result A (Fault E) → Option A → Type 0
-Reads (Ok x) read = read ≡ Some x
-Reads (Err (Refused why)) read = read ≡ None
-Reads (Err NoMemory) read = ⊤
+abbrev pub ReadsWord : {A E : Type 0} → Result A (Fault E) → Option A → Type 0
+ReadsWord (Ok x) read = read ≡ Some x
+ReadsWord (Err (Refused why)) read = read ≡ None
+ReadsWord (Err NoMemory) read = ⊤
 
 -- the names that a list of texts has
 abbrev pub names_in : List (Bor (List ℕ)) → List (List ℕ)

@@ -4,7 +4,7 @@ ghost use Rattle.std.specs.Str.{bytes_eq};
 ghost use Rattle.clap.specs.Words.{app_of, rule_of};
 ghost use Rattle.psi_words.specs.Clap.{option_rule, positional_rule, plain_app, plain_shape};
 ghost use Rattle.psi_words.specs.Clap.{positional_id};
-ghost use Rattle.psi_words.specs.Reads.{names_in, Reads};
+ghost use Rattle.psi_words.specs.Reads.{names_in, ReadsWord};
 ghost use Rattle.run_spec.specs.Words.{is_among, parted, value_given};
 
 use crate::words::BadWords;
@@ -80,7 +80,7 @@ impl<'a> Parsed<'a> {
     ) -> Result<Parsed<'a>, Fault<BadWords>>
         requires { is_among positional_id (names_in names.now) ≡ false }
         ensures { let texts = map string_bytes words.entry.now in
-            Reads result (parted (names_in names.now) None texts) }
+            ReadsWord result (parted (names_in names.now) None texts) }
     {
         let command = match command(alloc, names) {
             Ok(command) => command,

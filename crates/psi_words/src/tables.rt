@@ -1,6 +1,6 @@
 //! One table a command: its options, and what they say.
 ghost use Rattle.std.specs.Prelude.{◌≡◌, map, string_bytes, IfOk, IfSome, IsUtf8};
-ghost use Rattle.psi_words.specs.Reads.{Finds, HasTextNames, Reads};
+ghost use Rattle.psi_words.specs.Reads.{Finds, HasTextNames, ReadsWord};
 ghost use Rattle.run_spec.specs.Words as spec;
 
 use crate::given::Parsed;
@@ -12,7 +12,7 @@ use std::alloc::Global;
 
 // The name of the trace's file.
 fn trace(alloc: Global, given: &Parsed) -> Result<Text, Fault<BadWords>>
-    ensures exact { Reads result (spec.trace_given given.now) }
+    ensures exact { ReadsWord result (spec.trace_given given.now) }
     ensures text { IfOk result IsUtf8 }
 {
     match given.positional() {
@@ -38,7 +38,7 @@ fn workers(given: &Parsed) -> Result<u32, BadWords>
 // What the options of `replay` say.
 #[tactic(auto, unfolding(run_spec::specs::Words::options_of))]
 fn options(alloc: Global, given: &Parsed) -> Result<Options, Fault<BadWords>>
-    ensures exact { Reads result (spec.options_of given.now) }
+    ensures exact { ReadsWord result (spec.options_of given.now) }
     ensures text { IfOk result (λ options. IfSome options.rules IsUtf8) }
 {
     let rules = rules(alloc, given.value("rules"))?;
@@ -82,7 +82,7 @@ fn shape(given: &Parsed) -> Result<Shape, BadWords>
 /// The words behind `stall`.
 #[tactic(auto, unfolding(run_spec::specs::Words::stall_of))]
 pub(crate) fn read_stall(alloc: Global, words: &[String]) -> Result<Command, Fault<BadWords>>
-    ensures exact { Reads result (spec.spelled spec.stall_form (map string_bytes words.now)) }
+    ensures exact { ReadsWord result (spec.spelled spec.stall_form (map string_bytes words.now)) }
     ensures texts { IfOk result HasTextNames }
 {
     let given = Parsed::read(alloc, &[], words)?;
@@ -93,7 +93,7 @@ pub(crate) fn read_stall(alloc: Global, words: &[String]) -> Result<Command, Fau
 /// The words behind `check`.
 #[tactic(auto, unfolding(run_spec::specs::Words::check_of))]
 pub(crate) fn read_check(alloc: Global, words: &[String]) -> Result<Command, Fault<BadWords>>
-    ensures exact { Reads result (spec.spelled spec.check_form (map string_bytes words.now)) }
+    ensures exact { ReadsWord result (spec.spelled spec.check_form (map string_bytes words.now)) }
     ensures texts { IfOk result HasTextNames }
 {
     let given = Parsed::read(alloc, &["tick-ms"], words)?;
@@ -105,7 +105,7 @@ pub(crate) fn read_check(alloc: Global, words: &[String]) -> Result<Command, Fau
 /// The words behind `replay`.
 #[tactic(auto, unfolding(run_spec::specs::Words::replay_of))]
 pub(crate) fn read_replay(alloc: Global, words: &[String]) -> Result<Command, Fault<BadWords>>
-    ensures exact { Reads result (spec.spelled spec.replay_form (map string_bytes words.now)) }
+    ensures exact { ReadsWord result (spec.spelled spec.replay_form (map string_bytes words.now)) }
     ensures texts { IfOk result HasTextNames }
 {
     let names = [
@@ -126,7 +126,7 @@ pub(crate) fn read_replay(alloc: Global, words: &[String]) -> Result<Command, Fa
 /// The words behind `gen`.
 #[tactic(auto, unfolding(run_spec::specs::Words::gen_of))]
 pub(crate) fn read_gen(alloc: Global, words: &[String]) -> Result<Command, Fault<BadWords>>
-    ensures exact { Reads result (spec.spelled spec.gen_form (map string_bytes words.now)) }
+    ensures exact { ReadsWord result (spec.spelled spec.gen_form (map string_bytes words.now)) }
     ensures texts { IfOk result HasTextNames }
 {
     let given = Parsed::read(alloc, &["seed", "cpus", "groups", "events"], words)?;
@@ -137,7 +137,7 @@ pub(crate) fn read_gen(alloc: Global, words: &[String]) -> Result<Command, Fault
 /// The words behind `stress`.
 #[tactic(auto, unfolding(run_spec::specs::Words::stress_of))]
 pub(crate) fn read_stress(alloc: Global, words: &[String]) -> Result<Command, Fault<BadWords>>
-    ensures exact { Reads result (spec.spelled spec.stress_form (map string_bytes words.now)) }
+    ensures exact { ReadsWord result (spec.spelled spec.stress_form (map string_bytes words.now)) }
     ensures texts { IfOk result HasTextNames }
 {
     let names = ["workers", "seed", "cpus", "groups", "events"];

@@ -1,6 +1,6 @@
 //! The values of options: numbers in their ranges, and names.
 ghost use Rattle.std.specs.Prelude.{◌≡◌, ◌≤◌, IfOk, IfSome, IsUtf8, option_copied};
-ghost use Rattle.psi_words.specs.Reads.{Finds, Reads};
+ghost use Rattle.psi_words.specs.Reads.{Finds, ReadsWord};
 ghost use Rattle.run_spec.specs.Words as spec;
 
 use crate::words::BadWords;
@@ -49,7 +49,7 @@ pub(crate) fn number_or(
 
 /// The name of a rules file, which isn't standard input, or that there is none.
 pub(crate) fn rules(alloc: Global, given: Option<&str>) -> Result<Option<Text>, Fault<BadWords>>
-    ensures exact { Reads result (spec.rules_given (option_copied given.entry)) }
+    ensures exact { ReadsWord result (spec.rules_given (option_copied given.entry)) }
     ensures text { IfOk result (λ name. IfSome name IsUtf8) }
 {
     match given {
@@ -65,7 +65,7 @@ pub(crate) fn rules(alloc: Global, given: Option<&str>) -> Result<Option<Text>, 
 
 /// The path of a group, or that there is none.
 pub(crate) fn live(alloc: Global, given: Option<&str>) -> Result<Option<Path>, Fault<BadWords>>
-    ensures { Reads result (spec.live_given (option_copied given.entry)) }
+    ensures { ReadsWord result (spec.live_given (option_copied given.entry)) }
 {
     match given {
         None => Ok(None),

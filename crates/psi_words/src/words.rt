@@ -1,6 +1,6 @@
 //! The command that words spell.
 ghost use Rattle.std.specs.Prelude.{IfOk, map, string_bytes};
-ghost use Rattle.psi_words.specs.Reads.{HasTextNames, Reads};
+ghost use Rattle.psi_words.specs.Reads.{HasTextNames, ReadsWord};
 ghost use Rattle.run_spec.specs.Words.{command_of, IsCommand};
 
 use crate::tables::{read_check, read_gen, read_replay, read_stall, read_stress};
@@ -26,7 +26,7 @@ impl From<BadWords> for Fault<BadWords> {
 /// The command that the words spell, the program's name not among them.
 #[tactic(auto, unfolding(run_spec::specs::Words::command_of))]
 pub fn read_words(alloc: Global, words: &[String]) -> Result<Command, Fault<BadWords>>
-    ensures exact { Reads result (command_of (map string_bytes words.now)) }
+    ensures exact { ReadsWord result (command_of (map string_bytes words.now)) }
     ensures ranges { IfOk result IsCommand }
     ensures texts { IfOk result HasTextNames }
 {

@@ -24,33 +24,33 @@ abbrev pub ◌>>=◌ : {A B : Type 0} → Result A RulesFault → (A → Result 
 (Err e) >>= f = Err e
 
 -- nothing is read, for this cause at this place
-abbrev pub refused : {A : Type 0} → Place → RulesCause → Result A RulesFault
-refused at what = Err (record { place = at; what = what })
+abbrev pub refused_for : {A : Type 0} → Place → RulesCause → Result A RulesFault
+refused_for at what = Err (record { place = at; what = what })
 
 -- what was found, or this cause
 abbrev pub or_fault : {A : Type 0} → Place → RulesCause → Option A → Result A RulesFault
-or_fault at what None = refused at what
+or_fault at what None = refused_for at what
 or_fault at what (Some x) = Ok x
 
 -- ---- kinds of arguments
 
 -- patterns of paths; a resource; a number of at most so much; a ratio, in thousandths; a size; a truth
-pub data Kind : Type 0 where
-  patterns : Kind
-  resource : Kind
-  number : (most : ℕ) → Kind
-  ratio : Kind
-  size : Kind
-  truth : Kind
+pub data ArgumentKind : Type 0 where
+  patterns : ArgumentKind
+  resource : ArgumentKind
+  number : (most : ℕ) → ArgumentKind
+  ratio : ArgumentKind
+  size : ArgumentKind
+  truth : ArgumentKind
 
 -- the values of a kind
-abbrev pub Value : Kind → Type 0
-Value patterns = List (List (List ℕ))
-Value resource = Res
-Value (number most) = ℕ
-Value ratio = ℕ
-Value size = Size
-Value truth = Bool
+abbrev pub ArgumentValue : ArgumentKind → Type 0
+ArgumentValue patterns = List (List (List ℕ))
+ArgumentValue resource = Res
+ArgumentValue (number most) = ℕ
+ArgumentValue ratio = ℕ
+ArgumentValue size = Size
+ArgumentValue truth = Bool
 
 -- why a text of patterns is refused
 abbrev pub pattern_cause : PatternFault → RulesCause
@@ -60,16 +60,16 @@ pattern_cause pattern.TooMany = cause.TooMany
 -- what was read, or the cause against it
 abbrev pub or_pattern : {A : Type 0} → Place → Result A PatternFault → Result A RulesFault
 or_pattern at (Ok x) = Ok x
-or_pattern at (Err fault) = refused at (pattern_cause fault)
+or_pattern at (Err fault) = refused_for at (pattern_cause fault)
 
 -- what a text means as an argument of a kind
-unfoldable pub value_of : Place → (k : Kind) → List ℕ → Result (Value k) RulesFault
-value_of at patterns text = or_pattern at (patterns_of text)
-value_of at resource text = or_fault at cause.BadArg (resource_of text)
-value_of at (number most) text = or_fault at cause.BadArg (number_up_to most text)
-value_of at ratio text = or_fault at cause.BadArg (ratio_of text)
-value_of at size text = or_fault at cause.BadArg (size_of text)
-value_of at truth text = or_fault at cause.BadArg (truth_of text)
+unfoldable pub argument_of : Place → (k : ArgumentKind) → List ℕ → Result (ArgumentValue k) RulesFault
+argument_of at patterns text = or_pattern at (patterns_of text)
+argument_of at resource text = or_fault at cause.BadArg (resource_of text)
+argument_of at (number most) text = or_fault at cause.BadArg (number_up_to most text)
+argument_of at ratio text = or_fault at cause.BadArg (ratio_of text)
+argument_of at size text = or_fault at cause.BadArg (size_of text)
+argument_of at truth text = or_fault at cause.BadArg (truth_of text)
 
 -- ---- the texts of arguments
 
@@ -91,44 +91,44 @@ argument_text (boolean b) = Some (truth_text b)
 argument_text _ = None
 
 -- an argument that is there, as a value of its kind
-unfoldable pub value_at : Place → (k : Kind) → Data → Result (Value k) RulesFault
+unfoldable pub value_at : Place → (k : ArgumentKind) → Data → Result (ArgumentValue k) RulesFault
 value_at at k d = do
   text ← or_fault at cause.WrongKind (argument_text d)
-  value_of at k text
+  argument_of at k text
 
 -- ---- tables of arguments
 
 -- a known argument: its key, its kind, and what it is where it isn't there, if it needn't be there
 pub record Argument : Type 0 where
   pub key : Key
-  pub kind : Kind
-  pub default : Option (Value kind)
+  pub kind : ArgumentKind
+  pub default : Option (ArgumentValue kind)
 
 -- one that must be there
-abbrev pub needed : Key → Kind → Argument
-needed key k = record { key = key; kind = k; default = None }
+abbrev pub required : Key → ArgumentKind → Argument
+required key k = record { key = key; kind = k; default = None }
 
 -- one that needn't
-abbrev pub optional : Key → (k : Kind) → Value k → Argument
+abbrev pub optional : Key → (k : ArgumentKind) → ArgumentValue k → Argument
 optional key k default = record { key = key; kind = k; default = Some default }
 
 -- what stands where an argument isn't there, or what it is
-abbrev pub found_or : Place → (k : Kind) → Option (Value k) → Option Data → Result (Value k) RulesFault
-found_or at k None None = refused at cause.MissingKey
+abbrev pub found_or : Place → (k : ArgumentKind) → Option (ArgumentValue k) → Option Data → Result (ArgumentValue k) RulesFault
+found_or at k None None = refused_for at cause.MissingKey
 found_or at k (Some default) None = Ok default
 found_or at k default (Some d) = value_at at k d
 
 -- the value of one argument among those of a plugin, of which there may be none
-unfoldable pub argument_at : Place → (a : Argument) → Option Data → Result (Value a.kind) RulesFault
+unfoldable pub argument_at : Place → (a : Argument) → Option Data → Result (ArgumentValue a.kind) RulesFault
 argument_at at a args = found_or at a.kind a.default (option_and_then (get (key_word a.key)) args)
 
 -- one value of each argument
-abbrev pub Values : List Argument → Type 0
-Values [] = Unit {0}
-Values (a ∷ rest) = Value a.kind × Values rest
+abbrev pub ArgumentValues : List Argument → Type 0
+ArgumentValues [] = Unit {0}
+ArgumentValues (a ∷ rest) = ArgumentValue a.kind × ArgumentValues rest
 
 -- the values of all arguments, in their order
-abbrev pub values_at : Place → (known : List Argument) → Option Data → Result (Values known) RulesFault
+abbrev pub values_at : Place → (known : List Argument) → Option Data → Result (ArgumentValues known) RulesFault
 values_at at [] args = Ok tt
 values_at at (a ∷ known) args = do
   first ← argument_at at a args

@@ -8,14 +8,14 @@ use Rattle.ruleset_json.specs.declared.fault.RulesCause.TheVariants as cause
 use Rattle.ruleset_json.specs.declared.fault.RulesFault.{RulesFault}
 
 -- the name of a cause
-abbrev pub cause_name : RulesCause → List ℕ
-cause_name cause.TooLong = codes "TooLong"
-cause_name cause.BadJson = codes "BadJson"
-cause_name cause.MissingKey = codes "MissingKey"
-cause_name cause.WrongKind = codes "WrongKind"
-cause_name cause.UnknownPlugin = codes "UnknownPlugin"
-cause_name cause.BadArg = codes "BadArg"
-cause_name cause.TooMany = codes "TooMany"
+abbrev pub rules_cause_name : RulesCause → List ℕ
+rules_cause_name cause.TooLong = codes "TooLong"
+rules_cause_name cause.BadJson = codes "BadJson"
+rules_cause_name cause.MissingKey = codes "MissingKey"
+rules_cause_name cause.WrongKind = codes "WrongKind"
+rules_cause_name cause.UnknownPlugin = codes "UnknownPlugin"
+rules_cause_name cause.BadArg = codes "BadArg"
+rules_cause_name cause.TooMany = codes "TooMany"
 
 -- the words of a place: none for the whole file
 abbrev pub place_words : Place → List (List ℕ)
@@ -27,4 +27,4 @@ place_words (place.Action i k) = codes "ruleset" ∷ decimal i ∷ codes "action
 
 -- the text of a fault
 abbrev pub fault_text : RulesFault → List ℕ
-fault_text fault = joined (codes "rules" ∷ place_words fault.place) ++ (codes ": " ++ cause_name fault.what)
+fault_text fault = joined (codes "rules" ∷ place_words fault.place) ++ (codes ": " ++ rules_cause_name fault.what)

@@ -90,18 +90,18 @@ abbrev pub front : List ℕ → List ℕ
 front text = take (length text - 1) text
 
 -- the largest size, in bytes
-abbrev pub largest : ℕ
-largest = 2 ^ 60
+abbrev pub largest_size : ℕ
+largest_size = 2 ^ 60
 
 -- the bytes that a number with this unit behind it is: it may have a point, and the bytes are rounded down
 unfoldable pub scaled : ℕ → List ℕ → Option ℕ
 scaled unit text = do
   thousandths ← thousandths_of (2 ^ 64 - 1) text
-  at_most largest (Some (thousandths * unit / 1000))
+  at_most largest_size (Some (thousandths * unit / 1000))
 
 -- the bytes that a text spells which has this unit, or none
 abbrev pub bytes_in : Option ℕ → List ℕ → Option ℕ
-bytes_in None text = number_up_to largest text
+bytes_in None text = number_up_to largest_size text
 bytes_in (Some unit) text = scaled unit (front text)
 
 -- the size that a text spells: a number of 0 to 100 and `%`; or bytes, with a letter or without
@@ -113,14 +113,14 @@ size_of text =
 -- ---- words
 
 -- the text is one of these words
-abbrev pub is_among : List (List ℕ) → List ℕ → Bool
-is_among words text = list_any (bytes_eq text) words
+abbrev pub is_one_of : List (List ℕ) → List ℕ → Bool
+is_one_of words text = list_any (bytes_eq text) words
 
 -- the truth that a text spells
 unfoldable pub truth_of : List ℕ → Option Bool
 truth_of text =
-    if is_among (codes "true" ∷ codes "True" ∷ codes "1" ∷ []) text then Some true
-    else if is_among (codes "false" ∷ codes "False" ∷ codes "0" ∷ []) text then Some false
+    if is_one_of (codes "true" ∷ codes "True" ∷ codes "1" ∷ []) text then Some true
+    else if is_one_of (codes "false" ∷ codes "False" ∷ codes "0" ∷ []) text then Some false
     else None
 
 -- the resource that a text spells: one that tasks stall for

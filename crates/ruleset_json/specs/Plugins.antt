@@ -12,15 +12,15 @@ use Rattle.ruleset_json.specs.declared.types.DetectorSpec.{DetectorSpec}
 use Rattle.ruleset_json.specs.declared.types.DetectorSpec.TheVariants as detector
 use Rattle.ruleset_json.specs.declared.types.Action.{Action}
 use Rattle.ruleset_json.specs.declared.types.Action.TheVariants as action
-use Rattle.ruleset_json.specs.Arguments.{Argument, Values, needed, optional, patterns, resource, number, ratio, size, truth}
+use Rattle.ruleset_json.specs.Arguments.{Argument, ArgumentValues, required, optional, patterns, resource, number, ratio, size, truth}
 
 -- a plugin: its arguments, and what their values make
 pub record Plugin (Made : Type 0) : Type 0 where
   pub arguments : List Argument
-  pub make : Values arguments → Made
+  pub make : ArgumentValues arguments → Made
 
 -- the plugin of these parts
-abbrev pub plugin : {Made : Type 0} (arguments : List Argument) → (Values arguments → Made) → Plugin Made
+abbrev pub plugin : {Made : Type 0} (arguments : List Argument) → (ArgumentValues arguments → Made) → Plugin Made
 plugin arguments make = record { arguments = arguments; make = make }
 
 -- the greatest percentage
@@ -34,41 +34,41 @@ longest = 1000000
 -- the detectors
 unfoldable pub detector_of : DetectorName → Plugin DetectorSpec
 detector_of PressureAbove = plugin
-    (needed key.Cgroup patterns ∷ needed key.Resource resource ∷ needed key.Threshold (number percent) ∷ needed key.Duration (number longest) ∷ [])
+    (required key.Cgroup patterns ∷ required key.Resource resource ∷ required key.Threshold (number percent) ∷ required key.Duration (number longest) ∷ [])
     (λ v. detector.PressureAbove v.0 v.1.0 v.1.1.0 v.1.1.1.0)
 detector_of PressureRisingBeyond = plugin
-    (needed key.Cgroup patterns ∷ needed key.Resource resource ∷ needed key.Threshold (number percent) ∷ needed key.Duration (number longest) ∷ optional key.FastFallRatio ratio 850 ∷ [])
+    (required key.Cgroup patterns ∷ required key.Resource resource ∷ required key.Threshold (number percent) ∷ required key.Duration (number longest) ∷ optional key.FastFallRatio ratio 850 ∷ [])
     (λ v. detector.PressureRisingBeyond v.0 v.1.0 v.1.1.0 v.1.1.1.0 v.1.1.1.1.0)
 detector_of MemoryAbove = plugin
-    (needed key.Cgroup patterns ∷ needed key.Threshold size ∷ needed key.Duration (number longest) ∷ [])
+    (required key.Cgroup patterns ∷ required key.Threshold size ∷ required key.Duration (number longest) ∷ [])
     (λ v. detector.MemoryAbove v.0 v.1.0 v.1.1.0)
 detector_of MemoryReclaim = plugin
-    (needed key.Cgroup patterns ∷ needed key.Duration (number longest) ∷ [])
+    (required key.Cgroup patterns ∷ required key.Duration (number longest) ∷ [])
     (λ v. detector.MemoryReclaim v.0 v.1.0)
 detector_of SwapFree = plugin
-    (needed key.ThresholdPct (number percent) ∷ [])
+    (required key.ThresholdPct (number percent) ∷ [])
     (λ v. detector.SwapFree v.0)
 detector_of Exists = plugin
-    (needed key.Cgroup patterns ∷ optional key.Negate truth false ∷ [])
+    (required key.Cgroup patterns ∷ optional key.Negate truth false ∷ [])
     (λ v. detector.Exists v.0 v.1.0)
 
--- the actions: what their own arguments make, once it is known what each says of the time after it
+-- the actions: what their own arguments make, once it is known what each says beside its choice
 unfoldable pub action_of : ActionName → Plugin (After → Action)
 action_of SizeOrGrowth = plugin
-    (needed key.Cgroup patterns ∷ optional key.SizeThreshold (number percent) 50 ∷ optional key.GrowingSizePercentile (number percent) 80 ∷ optional key.MinGrowthRatio ratio 1250 ∷ [])
+    (required key.Cgroup patterns ∷ optional key.SizeThreshold (number percent) 50 ∷ optional key.GrowingSizePercentile (number percent) 80 ∷ optional key.MinGrowthRatio ratio 1250 ∷ [])
     (λ v after. action.SizeOrGrowth v.0 v.1.0 v.1.1.0 v.1.1.1.0 after)
 action_of SwapUsage = plugin
-    (needed key.Cgroup patterns ∷ optional key.Threshold size (bytes_or_percent.Bytes 1) ∷ [])
+    (required key.Cgroup patterns ∷ optional key.Threshold size (bytes_or_percent.Bytes 1) ∷ [])
     (λ v after. action.SwapUsage v.0 v.1.0 after)
 action_of Pressure = plugin
-    (needed key.Cgroup patterns ∷ needed key.Resource resource ∷ [])
+    (required key.Cgroup patterns ∷ required key.Resource resource ∷ [])
     (λ v after. action.Pressure v.0 v.1.0 after)
 action_of PgScan = plugin
-    (needed key.Cgroup patterns ∷ [])
+    (required key.Cgroup patterns ∷ [])
     (λ v after. action.PgScan v.0 after)
 
 -- what every action takes behind its own arguments, in a ruleset that rests for so long (s) after a kill
-unfoldable pub after_of : ℕ → Plugin After
-after_of delay = plugin
+unfoldable pub after_arguments : ℕ → Plugin After
+after_arguments delay = plugin
     (optional key.Recursive truth false ∷ optional key.AlwaysContinue truth false ∷ optional key.PostActionDelay (number longest) delay ∷ [])
     (λ v. record { recursive = v.0; always_continue = v.1.0; delay_s = v.1.1.0 })

@@ -16,15 +16,15 @@ use Rattle.ruleset_json.specs.declared.types.DetectorGroup.{DetectorGroup}
 use Rattle.ruleset_json.specs.declared.types.Action.{Action}
 use Rattle.ruleset_json.specs.declared.types.Rule.{Rule}
 use Rattle.ruleset_json.specs.declared.types.Rules.{Rules}
-use Rattle.ruleset_json.specs.Arguments.{◌>>=◌, refused, or_fault, number, optional, argument_at, values_at}
+use Rattle.ruleset_json.specs.Arguments.{◌>>=◌, refused_for, or_fault, number, optional, argument_at, values_at}
 use Rattle.ruleset_json.specs.Names.{detector_named, action_named}
-use Rattle.ruleset_json.specs.Plugins.{Plugin, detector_of, action_of, after_of, longest}
+use Rattle.ruleset_json.specs.Plugins.{Plugin, detector_of, action_of, after_arguments, longest}
 
 -- ---- kinds of values
 
 -- an object
 abbrev pub object_at : Place → Data → Result Data RulesFault
-object_at at d = if is_some (as_object d) then Ok d else refused at cause.WrongKind
+object_at at d = if is_some (as_object d) then Ok d else refused_for at cause.WrongKind
 
 -- the member of this key, which must be there
 abbrev pub member_at : Place → List ℕ → Data → Result Data RulesFault
@@ -35,19 +35,19 @@ abbrev pub text_at : Place → Data → Result (List ℕ) RulesFault
 text_at at d = or_fault at cause.WrongKind (as_str d)
 
 -- the items of an array, as a list
-abbrev pub listed : Items → List Data
-listed no_items = []
-listed (item d ds) = d ∷ listed ds
+abbrev pub items_list : Items → List Data
+items_list no_items = []
+items_list (item d ds) = d ∷ items_list ds
 
 -- at most so many items
 abbrev pub few : Place → ℕ → List Data → Result (List Data) RulesFault
-few at most ds = if nat_lt most (length ds) then refused at cause.TooMany else Ok ds
+few at most ds = if nat_lt most (length ds) then refused_for at cause.TooMany else Ok ds
 
 -- a list of at most so many items, of whatever kinds
 unfoldable pub list_at : Place → ℕ → Data → Result (List Data) RulesFault
 list_at at most d = do
   items ← or_fault at cause.WrongKind (as_array d)
-  few at most (listed items)
+  few at most (items_list items)
 
 -- each item in order, with its number from this one on
 abbrev pub each : {A : Type 0} → (ℕ → Data → Result A RulesFault) → ℕ → List Data → Result (List A) RulesFault
@@ -76,7 +76,7 @@ made_at at known args = do
 unfoldable pub action_made_at : Place → ℕ → ActionName → Option Data → Result Action RulesFault
 action_made_at at delay name args = do
   make ← made_at at (action_of name) args
-  after ← made_at at (after_of delay) args
+  after ← made_at at (after_arguments delay) args
   Ok (make after)
 
 -- what a plugin object makes, by the names of its kind and what each of these makes of arguments
@@ -108,7 +108,7 @@ group_at i j d = do
   found ← each (λ k. detector_in (place.Detector i j k)) 0 (drop 1 items)
   Ok (record { name = name; detectors = found })
 
--- how long a ruleset rests after a kill, in seconds
+-- how long a ruleset rests after a kill by an action that doesn't say it itself, in seconds
 abbrev pub delay_at : Place → Data → Result ℕ RulesFault
 delay_at at whole = argument_at at (optional key.PostActionDelay (number longest) 15) (Some whole)
 
@@ -153,5 +153,5 @@ data_of bytes = if is_utf8 bytes then json.read bytes else None
 -- the rules that a file's bytes give, or the first fault
 unfoldable pub rules_of : List ℕ → Result Rules RulesFault
 rules_of bytes =
-    if nat_lt 1048576 (length bytes) then refused place.Whole cause.TooLong
+    if nat_lt 1048576 (length bytes) then refused_for place.Whole cause.TooLong
     else or_fault place.Whole cause.BadJson (data_of bytes) >>= rules_in

@@ -5,7 +5,7 @@ ghost use Rattle.ruleset_json.specs.declared.fault.RulesCause.TheVariants as cau
 ghost use Rattle.ruleset_json.specs.declared.name.ActionName.TheVariants as name;
 ghost use Rattle.ruleset_json.specs.Arguments.{or_fault};
 ghost use Rattle.ruleset_json.specs.Names.{action_named};
-ghost use Rattle.ruleset_json.specs.Plugins.{action_of, after_of};
+ghost use Rattle.ruleset_json.specs.Plugins.{action_of, after_arguments};
 ghost use Rattle.ruleset_json.specs.Ranges.{FitsAction, IsTime};
 ghost use Rattle.ruleset_json.specs.Rules.{made_at, action_made_at, action_in};
 ghost use Rattle.psi_base.specs.Gives.{Gives, FaultOf};
@@ -20,11 +20,12 @@ use serde_json::Value;
 use std::alloc::Global;
 
 // What every action takes behind its own arguments, in a ruleset that rests for so long after a kill.
-#[tactic(auto, unfolding(crate::specs::Rules::made_at, crate::specs::Plugins::after_of))]
+#[tactic(auto, unfolding(crate::specs::Rules::made_at, crate::specs::Plugins::after_arguments))]
 fn after(args: &Arguments, delay_s: u32) -> Result<After, Fault<RulesFault>>
     requires { IsTime delay_s }
     ensures value { Gives result
-        (made_at args.now.place (after_of delay_s) (option_map (λ v. view v.now) args.now.found)) }
+        (made_at args.now.place (after_arguments delay_s)
+        (option_map (λ v. view v.now) args.now.found)) }
     ensures range { IfOk result (λ after. IsTime after.delay_s) }
 {
     let recursive = args.truth_or(Key::Recursive, false)?;

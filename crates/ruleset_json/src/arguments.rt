@@ -3,7 +3,7 @@ ghost use Rattle.std.specs.Prelude.{◌≡◌, ◌<◌, ◌≤◌, ◌^◌, Opti
 ghost use Rattle.serde_json.specs.View.{view};
 ghost use Rattle.serde_json.specs.Find as json;
 ghost use Rattle.ruleset_json.specs.Arguments as kind;
-ghost use Rattle.ruleset_json.specs.Arguments.{argument_text, argument_at, value_at, found_or, or_fault, pattern_cause, needed, optional};
+ghost use Rattle.ruleset_json.specs.Arguments.{argument_text, argument_at, value_at, found_or, or_fault, pattern_cause, required, optional};
 ghost use Rattle.ruleset_json.specs.Names.{key_word};
 ghost use Rattle.ruleset_json.specs.Rules.{arguments_in};
 ghost use Rattle.ruleset_json.specs.Ranges.{IsRatio, IsSize, IsStallable};
@@ -67,7 +67,7 @@ fn cause_of(fault: PatternFault) -> RulesCause
 }
 
 // An argument that is there, as patterns.
-#[tactic(auto, unfolding(crate::specs::Arguments::value_at, crate::specs::Arguments::value_of))]
+#[tactic(auto, unfolding(crate::specs::Arguments::value_at, crate::specs::Arguments::argument_of))]
 fn patterns(alloc: Global, value: &Value, place: Place) -> Result<Patterns, Fault<RulesFault>>
     ensures { Gives result (value_at place kind.patterns (view value.now)) }
 {
@@ -80,7 +80,7 @@ fn patterns(alloc: Global, value: &Value, place: Place) -> Result<Patterns, Faul
 }
 
 // An argument that is there, as a resource.
-#[tactic(auto, unfolding(crate::specs::Arguments::value_at, crate::specs::Arguments::value_of))]
+#[tactic(auto, unfolding(crate::specs::Arguments::value_at, crate::specs::Arguments::argument_of))]
 fn resource(alloc: Global, value: &Value, place: Place) -> Result<Res, Fault<RulesFault>>
     ensures value { Gives result (value_at place kind.resource (view value.now)) }
     ensures range { IfOk result IsStallable }
@@ -93,7 +93,7 @@ fn resource(alloc: Global, value: &Value, place: Place) -> Result<Res, Fault<Rul
 }
 
 // An argument that is there, as a number of at most so much.
-#[tactic(auto, unfolding(crate::specs::Arguments::value_at, crate::specs::Arguments::value_of))]
+#[tactic(auto, unfolding(crate::specs::Arguments::value_at, crate::specs::Arguments::argument_of))]
 fn number(alloc: Global, value: &Value, most: u32, place: Place) -> Result<u32, Fault<RulesFault>>
     ensures value { Gives result (value_at place (kind.number most) (view value.now)) }
     ensures range { IfOk result (λ n. n ≤ most) }
@@ -106,7 +106,7 @@ fn number(alloc: Global, value: &Value, most: u32, place: Place) -> Result<u32, 
 }
 
 // An argument that is there, as a ratio in thousandths.
-#[tactic(auto, unfolding(crate::specs::Arguments::value_at, crate::specs::Arguments::value_of))]
+#[tactic(auto, unfolding(crate::specs::Arguments::value_at, crate::specs::Arguments::argument_of))]
 fn ratio(alloc: Global, value: &Value, place: Place) -> Result<u32, Fault<RulesFault>>
     ensures value { Gives result (value_at place kind.ratio (view value.now)) }
     ensures range { IfOk result IsRatio }
@@ -119,7 +119,7 @@ fn ratio(alloc: Global, value: &Value, place: Place) -> Result<u32, Fault<RulesF
 }
 
 // An argument that is there, as a size.
-#[tactic(auto, unfolding(crate::specs::Arguments::value_at, crate::specs::Arguments::value_of))]
+#[tactic(auto, unfolding(crate::specs::Arguments::value_at, crate::specs::Arguments::argument_of))]
 fn size(alloc: Global, value: &Value, place: Place) -> Result<Size, Fault<RulesFault>>
     ensures value { Gives result (value_at place kind.size (view value.now)) }
     ensures range { IfOk result IsSize }
@@ -132,7 +132,7 @@ fn size(alloc: Global, value: &Value, place: Place) -> Result<Size, Fault<RulesF
 }
 
 // An argument that is there, as a truth.
-#[tactic(auto, unfolding(crate::specs::Arguments::value_at, crate::specs::Arguments::value_of))]
+#[tactic(auto, unfolding(crate::specs::Arguments::value_at, crate::specs::Arguments::argument_of))]
 fn truth(alloc: Global, value: &Value, place: Place) -> Result<bool, Fault<RulesFault>>
     ensures { Gives result (value_at place kind.truth (view value.now)) }
 {
@@ -214,7 +214,7 @@ impl<'v> Arguments<'v> {
     #[tactic(auto, unfolding(crate::specs::Arguments::argument_at))]
     pub fn patterns(&self, key: Key) -> Result<Patterns, Fault<RulesFault>>
         ensures { Gives result
-            (argument_at self.now.place (needed key kind.patterns)
+            (argument_at self.now.place (required key kind.patterns)
             (option_map (λ v. view v.now) self.now.found)) }
     {
         patterns(self.alloc, self.needed(key)?, self.place)
@@ -224,7 +224,7 @@ impl<'v> Arguments<'v> {
     #[tactic(auto, unfolding(crate::specs::Arguments::argument_at))]
     pub fn resource(&self, key: Key) -> Result<Res, Fault<RulesFault>>
         ensures value { Gives result
-            (argument_at self.now.place (needed key kind.resource)
+            (argument_at self.now.place (required key kind.resource)
             (option_map (λ v. view v.now) self.now.found)) }
         ensures range { IfOk result IsStallable }
     {
@@ -235,7 +235,7 @@ impl<'v> Arguments<'v> {
     #[tactic(auto, unfolding(crate::specs::Arguments::argument_at))]
     pub fn number(&self, key: Key, most: u32) -> Result<u32, Fault<RulesFault>>
         ensures value { Gives result
-            (argument_at self.now.place (needed key (kind.number most))
+            (argument_at self.now.place (required key (kind.number most))
             (option_map (λ v. view v.now) self.now.found)) }
         ensures range { IfOk result (λ n. n ≤ most) }
     {
@@ -246,7 +246,7 @@ impl<'v> Arguments<'v> {
     #[tactic(auto, unfolding(crate::specs::Arguments::argument_at))]
     pub fn size(&self, key: Key) -> Result<Size, Fault<RulesFault>>
         ensures value { Gives result
-            (argument_at self.now.place (needed key kind.size)
+            (argument_at self.now.place (required key kind.size)
             (option_map (λ v. view v.now) self.now.found)) }
         ensures range { IfOk result IsSize }
     {

@@ -152,7 +152,7 @@ fn groups(alloc: Global, rule: u32, items: &[Value]) -> Result<GroupList, Fault<
     Ok(GroupList::new(found))
 }
 
-// How long a ruleset rests after a kill, in seconds.
+// How long a ruleset rests after a kill by an action that doesn't say it itself, in seconds.
 fn delay(alloc: Global, whole: &Value, place: Place) -> Result<u32, Fault<RulesFault>>
     ensures value { Gives result (delay_at place (view whole.now)) }
     ensures range { IfOk result IsTime }

@@ -6,7 +6,7 @@ ghost use Rattle.ruleset_json.specs.declared.types.DetectorSpec.{DetectorSpec};
 ghost use Rattle.ruleset_json.specs.declared.types.Rule.{Rule};
 
 /// A list is read exactly where each of its items is.
-pub fn lists_are_read()
+pub fn law_lists_are_read()
     ensures detectors { ReadsEach DetectorSpec }
     ensures groups { ReadsEach DetectorGroup }
     ensures actions { ReadsEach Action }
@@ -14,7 +14,7 @@ pub fn lists_are_read()
 {}
 
 /// A list is refused exactly with the fault of its first item that is.
-pub fn first_faults()
+pub fn law_first_faults()
     ensures detectors { RefusesFirst DetectorSpec }
     ensures groups { RefusesFirst DetectorGroup }
     ensures actions { RefusesFirst Action }

@@ -19,7 +19,7 @@ mod types;
 
 pub use fault::{Place, RulesCause, RulesFault};
 pub use file::read;
-pub use laws::{first_faults, lists_are_read};
+pub use laws::{law_first_faults, law_lists_are_read};
 pub use note::put_fault;
 pub use types::{
     Action, ActionList, After, DetectorGroup, DetectorSpec, GroupList, Rule, RuleList, Rules, Size,

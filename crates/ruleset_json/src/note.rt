@@ -1,7 +1,7 @@
 //! The text of a fault.
 ghost use Rattle.psi_base.specs.Outside.{PutsAll, HasCause};
 ghost use Rattle.std.specs.Prelude.{◌≡◌};
-ghost use Rattle.ruleset_json.specs.FaultText.{cause_name, fault_text};
+ghost use Rattle.ruleset_json.specs.FaultText.{fault_text, rules_cause_name};
 
 use crate::fault::{Place, RulesCause, RulesFault};
 use itoa::Buffer;
@@ -9,7 +9,7 @@ use psi_base::{Sink, WriteFailed, put_each};
 
 // The name of a cause.
 fn name_of(cause: RulesCause) -> &'static [u8]
-    ensures { result.now ≡ cause_name cause }
+    ensures { result.now ≡ rules_cause_name cause }
 {
     match cause {
         RulesCause::TooLong => b"TooLong",

@@ -12,7 +12,7 @@ pub enum Size {
     Percent(u32),
 }
 
-/// What every action says of the time after it.
+/// What every action says beside its choice: whether it goes down to children, and what comes after its kill.
 #[derive(Clone, Copy, Debug, PartialEq, Eq)]
 pub struct After {
     /// Whether the victim is looked for among the chosen group's children too.
@@ -34,8 +34,8 @@ pub enum DetectorSpec {
         threshold: u32,
         duration_s: u32,
     },
-    /// `pressure_rising_beyond`: full pressure over 60 s is above the threshold (percent) for the duration (s), and
-    /// that over 10 s is, too, and doesn't fall faster than by the ratio (thousandths).
+    /// `pressure_rising_beyond`: full pressure over 60 s is above the threshold (percent) for the duration (s); that over
+    /// 10 s is above it too, and at least this part (thousandths) of what it was at the evaluation before.
     PressureRisingBeyond {
         cgroup: Patterns,
         resource: Res,
@@ -69,8 +69,9 @@ pub enum DetectorSpec {
 /// 1,000,999, and a resource is IO or memory.
 #[derive(Drop)]
 pub enum Action {
-    /// `kill_by_memory_size_or_growth`: the largest group, if it has a share of the memory (percent); else one that
-    /// grew by the ratio (thousandths), among the largest above the percentile.
+    /// `kill_by_memory_size_or_growth`: the largest group, if it has a share of the memory (percent); else the one that grew
+    /// most of those with at least this ratio (thousandths) of the mean of their past, among the largest above the
+    /// percentile; else the largest.
     SizeOrGrowth {
         cgroup: Patterns,
         size_threshold: u32,

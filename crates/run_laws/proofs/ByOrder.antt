@@ -8,7 +8,7 @@ use Rattle.pressure_spec.specs.Ticks.{tick_moment}
 use Rattle.psi_laws.specs.Moments.{is_live_slot, with_path}
 use Rattle.psi_laws.proofs.MomentsOrder.{order_tells_live}
 use Rattle.run_spec.specs.Replay.{group_report, lives_of}
-use Rattle.run_laws.specs.Reports.{ReportsByOrder, averages_at, slot_report, totals_at}
+use Rattle.run_laws.specs.Reports.{ReportsByOrder, average_state_at, slot_report, totals_at}
 
 -- pieces of those that pass a test, or no piece of the others
 pieces_where : {X Y : Type 0} → (test : X → Bool) (g : X → Y) (f : Y → List ℕ) (h : X → List ℕ) (xs : List X)
@@ -32,6 +32,6 @@ reports_by_order limits trace pace i order legal is =
     let at = tick_moment pace.length i in
     let lives = lives_of trace in
     ap (flat_map (group_report trace pace i)) (order_tells_live limits trace.events legal order is at)
-    ∙ pieces_where (is_live_slot lives at) (with_path lives) (group_report trace pace i) (slot_report at lives (totals_at trace pace i) (averages_at trace pace i)) order
+    ∙ pieces_where (is_live_slot lives at) (with_path lives) (group_report trace pace i) (slot_report at lives (totals_at trace pace i) (average_state_at trace pace i)) order
     (λ slot live. where_true (is_live_at (life_of lives slot) at) _ live)
     (λ slot gone. where_false (is_live_at (life_of lives slot) at) _ gone)

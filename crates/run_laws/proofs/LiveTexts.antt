@@ -13,7 +13,7 @@ use Rattle.psi_laws.specs.Plan.{plan_of}
 use Rattle.psi_laws.proofs.PlanTimes.{changes_more}
 use Rattle.psi_laws.proofs.PlanUpTo.{counts_by_plan}
 use Rattle.ruleset_json.specs.declared.types.Rule.{Rule}
-use Rattle.run_spec.specs.Live.{AreCounts, IsLiveOf, IsLiveText, Watch, changes_until, live_lines, slot_at}
+use Rattle.run_spec.specs.Live.{AreCounts, IsLiveOf, IsLiveText, Watch, changes_until, live_lines, live_slot_at}
 use Rattle.run_spec.specs.Replay.{Beside, IsReplayText, Pace, last_line, replay_text, tick_count, tick_text, ticks_text, with_rules}
 use Rattle.run_laws.specs.Live.{AreTickTexts, NoTextAtFirst, OneTextMore, OneTextUnwatched, TextsGoOn, WholeText}
 use Rattle.run_laws.proofs.OneMore.{text_more}
@@ -133,7 +133,7 @@ some_lines limits trace legal tick i asked low (Some slot) =
 -- and so of a tick
 some_live : (limits : Limits) (trace : Trace) → AreLegal limits first_world trace.events → (tick : ℕ) (watch : Option Watch) (i : ℕ) → 1 ≤ i → (live : List ℕ) × IsLiveText trace tick watch i live
 some_live limits trace legal tick None i low = ([], refl)
-some_live limits trace legal tick (Some watch) i low = some_lines limits trace legal tick i watch.count low (slot_at trace.events watch.path (tick_moment tick i))
+some_live limits trace legal tick (Some watch) i low = some_lines limits trace legal tick i watch.count low (live_slot_at trace.events watch.path (tick_moment tick i))
 
 -- ---- the rest of an output
 

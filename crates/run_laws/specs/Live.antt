@@ -6,7 +6,7 @@ use Rattle.psi_spec.specs.Groups.{is_live_at}
 use Rattle.psi_spec.specs.Refusal.{AreLegal}
 use Rattle.psi_spec.specs.Trace.{Trace}
 use Rattle.psi_spec.specs.World.{Limits, after, first_world}
-use Rattle.run_spec.specs.Live.{IsLiveText, slot_at}
+use Rattle.run_spec.specs.Live.{IsLiveText, live_slot_at}
 use Rattle.run_spec.specs.Replay.{IsReplayText, Pace, last_line, replay_text, tick_count, tick_text, ticks_text, with_rules}
 use Rattle.ruleset_json.specs.declared.types.Rule.{Rule}
 
@@ -32,7 +32,7 @@ AreTickTexts trace pace rules count text =
 -- Which slot a path has at a moment is told by the lives of all groups.
 abbrev pub SlotByLives : Type 0
 SlotByLives = (limits : Limits) (events : List Event) → AreLegal limits first_world events → (path : List ℕ) (at : ℕ) →
-    slot_at events path at ≡ live_slot 0 (after events).groups path at
+    live_slot_at events path at ≡ live_slot 0 (after events).groups path at
 
 -- The lines of one more tick come behind those of the ticks before it.
 abbrev pub OneTextMore : Type 0

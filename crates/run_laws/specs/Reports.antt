@@ -25,8 +25,8 @@ abbrev pub totals_at : Trace → Pace → ℕ → ℕ → List ℕ
 totals_at trace pace i slot = totals_after trace.cpus (lives_of trace) (ticks_of trace.cpus trace.events pace.length i) slot
 
 -- the averages of slots after ticks of a trace
-abbrev pub averages_at : Trace → Pace → ℕ → ℕ → AverageState
-averages_at trace pace i slot = group_averages trace.cpus (lives_of trace) (ticks_of trace.cpus trace.events pace.length i) slot
+abbrev pub average_state_at : Trace → Pace → ℕ → ℕ → AverageState
+average_state_at trace pace i slot = group_averages trace.cpus (lives_of trace) (ticks_of trace.cpus trace.events pace.length i) slot
 
 -- ---- laws
 
@@ -34,4 +34,4 @@ averages_at trace pace i slot = group_averages trace.cpus (lives_of trace) (tick
 abbrev pub ReportsByOrder : Type 0
 ReportsByOrder = (limits : Limits) (trace : Trace) (pace : Pace) (i : ℕ) (order : List ℕ) →
     AreLegal limits first_world trace.events → IsPathOrder (lives_of trace) order →
-    reports trace pace i ≡ slot_reports (tick_moment pace.length i) (lives_of trace) (totals_at trace pace i) (averages_at trace pace i) order
+    reports trace pace i ≡ slot_reports (tick_moment pace.length i) (lives_of trace) (totals_at trace pace i) (average_state_at trace pace i) order

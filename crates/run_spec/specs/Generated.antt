@@ -68,7 +68,7 @@ pub record Drawn : Type 0 where
   pub act : Act
   pub state : ℕ
 
--- a task that sleeps is woken on any processor
+-- a blocked task is woken on any processor
 abbrev pub woken : Shape → ℕ → ℕ → Drawn
 woken shape state pid = record {
   act = act.Wake (record { 0 = pid }) (record { 0 = drawn (next_state state) shape.cpus });
@@ -127,7 +127,7 @@ next_drawn shape tasks state =
     next_if shape tasks (next_state (next_state state)) (chosen shape (next_state (next_state state)))
     (task_of tasks (chosen shape (next_state (next_state state))))
 
--- the event that comes next in a world: up to 2 ms later
+-- the event that comes next in a world: less than 2 ms later
 abbrev pub next_event : Shape → World → ℕ → Event
 next_event shape w state = record {
   at = w.last + drawn (next_state state) 2000000;

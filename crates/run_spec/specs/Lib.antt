@@ -5,6 +5,6 @@ pub mod Generated
 pub mod Live
 pub mod Replay
 pub mod Outputs
-pub mod Reading
+pub mod MostRead
 pub mod Status
 pub mod Run

@@ -15,8 +15,8 @@ pub record Watch : Type 0 where
   pub count : ℕ
 
 -- the slot that a path has at a moment (ns), if it is live then
-abbrev pub slot_at : List Event → List ℕ → ℕ → Option ℕ
-slot_at events path at = slot_of (after (up_to events at)).groups path
+abbrev pub live_slot_at : List Event → List ℕ → ℕ → Option ℕ
+live_slot_at events path at = slot_of (after (up_to events at)).groups path
 
 -- How many changes of a processor come up to a tick (ns its length). Before the first tick there is none: what happens at the
 -- moment 0 belongs to the first interval.
@@ -51,4 +51,4 @@ IsLiveOf trace tick i asked (Some slot) text =
 abbrev pub IsLiveText : Trace → ℕ → Option Watch → ℕ → List ℕ → Type 0
 IsLiveText trace tick None i text = text ≡ []
 IsLiveText trace tick (Some watch) i text =
-    IsLiveOf trace tick i watch.count (slot_at trace.events watch.path (tick_moment tick i)) text
+    IsLiveOf trace tick i watch.count (live_slot_at trace.events watch.path (tick_moment tick i)) text

@@ -2,6 +2,7 @@
 use Rattle.std.specs.Prelude.{◌≡◌, ℕ, ◌*◌, List, Option, None, Some}
 use Rattle.psi_spec.specs.Trace.{Accepts, Trace, accepts_all, text_of}
 use Rattle.ruleset_json.specs.declared.types.Rule.{Rule}
+use Rattle.kill_spec.specs.Detectors.{of_seconds}
 use Rattle.run_spec.specs.declared.command.Command.{Command}
 use Rattle.run_spec.specs.declared.command.Command.TheVariants.{Stall, Check, Replay, Gen, Stress}
 use Rattle.run_spec.specs.declared.command.Options.{Options}
@@ -34,15 +35,11 @@ file_of command TraceFile = trace_name command
 abbrev pub of_ms : ℕ → ℕ
 of_ms n = n * 1000000
 
--- a number of seconds in ns
-abbrev pub of_s : ℕ → ℕ
-of_s n = n * 1000000000
-
 -- the length of a tick (ns), and so the latest moment of a trace, which is a million ticks
 abbrev pub tick_length : Command → ℕ
 tick_length (Check trace tick_ms) = of_ms tick_ms
 tick_length (Replay trace options) = of_ms options.tick_ms
-tick_length _ = of_s 2
+tick_length _ = of_seconds 2
 
 -- what a command accepts of a trace: all that there is, at the length of its ticks
 abbrev pub accepts_of : Command → Accepts
@@ -61,8 +58,8 @@ watch_of options = watch_of_path options.live_count options.live
 abbrev pub pace_of : Options → Pace
 pace_of options = record {
   length = of_ms options.tick_ms;
-  report = of_s options.report_s;
-  interval = of_s options.interval_s;
+  report = of_seconds options.report_s;
+  interval = of_seconds options.interval_s;
   watch = watch_of options;
 }
 

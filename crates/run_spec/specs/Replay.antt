@@ -1,5 +1,5 @@
--- What `replay` prints: at each tick the signals of triggers, where an evaluation is due the kills of rules, and where a
--- report is due the pressure files of all live groups.
+-- What `replay` prints: at each tick live lines, the signals of triggers, where an evaluation is due the kills of rules, and
+-- where a report is due the pressure files of all live groups.
 use Rattle.std.specs.Prelude.{◌≡◌, ℕ, ◌-◌, ◌≤◌, List, [], ◌++◌, length, sum_by, ◌==◌, Option, None, Some, if◌then◌else◌, slice_get, codes}
 use Rattle.std.specs.List.{flat_map, range_with_len}
 use Rattle.psi_base.specs.declared.event.Event.{Event}
@@ -99,12 +99,12 @@ group_report trace pace i group =
     (group_averages trace.cpus (lives_of trace) (ticks_of trace.cpus trace.events pace.length i) group.1).averages
 
 -- the groups that are live at a tick, in the byte order of their paths, each with its slot
-abbrev pub groups_at : Trace → Pace → ℕ → List (List ℕ × ℕ)
-groups_at trace pace i = live_groups (after (up_to trace.events (tick_moment pace.length i))).groups
+abbrev pub live_groups_at : Trace → Pace → ℕ → List (List ℕ × ℕ)
+live_groups_at trace pace i = live_groups (after (up_to trace.events (tick_moment pace.length i))).groups
 
 -- the reports of all groups that are live at a tick
 abbrev pub reports : Trace → Pace → ℕ → List ℕ
-reports trace pace i = flat_map (group_report trace pace i) (groups_at trace pace i)
+reports trace pace i = flat_map (group_report trace pace i) (live_groups_at trace pace i)
 
 -- ---- the whole output
 

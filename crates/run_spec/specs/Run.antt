@@ -35,7 +35,7 @@ abbrev pub IsNoFile : Status → Type 0
 IsNoFile result = (which : Which) × (result ≡ status.NoFile which)
 
 -- Each count rose exactly where the status tells of its failure: so no failure is passed over in silence.
-pub record CountsTell (before now : RunCounts) (result : Status) : Type 0 where
+pub record FailuresAreCounted (before now : RunCounts) (result : Status) : Type 0 where
   pub faults : RisesWhere (result ≡ status.ReadFault) before.shelf.faults now.shelf.faults
   pub absent : RisesWhere (IsNoFile result) before.shelf.absent now.shelf.absent
   pub writes : RisesWhere (result ≡ status.WriteFault) before.writes now.writes
@@ -116,4 +116,4 @@ IsOfMissing _ _ = ⊥
 pub record Runs (command : Command) (files : Option Files) (before now : RunCounts) (old new : Option (List ℕ)) (result : Status) : Type 0 where
   pub ends : Ends command files old new result
   pub missing : (which : Which) (name : List ℕ) → file_of command which ≡ Some name → Lacks files name → IsOfMissing which result
-  pub counts : CountsTell before now result
+  pub counts : FailuresAreCounted before now result

@@ -1,4 +1,4 @@
--- What the commands print as a whole, byte for byte.
+-- What `stall` and `check` print as a whole, byte for byte, and the names of causes.
 use Rattle.std.specs.Prelude.{ℕ, List, [], ◌++◌, length, map, Option, None, Some, codes, decimal}
 use Rattle.std.specs.List.{flat_map, range_with_len}
 use Rattle.psi_base.specs.declared.event.Event.{Event}

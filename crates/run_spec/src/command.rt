@@ -47,10 +47,10 @@ pub struct Options {
     pub rules: Option<Text>,
     /// The length of a tick in ms: 1 to 60,000, by default 2,000.
     pub tick_ms: u32,
-    /// How many seconds lie between two evaluations of the rules: 1 to 3,600, by default 5.
+    /// The interval of evaluations in seconds: one comes at the first tick at or after each multiple. 1 to 3,600, by default 5.
     pub interval_s: u32,
-    /// How many seconds lie between two reports: 0 to 3,600, by default 10. With 0 the last tick
-    /// alone has one.
+    /// The period of reports in seconds: one comes at the first tick at or after each multiple. 0 to 3,600, by default 10. The
+    /// last tick always has one, and with 0 no other.
     pub report_s: u32,
     /// How many threads replay at most: 1 to 64, by default 64.
     pub workers: u32,

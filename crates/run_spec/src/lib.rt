@@ -1,8 +1,8 @@
 //! What a run of the program promises: its command words, what each command prints, and what each status says.
 //!
-//! In `specs/`, in the order of reading: `Words` (which words are a command), `Lines`, `Text`, `Live` and `Replay` (what is
-//! printed), `Outputs` (which files a command reads, and its whole output), `Status` (exit status and note), `Run` (what a run
-//! promises).
+//! In `specs/`, in the order of reading: `Words` (which words are a command), `Lines`, `Text`, `Generated`, `Live` and `Replay`
+//! (what is printed), `Outputs` (which files a command reads, and its whole output), `MostRead` (how many bytes are read),
+//! `Status` (exit status and note), `Run` (what a run promises).
 #![tactic(auto)]
 
 mod command;

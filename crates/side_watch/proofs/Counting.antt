@@ -19,7 +19,7 @@ use Rattle.psi_spec.specs.Told.{slot_named}
 use Rattle.psi_spec.proofs.GroupLaws.{climbs_kept}
 use Rattle.psi_spec.proofs.TaskLaws.{found, no_entries}
 use Rattle.psi_laws.specs.Legal.{IsLegalWorld}
-use Rattle.psi_laws.specs.Touch.{AreWithin, after_of}
+use Rattle.psi_laws.specs.Touch.{AreWithin, task_after}
 use Rattle.psi_spec.specs.Changes.{before}
 use Rattle.psi_laws.proofs.CountLaws.{one}
 use Rattle.psi_laws.proofs.LegalLaws.{chosen_fewer}
@@ -32,7 +32,7 @@ use Rattle.psi_laws.proofs.TouchLaws.{counted_act}
 use Rattle.proc_plan.specs.declared.side.Side.{Side}
 use Rattle.proc_plan.specs.Sides.{came, went, passage, group_of, sample_by, sides_by, sides_of}
 use Rattle.side_watch.specs.declared.cell.Cell.{Cell}
-use Rattle.side_watch.specs.Sides.{cell_by, cell_after, moved, zero_cell}
+use Rattle.side_watch.specs.Sides.{cell_by, cell_after, moved, zero_side_cell}
 use Rattle.side_watch.specs.Watch.{tasks_under}
 
 -- ---- sides one after the other
@@ -44,21 +44,11 @@ by_both parents slot cell (side ∷ some) more = by_both parents slot (cell_afte
 -- a sample counts no task
 sample_counts : (parents : List (Option ℕ)) (slot at : ℕ) (cell : Cell) (groups : List GroupLife) (a : Act) → (cell_by parents slot cell (sample_by at groups a)).tasks ≡ cell.tasks
 sample_counts parents slot at cell groups (act.Group path) = refl
-sample_counts parents slot at cell groups (act.Remove path) = refl
 sample_counts parents slot at cell groups (act.Prefer path preference) =
     elim ((slot_named groups path).0 == slot) as (λ b. (if b then record cell { preference = preference } else cell).tasks ≡ cell.tasks) [ true ↦ refl | false ↦ refl ]
-sample_counts parents slot at cell groups (act.Fork pid path cpu) = refl
-sample_counts parents slot at cell groups (act.Wake pid cpu) = refl
-sample_counts parents slot at cell groups (act.Switch cpu next how) = refl
-sample_counts parents slot at cell groups (act.Stall pid) = refl
-sample_counts parents slot at cell groups (act.Unstall pid) = refl
-sample_counts parents slot at cell groups (act.Migrate pid cpu) = refl
-sample_counts parents slot at cell groups (act.Move pid path) = refl
 sample_counts parents slot at cell groups (act.Mem path current swap scan) =
     elim ((slot_named groups path).0 == slot) as (λ b. (if b then record cell { memory = record { current = current; swap = swap; scan = scan } } else cell).tasks ≡ cell.tasks) [ true ↦ refl | false ↦ refl ]
-sample_counts parents slot at cell groups (act.Host mem_total swap_total swap_free) = refl
-sample_counts parents slot at cell groups (act.Trigger path res level threshold_us window_us) = refl
-sample_counts parents slot at cell groups act.End = refl
+sample_counts parents slot at cell groups _ = refl
 
 -- ---- comings and goings
 
@@ -126,20 +116,13 @@ running_there p tasks cpu (Some e) is = subst (λ o. one (test_task o p) ≤ cou
 
 -- it is among the tasks before
 before_there : (p : Task → Bool) (tasks : Tasks) (a : Act) → one (test_task (before tasks a) p) ≤ counted p tasks
-before_there p tasks (act.Group path) = omega arith
-before_there p tasks (act.Remove path) = omega arith
-before_there p tasks (act.Prefer path preference) = omega arith
-before_there p tasks (act.Fork pid path cpu) = omega arith
 before_there p tasks (act.Wake pid cpu) = counted_there p tasks pid.0
 before_there p tasks (act.Switch cpu next how) = running_there p tasks cpu.0 (running_on tasks cpu.0) refl
 before_there p tasks (act.Stall pid) = counted_there p tasks pid.0
 before_there p tasks (act.Unstall pid) = counted_there p tasks pid.0
 before_there p tasks (act.Migrate pid cpu) = counted_there p tasks pid.0
 before_there p tasks (act.Move pid path) = counted_there p tasks pid.0
-before_there p tasks (act.Mem path current swap scan) = omega arith
-before_there p tasks (act.Host mem_total swap_total swap_free) = omega arith
-before_there p tasks (act.Trigger path res level threshold_us window_us) = omega arith
-before_there p tasks act.End = omega arith
+before_there p tasks _ = omega arith
 
 -- ---- all events
 
@@ -155,24 +138,24 @@ none_first : (p : Task → Bool) → counted p no_tasks ≡ 0
 none_first p = ap (λ (es : List (ℕ × Task)). tally p (map (λ e. e.1) es)) no_entries
 
 abbrev Tells : List (Option ℕ) → ℕ → List Event → Type 0
-Tells parents slot events = (cell_by parents slot zero_cell (sides_of events)).tasks ≡ counted (is_below parents slot) (after events).tasks
+Tells parents slot events = (cell_by parents slot zero_side_cell (sides_of events)).tasks ≡ counted (is_below parents slot) (after events).tasks
 
 tells-push : (limits : Limits) (parents : List (Option ℕ)) (slot : ℕ) (events : List Event) (event : Event) → AreLegal limits first_world (events ++ event ∷ []) → Tells parents slot events → Tells parents slot (events ++ event ∷ [])
 tells-push limits parents slot events event legal earlier =
     let w : World = after events in
     let p : Task → Bool = is_below parents slot in
     let old : Option Slot = group_of (before w.tasks event.act) in
-    let new : Option Slot = group_of (after_of w.groups w.tasks event.act) in
+    let new : Option Slot = group_of (task_after w.groups w.tasks event.act) in
     let sample : List Side = sample_by event.at w.groups event.act in
-    let first : Cell = cell_by parents slot zero_cell (sides_of events) in
+    let first : Cell = cell_by parents slot zero_side_cell (sides_of events) in
     let middle : Cell = cell_by parents slot first sample in
-    let told : cell_by parents slot zero_cell (sides_of (events ++ event ∷ [])) ≡ cell_by parents slot middle (passage event.at old new) =
-    ap (cell_by parents slot zero_cell) (told-push sides_by first_world events event) ∙ by_both parents slot zero_cell (sides_of events) (sample ++ passage event.at old new) ∙ by_both parents slot first sample (passage event.at old new) in
+    let told : cell_by parents slot zero_side_cell (sides_of (events ++ event ∷ [])) ≡ cell_by parents slot middle (passage event.at old new) =
+    ap (cell_by parents slot zero_side_cell) (told-push sides_by first_world events event) ∙ by_both parents slot zero_side_cell (sides_of events) (sample ++ passage event.at old new) ∙ by_both parents slot first sample (passage event.at old new) in
     let sampled : middle.tasks ≡ counted p w.tasks = sample_counts parents slot event.at first w.groups event.act ∙ earlier in
     let tasks : counted p (after (events ++ event ∷ [])).tasks ≡ counted p (tasks_after w.groups w.tasks event.act) = ap (λ (v : World). counted p v.tasks) (after-push events event) in
     let by_act = counted_act p (λ t ready. refl) limits w event.at event.act (legal_last limits first_world events event legal) in
     let from = ap one (leads_by_task parents slot (before w.tasks event.act)) in
-    let to = ap one (leads_by_task parents slot (after_of w.groups w.tasks event.act)) in
+    let to = ap one (leads_by_task parents slot (task_after w.groups w.tasks event.act)) in
     let there = before_there p w.tasks event.act in
     let few = few_counted limits (events ++ event ∷ []) legal p in
     ap (λ (cell : Cell). cell.tasks) told

@@ -17,7 +17,7 @@ use Rattle.proc_plan.specs.declared.side.Side.{Side}
 use Rattle.proc_plan.specs.Sides.{sides_of}
 use Rattle.proc_plan.proofs.SideMoments.{sides_up_to, sides_are_in_order}
 use Rattle.side_watch.specs.Sides.{due_by}
-use Rattle.side_watch.specs.Watch.{seen, IsNotAfter}
+use Rattle.side_watch.specs.Watch.{seen_events, IsNotAfter}
 
 -- a side has its moment by this one
 abbrev is_due : ℕ → Side → Bool
@@ -52,23 +52,23 @@ due_again before at sides turn =
     (All-weaker (λ x. is_due before x ≡ true) (λ x. is_due at x ≡ true) (λ x on. still_due before at x.at turn on) (filter (is_due before) sides) (filter_passes (is_due before) sides))
 
 -- the sides of the events up to an earlier moment are due
-seen_due : (limits : Limits) (events : List Event) (moment : Option ℕ) (at : ℕ) → AreLegal limits first_world events → IsNotAfter moment at → filter (is_due at) (sides_of (seen events moment)) ≡ sides_of (seen events moment)
+seen_due : (limits : Limits) (events : List Event) (moment : Option ℕ) (at : ℕ) → AreLegal limits first_world events → IsNotAfter moment at → filter (is_due at) (sides_of (seen_events events moment)) ≡ sides_of (seen_events events moment)
 seen_due limits events None at legal turn = refl
 seen_due limits events (Some before) at legal turn =
     let are = sides_up_to limits events legal before in
     ap (filter (is_due at)) are ∙ due_again before at (sides_of events) turn ∙ sym are
 
 -- those that were taken and those that are due behind them are the sides of the events up to the moment
-pub taken_on : (limits : Limits) (events : List Event) (moment : Option ℕ) (at taken : ℕ) → AreLegal limits first_world events → IsNotAfter moment at → take taken (sides_of events) ≡ sides_of (seen events moment) →
-    sides_of (seen events moment) ++ due_by at (drop taken (sides_of events)) ≡ sides_of (up_to events at)
+pub taken_on : (limits : Limits) (events : List Event) (moment : Option ℕ) (at taken : ℕ) → AreLegal limits first_world events → IsNotAfter moment at → take taken (sides_of events) ≡ sides_of (seen_events events moment) →
+    sides_of (seen_events events moment) ++ due_by at (drop taken (sides_of events)) ≡ sides_of (up_to events at)
 taken_on limits events moment at taken legal turn front =
     let sides : List Side = sides_of events in
     let order = IsNonDecreasingBy-drop (λ (side : Side). side.at) taken sides (sides_are_in_order limits events legal) in
-    let parts : sides ≡ sides_of (seen events moment) ++ drop taken sides = sym (take-append-drop taken sides) ∙ ap (λ xs. xs ++ drop taken sides) front in
-    let split = filter-append (is_due at) (sides_of (seen events moment)) (drop taken sides) in
+    let parts : sides ≡ sides_of (seen_events events moment) ++ drop taken sides = sym (take-append-drop taken sides) ∙ ap (λ xs. xs ++ drop taken sides) front in
+    let split = filter-append (is_due at) (sides_of (seen_events events moment)) (drop taken sides) in
     sym (sides_up_to limits events legal at ∙ ap (filter (is_due at)) parts ∙ split
     ∙ ap (λ xs. xs ++ filter (is_due at) (drop taken sides)) (seen_due limits events moment at legal turn)
-    ∙ ap (λ xs. sides_of (seen events moment) ++ xs) (sym (due_are at (drop taken sides) order)))
+    ∙ ap (λ xs. sides_of (seen_events events moment) ++ xs) (sym (due_are at (drop taken sides) order)))
 
 -- ---- how many are taken
 

@@ -15,7 +15,7 @@ use Rattle.psi_spec.specs.declared.machine.Task.{Task}
 use Rattle.psi_spec.specs.World.{World, after, after_event, first_world}
 use Rattle.psi_spec.specs.Stall.{is_under, parents_of}
 use Rattle.psi_spec.specs.Told.{told_from}
-use Rattle.psi_laws.specs.Touch.{after_of}
+use Rattle.psi_laws.specs.Touch.{task_after}
 use Rattle.psi_spec.specs.Changes.{before}
 use Rattle.psi_laws.proofs.CountLaws.{any_counted}
 use Rattle.kill_spec.specs.declared.reading.HostReading.{HostReading}
@@ -26,7 +26,7 @@ use Rattle.proc_plan.specs.declared.side.SideAct.{SideAct}
 use Rattle.proc_plan.specs.declared.side.SideAct.TheVariants as side
 use Rattle.proc_plan.specs.Sides.{came, went, passage, group_of, sample_by, sides_by}
 use Rattle.side_watch.specs.declared.cell.Cell.{Cell}
-use Rattle.side_watch.specs.Sides.{sample_of, is_coming, counted, cell_after, cell_by, host_after, host_by}
+use Rattle.side_watch.specs.Sides.{side_sample, is_coming, counted, cell_after, cell_by, host_after, host_by}
 use Rattle.side_watch.specs.Laws.{told_in, memory_in, preference_in, host_in, MemoryIsLastSide, PreferenceIsLastSide, HostIsLastSide, PopulatedIsCounted}
 
 -- ---- what sides tell, all together
@@ -52,10 +52,10 @@ all_tell tells told none each w [] = refl
 all_tell tells told none each w (event ∷ events) =
     let f : Side → List _ = λ (side : Side). tells side.what in
     let sample : List Side = sample_by event.at w.groups event.act in
-    let pass : List Side = passage event.at (group_of (before w.tasks event.act)) (group_of (after_of w.groups w.tasks event.act)) in
+    let pass : List Side = passage event.at (group_of (before w.tasks event.act)) (group_of (task_after w.groups w.tasks event.act)) in
     let rest : List Side = told_from sides_by (after_event w event) events in
     let here : told_in tells (sample ++ pass) ≡ told w.groups event.act =
-    flat_map-append f sample pass ∙ ap (λ xs. told_in tells sample ++ xs) (passage_tells tells none event.at (group_of (before w.tasks event.act)) (group_of (after_of w.groups w.tasks event.act)))
+    flat_map-append f sample pass ∙ ap (λ xs. told_in tells sample ++ xs) (passage_tells tells none event.at (group_of (before w.tasks event.act)) (group_of (task_after w.groups w.tasks event.act)))
     ∙ append-nil (told_in tells sample) ∙ each event.at w.groups event.act in
     ap (λ xs. told w.groups event.act ++ xs) (all_tell tells told none each (after_event w event) events)
     ∙ ap (λ xs. xs ++ told_in tells rest) (sym here)
@@ -64,52 +64,16 @@ all_tell tells told none each w (event ∷ events) =
 -- ---- each kind of sample
 
 sample_memory : (slot at : ℕ) (groups : List GroupLife) (a : Act) → told_in (memory_in slot) (sample_by at groups a) ≡ memory_told slot groups a
-sample_memory slot at groups (act.Group path) = refl
-sample_memory slot at groups (act.Remove path) = refl
-sample_memory slot at groups (act.Prefer path preference) = refl
-sample_memory slot at groups (act.Fork pid path cpu) = refl
-sample_memory slot at groups (act.Wake pid cpu) = refl
-sample_memory slot at groups (act.Switch cpu next how) = refl
-sample_memory slot at groups (act.Stall pid) = refl
-sample_memory slot at groups (act.Unstall pid) = refl
-sample_memory slot at groups (act.Migrate pid cpu) = refl
-sample_memory slot at groups (act.Move pid path) = refl
 sample_memory slot at groups (act.Mem path current swap scan) = append-nil (memory_told slot groups (act.Mem path current swap scan))
-sample_memory slot at groups (act.Host mem_total swap_total swap_free) = refl
-sample_memory slot at groups (act.Trigger path res level threshold_us window_us) = refl
-sample_memory slot at groups act.End = refl
+sample_memory slot at groups _ = refl
 
 sample_preference : (slot at : ℕ) (groups : List GroupLife) (a : Act) → told_in (preference_in slot) (sample_by at groups a) ≡ preference_told slot groups a
-sample_preference slot at groups (act.Group path) = refl
-sample_preference slot at groups (act.Remove path) = refl
 sample_preference slot at groups (act.Prefer path preference) = append-nil (preference_told slot groups (act.Prefer path preference))
-sample_preference slot at groups (act.Fork pid path cpu) = refl
-sample_preference slot at groups (act.Wake pid cpu) = refl
-sample_preference slot at groups (act.Switch cpu next how) = refl
-sample_preference slot at groups (act.Stall pid) = refl
-sample_preference slot at groups (act.Unstall pid) = refl
-sample_preference slot at groups (act.Migrate pid cpu) = refl
-sample_preference slot at groups (act.Move pid path) = refl
-sample_preference slot at groups (act.Mem path current swap scan) = refl
-sample_preference slot at groups (act.Host mem_total swap_total swap_free) = refl
-sample_preference slot at groups (act.Trigger path res level threshold_us window_us) = refl
-sample_preference slot at groups act.End = refl
+sample_preference slot at groups _ = refl
 
 sample_host : (at : ℕ) (groups : List GroupLife) (a : Act) → told_in host_in (sample_by at groups a) ≡ host_told a
 sample_host at groups (act.Group path) = refl
-sample_host at groups (act.Remove path) = refl
-sample_host at groups (act.Prefer path preference) = refl
-sample_host at groups (act.Fork pid path cpu) = refl
-sample_host at groups (act.Wake pid cpu) = refl
-sample_host at groups (act.Switch cpu next how) = refl
-sample_host at groups (act.Stall pid) = refl
-sample_host at groups (act.Unstall pid) = refl
-sample_host at groups (act.Migrate pid cpu) = refl
-sample_host at groups (act.Move pid path) = refl
-sample_host at groups (act.Mem path current swap scan) = refl
-sample_host at groups (act.Host mem_total swap_total swap_free) = refl
-sample_host at groups (act.Trigger path res level threshold_us window_us) = refl
-sample_host at groups act.End = refl
+sample_host at groups _ = refl
 
 pub memory_is_last : MemoryIsLastSide
 memory_is_last events slot = ap (last_or no_memory) (all_tell (memory_in slot) (memory_told slot) (λ of added. refl) (sample_memory slot) first_world events)
@@ -126,16 +90,16 @@ populated_is_counted events slot = any_counted (λ (task : Task). is_under (pare
 -- ---- what is kept after sides
 
 -- a side that is told last
-memory_step : (parents : List (Option ℕ)) (slot : ℕ) (cell : Cell) (what : SideAct) (rest : List MemorySample) → last_or (sample_of (cell_after parents slot cell what).memory) rest ≡ last_or (sample_of cell.memory) (memory_in slot what ++ rest)
+memory_step : (parents : List (Option ℕ)) (slot : ℕ) (cell : Cell) (what : SideAct) (rest : List MemorySample) → last_or (side_sample (cell_after parents slot cell what).memory) rest ≡ last_or (side_sample cell.memory) (memory_in slot what ++ rest)
 memory_step parents slot cell (side.Mem of current swap scan) rest =
-    elim (of.0 == slot) as (λ b. last_or (sample_of (if b then record cell { memory = record { current = current; swap = swap; scan = scan } } else cell).memory) rest ≡ last_or (sample_of cell.memory) ((if b then record { current = current; swap = swap; scan = scan } ∷ [] else []) ++ rest)) [ true ↦ refl | false ↦ refl ]
+    elim (of.0 == slot) as (λ b. last_or (side_sample (if b then record cell { memory = record { current = current; swap = swap; scan = scan } } else cell).memory) rest ≡ last_or (side_sample cell.memory) ((if b then record { current = current; swap = swap; scan = scan } ∷ [] else []) ++ rest)) [ true ↦ refl | false ↦ refl ]
 memory_step parents slot cell (side.Prefer of preference) rest =
-    elim (of.0 == slot) as (λ b. last_or (sample_of (if b then record cell { preference = preference } else cell).memory) rest ≡ last_or (sample_of cell.memory) rest) [ true ↦ refl | false ↦ refl ]
+    elim (of.0 == slot) as (λ b. last_or (side_sample (if b then record cell { preference = preference } else cell).memory) rest ≡ last_or (side_sample cell.memory) rest) [ true ↦ refl | false ↦ refl ]
 memory_step parents slot cell (side.Host mem_total swap_total swap_free) rest = refl
 memory_step parents slot cell (side.Tasks of added) rest =
-    elim (is_under parents of.0 slot) as (λ b. last_or (sample_of (if b then counted (is_coming added) cell else cell).memory) rest ≡ last_or (sample_of cell.memory) rest) [ true ↦ refl | false ↦ refl ]
+    elim (is_under parents of.0 slot) as (λ b. last_or (side_sample (if b then counted (is_coming added) cell else cell).memory) rest ≡ last_or (side_sample cell.memory) rest) [ true ↦ refl | false ↦ refl ]
 
-pub memory_by : (parents : List (Option ℕ)) (slot : ℕ) (cell : Cell) (sides : List Side) → sample_of (cell_by parents slot cell sides).memory ≡ last_or (sample_of cell.memory) (told_in (memory_in slot) sides)
+pub memory_by : (parents : List (Option ℕ)) (slot : ℕ) (cell : Cell) (sides : List Side) → side_sample (cell_by parents slot cell sides).memory ≡ last_or (side_sample cell.memory) (told_in (memory_in slot) sides)
 memory_by parents slot cell [] = refl
 memory_by parents slot cell (side ∷ sides) = memory_by parents slot (cell_after parents slot cell side.what) sides ∙ memory_step parents slot cell side.what (told_in (memory_in slot) sides)
 

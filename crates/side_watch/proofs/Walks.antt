@@ -9,14 +9,14 @@ use Rattle.psi_base.specs.declared.event.Slot.{Slot}
 use Rattle.psi_spec.specs.Stall.{is_under, number_of_slot}
 use Rattle.psi_spec.specs.Groups.{AreOlder, leads_to}
 use Rattle.psi_spec.proofs.GroupLaws.{by_step, ancestors_older}
-use Rattle.slot_clocks.specs.Clocks.{numbers_of}
+use Rattle.slot_clocks.specs.Clocks.{parent_numbers}
 use Rattle.slot_clocks.specs.Walk.{height}
 use Rattle.side_watch.specs.declared.cell.Cell.{Cell}
-use Rattle.side_watch.specs.Sides.{cell_counted, cell_in, counted, zero_cell}
+use Rattle.side_watch.specs.Sides.{cell_counted, counted, side_cell_in, zero_side_cell}
 use Rattle.side_watch.specs.Watch.{AreSmallCells, IsSmallMemory}
 
 -- the parent of a slot by its number
-parent_number : (parents : List (Option Slot)) (slot : ℕ) → number_of_slot (slice_index_or parents slot None) ≡ slice_index_or (numbers_of parents) slot None
+parent_number : (parents : List (Option Slot)) (slot : ℕ) → number_of_slot (slice_index_or parents slot None) ≡ slice_index_or (parent_numbers parents) slot None
 parent_number parents slot = sym (get_or-map number_of_slot parents slot None)
 
 itself : (n : ℕ) → (n == n) ≡ true
@@ -33,20 +33,20 @@ not_below parents place (Some parent) older is =
     ] refl
 
 -- a walk that stands past all groups counts none of them
-pub past_all : (parents : List (Option Slot)) (place at : ℕ) (came : Bool) (cell : Cell) → AreOlder (numbers_of parents) → length parents ≤ place → at < length parents → cell_counted (numbers_of parents) (Some place) came at cell ≡ cell
+pub past_all : (parents : List (Option Slot)) (place at : ℕ) (came : Bool) (cell : Cell) → AreOlder (parent_numbers parents) → length parents ≤ place → at < length parents → cell_counted (parent_numbers parents) (Some place) came at cell ≡ cell
 past_all parents place at came cell older past room =
     let other : (place == at) ≡ false = grind (arith, nat_tests) in
-    let len : length (numbers_of parents) ≡ length parents = length-map parents number_of_slot in
-    let none : slice_index_or (numbers_of parents) place None ≡ None = get_or_past (numbers_of parents) place None (omega (arith, len, past)) in
-    let off : is_under (numbers_of parents) place at ≡ false = by_step (numbers_of parents) place at older ∙ rw (other, none) refl in
+    let len : length (parent_numbers parents) ≡ length parents = length-map parents number_of_slot in
+    let none : slice_index_or (parent_numbers parents) place None ≡ None = get_or_past (parent_numbers parents) place None (omega (arith, len, past)) in
+    let off : is_under (parent_numbers parents) place at ≡ false = by_step (parent_numbers parents) place at older ∙ rw (other, none) refl in
     ap (λ b. if b then counted came cell else cell) off
 
 -- a group is counted where the walk stands, and the walk goes on to the parent
-pub step_up : (parents : List (Option Slot)) (cells : List Cell) (cell : Cell) (place at : ℕ) (came : Bool) → AreOlder (numbers_of parents) → place < length cells → cell ≡ counted came (cell_in cells place) →
-    cell_counted (numbers_of parents) (number_of_slot (slice_index_or parents place None)) came at (cell_in (slice_set cells place cell) at)
-    ≡ cell_counted (numbers_of parents) (Some place) came at (cell_in cells at)
+pub step_up : (parents : List (Option Slot)) (cells : List Cell) (cell : Cell) (place at : ℕ) (came : Bool) → AreOlder (parent_numbers parents) → place < length cells → cell ≡ counted came (side_cell_in cells place) →
+    cell_counted (parent_numbers parents) (number_of_slot (slice_index_or parents place None)) came at (side_cell_in (slice_set cells place cell) at)
+    ≡ cell_counted (parent_numbers parents) (Some place) came at (side_cell_in cells at)
 step_up parents cells cell place at came older room is =
-    let numbers : List (Option ℕ) = numbers_of parents in
+    let numbers : List (Option ℕ) = parent_numbers parents in
     let up = parent_number parents place in
     rw up (
     ⊎_elim
@@ -54,27 +54,27 @@ step_up parents cells cell place at came older room is =
     let at_is : place ≡ at = same.1 in
     let off : leads_to numbers (slice_index_or numbers place None) place ≡ false = not_below numbers place (slice_index_or numbers place None) older refl in
     let on : is_under numbers place place ≡ true = by_step numbers place place older ∙ rw (itself place) refl in
-    subst (λ n. cell_counted numbers (slice_index_or numbers place None) came n (cell_in (slice_set cells place cell) n) ≡ cell_counted numbers (Some place) came n (cell_in cells n)) at_is
-    (rw (off, on, get_or-set_same cells place cell zero_cell room) is))
+    subst (λ n. cell_counted numbers (slice_index_or numbers place None) came n (side_cell_in (slice_set cells place cell) n) ≡ cell_counted numbers (Some place) came n (side_cell_in cells n)) at_is
+    (rw (off, on, get_or-set_same cells place cell zero_side_cell room) is))
     (λ other.
     let off : (place == at) ≡ false = other.0 in
     let under : is_under numbers place at ≡ leads_to numbers (slice_index_or numbers place None) at = by_step numbers place at older ∙ rw off refl in
-    rw (under, get_or-set_other cells place at cell zero_cell (λ is. other.1 (sym is))) refl)
+    rw (under, get_or-set_other cells place at cell zero_side_cell (λ is. other.1 (sym is))) refl)
     (eqb_tells place at))
 
 -- the walk comes to a lower height
-pub falls : (parents : List (Option Slot)) (slot : Slot) → AreOlder (numbers_of parents) → height (slice_index_or parents slot.0 None) < height (Some slot)
+pub falls : (parents : List (Option Slot)) (slot : Slot) → AreOlder (parent_numbers parents) → height (slice_index_or parents slot.0 None) < height (Some slot)
 falls parents slot older = by_option (slice_index_or parents slot.0 None) (sym (parent_number parents slot.0))
   where
-    by_option : (o : Option Slot) → slice_index_or (numbers_of parents) slot.0 None ≡ number_of_slot o → height o < height (Some slot)
+    by_option : (o : Option Slot) → slice_index_or (parent_numbers parents) slot.0 None ≡ number_of_slot o → height o < height (Some slot)
     by_option None is = omega arith
     by_option (Some parent) is = let less = older slot.0 parent.0 is in omega (arith, less)
 
 -- a count that changes leaves samples small
-pub small_kept : (cells : List Cell) (cell : Cell) (place : ℕ) (came : Bool) → place < length cells → cell ≡ counted came (cell_in cells place) → AreSmallCells cells → AreSmallCells (slice_set cells place cell)
+pub small_kept : (cells : List Cell) (cell : Cell) (place : ℕ) (came : Bool) → place < length cells → cell ≡ counted came (side_cell_in cells place) → AreSmallCells cells → AreSmallCells (slice_set cells place cell)
 small_kept cells cell place came room is small =
-    All-set (λ (cell : Cell). IsSmallMemory cell.memory) cells place cell (subst (λ (c : Cell). IsSmallMemory c.memory) (sym is) (small place zero_cell room)) small
+    All-set (λ (cell : Cell). IsSmallMemory cell.memory) cells place cell (subst (λ (c : Cell). IsSmallMemory c.memory) (sym is) (small place zero_side_cell room)) small
 
 -- the cell of a slot that has one, whatever stands for others
-pub cell_here : (cells : List Cell) (slot : ℕ) (other : Cell) → slot < length cells → slice_index_or cells slot other ≡ cell_in cells slot
-cell_here cells slot other room = get_or_default cells slot other zero_cell room
+pub cell_here : (cells : List Cell) (slot : ℕ) (other : Cell) → slot < length cells → slice_index_or cells slot other ≡ side_cell_in cells slot
+cell_here cells slot other room = get_or_default cells slot other zero_side_cell room

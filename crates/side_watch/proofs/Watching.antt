@@ -18,8 +18,8 @@ use Rattle.proc_plan.specs.declared.side.Side.{Side}
 use Rattle.proc_plan.specs.Sides.{sides_of}
 use Rattle.side_watch.specs.declared.cell.Cell.{Cell}
 use Rattle.side_watch.specs.declared.cell.GroupMemory.{GroupMemory}
-use Rattle.side_watch.specs.Sides.{sample_of, zero_cell, cell_in, cell_by, host_after, host_by, due_by}
-use Rattle.side_watch.specs.Watch.{WatchView, cell_at, first_watch, seen, tasks_under, IsWatching, Begins, Advances}
+use Rattle.side_watch.specs.Sides.{side_sample, zero_side_cell, side_cell_in, cell_by, host_after, host_by, due_by}
+use Rattle.side_watch.specs.Watch.{SideView, side_cell_at, first_watch, seen_events, tasks_under, HasFollowed, Begins, Advances}
 use Rattle.side_watch.proofs.Told.{memory_by, preference_by, hosts_by, memory_is_last, preference_is_last, host_is_last, populated_is_counted}
 use Rattle.side_watch.proofs.Counting.{by_both, tasks_told, tasks_later}
 use Rattle.side_watch.proofs.Due.{taken_on, take_due_on}
@@ -27,63 +27,63 @@ use Rattle.side_watch.proofs.Due.{taken_on, take_due_on}
 -- ---- events up to a moment
 
 -- the events that were seen are a front of all
-seen_front : (limits : Limits) (events : List Event) (moment : Option ℕ) → AreLegal limits first_world events → (rest : List Event) × (events ≡ seen events moment ++ rest)
+seen_front : (limits : Limits) (events : List Event) (moment : Option ℕ) → AreLegal limits first_world events → (rest : List Event) × (events ≡ seen_events events moment ++ rest)
 seen_front limits events None legal = (events, refl)
 seen_front limits events (Some at) legal = up_to_front limits first_world events at legal
 
-seen_legal : (limits : Limits) (events : List Event) (moment : Option ℕ) → AreLegal limits first_world events → AreLegal limits first_world (seen events moment)
+seen_legal : (limits : Limits) (events : List Event) (moment : Option ℕ) → AreLegal limits first_world events → AreLegal limits first_world (seen_events events moment)
 seen_legal limits events moment legal =
     let front = seen_front limits events moment legal in
-    legal_front limits first_world (seen events moment) front.0 (subst (AreLegal limits first_world) front.1 legal)
+    legal_front limits first_world (seen_events events moment) front.0 (subst (AreLegal limits first_world) front.1 legal)
 
 -- groups that are made behind them stand behind those before
-seen_prolongs : (limits : Limits) (events : List Event) (moment : Option ℕ) → AreLegal limits first_world events → Prolongs (parents_of (after (seen events moment)).groups) (parents_of (after events).groups)
+seen_prolongs : (limits : Limits) (events : List Event) (moment : Option ℕ) → AreLegal limits first_world events → Prolongs (parents_of (after (seen_events events moment)).groups) (parents_of (after events).groups)
 seen_prolongs limits events moment legal =
     let front = seen_front limits events moment legal in
-    let whole : after events ≡ after_from (after (seen events moment)) front.0 = ap after front.1 ∙ after_from-append first_world (seen events moment) front.0 in
-    let by = prolongs_by (after (seen events moment)) front.0 in
+    let whole : after events ≡ after_from (after (seen_events events moment)) front.0 = ap after front.1 ∙ after_from-append first_world (seen_events events moment) front.0 in
+    let by = prolongs_by (after (seen_events events moment)) front.0 in
     (by.0, ap (λ (w : World). parents_of w.groups) whole ∙ by.1)
 
 -- ---- a watch whose groups are as sides tell them
 
 -- what is kept of the group in a slot once all sides of the events that were seen were taken
 abbrev told_cell : List Event → Option ℕ → ℕ → Cell
-told_cell events moment slot = cell_by (parents_of (after events).groups) slot zero_cell (sides_of (seen events moment))
+told_cell events moment slot = cell_by (parents_of (after events).groups) slot zero_side_cell (sides_of (seen_events events moment))
 
 abbrev told_host : List Event → Option ℕ → HostReading
-told_host events moment = host_by no_host (sides_of (seen events moment))
+told_host events moment = host_by no_host (sides_of (seen_events events moment))
 
 -- what it tells
-told_memory : (events : List Event) (moment : Option ℕ) (slot : ℕ) → sample_of (told_cell events moment slot).memory ≡ memory_of slot (seen events moment)
-told_memory events moment slot = memory_by (parents_of (after events).groups) slot zero_cell (sides_of (seen events moment)) ∙ sym (memory_is_last (seen events moment) slot)
+told_memory : (events : List Event) (moment : Option ℕ) (slot : ℕ) → side_sample (told_cell events moment slot).memory ≡ memory_of slot (seen_events events moment)
+told_memory events moment slot = memory_by (parents_of (after events).groups) slot zero_side_cell (sides_of (seen_events events moment)) ∙ sym (memory_is_last (seen_events events moment) slot)
 
-told_preference : (events : List Event) (moment : Option ℕ) (slot : ℕ) → (told_cell events moment slot).preference ≡ preference_of slot (seen events moment)
-told_preference events moment slot = preference_by (parents_of (after events).groups) slot zero_cell (sides_of (seen events moment)) ∙ sym (preference_is_last (seen events moment) slot)
+told_preference : (events : List Event) (moment : Option ℕ) (slot : ℕ) → (told_cell events moment slot).preference ≡ preference_of slot (seen_events events moment)
+told_preference events moment slot = preference_by (parents_of (after events).groups) slot zero_side_cell (sides_of (seen_events events moment)) ∙ sym (preference_is_last (seen_events events moment) slot)
 
-told_tasks : (limits : Limits) (events : List Event) (moment : Option ℕ) (slot : ℕ) → AreLegal limits first_world events → (told_cell events moment slot).tasks ≡ tasks_under (after (seen events moment)) slot
+told_tasks : (limits : Limits) (events : List Event) (moment : Option ℕ) (slot : ℕ) → AreLegal limits first_world events → (told_cell events moment slot).tasks ≡ tasks_under (after (seen_events events moment)) slot
 told_tasks limits events moment slot legal =
     let legally = seen_legal limits events moment legal in
-    tasks_told limits (parents_of (after events).groups) slot (seen events moment) legally
-    ∙ tasks_later limits (after (seen events moment)) (legal_after limits (seen events moment) legally) (parents_of (after events).groups) (seen_prolongs limits events moment legal) slot
+    tasks_told limits (parents_of (after events).groups) slot (seen_events events moment) legally
+    ∙ tasks_later limits (after (seen_events events moment)) (legal_after limits (seen_events events moment) legally) (parents_of (after events).groups) (seen_prolongs limits events moment legal) slot
 
-told_hosts : (events : List Event) (moment : Option ℕ) → told_host events moment ≡ host_of (seen events moment)
-told_hosts events moment = hosts_by no_host (sides_of (seen events moment)) ∙ sym (host_is_last (seen events moment))
+told_hosts : (events : List Event) (moment : Option ℕ) → told_host events moment ≡ host_of (seen_events events moment)
+told_hosts events moment = hosts_by no_host (sides_of (seen_events events moment)) ∙ sym (host_is_last (seen_events events moment))
 
 -- a watch that keeps it tells what the events tell
-pub watching : (limits : Limits) (events : List Event) (moment : Option ℕ) (watch : WatchView) → AreLegal limits first_world events →
-    watch.parents ≡ parents_of (after events).groups → length watch.cells ≡ length (after events).groups → take watch.taken (sides_of events) ≡ sides_of (seen events moment) →
-    ((slot : ℕ) → slot < length (after events).groups → cell_at watch slot ≡ told_cell events moment slot) → watch.host ≡ told_host events moment → IsWatching events moment watch
+pub watching : (limits : Limits) (events : List Event) (moment : Option ℕ) (watch : SideView) → AreLegal limits first_world events →
+    watch.parents ≡ parents_of (after events).groups → length watch.cells ≡ length (after events).groups → take watch.taken (sides_of events) ≡ sides_of (seen_events events moment) →
+    ((slot : ℕ) → slot < length (after events).groups → side_cell_at watch slot ≡ told_cell events moment slot) → watch.host ≡ told_host events moment → HasFollowed events moment watch
 watching limits events moment watch legal parents each taken cells host =
-    let tasks : (slot : ℕ) → slot < length (after events).groups → (cell_at watch slot).tasks ≡ tasks_under (after (seen events moment)) slot =
+    let tasks : (slot : ℕ) → slot < length (after events).groups → (side_cell_at watch slot).tasks ≡ tasks_under (after (seen_events events moment)) slot =
     λ slot room. ap (λ (cell : Cell). cell.tasks) (cells slot room) ∙ told_tasks limits events moment slot legal in
     record {
       parents = parents;
       each = each;
       taken = taken;
-      memory = λ slot room. ap (λ (cell : Cell). sample_of cell.memory) (cells slot room) ∙ told_memory events moment slot;
+      memory = λ slot room. ap (λ (cell : Cell). side_sample cell.memory) (cells slot room) ∙ told_memory events moment slot;
       preference = λ slot room. ap (λ (cell : Cell). cell.preference) (cells slot room) ∙ told_preference events moment slot;
       tasks = tasks;
-      populated = λ slot room. ap (nat_lt 0) (tasks slot room) ∙ sym (populated_is_counted (seen events moment) slot);
+      populated = λ slot room. ap (nat_lt 0) (tasks slot room) ∙ sym (populated_is_counted (seen_events events moment) slot);
       host = host ∙ told_hosts events moment;
     }
 
@@ -91,10 +91,10 @@ watching limits events moment watch legal parents each taken cells host =
 
 pub begins : (lives : List GroupLife) → Begins lives (first_watch lives)
 begins lives limits events legal are =
-    watching limits events None (first_watch lives) legal (ap parents_of are) (length-replicate (length lives) zero_cell ∙ ap length are) refl
-    (λ slot room. get_or-replicate (length lives) slot zero_cell zero_cell (subst (λ (groups : List GroupLife). slot < length groups) (sym are) room)) refl
+    watching limits events None (first_watch lives) legal (ap parents_of are) (length-replicate (length lives) zero_side_cell ∙ ap length are) refl
+    (λ slot room. get_or-replicate (length lives) slot zero_side_cell zero_side_cell (subst (λ (groups : List GroupLife). slot < length groups) (sym are) room)) refl
 
-pub begins_as : (lives : List GroupLife) (cells : List Cell) (parents : List (Option ℕ)) → cells ≡ replicate (length lives) zero_cell → parents ≡ parents_of lives →
+pub begins_as : (lives : List GroupLife) (cells : List Cell) (parents : List (Option ℕ)) → cells ≡ replicate (length lives) zero_side_cell → parents ≡ parents_of lives →
     Begins lives (record { cells = cells; parents = parents; host = no_host; taken = 0 })
 begins_as lives cells parents cells_are parents_are = rw (cells_are, parents_are) (begins lives)
 
@@ -107,7 +107,7 @@ cell_of : (cell : Cell) (memory : GroupMemory) (preference : Preference) (tasks 
 cell_of cell memory preference tasks a b c = rw (← a, ← b, ← c) refl
 
 -- what is kept of two groups is the same, field by field
-same_cell : (one other : Cell) → sample_of one.memory ≡ sample_of other.memory → one.preference ≡ other.preference → one.tasks ≡ other.tasks → one ≡ other
+same_cell : (one other : Cell) → side_sample one.memory ≡ side_sample other.memory → one.preference ≡ other.preference → one.tasks ≡ other.tasks → one ≡ other
 same_cell one other memory preference tasks =
     let memories : one.memory ≡ other.memory = ap memory_from memory in
     cell_of one other.memory other.preference other.tasks memories preference tasks
@@ -117,23 +117,23 @@ hosts_both host [] more = refl
 hosts_both host (side ∷ some) more = hosts_both (host_after host side.what) some more
 
 -- what a watch kept is what the sides told
-kept_cell : (limits : Limits) (events : List Event) (moment : Option ℕ) (watch : WatchView) (slot : ℕ) → AreLegal limits first_world events → IsWatching events moment watch → slot < length (after events).groups → cell_at watch slot ≡ told_cell events moment slot
+kept_cell : (limits : Limits) (events : List Event) (moment : Option ℕ) (watch : SideView) (slot : ℕ) → AreLegal limits first_world events → HasFollowed events moment watch → slot < length (after events).groups → side_cell_at watch slot ≡ told_cell events moment slot
 kept_cell limits events moment watch slot legal is room =
-    same_cell (cell_at watch slot) (told_cell events moment slot)
+    same_cell (side_cell_at watch slot) (told_cell events moment slot)
     (is.memory slot room ∙ sym (told_memory events moment slot)) (is.preference slot room ∙ sym (told_preference events moment slot)) (is.tasks slot room ∙ sym (told_tasks limits events moment slot legal))
 
 -- a watch took the sides that were due
-pub record TookDue (old new : WatchView) (sides : List Side) (at : ℕ) : Type 0 where
+pub record TookDue (old new : SideView) (sides : List Side) (at : ℕ) : Type 0 where
   pub parents : new.parents ≡ old.parents
   pub each : length new.cells ≡ length old.cells
-  pub cells : (slot : ℕ) → slot < length old.cells → cell_at new slot ≡ cell_by old.parents slot (cell_at old slot) (due_by at (drop old.taken sides))
+  pub cells : (slot : ℕ) → slot < length old.cells → side_cell_at new slot ≡ cell_by old.parents slot (side_cell_at old slot) (due_by at (drop old.taken sides))
   pub hosts : new.host ≡ host_by old.host (due_by at (drop old.taken sides))
   pub taken : new.taken ≡ old.taken + length (due_by at (drop old.taken sides))
 
-pub advances : (old new : WatchView) (sides : List Side) (at : ℕ) → TookDue old new sides at → Advances old new sides at
+pub advances : (old new : SideView) (sides : List Side) (at : ℕ) → TookDue old new sides at → Advances old new sides at
 advances old new sides at took limits events moment legal are turn is =
     let due : List Side = due_by at (drop old.taken (sides_of events)) in
-    let on : sides_of (seen events moment) ++ due ≡ sides_of (seen events (Some at)) = taken_on limits events moment at old.taken legal turn is.taken in
+    let on : sides_of (seen_events events moment) ++ due ≡ sides_of (seen_events events (Some at)) = taken_on limits events moment at old.taken legal turn is.taken in
     let cells = rw are at took.cells in
     let hosts = rw are at took.hosts in
     let taken = rw are at took.taken in
@@ -141,20 +141,20 @@ advances old new sides at took limits events moment legal are turn is =
     (ap (λ n. take n (sides_of events)) taken ∙ take_due_on at old.taken (sides_of events) ∙ ap (λ xs. xs ++ due) is.taken ∙ on)
     (λ slot room.
     cells slot (omega (arith, room, is.each))
-    ∙ ap (λ ps. cell_by ps slot (cell_at old slot) due) is.parents
+    ∙ ap (λ ps. cell_by ps slot (side_cell_at old slot) due) is.parents
     ∙ ap (λ cell. cell_by (parents_of (after events).groups) slot cell due) (kept_cell limits events moment old slot legal is room)
-    ∙ sym (by_both (parents_of (after events).groups) slot zero_cell (sides_of (seen events moment)) due)
-    ∙ ap (cell_by (parents_of (after events).groups) slot zero_cell) on)
-    (hosts ∙ ap (λ host. host_by host due) (is.host ∙ sym (told_hosts events moment)) ∙ sym (hosts_both no_host (sides_of (seen events moment)) due) ∙ ap (host_by no_host) on)
+    ∙ sym (by_both (parents_of (after events).groups) slot zero_side_cell (sides_of (seen_events events moment)) due)
+    ∙ ap (cell_by (parents_of (after events).groups) slot zero_side_cell) on)
+    (hosts ∙ ap (λ host. host_by host due) (is.host ∙ sym (told_hosts events moment)) ∙ sym (hosts_both no_host (sides_of (seen_events events moment)) due) ∙ ap (host_by no_host) on)
 
 -- the same by the fields of the watch
-pub advances_by : (old : WatchView) (cells new_cells : List Cell) (parents : List (Option ℕ)) (host new_host : HostReading) (taken new_taken : ℕ) (sides : List Side) (at : ℕ) →
+pub advances_by : (old : SideView) (cells new_cells : List Cell) (parents : List (Option ℕ)) (host new_host : HostReading) (taken new_taken : ℕ) (sides : List Side) (at : ℕ) →
     old ≡ record { cells = cells; parents = parents; host = host; taken = taken } → length new_cells ≡ length cells →
-    ((slot : ℕ) → slot < length cells → cell_in new_cells slot ≡ cell_by parents slot (cell_in cells slot) (due_by at (drop taken sides))) →
+    ((slot : ℕ) → slot < length cells → side_cell_in new_cells slot ≡ cell_by parents slot (side_cell_in cells slot) (due_by at (drop taken sides))) →
     new_host ≡ host_by host (due_by at (drop taken sides)) → new_taken ≡ taken + length (due_by at (drop taken sides)) →
     Advances old (record { cells = new_cells; parents = parents; host = new_host; taken = new_taken }) sides at
 advances_by old cells new_cells parents host new_host taken new_taken sides at is each told hosts count =
-    let before : WatchView = record { cells = cells; parents = parents; host = host; taken = taken } in
-    let now : WatchView = record { cells = new_cells; parents = parents; host = new_host; taken = new_taken } in
-    subst (λ (watch : WatchView). Advances watch now sides at) (sym is)
+    let before : SideView = record { cells = cells; parents = parents; host = host; taken = taken } in
+    let now : SideView = record { cells = new_cells; parents = parents; host = new_host; taken = new_taken } in
+    subst (λ (watch : SideView). Advances watch now sides at) (sym is)
     (advances before now sides at (record { parents = refl; each = each; cells = told; hosts = hosts; taken = count }))

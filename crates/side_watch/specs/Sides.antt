@@ -16,20 +16,20 @@ use Rattle.side_watch.specs.declared.cell.GroupMemory.{GroupMemory}
 -- ---- a group
 
 -- a sample by its fields, as readings have it
-abbrev pub sample_of : GroupMemory → MemorySample
-sample_of memory = record { current = memory.current; swap = memory.swap; scan = memory.scan }
+abbrev pub side_sample : GroupMemory → MemorySample
+side_sample memory = record { current = memory.current; swap = memory.swap; scan = memory.scan }
 
 -- a group of which no side told: no memory, neither preferred nor avoided, and no task in it
-abbrev pub zero_cell : Cell
-zero_cell = record {
+abbrev pub zero_side_cell : Cell
+zero_side_cell = record {
   memory = record { current = 0; swap = 0; scan = 0 };
   preference = Plain;
   tasks = 0;
 }
 
 -- what is kept of the group in a slot; a slot beyond the last is as a group of which no side told
-abbrev pub cell_in : List Cell → ℕ → Cell
-cell_in cells slot = slice_index_or cells slot zero_cell
+abbrev pub side_cell_in : List Cell → ℕ → Cell
+side_cell_in cells slot = slice_index_or cells slot zero_side_cell
 
 -- a task came: otherwise it left
 abbrev pub is_coming : ℤ → Bool
@@ -104,7 +104,7 @@ due_from taken at sides = due_by at (drop taken sides)
 -- each group comes out of what it was before
 abbrev pub EachIs : List Cell → List Cell → (ℕ → Cell → Cell) → Type 0
 EachIs old new step =
-    (slot : ℕ) → slot < length old → cell_in new slot ≡ step slot (cell_in old slot)
+    (slot : ℕ) → slot < length old → side_cell_in new slot ≡ step slot (side_cell_in old slot)
 
 -- the group in a slot and all above it count a task that came into it or left it
 abbrev pub EachCounts : List (Option ℕ) → ℕ → Bool → List Cell → List Cell → Type 0

@@ -12,7 +12,7 @@ use Rattle.psi_spec.specs.Refusal.{AreLegal}
 use Rattle.psi_spec.specs.Groups.{AreOlder}
 use Rattle.psi_spec.specs.Stall.{parents_of, is_under}
 use Rattle.psi_laws.specs.Counts.{how_many}
-use Rattle.slot_clocks.specs.Clocks.{numbers_of}
+use Rattle.slot_clocks.specs.Clocks.{parent_numbers}
 use Rattle.kill_spec.specs.declared.reading.HostReading.{HostReading}
 use Rattle.kill_spec.specs.Readings.{IsHostReading, no_host}
 use Rattle.kill_spec.specs.Evaluations.{memory_of, preference_of, host_of, is_populated}
@@ -20,28 +20,28 @@ use Rattle.proc_plan.specs.declared.side.Side.{Side}
 use Rattle.proc_plan.specs.Sides.{sides_of}
 use Rattle.side_watch.specs.declared.cell.Cell.{Cell}
 use Rattle.side_watch.specs.declared.cell.GroupMemory.{GroupMemory}
-use Rattle.side_watch.specs.Sides.{sample_of, zero_cell, cell_in}
+use Rattle.side_watch.specs.Sides.{side_sample, zero_side_cell, side_cell_in}
 
 -- A watch: what is kept of the group in each slot, the parent of each, the last sample of the
 -- host's memory, and how many sides were taken.
-pub record WatchView : Type 0 where
+pub record SideView : Type 0 where
   pub cells : List Cell
   pub parents : List (Option ℕ)
   pub host : HostReading
   pub taken : ℕ
 
 -- the watch of these parts
-abbrev pub watch_view : List Cell → List (Option Slot) → HostReading → ℕ → WatchView
+abbrev pub watch_view : List Cell → List (Option Slot) → HostReading → ℕ → SideView
 watch_view cells parents host taken =
-    record { cells = cells; parents = numbers_of parents; host = host; taken = taken }
+    record { cells = cells; parents = parent_numbers parents; host = host; taken = taken }
 
 -- what is kept of the group in a slot
-abbrev pub cell_at : WatchView → ℕ → Cell
-cell_at watch slot = cell_in watch.cells slot
+abbrev pub side_cell_at : SideView → ℕ → Cell
+side_cell_at watch slot = side_cell_in watch.cells slot
 
 -- some task lives in the group in a slot or below it, as the watch counts
-abbrev pub has_tasks : WatchView → ℕ → Bool
-has_tasks watch slot = nat_lt 0 (cell_at watch slot).tasks
+abbrev pub has_tasks : SideView → ℕ → Bool
+has_tasks watch slot = nat_lt 0 (side_cell_at watch slot).tasks
 
 -- bytes and counts of a sample are at most 2^60
 pub record IsSmallMemory (memory : GroupMemory) : Type 0 where
@@ -55,16 +55,16 @@ AreSmallCells cells = All (λ (cell : Cell). IsSmallMemory cell.memory) cells
 
 -- What holds of each watch: parents are older, each group has a place for its parent, and all
 -- samples are small.
-pub record IsWatch (watch : WatchView) : Type 0 where
+pub record IsWatch (watch : SideView) : Type 0 where
   pub older : AreOlder watch.parents
   pub each : length watch.cells ≡ length watch.parents
   pub small : AreSmallCells watch.cells
   pub host : IsHostReading watch.host
 
 -- the watch of groups before any side was taken
-abbrev pub first_watch : List GroupLife → WatchView
+abbrev pub first_watch : List GroupLife → SideView
 first_watch lives = record {
-  cells = replicate (length lives) zero_cell;
+  cells = replicate (length lives) zero_side_cell;
   parents = parents_of lives;
   host = no_host;
   taken = 0;
@@ -73,9 +73,9 @@ first_watch lives = record {
 -- ---- events
 
 -- the events up to a moment (ns), or none of them where there is no moment yet
-abbrev pub seen : List Event → Option ℕ → List Event
-seen events None = []
-seen events (Some at) = up_to events at
+abbrev pub seen_events : List Event → Option ℕ → List Event
+seen_events events None = []
+seen_events events (Some at) = up_to events at
 
 -- a moment (ns), if there is one, isn't after another
 abbrev pub IsNotAfter : Option ℕ → ℕ → Type 0
@@ -96,28 +96,28 @@ OfEachGroup events Holds = (slot : ℕ) → slot < length (after events).groups 
 -- last sample of its memory, its preference, how many live tasks are in it or below it and whether
 -- there is one, and the last sample of the host's memory. It took the sides of the events up to
 -- that moment.
-pub record IsWatching (events : List Event) (moment : Option ℕ) (watch : WatchView) : Type 0 where
+pub record HasFollowed (events : List Event) (moment : Option ℕ) (watch : SideView) : Type 0 where
   pub parents : watch.parents ≡ parents_of (after events).groups
   pub each : length watch.cells ≡ length (after events).groups
-  pub taken : take watch.taken (sides_of events) ≡ sides_of (seen events moment)
+  pub taken : take watch.taken (sides_of events) ≡ sides_of (seen_events events moment)
   pub memory : OfEachGroup events
-      (λ slot. sample_of (cell_at watch slot).memory ≡ memory_of slot (seen events moment))
+      (λ slot. side_sample (side_cell_at watch slot).memory ≡ memory_of slot (seen_events events moment))
   pub preference : OfEachGroup events
-      (λ slot. (cell_at watch slot).preference ≡ preference_of slot (seen events moment))
+      (λ slot. (side_cell_at watch slot).preference ≡ preference_of slot (seen_events events moment))
   pub tasks : OfEachGroup events
-      (λ slot. (cell_at watch slot).tasks ≡ tasks_under (after (seen events moment)) slot)
+      (λ slot. (side_cell_at watch slot).tasks ≡ tasks_under (after (seen_events events moment)) slot)
   pub populated : OfEachGroup events
-      (λ slot. has_tasks watch slot ≡ is_populated (after (seen events moment)) slot)
-  pub host : watch.host ≡ host_of (seen events moment)
+      (λ slot. has_tasks watch slot ≡ is_populated (after (seen_events events moment)) slot)
+  pub host : watch.host ≡ host_of (seen_events events moment)
 
 -- Where groups are those of legal events, a watch of them tells what no event tells.
-abbrev pub Begins : List GroupLife → WatchView → Type 0
+abbrev pub Begins : List GroupLife → SideView → Type 0
 Begins lives watch = (limits : Limits) (events : List Event) → AreLegal limits first_world events →
-    lives ≡ (after events).groups → IsWatching events None watch
+    lives ≡ (after events).groups → HasFollowed events None watch
 
 -- Where sides are those of legal events, and a watch told what the events up to an earlier moment
 -- tell, or nothing yet, it tells what those up to this moment (ns) tell.
-abbrev pub Advances : WatchView → WatchView → List Side → ℕ → Type 0
+abbrev pub Advances : SideView → SideView → List Side → ℕ → Type 0
 Advances old new sides at = (limits : Limits) (events : List Event) (moment : Option ℕ) →
     AreLegal limits first_world events → sides ≡ sides_of events →
-    IsNotAfter moment at → IsWatching events moment old → IsWatching events (Some at) new
+    IsNotAfter moment at → HasFollowed events moment old → HasFollowed events (Some at) new

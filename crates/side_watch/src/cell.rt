@@ -1,7 +1,7 @@
 //! What is kept of one group.
 
 ghost use Rattle.std.specs.Prelude.{◌≡◌};
-ghost use Rattle.side_watch.specs.Sides.{counted, zero_cell};
+ghost use Rattle.side_watch.specs.Sides.{counted, zero_side_cell};
 
 use psi_base::Preference;
 
@@ -30,7 +30,7 @@ pub(crate) struct Cell {
 impl Cell {
     /// A group of which no side told.
     pub(crate) fn zero() -> Cell
-        ensures { result ≡ zero_cell }
+        ensures { result ≡ zero_side_cell }
     {
         Cell {
             memory: GroupMemory {

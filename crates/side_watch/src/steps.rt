@@ -2,7 +2,7 @@
 
 ghost use Rattle.std.specs.Prelude.{◌≡◌, ◌+◌, length};
 ghost use Rattle.psi_spec.specs.Groups.{AreOlder};
-ghost use Rattle.slot_clocks.specs.Clocks.{numbers_of};
+ghost use Rattle.slot_clocks.specs.Clocks.{parent_numbers};
 ghost use Rattle.kill_spec.specs.Readings.{IsHostReading};
 ghost use Rattle.proc_plan.specs.Plans.{AreSmall};
 ghost use Rattle.proc_plan.specs.Sides.{IsSmall};
@@ -17,12 +17,12 @@ use psi_base::{Ns, Preference, Slot};
 
 // Counts a task that came into a group or left it, for the group and for all above it.
 fn count_task(cells: &mut [Cell], parents: &[Option<Slot>], slot: Slot, came: bool)
-    requires older { AreOlder (numbers_of parents.now) }
+    requires older { AreOlder (parent_numbers parents.now) }
     requires each { length cells.old ≡ length parents.now }
     requires small { AreSmallCells cells.old }
     ensures each { length cells.new ≡ length cells.old }
     ensures small { AreSmallCells cells.new }
-    ensures counted { EachCounts (numbers_of parents.now) slot.0 came cells.old cells.new }
+    ensures counted { EachCounts (parent_numbers parents.now) slot.0 came cells.old cells.new }
 {
     let mut next = Some(slot);
     'up: while let Some(slot) = next {
@@ -64,13 +64,13 @@ fn set_preference(cells: &mut [Cell], slot: Slot, preference: Preference)
 
 // Takes all groups through one more side.
 fn take_cells(cells: &mut [Cell], parents: &[Option<Slot>], what: SideAct)
-    requires older { AreOlder (numbers_of parents.now) }
+    requires older { AreOlder (parent_numbers parents.now) }
     requires each { length cells.old ≡ length parents.now }
     requires fits { IsSmall what }
     requires small { AreSmallCells cells.old }
     ensures each { length cells.new ≡ length cells.old }
     ensures small { AreSmallCells cells.new }
-    ensures taken { EachTook (numbers_of parents.now) what cells.old cells.new }
+    ensures taken { EachTook (parent_numbers parents.now) what cells.old cells.new }
 {
     match what {
         SideAct::Mem {
@@ -124,7 +124,7 @@ pub(crate) fn take_due(
     from: usize,
     at: Ns,
 ) -> usize
-    requires older { AreOlder (numbers_of parents.now) }
+    requires older { AreOlder (parent_numbers parents.now) }
     requires each { length cells.old ≡ length parents.now }
     requires fit { AreSmall sides.now }
     requires small { AreSmallCells cells.old }
@@ -132,7 +132,8 @@ pub(crate) fn take_due(
     ensures each { length cells.new ≡ length cells.old }
     ensures small { AreSmallCells cells.new }
     ensures host { IsHostReading host.new }
-    ensures cells { Took (numbers_of parents.now) (due_from from at sides.now) cells.old cells.new }
+    ensures cells { Took (parent_numbers parents.now) (due_from from at sides.now)
+        cells.old cells.new }
     ensures hosts { host.new ≡ host_by host.old (due_from from at sides.now) }
     ensures taken { result ≡ from + length (due_from from at sides.now) }
 {

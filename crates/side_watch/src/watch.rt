@@ -3,11 +3,11 @@
 ghost use Rattle.std.specs.Prelude.{◌≡◌, IfOk};
 ghost use Rattle.psi_spec.specs.Groups.{AreGroups};
 ghost use Rattle.psi_spec.specs.Stall.{parents_of};
-ghost use Rattle.slot_clocks.specs.Clocks.{numbers_of};
+ghost use Rattle.slot_clocks.specs.Clocks.{parent_numbers};
 ghost use Rattle.kill_spec.specs.Readings.{IsHostReading};
 ghost use Rattle.proc_plan.specs.Plans.{AreSmall};
 ghost use Rattle.side_watch.specs.Watch.{Advances, Begins, IsSmallMemory};
-ghost use Rattle.side_watch.specs.Watch.{cell_at, first_watch, has_tasks};
+ghost use Rattle.side_watch.specs.Watch.{first_watch, has_tasks, side_cell_at};
 
 use crate::cell::{Cell, GroupMemory};
 use crate::steps::take_due;
@@ -32,9 +32,9 @@ pub struct Watch {
 }
 
 impl Model for Watch {
-    ghost use Rattle.side_watch.specs.Watch.{IsWatch, WatchView, watch_view};
+    ghost use Rattle.side_watch.specs.Watch.{IsWatch, SideView, watch_view};
 
-    ghost Value = { WatchView };
+    ghost Value = { SideView };
 
     ghost view = { λ w. watch_view w.cells.items w.parents.items w.host w.taken };
 
@@ -43,7 +43,7 @@ impl Model for Watch {
 
 // The parents of groups, in the order of their slots.
 fn parents_of(alloc: Global, lives: &[GroupLife]) -> Result<Vec<Option<Slot>>, NoMemory>
-    ensures { IfOk result (λ parents. numbers_of parents.items ≡ parents_of lives.now) }
+    ensures { IfOk result (λ parents. parent_numbers parents.items ≡ parents_of lives.now) }
 {
     let mut parents = Vec::new(alloc);
     'lives: for life in lives {
@@ -99,7 +99,7 @@ impl Watch {
     /// The last sample of a group's memory, in bytes and pages. Zeros without one, and for a slot
     /// beyond the last.
     pub fn memory(&self, slot: Slot) -> GroupMemory
-        ensures memory { result ≡ (cell_at self.now slot.0).memory }
+        ensures memory { result ≡ (side_cell_at self.now slot.0).memory }
         ensures small { IsSmallMemory result }
     {
         self.cell(slot).memory
@@ -107,7 +107,7 @@ impl Watch {
 
     /// A group's last preference: plain without one, and for a slot beyond the last.
     pub fn preference(&self, slot: Slot) -> Preference
-        ensures { result ≡ (cell_at self.now slot.0).preference }
+        ensures { result ≡ (side_cell_at self.now slot.0).preference }
     {
         self.cell(slot).preference
     }
@@ -129,7 +129,7 @@ impl Watch {
 
     // What is kept of a group.
     fn cell(&self, slot: Slot) -> Cell
-        ensures cell { result ≡ cell_at self.now slot.0 }
+        ensures cell { result ≡ side_cell_at self.now slot.0 }
         ensures small { IsSmallMemory result.memory }
     {
         match self.cells.get(slot.0 as usize) {

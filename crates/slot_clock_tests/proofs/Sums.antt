@@ -11,7 +11,7 @@ use Rattle.psi_laws.specs.declared.changes.Counts.{Counts}
 use Rattle.psi_spec.specs.Groups.{AreOlder}
 use Rattle.psi_spec.specs.Stall.{is_under, number_of_slot}
 use Rattle.psi_laws.specs.Touch.{AreAtMost, no_counts, on_chain}
-use Rattle.slot_clocks.specs.Clocks.{CanFollow, numbers_of}
+use Rattle.slot_clocks.specs.Clocks.{CanFollow, parent_numbers}
 use Rattle.slot_clock_tests.specs.Machine.{AreSums, IsTask}
 
 none_at_most : AreAtMost 1 no_counts
@@ -48,7 +48,7 @@ can_follow parents slot groups i tasks now counts sums all is few room = record 
 
 -- ---- parents
 
-older_at : (parents : List (Option Slot)) (slot parent : ℕ) (found : Option Slot) → slice_index_or parents slot None ≡ found → IfSome found (λ p. p.0 < slot) → slice_index_or (numbers_of parents) slot None ≡ Some parent → parent < slot
+older_at : (parents : List (Option Slot)) (slot parent : ℕ) (found : Option Slot) → slice_index_or parents slot None ≡ found → IfSome found (λ p. p.0 < slot) → slice_index_or (parent_numbers parents) slot None ≡ Some parent → parent < slot
 older_at parents slot parent None is low number = absurd (cc (number, get_or-map number_of_slot parents slot None, ap number_of_slot is))
 older_at parents slot parent (Some p) is low number =
     let same : Some parent ≡ Some p.0 = sym number ∙ get_or-map number_of_slot parents slot None ∙ ap number_of_slot is in
@@ -62,5 +62,5 @@ low_at parents slot low (inr past) = rw (get_or_past parents slot None past) tt
 below_or_past : (slot n : ℕ) → (slot < n) ⊎ (n ≤ slot)
 below_or_past slot n = grind arith
 
-pub all_older : (parents : List (Option Slot)) → ((k : ℕ) → k < length parents → IfSome (slice_index_or parents k None) (λ p. p.0 < k)) → AreOlder (numbers_of parents)
+pub all_older : (parents : List (Option Slot)) → ((k : ℕ) → k < length parents → IfSome (slice_index_or parents k None) (λ p. p.0 < k)) → AreOlder (parent_numbers parents)
 all_older parents low slot parent number = older_at parents slot parent (slice_index_or parents slot None) refl (low_at parents slot low (below_or_past slot (length parents))) number

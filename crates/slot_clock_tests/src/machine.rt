@@ -3,7 +3,7 @@
 ghost use Rattle.std.specs.Prelude.{◌≡◌, ◌≤◌, length, vec_len, IsTrue};
 ghost use Rattle.std.proofs.Props.{props};
 ghost use Rattle.psi_spec.specs.Groups.{AreOlder};
-ghost use Rattle.slot_clocks.specs.Clocks.{numbers_of};
+ghost use Rattle.slot_clocks.specs.Clocks.{parent_numbers};
 ghost use Rattle.slot_clock_tests.specs.Machine.{IsMachine, IsSlot, IsTask};
 
 use cpu_clock::Clock;
@@ -30,13 +30,13 @@ pub struct Machine {
     tasks: Vec<Option<(Slot, Counts)>>,
     clocks: SlotClocks,
     last: Ns,
-    ghost kept: { IsMachine (numbers_of parents.items)
+    ghost kept: { IsMachine (parent_numbers parents.items)
         (length parents.items) tasks.items clocks last } by { Prim.hlevel props },
 }
 
 // Each parent has a smaller slot.
 fn are_older(parents: &[Option<Slot>]) -> bool
-    ensures { IsTrue result → AreOlder (numbers_of parents.now) }
+    ensures { IsTrue result → AreOlder (parent_numbers parents.now) }
 {
     'slots: for (slot, parent) in parents.iter().enumerate() {
         if let Some(parent) = parent {

@@ -10,7 +10,7 @@ use Rattle.psi_laws.specs.Counts.{tells}
 use Rattle.psi_laws.specs.Touch.{Follows, is_current_in, is_current_stalled, no_counts, on_chain}
 use Rattle.psi_laws.proofs.PlanClocks.{clock_stays}
 use Rattle.slot_clocks.specs.declared.cell.Cell.{Cell}
-use Rattle.slot_clocks.specs.Clocks.{IsTold, IsUpTo}
+use Rattle.slot_clocks.specs.Clocks.{IsUpTo, MaskTells}
 use Rattle.slot_clocks.specs.declared.chains.Chains.{Chains}
 use Rattle.slot_clocks.specs.Walk.{IsTurned, MayStart, MayStartAt, counts_in, height, reaches, slot_in}
 
@@ -49,7 +49,7 @@ not_in parents slot (Some running) place start reached = ap (λ (h : ℕ). reach
 
 -- a group that no chain of a change reaches stays as it is
 pub stays_turned : (parents : List (Option ℕ)) (current : Option (Slot × Bool)) (change : Change) (starts : Chains) (slot : ℕ) (cell : Cell) → MayStart current change starts → reaches parents starts.minus slot ≡ false → reaches parents starts.plus slot ≡ false
-    → reaches parents starts.before slot ≡ false → reaches parents starts.after slot ≡ false → IsTold parents current slot cell → IsUpTo change.at cell.clock → IsTurned parents change slot cell cell
+    → reaches parents starts.before slot ≡ false → reaches parents starts.after slot ≡ false → MaskTells parents current slot cell → IsUpTo change.at cell.clock → IsTurned parents change slot cell cell
 stays_turned parents current change starts slot cell start minus plus before after told up_to =
     let taken : on_chain parents slot change.minus ≡ no_counts = chain_is parents slot change.minus starts.minus false start.minus minus in
     let added : on_chain parents slot change.plus ≡ no_counts = chain_is parents slot change.plus starts.plus false start.plus plus in

@@ -13,7 +13,7 @@ use Rattle.psi_spec.specs.Stall.{number_of_slot}
 use Rattle.psi_laws.specs.Touch.{Follows, is_current_in, is_current_stalled, no_counts, on_chain}
 use Rattle.slot_clocks.specs.declared.cell.Cell.{Cell}
 use Rattle.slot_clocks.specs.declared.chains.Chains.{Chains}
-use Rattle.slot_clocks.specs.Clocks.{CanFollow, IsTold, IsUpTo, StaysByMask, cell_in, numbers_of, zero_cell}
+use Rattle.slot_clocks.specs.Clocks.{CanFollow, IsUpTo, MaskTells, StaysByMask, cell_in, parent_numbers, zero_cell}
 use Rattle.slot_clocks.specs.Walk.{AreTogether, IsTurned, MayStart, all_passed, counts_in, height, passed, reaches, top}
 use Rattle.slot_clocks.proofs.ChainLaws.{ended, not_at, passed_height, reaches_at, reaches_passed, stands}
 use Rattle.slot_clocks.proofs.TurnLaws.{chain_is, current_is, stays_turned}
@@ -165,7 +165,7 @@ top_passed parents chains parent here slot older up at is =
 -- ---- the end
 
 -- behind the roots each group went through the change
-pub all_walked : (parents : List (Option ℕ)) (current : Option (Slot × Bool)) (change : Change) (starts chains : Chains) (slot : ℕ) (old now : Cell) → MayStart current change starts → top chains ≡ 0 → IsTold parents current slot old → IsUpTo change.at old.clock
+pub all_walked : (parents : List (Option ℕ)) (current : Option (Slot × Bool)) (change : Change) (starts chains : Chains) (slot : ℕ) (old now : Cell) → MayStart current change starts → top chains ≡ 0 → MaskTells parents current slot old → IsUpTo change.at old.clock
     → IsWalked parents change starts chains slot old now → IsTurned parents change slot old now
 all_walked parents current change starts chains slot old now start is told up_to (inl done) = done.0
 all_walked parents current change starts chains slot old now start is told up_to (inr ahead) =
@@ -184,7 +184,7 @@ together_passed here parent chains are = record { plus = ap (passed here parent)
 
 -- ---- parents as numbers
 
-pub parent_number : (parents : List (Option Slot)) (slot : ℕ) → number_of_slot (slice_index_or parents slot None) ≡ slice_index_or (numbers_of parents) slot None
+pub parent_number : (parents : List (Option Slot)) (slot : ℕ) → number_of_slot (slice_index_or parents slot None) ≡ slice_index_or (parent_numbers parents) slot None
 parent_number parents slot = sym (get_or-map number_of_slot parents slot None)
 
 -- the cell of a slot that has one, whatever stands for others
@@ -216,9 +216,9 @@ can_turn parents change chains here slot old now share same fits =
     (subst (λ m. CanFollow old.counts m (on_chain parents slot change.plus)) share.minus fits))
 
 -- its mask tells what its counts do once the change was made, where the running task stays
-pub told_here : (parents : List (Option ℕ)) (current : Option (Slot × Bool)) (change : Change) (chains : Chains) (here slot : ℕ) (old now : Cell) → IsShare parents change chains here slot → now ≡ old → IsTold parents current slot old → current ≡ change.current
+pub told_here : (parents : List (Option ℕ)) (current : Option (Slot × Bool)) (change : Change) (chains : Chains) (here slot : ℕ) (old now : Cell) → IsShare parents change chains here slot → now ≡ old → MaskTells parents current slot old → current ≡ change.current
     → (state : State) → mask_holds now.clock.mask state ≡ tells state now.counts (chains.after == here) (is_current_stalled change.current)
 told_here parents current change chains here slot old now share same told stays =
-    let told_then : IsTold parents change.current slot old = subst (λ c. IsTold parents c slot old) stays told in
+    let told_then : MaskTells parents change.current slot old = subst (λ c. MaskTells parents c slot old) stays told in
     subst (λ (n : Cell). (state : State) → mask_holds n.clock.mask state ≡ tells state n.counts (chains.after == here) (is_current_stalled change.current)) (sym same)
     (λ state. told_then state ∙ ap (λ on. tells state old.counts on (is_current_stalled change.current)) share.after)

@@ -14,8 +14,8 @@ use Rattle.slot_clocks.specs.declared.cell.Cell.{Cell}
 -- ---- parents
 
 -- the parents of all slots, by their numbers
-abbrev pub numbers_of : List (Option Slot) → List (Option ℕ)
-numbers_of parents = map number_of_slot parents
+abbrev pub parent_numbers : List (Option Slot) → List (Option ℕ)
+parent_numbers parents = map number_of_slot parents
 
 -- ---- clocks
 
@@ -43,16 +43,16 @@ abbrev pub cell_at : ClocksView → ℕ → Cell
 cell_at clocks slot = cell_in clocks.cells slot
 
 -- a cell's mask has the states that its counts tell, with the task that runs
-abbrev pub IsTold : List (Option ℕ) → Option (Slot × Bool) → ℕ → Cell → Type 0
-IsTold parents current slot cell = (state : State) → mask_holds cell.clock.mask state ≡ tells state cell.counts (is_current_in parents slot current) (is_current_stalled current)
+abbrev pub MaskTells : List (Option ℕ) → Option (Slot × Bool) → ℕ → Cell → Type 0
+MaskTells parents current slot cell = (state : State) → mask_holds cell.clock.mask state ≡ tells state cell.counts (is_current_in parents slot current) (is_current_stalled current)
 
 -- each group's mask has the states that its counts tell, with the task that runs
 abbrev pub AreTold : List (Option ℕ) → ClocksView → Type 0
-AreTold parents clocks = (slot : ℕ) → IsTold parents clocks.current slot (cell_at clocks slot)
+AreTold parents clocks = (slot : ℕ) → MaskTells parents clocks.current slot (cell_at clocks slot)
 
 -- ---- changes
 
--- counts can follow a change: what is taken was there, and the sums fit 32 bits
+-- counts can follow a change: what is taken is no more than what was there and what is added, and that fits 32 bits
 pub record CanFollow (counts minus plus : Counts) : Type 0 where
   pub io : (minus.io ≤ counts.io + plus.io) × (counts.io + plus.io < 2 ^ 32)
   pub stalled : (minus.stalled ≤ counts.stalled + plus.stalled) × (counts.stalled + plus.stalled < 2 ^ 32)

@@ -11,14 +11,14 @@ use Rattle.psi_laws.specs.Touch.{Follows, is_current_stalled, no_counts, on_chai
 use Rattle.slot_clocks.specs.declared.cell.Cell.{Cell}
 use Rattle.slot_clocks.specs.declared.chains.Chains.{Chains}
 use Rattle.slot_clocks.specs.declared.chains.Sides.{Sides}
-use Rattle.slot_clocks.specs.Clocks.{CanFollow, IsTold, IsUpTo, StaysByMask, cell_in, numbers_of}
+use Rattle.slot_clocks.specs.Clocks.{CanFollow, IsUpTo, MaskTells, StaysByMask, cell_in, parent_numbers}
 
 -- the slot of a pair, if there is one
 abbrev pub slot_in : {A : Type 0} → Option (Slot × A) → Option Slot
 slot_in None = None
 slot_in (Some pair) = Some pair.0
 
--- the counts of one side of a change
+-- the counts of one part of a change
 abbrev pub counts_in : Option (Slot × Counts) → Counts
 counts_in None = no_counts
 counts_in (Some part) = part.1
@@ -44,7 +44,8 @@ abbrev pub MayStartAt : {A : Type 0} → Option (Slot × A) → ℕ → Type 0
 MayStartAt None place = Unit {0}
 MayStartAt (Some pair) place = place ≡ suc pair.0.0
 
--- Chains may start so for a change, each of them. That of the task that ran may start anywhere where that task stays.
+-- Chains may start so for a change, each of them. That of the task that ran may start anywhere where what is told of the running
+-- task stays.
 pub record MayStart (current : Option (Slot × Bool)) (change : Change) (starts : Chains) : Type 0 where
   pub minus : MayStartAt change.minus starts.minus
   pub plus : MayStartAt change.plus starts.plus
@@ -82,7 +83,7 @@ pub record IsTurned (parents : List (Option ℕ)) (change : Change) (slot : ℕ)
   pub clock : ClockFollows old.clock change.at new.clock
   pub kept : StaysByMask old.clock new.clock
   pub up_to : IsUpTo change.at new.clock
-  pub told : IsTold parents change.current slot new
+  pub told : MaskTells parents change.current slot new
 
 -- all groups after a change
 abbrev pub AreTurned : List (Option ℕ) → Change → List Cell → List Cell → Type 0
@@ -90,11 +91,11 @@ AreTurned parents change olds news = (slot : ℕ) → IsTurned parents change sl
 
 -- groups can go through a change, where this task ran up to it and chains start so
 pub record CanClimb (parents : List (Option Slot)) (current : Option (Slot × Bool)) (change : Change) (starts : Chains) (cells : List Cell) : Type 0 where
-  pub older : AreOlder (numbers_of parents)
+  pub older : AreOlder (parent_numbers parents)
   pub start : MayStart current change starts
   pub slots : top starts ≤ length parents
   pub room : length parents ≤ length cells
-  pub told : (slot : ℕ) → IsTold (numbers_of parents) current slot (cell_in cells slot)
-  pub fits : (slot : ℕ) → CanFollow (cell_in cells slot).counts (on_chain (numbers_of parents) slot change.minus) (on_chain (numbers_of parents) slot change.plus)
+  pub told : (slot : ℕ) → MaskTells (parent_numbers parents) current slot (cell_in cells slot)
+  pub fits : (slot : ℕ) → CanFollow (cell_in cells slot).counts (on_chain (parent_numbers parents) slot change.minus) (on_chain (parent_numbers parents) slot change.plus)
   pub up_to : (slot : ℕ) → IsUpTo change.at (cell_in cells slot).clock
   pub early : change.at ≤ last_moment

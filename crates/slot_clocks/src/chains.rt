@@ -6,7 +6,7 @@ ghost use Rattle.psi_laws.specs.Clock.{ClockFollows};
 ghost use Rattle.psi_laws.specs.Counts.{mask_holds, tells};
 ghost use Rattle.psi_spec.specs.Trace.{last_moment};
 ghost use Rattle.psi_laws.specs.Touch.{Follows, is_current_stalled, no_counts};
-ghost use Rattle.slot_clocks.specs.Clocks.{CanFollow, IsUpTo, StaysByMask, numbers_of};
+ghost use Rattle.slot_clocks.specs.Clocks.{CanFollow, IsUpTo, StaysByMask, parent_numbers};
 ghost use Rattle.slot_clocks.specs.Walk.{AreSides, AreTogether, AreTurned, CanClimb, MayStart, all_passed, chains_of, height, passed, slot_in, top};
 
 use crate::cell::Cell;
@@ -39,7 +39,7 @@ pub(crate) struct Sides {
     plus: Part,
     /// The running task is in a memory stall from the change on.
     stalled: bool,
-    /// The running task stays in its group and in its memory stall or out of it, or none runs before and after.
+    /// What is told of the running task stays: its group, and whether it is in a memory stall; or none runs before and after.
     stays: bool,
 }
 
@@ -129,8 +129,8 @@ impl Chains {
     }
 
     // The chains of a change with those of the counts and of the task that ran together, where these stand at one slot. One that
-    // stands nowhere may go with the others, and so may that of a task which stays the running one: it has nothing to tell
-    // then.
+    // stands nowhere may go with the others, and so may that of the task that ran where what is told of the running task
+    // stays: it has nothing to tell then.
     fn together(current: Option<(Slot, bool)>, change: &Change, stays: bool) -> Option<Chains>
         requires stays { stays ≡ true → current ≡ change.now.current }
         ensures start { IfSome result (MayStart current change.now) }
@@ -167,8 +167,8 @@ impl Sides {
     }
 }
 
-// Takes the group at a height through a change. Where the change takes and adds nothing there, and the running task stays,
-// there is nothing to do: it is on the chain of that task alone.
+// Takes the group at a height through a change. Where the change takes and adds nothing there, and what is told of the running
+// task stays, there is nothing to do: it is on the chain of that task alone.
 #[inline(always)]
 fn turn_at(cell: &mut Cell, sides: &Sides, chains: &Chains, here: u64)
     requires fits { CanFollow cell.old.counts
@@ -219,7 +219,7 @@ fn climb(
     requires can { CanClimb parents.now current change.now starts cells.old }
     requires sides { AreSides current change.now sides.now }
     requires together { together ≡ true → AreTogether starts }
-    ensures turned { AreTurned (numbers_of parents.now) change.now cells.old cells.new }
+    ensures turned { AreTurned (parent_numbers parents.now) change.now cells.old cells.new }
     ensures room { length cells.new ≡ length cells.old }
 {
     let mut chains = starts;
@@ -244,7 +244,7 @@ fn climb_each(
     change: Change,
 )
     requires { CanClimb parents.now current change (chains_of current change) cells.old }
-    ensures turned { AreTurned (numbers_of parents.now) change cells.old cells.new }
+    ensures turned { AreTurned (parent_numbers parents.now) change cells.old cells.new }
     ensures room { length cells.new ≡ length cells.old }
 {
     let sides = Sides::of(current, &change);
@@ -252,8 +252,8 @@ fn climb_each(
     climb(cells, parents, current, &change, &sides, starts, false);
 }
 
-/// Takes the groups on the chains of a change through it. At most changes two chains are enough, where there could be four: the
-/// one of the task that runs from then on, and one for the counts and the task that ran.
+/// Takes the groups on the chains of a change through it. For most changes two chains are enough, where there could be four:
+/// the one of the task that runs from then on, and one for the counts and the task that ran.
 pub(crate) fn walk(
     cells: &mut [Cell],
     parents: &[Option<Slot>],
@@ -261,7 +261,7 @@ pub(crate) fn walk(
     change: &Change,
 )
     requires { CanClimb parents.now current change.now (chains_of current change.now) cells.old }
-    ensures turned { AreTurned (numbers_of parents.now) change.now cells.old cells.new }
+    ensures turned { AreTurned (parent_numbers parents.now) change.now cells.old cells.new }
     ensures room { length cells.new ≡ length cells.old }
 {
     let sides = Sides::of(current, change);

@@ -5,7 +5,7 @@ ghost use Rattle.psi_laws.specs.Clock.{IsInTime};
 ghost use Rattle.psi_spec.specs.Groups.{AreOlder};
 ghost use Rattle.psi_spec.specs.Trace.{last_moment};
 ghost use Rattle.psi_laws.specs.Touch.{HasSlotsBelow};
-ghost use Rattle.slot_clocks.specs.Clocks.{AllCanFollow, AllClocksFollow, AllFollow, AllStayByMask, AreTold, AreWhole, cell_at, first_clocks, numbers_of};
+ghost use Rattle.slot_clocks.specs.Clocks.{AllCanFollow, AllClocksFollow, AllFollow, AllStayByMask, AreTold, AreWhole, cell_at, first_clocks, parent_numbers};
 
 use crate::cell::Cell;
 use crate::chains::walk;
@@ -57,21 +57,21 @@ impl SlotClocks {
     /// It takes time for each group on the chains of four slots: of the counts that are taken, of those that are added, of
     /// the task that ran and of the task that runs.
     pub fn apply(&mut self, parents: &[Option<Slot>], change: &Change)
-        requires older { AreOlder (numbers_of parents.now) }
+        requires older { AreOlder (parent_numbers parents.now) }
         requires room { length parents.now ≤ length self.old.cells }
         requires slots { HasSlotsBelow (length parents.now) change.now }
         requires current { IfSome self.old.current (λ running. running.0.0 < length parents.now) }
-        requires told { AreTold (numbers_of parents.now) self.old }
-        requires fits { AllCanFollow (numbers_of parents.now) change.now self.old }
+        requires told { AreTold (parent_numbers parents.now) self.old }
+        requires fits { AllCanFollow (parent_numbers parents.now) change.now self.old }
         requires later { self.old.last ≤ change.now.at }
         requires early { change.now.at ≤ last_moment }
 
         // Each group follows the change, whether it is on a chain of it or not.
-        ensures counts { AllFollow (numbers_of parents.now) change.now self.old self.new }
+        ensures counts { AllFollow (parent_numbers parents.now) change.now self.old self.new }
         ensures clocks { AllClocksFollow change.now.at self.old self.new }
         ensures kept { AllStayByMask self.old self.new }
         ensures whole { AreWhole self.new }
-        ensures told { AreTold (numbers_of parents.now) self.new }
+        ensures told { AreTold (parent_numbers parents.now) self.new }
 
         ensures current { self.new.current ≡ change.now.current }
         ensures last { self.new.last ≡ change.now.at }

@@ -3,6 +3,6 @@
 ghost use Rattle.slot_clocks.specs.Clocks.{FirstAreTold};
 
 /// Before the first change each mask tells that nothing holds, whatever the groups are.
-pub fn first_clocks()
+pub fn law_first_clocks()
     ensures { FirstAreTold }
 {}

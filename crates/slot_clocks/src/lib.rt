@@ -11,4 +11,4 @@ mod laws;
 mod part;
 
 pub use clocks::SlotClocks;
-pub use laws::first_clocks;
+pub use laws::law_first_clocks;

@@ -9,7 +9,7 @@ use psi_base::Slot;
 use psi_laws::Counts;
 use std::marker::Model;
 
-/// The counts on one side of a change. A contract sees these.
+/// The counts of one part of a change, taken or added. A contract sees these.
 ///
 /// They stand behind counts of nothing, so that a group finds its own by whether their chain stands there: a look-up, with no
 /// branch, since where four chains go is hard to foresee.
@@ -29,7 +29,7 @@ impl Model for Part {
 }
 
 impl Part {
-    /// One side of a change.
+    /// One part of a change.
     pub(crate) fn of(side: Option<(Slot, Counts)>) -> Part
         ensures { result ≡ counts_in side }
     {

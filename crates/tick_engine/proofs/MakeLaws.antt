@@ -15,14 +15,14 @@ use Rattle.aggregate.specs.Table.{new_table}
 use Rattle.aggregate.proofs.TableLaws.{keeps_sizes}
 use Rattle.tick_engine.specs.declared.watch.Watch.{Watch}
 use Rattle.tick_engine.specs.Tables.{tick_at}
-use Rattle.tick_engine.specs.Step.{AreTotalsWithin, new_group, new_watch, no_group}
+use Rattle.tick_engine.specs.Step.{AreTotalsWithin, new_watch, no_group, unsampled_group}
 use Rattle.tick_engine.specs.Engine.{EngineView, IsEngine, StandsFor, group_after}
 
 -- an engine before the first tick
 abbrev pub first_engine : ℕ → List GroupLife → List TriggerSpec → EngineView
-first_engine cpus lives triggers = record { cpus = cpus; last = tick_at 0 (new_table cpus (length lives)); groups = map new_group lives; watches = map new_watch triggers; fired = [] }
+first_engine cpus lives triggers = record { cpus = cpus; last = tick_at 0 (new_table cpus (length lives)); groups = map unsampled_group lives; watches = map new_watch triggers; fired = [] }
 
-new_is_after : (cpus : ℕ) (lives : List GroupLife) (slot : ℕ) → new_group (get_or lives slot root) ≡ group_after cpus lives [] slot
+new_is_after : (cpus : ℕ) (lives : List GroupLife) (slot : ℕ) → unsampled_group (get_or lives slot root) ≡ group_after cpus lives [] slot
 unfolding totals_after totals_of group_averages
 new_is_after cpus lives slot = refl
 
@@ -31,8 +31,8 @@ first_stands cpus lives triggers = record {
   ordered = tt;
   cpus_are = refl;
   last = refl;
-  slots = length-map lives new_group;
-  groups = λ slot below. get_or-map new_group lives slot root no_group below ∙ new_is_after cpus lives slot;
+  slots = length-map lives unsampled_group;
+  groups = λ slot below. get_or-map unsampled_group lives slot root no_group below ∙ new_is_after cpus lives slot;
   watches = refl;
   fired = λ front tick none. absurd (omega (arith, ap length none, length-append front (tick ∷ [])));
   unfired = λ none. refl;
@@ -44,7 +44,7 @@ no_totals_within = All-replicate (λ total. total ≤ 0) 6 0 (omega arith)
 -- what is made of lives and triggers in range is an engine
 pub first_is : (cpus : ℕ) (lives : List GroupLife) (triggers : List TriggerSpec) → cpus ≤ 64 → length lives ≤ 1024 → AreTriggersWithin last_moment (length lives) triggers → IsEngine (first_engine cpus lives triggers)
 first_is cpus lives triggers few_cpus few_groups within =
-    let slots : length (map new_group lives) ≡ length lives = length-map lives new_group in
+    let slots : length (map unsampled_group lives) ≡ length lives = length-map lives unsampled_group in
     let Within : Watch → Type 0 = λ watch. IsTriggerWithin last_moment (length lives) watch.spec in
     record {
       few_cpus = few_cpus;
@@ -52,6 +52,6 @@ first_is cpus lives triggers few_cpus few_groups within =
       few_watches = omega (arith, length-map triggers new_watch, within.few);
       sizes = rw slots (keeps_sizes.new cpus (length lives));
       early = omega arith;
-      totals = All-map (λ group. AreTotalsWithin 0 group) new_group lives (λ k d below. no_totals_within);
+      totals = All-map (λ group. AreTotalsWithin 0 group) unsampled_group lives (λ k d below. no_totals_within);
       watches = rw slots (All-map Within new_watch triggers within.each);
     }

@@ -17,7 +17,7 @@ use Rattle.pressure_spec.specs.Samples.{fired_at, growths, has_fired, history_of
 use Rattle.pressure_spec.proofs.SampleLaws as samples
 use Rattle.tick_engine.specs.declared.group.Group.{Group}
 use Rattle.tick_engine.specs.declared.watch.Watch.{Watch}
-use Rattle.tick_engine.specs.Step.{AreStepped, AreTotalsWithin, begun, fired_among, group_in, group_step, is_live, no_watch, sampled, signals, stepped, watch_begun, watch_in, watch_signals, watch_stepped, watched_total}
+use Rattle.tick_engine.specs.Step.{AreStepped, AreTotalsWithin, begun_signals, begun_trigger, engine_group, fired_among, group_step, is_live_group, no_watch, sampled, stepped, watch_begun, watch_in, watch_signals, watch_stepped, watched_total}
 use Rattle.aggregate.specs.Table.{HasSizes}
 use Rattle.psi_spec.specs.Told.{IsTriggerWithin}
 use Rattle.psi_spec.specs.Trace.{last_moment}
@@ -54,8 +54,8 @@ trigger_next_live cpus lives ticks tick spec there live =
 
 -- a trigger that has begun began at a tick that isn't later than the last
 begun_by : (spec : TriggerSpec) (before : Tick) (ticks : List Tick) → AreNextTicks before ticks → has_begun ticks spec ≡ true → spec.at ≤ (last_tick before ticks).at
-begun_by spec before ticks ordered begun =
-    let any = Any-from_list_any (λ (tick : Tick). nat_le spec.at tick.at) ticks begun in
+begun_by spec before ticks ordered begun_trigger =
+    let any = Any-from_list_any (λ (tick : Tick). nat_le spec.at tick.at) ticks begun_trigger in
     let there : spec.at ≤ any.1.at = grind (arith, any.4) in
     let late = samples.none_is_later before ticks ordered any.0 any.1 any.2 in
     omega (arith, there, late, ap (λ (tick : Tick). tick.at) any.3)
@@ -64,9 +64,9 @@ begun_by spec before ticks ordered begun =
 unbegun_before : (spec : TriggerSpec) (ticks : List Tick) → has_begun ticks spec ≡ false → All (λ (tick : Tick). tick.at < spec.at) ticks
 unbegun_before spec ticks none = λ k d below.
     let at = (get_or ticks k d).at in
-    let begun : nat_le spec.at at ≡ true → at < spec.at = λ there. absurd (false≢true (sym none ∙ list_any_at (λ (tick : Tick). nat_le spec.at tick.at) ticks k d below there)) in
+    let begun_trigger : nat_le spec.at at ≡ true → at < spec.at = λ there. absurd (false≢true (sym none ∙ list_any_at (λ (tick : Tick). nat_le spec.at tick.at) ticks k d below there)) in
     let early : nat_le spec.at at ≡ false → at < spec.at = λ ahead. grind (arith, ahead) in
-    elim (nat_le spec.at at) as (λ test. nat_le spec.at at ≡ test → at < spec.at) [ true ↦ begun | false ↦ early ] refl
+    elim (nat_le spec.at at) as (λ test. nat_le spec.at at ≡ test → at < spec.at) [ true ↦ begun_trigger | false ↦ early ] refl
 
 -- a trigger over the ticks so far, if it is there at the next
 abbrev pub trigger_if : Bool → TriggerState → Option TriggerState
@@ -75,22 +75,22 @@ trigger_if there trigger = if there then Some trigger else None
 -- whether a trigger is to begin at a tick or has begun, it then is what it is over the ticks before
 begun_is : (cpus : ℕ) (lives : List GroupLife) (ticks : List Tick) (tick : Tick) (spec : TriggerSpec) (groups : List Group) →
     AreNextTicks (no_tick cpus (length lives)) ticks → (last_tick (no_tick cpus (length lives)) ticks).at < tick.at →
-    group_in groups spec.slot.0 ≡ group_after cpus lives ticks spec.slot.0 →
-    begun groups tick.at spec (watch_after cpus lives ticks spec).trigger ≡ trigger_if (nat_le spec.at tick.at) (trigger_over spec (history_of cpus lives ticks spec.slot.0))
+    engine_group groups spec.slot.0 ≡ group_after cpus lives ticks spec.slot.0 →
+    begun_trigger groups tick.at spec (watch_after cpus lives ticks spec).trigger ≡ trigger_if (nat_le spec.at tick.at) (trigger_over spec (history_of cpus lives ticks spec.slot.0))
 begun_is cpus lives ticks tick spec groups ordered later group =
     let history = history_of cpus lives ticks spec.slot.0 in
     let trigger = trigger_over spec history in
-    let there : has_begun ticks spec ≡ true → begun groups tick.at spec (Some trigger) ≡ trigger_if (nat_le spec.at tick.at) trigger = λ is.
+    let there : has_begun ticks spec ≡ true → begun_trigger groups tick.at spec (Some trigger) ≡ trigger_if (nat_le spec.at tick.at) trigger = λ is.
     let by = begun_by spec (no_tick cpus (length lives)) ticks ordered is in
     rw (samples.is_there spec.at tick.at (omega (arith, by, later))) refl in
-    let new : has_begun ticks spec ≡ false → begun groups tick.at spec None ≡ trigger_if (nat_le spec.at tick.at) trigger = λ none.
+    let new : has_begun ticks spec ≡ false → begun_trigger groups tick.at spec None ≡ trigger_if (nat_le spec.at tick.at) trigger = λ none.
     let early = samples.history_before cpus lives ticks spec.slot.0 spec.at (unbegun_before spec ticks none) in
     let value : watched_total groups spec ≡ at_state (last_totals no_totals history) (watched_state spec) =
     ap (λ (group : Group). at_state group.totals (watched_state spec)) group ∙ ap (λ totals. at_state totals (watched_state spec)) (sym (samples.history_last cpus lives ticks spec.slot.0)) in
     let first : new_trigger spec.at (watched_total groups spec) spec.threshold_us spec.window_us ≡ trigger =
     ap (λ value. new_trigger spec.at value spec.threshold_us spec.window_us) value ∙ sym (samples.trigger_over_first spec history early) in
     ap (trigger_if (nat_le spec.at tick.at)) first in
-    elim (has_begun ticks spec) as (λ test. has_begun ticks spec ≡ test → begun groups tick.at spec (if test then Some trigger else None) ≡ trigger_if (nat_le spec.at tick.at) trigger) [ true ↦ there | false ↦ new ] refl
+    elim (has_begun ticks spec) as (λ test. has_begun ticks spec ≡ test → begun_trigger groups tick.at spec (if test then Some trigger else None) ≡ trigger_if (nat_le spec.at tick.at) trigger) [ true ↦ there | false ↦ new ] refl
 
 -- after one tick more a trigger has begun where its line isn't later
 begun_next : (spec : TriggerSpec) (before : Tick) (ticks : List Tick) (tick : Tick) → AreNextTicks before ticks → (last_tick before ticks).at < tick.at → has_begun (ticks ++ tick ∷ []) spec ≡ nat_le spec.at tick.at
@@ -107,8 +107,8 @@ begun_next spec before ticks tick ordered later =
 pub record CanWatch (cpus : ℕ) (lives : List GroupLife) (ticks : List Tick) (tick : Tick) (old new : List Group) (spec : TriggerSpec) : Type 0 where
   pub ordered : AreNextTicks (no_tick cpus (length lives)) ticks
   pub later : (last_tick (no_tick cpus (length lives)) ticks).at < tick.at
-  pub group_before : group_in old spec.slot.0 ≡ group_after cpus lives ticks spec.slot.0
-  pub group_now : group_in new spec.slot.0 ≡ group_after cpus lives (ticks ++ tick ∷ []) spec.slot.0
+  pub group_before : engine_group old spec.slot.0 ≡ group_after cpus lives ticks spec.slot.0
+  pub group_now : engine_group new spec.slot.0 ≡ group_after cpus lives (ticks ++ tick ∷ []) spec.slot.0
 
 -- the trigger of a watch after one tick more
 trigger_next : (cpus : ℕ) (lives : List GroupLife) (ticks : List Tick) (tick : Tick) (spec : TriggerSpec) → spec.at ≤ tick.at →
@@ -145,18 +145,18 @@ watch_next cpus lives ticks tick old new spec can =
     let there = nat_le spec.at tick.at in
     let trigger = trigger_over spec (history_of cpus lives ticks slot) in
     let later = trigger_over spec (history_of cpus lives (ticks ++ tick ∷ []) slot) in
-    let state : Group → Option TriggerState → Option TriggerState = λ group trigger. if is_live group tick.at then stepped trigger tick.at (at_state group.totals (watched_state spec)) else trigger in
+    let state : Group → Option TriggerState → Option TriggerState = λ group trigger. if is_live_group group tick.at then stepped trigger tick.at (at_state group.totals (watched_state spec)) else trigger in
     let watch : Option TriggerState → Watch = λ trigger. record { spec = spec; trigger = trigger } in
     let first = begun_is cpus lives ticks tick spec old can.ordered can.later can.group_before in
     let begun_now = begun_next spec (no_tick cpus (length lives)) ticks tick can.ordered can.later in
     let total = at_state (totals_after cpus lives (ticks ++ tick ∷ []) slot) (watched_state spec) in
     let step = stepped_if (is_live_at (life_of lives slot) tick.at) there trigger later tick.at total (λ is. trigger_next cpus lives ticks tick spec (samples.from_there spec.at tick.at is)) in
-    ap (λ group. watch (state group (begun old tick.at spec (watch_after cpus lives ticks spec).trigger))) can.group_now
+    ap (λ group. watch (state group (begun_trigger old tick.at spec (watch_after cpus lives ticks spec).trigger))) can.group_now
     ∙ ap (λ trigger. watch (state (group_after cpus lives (ticks ++ tick ∷ []) slot) trigger)) first
     ∙ ap watch step
-    ∙ ap (λ begun. watch (trigger_if begun later)) (sym begun_now)
+    ∙ ap (λ begun_trigger. watch (trigger_if begun_trigger later)) (sym begun_now)
 
-signals_if : (live there : Bool) (trigger : TriggerState) (now total : ℕ) → (live && signals (trigger_if there trigger) now total) ≡ (live && there && fires trigger now total)
+signals_if : (live there : Bool) (trigger : TriggerState) (now total : ℕ) → (live && begun_signals (trigger_if there trigger) now total) ≡ (live && there && fires trigger now total)
 signals_if true true trigger now total = refl
 signals_if true false trigger now total = refl
 signals_if false true trigger now total = refl
@@ -169,10 +169,10 @@ unfolding has_fired
 signals_next cpus lives ticks tick old new spec can =
     let slot = spec.slot.0 in
     let trigger = trigger_over spec (history_of cpus lives ticks slot) in
-    let test : Group → Option TriggerState → Bool = λ group trigger. is_live group tick.at && signals trigger tick.at (at_state group.totals (watched_state spec)) in
+    let test : Group → Option TriggerState → Bool = λ group trigger. is_live_group group tick.at && begun_signals trigger tick.at (at_state group.totals (watched_state spec)) in
     let first = begun_is cpus lives ticks tick spec old can.ordered can.later can.group_before in
     let total = at_state (totals_after cpus lives (ticks ++ tick ∷ []) slot) (watched_state spec) in
-    ap (λ group. test group (begun old tick.at spec (watch_after cpus lives ticks spec).trigger)) can.group_now
+    ap (λ group. test group (begun_trigger old tick.at spec (watch_after cpus lives ticks spec).trigger)) can.group_now
     ∙ ap (test (group_after cpus lives (ticks ++ tick ∷ []) slot)) first
     ∙ signals_if (is_live_at (life_of lives slot) tick.at) (nat_le spec.at tick.at) trigger tick.at total
 
@@ -207,8 +207,8 @@ pub fired_next : (cpus : ℕ) (lives : List GroupLife) (triggers : List TriggerS
 unfolding fired_at
 fired_next cpus lives triggers ticks tick old new can =
     let watch : TriggerSpec → Watch = λ spec. watch_begun old tick.at (watch_after cpus lives ticks spec) in
-    let begun = map_map (watch_begun old tick.at) (watch_after cpus lives ticks) triggers in
-    ap (λ watches. fired_among new tick.at watches (length triggers)) begun
+    let begun_trigger = map_map (watch_begun old tick.at) (watch_after cpus lives ticks) triggers in
+    ap (λ watches. fired_among new tick.at watches (length triggers)) begun_trigger
     ∙ filter_agree _ _ (signals_by_number new tick.at watch (has_fired cpus lives ticks tick) triggers (λ k d below. signals_next cpus lives ticks tick old new (get_or triggers k d) (can k d below))) (range_with_len 0 (length triggers))
 
 pub watches_next : (cpus : ℕ) (lives : List GroupLife) (triggers : List TriggerSpec) (ticks : List Tick) (tick : Tick) (old new : List Group) → All (λ spec. CanWatch cpus lives ticks tick old new spec) triggers →
@@ -236,10 +236,10 @@ ticked_many {tick} {old} {new} is =
 
 -- the groups that stand for ticks stand for one more
 groups_next : (old new : EngineView) (cpus : ℕ) (lives : List GroupLife) (triggers : List TriggerSpec) (ticks : List Tick) (tick : Tick) → IsTicked tick old new → StandsFor old cpus lives triggers ticks →
-    (slot : ℕ) → slot < length lives → group_in new.groups slot ≡ group_after cpus lives (ticks ++ tick ∷ []) slot
+    (slot : ℕ) → slot < length lives → engine_group new.groups slot ≡ group_after cpus lives (ticks ++ tick ∷ []) slot
 groups_next old new cpus lives triggers ticks tick is stands slot below =
     is.groups slot (omega (arith, below, stands.slots))
-    ∙ ap (λ last. group_step last tick slot (group_in old.groups slot)) stands.last
+    ∙ ap (λ last. group_step last tick slot (engine_group old.groups slot)) stands.last
     ∙ ap (group_step (last_tick (no_tick cpus (length lives)) ticks) tick slot) (stands.groups slot below)
     ∙ group_next cpus lives ticks tick slot below
 
@@ -266,9 +266,9 @@ stands_next old new cpus lives triggers ticks tick engine next is stands =
     let before = no_tick cpus (length lives) in
     let can = can_watch old new cpus lives triggers ticks tick engine next is stands in
     let many : length old.watches ≡ length triggers = ap length stands.watches ∙ length-map triggers (watch_after cpus lives ticks) in
-    let begun : map (watch_begun old.groups tick.at) old.watches ≡ map (watch_begun old.groups tick.at) (map (watch_after cpus lives ticks) triggers) = ap (map (watch_begun old.groups tick.at)) stands.watches in
+    let begun_trigger : map (watch_begun old.groups tick.at) old.watches ≡ map (watch_begun old.groups tick.at) (map (watch_after cpus lives ticks) triggers) = ap (map (watch_begun old.groups tick.at)) stands.watches in
     let fired : new.fired ≡ fired_at cpus lives triggers ticks tick =
-    is.fired ∙ ap (λ watches. fired_among new.groups tick.at watches (length old.watches)) begun
+    is.fired ∙ ap (λ watches. fired_among new.groups tick.at watches (length old.watches)) begun_trigger
     ∙ ap (fired_among new.groups tick.at (map (watch_begun old.groups tick.at) (map (watch_after cpus lives ticks) triggers))) many
     ∙ fired_next cpus lives triggers ticks tick old.groups new.groups can in
     let next_tick : IsNextTick (last_tick before ticks) tick = let P : Tick → Type 0 = λ last. IsNextTick last tick in subst P stands.last next in
@@ -278,7 +278,7 @@ stands_next old new cpus lives triggers ticks tick engine next is stands =
       last = is.last ∙ sym (samples.last_tick-push before ticks tick);
       slots = is.slots ∙ stands.slots;
       groups = groups_next old new cpus lives triggers ticks tick is stands;
-      watches = is.watches ∙ ap (map (watch_stepped new.groups tick.at)) begun ∙ watches_next cpus lives triggers ticks tick old.groups new.groups can;
+      watches = is.watches ∙ ap (map (watch_stepped new.groups tick.at)) begun_trigger ∙ watches_next cpus lives triggers ticks tick old.groups new.groups can;
       fired = λ front other same.
           let parts = same_from_push ticks front tick other same in
           fired ∙ ap (λ ticks. fired_at cpus lives triggers ticks tick) parts.0 ∙ ap (fired_at cpus lives triggers front) parts.1;
@@ -293,10 +293,10 @@ begun_within groups now slots watches all = All-map (λ (watch : Watch). IsTrigg
 pub engine_kept : (old new : EngineView) (tick : Tick) → IsEngine old → IsNextTick old.last tick → HasSizes old.cpus (length old.groups) tick.table → IsTicked tick old new →
     All (λ group. AreTotalsWithin tick.at group) new.groups → IsEngine new
 engine_kept old new tick engine next sizes is totals =
-    let begun = map (watch_begun old.groups tick.at) old.watches in
+    let begun_trigger = map (watch_begun old.groups tick.at) old.watches in
     let many = ticked_many is in
     let Within : Watch → Type 0 = λ watch. IsTriggerWithin last_moment (length old.groups) watch.spec in
-    let within : All Within (map (watch_stepped new.groups tick.at) begun) = All-map Within (watch_stepped new.groups tick.at) begun (begun_within old.groups tick.at (length old.groups) old.watches engine.watches) in
+    let within : All Within (map (watch_stepped new.groups tick.at) begun_trigger) = All-map Within (watch_stepped new.groups tick.at) begun_trigger (begun_within old.groups tick.at (length old.groups) old.watches engine.watches) in
     record {
       few_cpus = omega (arith, is.cpus, engine.few_cpus);
       few_groups = omega (arith, is.slots, engine.few_groups);

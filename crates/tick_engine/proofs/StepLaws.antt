@@ -13,7 +13,7 @@ use Rattle.pressure_spec.proofs.ShareLaws.{shares_within}
 use Rattle.tick_engine.specs.declared.group.Group.{Group}
 use Rattle.tick_engine.specs.declared.watch.Watch.{Watch}
 use Rattle.tick_engine.specs.Tables.{time_of}
-use Rattle.tick_engine.specs.Step.{AreTotalsWithin, fired_among, group_step, is_live, sampled, watch_in, watch_signals}
+use Rattle.tick_engine.specs.Step.{AreTotalsWithin, fired_among, group_step, is_live_group, sampled, watch_in, watch_signals}
 
 -- a list that has f of the elements of another at each place
 pub map_all : {A B : Type 0} (f : A → B) → (xs : List A) (zs : List B) (d : A) (e : B) → length zs ≡ length xs → ((k : ℕ) → k < length xs → get_or zs k e ≡ f (get_or xs k d)) → zs ≡ map f xs
@@ -69,7 +69,7 @@ sampled_within last tick slot group next within = λ k d below.
 -- so has each group after it
 pub step_within : (last tick : Tick) (slot : ℕ) (group : Group) → IsNextTick last tick → AreTotalsWithin last.at group → AreTotalsWithin tick.at (group_step last tick slot group)
 step_within last tick slot group next within =
-    elim (is_live group tick.at) as (λ live. AreTotalsWithin tick.at (if live then sampled group tick.at (shares (growths (row_at last slot) (row_at tick slot))) else group))
+    elim (is_live_group group tick.at) as (λ live. AreTotalsWithin tick.at (if live then sampled group tick.at (shares (growths (row_at last slot) (row_at tick slot))) else group))
     [ true ↦ sampled_within last tick slot group next within | false ↦ λ k d below. let most = within k d below in omega (arith, most, next.later) ]
 
 -- ---- signals

@@ -5,13 +5,14 @@ use Rattle.psi_base.specs.declared.event.TriggerSpec.{TriggerSpec}
 use Rattle.psi_spec.specs.declared.machine.GroupLife.{GroupLife}
 use Rattle.psi_spec.specs.Told.{IsTriggerWithin}
 use Rattle.psi_spec.specs.Trace.{last_moment}
+use Rattle.psi_spec.specs.World.{most_groups}
 use Rattle.pressure_spec.specs.Average.{AverageState}
 use Rattle.pressure_spec.specs.Ticks.{Tick, AreNextTicks, last_tick, no_tick}
 use Rattle.pressure_spec.specs.Samples.{fired_at, group_averages, history_of, life_of, totals_after, trigger_over}
 use Rattle.aggregate.specs.Table.{HasSizes}
 use Rattle.tick_engine.specs.declared.group.Group.{Group}
 use Rattle.tick_engine.specs.declared.watch.Watch.{Watch}
-use Rattle.tick_engine.specs.Step.{AreTotalsWithin, group_in}
+use Rattle.tick_engine.specs.Step.{AreTotalsWithin, engine_group}
 
 -- An engine: for how many processors it is, the last tick, what it keeps of each group and of each trigger, and the numbers
 -- of the triggers that signalled at the last tick.
@@ -28,11 +29,11 @@ seen_as cpus last groups watches fired = record { cpus = cpus; last = last; grou
 
 -- the totals (ns) of the group in a slot
 abbrev pub totals_in : EngineView → ℕ → List ℕ
-totals_in engine slot = (group_in engine.groups slot).totals
+totals_in engine slot = (engine_group engine.groups slot).totals
 
 -- the averages of the group in a slot
 abbrev pub averages_in : EngineView → ℕ → AverageState
-averages_in engine slot = (group_in engine.groups slot).averages
+averages_in engine slot = (engine_group engine.groups slot).averages
 
 -- ---- what an engine stands for
 
@@ -56,14 +57,14 @@ pub record StandsFor (engine : EngineView) (cpus : ℕ) (lives : List GroupLife)
   pub cpus_are : engine.cpus ≡ cpus
   pub last : engine.last ≡ last_tick (no_tick cpus (length lives)) ticks
   pub slots : length engine.groups ≡ length lives
-  pub groups : (slot : ℕ) → slot < length lives → group_in engine.groups slot ≡ group_after cpus lives ticks slot
+  pub groups : (slot : ℕ) → slot < length lives → engine_group engine.groups slot ≡ group_after cpus lives ticks slot
   pub watches : engine.watches ≡ map (watch_after cpus lives ticks) triggers
   pub fired : (front : List Tick) (tick : Tick) → ticks ≡ front ++ tick ∷ [] → engine.fired ≡ fired_at cpus lives triggers front tick
   pub unfired : ticks ≡ [] → engine.fired ≡ []
 
 -- An engine takes a tick: where it stood for ticks before, it stands for them and this one.
-abbrev pub Takes : EngineView → Tick → EngineView → Type 0
-Takes old tick new = (cpus : ℕ) (lives : List GroupLife) (triggers : List TriggerSpec) (ticks : List Tick) →
+abbrev pub EngineTakes : EngineView → Tick → EngineView → Type 0
+EngineTakes old tick new = (cpus : ℕ) (lives : List GroupLife) (triggers : List TriggerSpec) (ticks : List Tick) →
     StandsFor old cpus lives triggers ticks → StandsFor new cpus lives triggers (ticks ++ tick ∷ [])
 
 -- ---- what is kept of each engine
@@ -76,7 +77,7 @@ AreWatchesWithin slots watches = All (λ watch. IsTriggerWithin last_moment slot
 -- than the time up to the last tick, and the triggers are in range.
 pub record IsEngine (engine : EngineView) : Type 0 where
   pub few_cpus : engine.cpus ≤ 64
-  pub few_groups : length engine.groups ≤ 1024
+  pub few_groups : length engine.groups ≤ most_groups
   pub few_watches : length engine.watches ≤ 256
   pub sizes : HasSizes engine.cpus (length engine.groups) engine.last.table
   pub early : engine.last.at ≤ last_moment

@@ -17,20 +17,20 @@ use Rattle.tick_engine.specs.declared.watch.Watch.{Watch}
 -- ---- groups
 
 -- a group that is made, before it is sampled
-abbrev pub new_group : GroupLife → Group
-new_group life = record { made = life.made; gone = life.gone; totals = no_totals; averages = new_averages life.made }
+abbrev pub unsampled_group : GroupLife → Group
+unsampled_group life = record { made = life.made; gone = life.gone; totals = no_totals; averages = new_averages life.made }
 
 -- a group that is made at 0 and never goes, in place of one that there isn't
 abbrev pub no_group : Group
 no_group = record { made = 0; gone = None; totals = no_totals; averages = new_averages 0 }
 
 -- the group in a slot
-abbrev pub group_in : List Group → ℕ → Group
-group_in groups slot = slice_index_or groups slot no_group
+abbrev pub engine_group : List Group → ℕ → Group
+engine_group groups slot = slice_index_or groups slot no_group
 
 -- a group is live at a moment (ns)
-abbrev pub is_live : Group → ℕ → Bool
-is_live group at = nat_le group.made at && not (is_gone_by group.gone at)
+abbrev pub is_live_group : Group → ℕ → Bool
+is_live_group group at = nat_le group.made at && not (is_gone_by group.gone at)
 
 -- a group with shares (ns) added to its totals, which its averages take at a moment (ns)
 abbrev pub sampled : Group → ℕ → List ℕ → Group
@@ -38,7 +38,7 @@ sampled group now added = record { made = group.made; gone = group.gone; totals 
 
 -- a group after a tick: sampled where it is live
 abbrev pub group_step : Tick → Tick → ℕ → Group → Group
-group_step last tick slot group = if is_live group tick.at then sampled group tick.at (shares (growths (row_at last slot) (row_at tick slot))) else group
+group_step last tick slot group = if is_live_group group tick.at then sampled group tick.at (shares (growths (row_at last slot) (row_at tick slot))) else group
 
 -- no total (ns) of a group is above this
 abbrev pub AreTotalsWithin : ℕ → Group → Type 0
@@ -46,7 +46,7 @@ AreTotalsWithin most group = All (λ total. total ≤ most) group.totals
 
 -- each group is as a tick leaves it
 abbrev pub AreStepped : Tick → Tick → List Group → List Group → Type 0
-AreStepped last tick old new = (slot : ℕ) → slot < length old → group_in new slot ≡ group_step last tick slot (group_in old slot)
+AreStepped last tick old new = (slot : ℕ) → slot < length old → engine_group new slot ≡ group_step last tick slot (engine_group old slot)
 
 -- ---- triggers
 
@@ -56,12 +56,12 @@ new_watch spec = record { spec = spec; trigger = None }
 
 -- the total (ns) that a trigger watches
 abbrev pub watched_total : List Group → TriggerSpec → ℕ
-watched_total groups spec = at_state (group_in groups spec.slot.0).totals (watched_state spec)
+watched_total groups spec = at_state (engine_group groups spec.slot.0).totals (watched_state spec)
 
 -- a trigger that begins at the first tick that isn't before its line, with the total at the tick before
-abbrev pub begun : List Group → ℕ → TriggerSpec → Option TriggerState → Option TriggerState
-begun groups now spec (Some trigger) = Some trigger
-begun groups now spec None = if nat_le spec.at now then Some (new_trigger spec.at (watched_total groups spec) spec.threshold_us spec.window_us) else None
+abbrev pub begun_trigger : List Group → ℕ → TriggerSpec → Option TriggerState → Option TriggerState
+begun_trigger groups now spec (Some trigger) = Some trigger
+begun_trigger groups now spec None = if nat_le spec.at now then Some (new_trigger spec.at (watched_total groups spec) spec.threshold_us spec.window_us) else None
 
 -- a trigger that has begun, after a tick at a moment (ns) with a total (ns)
 abbrev pub stepped : Option TriggerState → ℕ → ℕ → Option TriggerState
@@ -69,17 +69,17 @@ stepped None now total = None
 stepped (Some trigger) now total = Some (trigger_step trigger now total)
 
 -- a trigger that has begun signals at a tick
-abbrev pub signals : Option TriggerState → ℕ → ℕ → Bool
-signals None now total = false
-signals (Some trigger) now total = fires trigger now total
+abbrev pub begun_signals : Option TriggerState → ℕ → ℕ → Bool
+begun_signals None now total = false
+begun_signals (Some trigger) now total = fires trigger now total
 
 -- the watch of a trigger that begins, if it is to begin
 abbrev pub watch_begun : List Group → ℕ → Watch → Watch
-watch_begun groups now watch = record { spec = watch.spec; trigger = begun groups now watch.spec watch.trigger }
+watch_begun groups now watch = record { spec = watch.spec; trigger = begun_trigger groups now watch.spec watch.trigger }
 
 -- the group of a watch is live at a moment (ns)
 abbrev pub is_watching : List Group → ℕ → Watch → Bool
-is_watching groups now watch = is_live (group_in groups watch.spec.slot.0) now
+is_watching groups now watch = is_live_group (engine_group groups watch.spec.slot.0) now
 
 -- a watch after a tick: its trigger is stepped where its group is live
 abbrev pub watch_stepped : List Group → ℕ → Watch → Watch
@@ -87,7 +87,7 @@ watch_stepped groups now watch = record { spec = watch.spec; trigger = if is_wat
 
 -- a watch signals at a tick
 abbrev pub watch_signals : List Group → ℕ → Watch → Bool
-watch_signals groups now watch = is_watching groups now watch && signals watch.trigger now (watched_total groups watch.spec)
+watch_signals groups now watch = is_watching groups now watch && begun_signals watch.trigger now (watched_total groups watch.spec)
 
 -- a watch that there isn't, in place of one
 abbrev pub no_watch : Watch

@@ -5,9 +5,10 @@ ghost use Rattle.aggregate.specs.Table.{HasSizes};
 ghost use Rattle.pressure_spec.specs.Ticks.{IsNextTick};
 ghost use Rattle.psi_spec.specs.Told.{AreTriggersWithin};
 ghost use Rattle.psi_spec.specs.Trace.{last_moment};
-ghost use Rattle.tick_engine.specs.Engine.{averages_in, totals_in, IsLifeWithin, StandsFor, Takes};
+ghost use Rattle.psi_spec.specs.World.{most_groups};
+ghost use Rattle.tick_engine.specs.Engine.{averages_in, totals_in, IsLifeWithin, StandsFor, EngineTakes};
 ghost use Rattle.tick_engine.specs.Engine.{TellsAverages, TellsFired, TellsLast, TellsTotals};
-ghost use Rattle.tick_engine.specs.Step.{new_group, new_watch};
+ghost use Rattle.tick_engine.specs.Step.{new_watch, unsampled_group};
 ghost use Rattle.tick_engine.specs.Tables.{tick_at};
 
 use crate::group::{Group, tick_all};
@@ -50,7 +51,7 @@ impl Model for Engine {
 /// The groups, before the first tick.
 fn groups_of(alloc: Global, lives: &[GroupLife]) -> Result<Vec<Group>, NoMemory>
     requires { All (λ life. IsLifeWithin last_moment life) lives.now }
-    ensures { IfOk result (λ groups. groups.items ≡ map new_group lives.now) }
+    ensures { IfOk result (λ groups. groups.items ≡ map unsampled_group lives.now) }
 {
     let mut groups = Vec::with_capacity(alloc, lives.len())?;
     'lives: for life in lives {
@@ -95,7 +96,7 @@ impl Engine {
     ) -> Result<Engine, NoMemory>
         requires some_cpus { 1 ≤ cpus }
         requires few_cpus { cpus ≤ 64 }
-        requires few_groups { length lives.now ≤ 1024 }
+        requires few_groups { length lives.now ≤ most_groups }
         requires lives { All (λ life. IsLifeWithin last_moment life) lives.now }
         requires triggers { AreTriggersWithin last_moment (length lives.now) triggers.now }
         ensures { IfOk result (λ engine. StandsFor engine cpus lives.now triggers.now []) }
@@ -118,7 +119,7 @@ impl Engine {
     pub fn tick(&mut self, now: Ns, rows: &Rows)
         requires sizes { HasSizes self.old.cpus (length self.old.groups) rows.now }
         requires next { IsNextTick self.old.last (tick_at now rows.now) }
-        ensures stands { Takes self.old (tick_at now rows.now) self.new }
+        ensures stands { EngineTakes self.old (tick_at now rows.now) self.new }
 
         // Also of an engine of which nothing is known.
         ensures last { self.new.last ≡ tick_at now rows.now }

@@ -6,7 +6,8 @@ ghost use Rattle.pressure_spec.specs.Samples.{row_at};
 ghost use Rattle.pressure_spec.specs.Share.{plus, shares};
 ghost use Rattle.pressure_spec.specs.Ticks.{IsNextTick};
 ghost use Rattle.psi_spec.specs.Trace.{last_moment, longest_tick};
-ghost use Rattle.tick_engine.specs.Step.{AreStepped, AreTotalsWithin, group_step, is_live, new_group, sampled};
+ghost use Rattle.psi_spec.specs.World.{most_groups};
+ghost use Rattle.tick_engine.specs.Step.{AreStepped, AreTotalsWithin, group_step, is_live_group, sampled, unsampled_group};
 ghost use Rattle.tick_engine.specs.Tables.{tick_at};
 
 use crate::growth::put_growths;
@@ -29,7 +30,7 @@ impl Group {
     /// A group that is made, before it is sampled.
     pub(crate) fn of(life: &GroupLife) -> Group
         requires { life.now.made ≤ last_moment }
-        ensures { result ≡ new_group life.now }
+        ensures { result ≡ unsampled_group life.now }
     {
         Group {
             made: life.made,
@@ -41,7 +42,7 @@ impl Group {
 
     /// It was made by this moment (ns), and hasn't gone by then.
     pub(crate) fn is_live(&self, at: Ns) -> bool
-        ensures { result ≡ is_live self.now at }
+        ensures { result ≡ is_live_group self.now at }
     {
         let is_gone = match self.gone {
             Some(gone) => gone <= at,
@@ -94,7 +95,7 @@ pub(crate) fn tick_all(
     rows: &Rows,
 )
     requires few { length growths.old ≤ 64 }
-    requires slots { length groups.old ≤ 1024 }
+    requires slots { length groups.old ≤ most_groups }
     requires last { HasSizes (length growths.old) (length groups.old) last.now.table }
     requires sizes { HasSizes (length growths.old) (length groups.old) rows.now }
     requires next { IsNextTick last.now (tick_at now rows.now) }

@@ -14,13 +14,13 @@ use Rattle.ruleset_json.specs.declared.types.Action.TheVariants as action
 use Rattle.kill_spec.specs.declared.reading.GroupReading.{GroupReading}
 use Rattle.kill_spec.specs.Readings.{Ascend, Reading, group_in, grown_from, path_of, rise}
 use Rattle.kill_spec.specs.Victims.{after_of, beats_by, candidates, children, choice, count_above}
-use Rattle.kill_spec.specs.Victims.{descended, largest_few, past_of, patterns_of, rank_of, unbeaten}
+use Rattle.kill_spec.specs.Victims.{action_patterns, descended, largest_few, past_of, rank_of, unbeaten}
 use Rattle.kill_spec.specs.Victims.{victim}
 use Rattle.kill_spec.proofs.Foremost.{Pairs, by_test, pairs_filter}
 use Rattle.kill_spec.proofs.ChoiceLaws.{IsBefore, in_order}
 use Rattle.victim_rank.specs.Pasts.{IsPastOf, Kept, scan_before}
 use Rattle.victim_rank.specs.Growth.{has_grown_more_over, is_growing_over, sizes_from}
-use Rattle.victim_rank.specs.Scopes.{above_count, among, is_among, is_eligible, measure_of}
+use Rattle.victim_rank.specs.Scopes.{above_count, among, is_eligible, is_in_scope, measure_of}
 use Rattle.victim_rank.specs.Scopes.{rise_from}
 use Rattle.victim_rank.specs.Choosing.{size_choice}
 use Rattle.victim_rank.proofs.Scoped.{among_is, filter_filter}
@@ -49,7 +49,7 @@ rises_are kept history past = fun_ext (λ group. ap (above_count group.scan)
 pub among_order : (lives : List GroupLife) (act : Action) (above : Option Slot) (now : Reading) →
     Ascend (map (path_of lives) now.groups) → Pairs (IsBefore lives) (among lives act above now)
 among_order lives act above now ascend = rw (among_is lives act above now)
-    (pairs_filter (IsBefore lives) (is_among lives act above) now.groups
+    (pairs_filter (IsBefore lives) (is_in_scope lives act above) now.groups
     (in_order lives now.groups ascend))
 
 -- ---- the choice by size or growth
@@ -57,11 +57,11 @@ among_order lives act above now ascend = rw (among_is lives act above now)
 -- the groups of a scope and of a rank are those of the scope that have the rank
 pub ranked : (lives : List GroupLife) (act : Action) (above : Option Slot) (now : Reading)
     (best : GroupReading) (r : ℕ) → r ≡ rank_of best →
-    filter (λ group. is_among lives act above group && rank_of group == r) now.groups ≡ filter
+    filter (λ group. is_in_scope lives act above group && rank_of group == r) now.groups ≡ filter
     (has_rank best) (among lives act above now)
 ranked lives act above now best r is = rw is
     (sym (ap (filter (has_rank best)) (among_is lives act above now) ∙
-    filter_filter (is_among lives act above) (has_rank best) now.groups))
+    filter_filter (is_in_scope lives act above) (has_rank best) now.groups))
 
 pub grown_among : (lives : List GroupLife) (sizes : GroupReading → List ℕ)
     (percentile ratio few count r : ℕ) (best : GroupReading) (groups ranking : List GroupReading)
@@ -140,7 +140,7 @@ abbrev pub slot_of : Option GroupReading → Option Slot
 slot_of o = option_map (λ (group : GroupReading). group.slot) o
 
 pub victim_none : (lives : List GroupLife) (act : Action) (now : Reading) (history : List Reading) →
-    None ≡ choice lives act now history (candidates lives (patterns_of act) now) →
+    None ≡ choice lives act now history (candidates lives (action_patterns act) now) →
     None ≡ slot_of (victim lives act now history)
 unfolding victim
 victim_none lives act now history none = by_test _ (after_of act).recursive
@@ -149,14 +149,14 @@ victim_none lives act now history none = by_test _ (after_of act).recursive
 
 pub victim_plain : (lives : List GroupLife) (act : Action) (now : Reading) (history : List Reading)
     (group : GroupReading) → (after_of act).recursive ≡ false →
-    Some group ≡ choice lives act now history (candidates lives (patterns_of act) now) →
+    Some group ≡ choice lives act now history (candidates lives (action_patterns act) now) →
     Some group.slot ≡ slot_of (victim lives act now history)
 unfolding victim
 victim_plain lives act now history group fails some = rw (fails, ← some) refl
 
 pub victim_below : (lives : List GroupLife) (act : Action) (now : Reading) (history : List Reading)
     (group last : GroupReading) → (after_of act).recursive ≡ true →
-    Some group ≡ choice lives act now history (candidates lives (patterns_of act) now) →
+    Some group ≡ choice lives act now history (candidates lives (action_patterns act) now) →
     last ≡ descended lives act now history (length lives) group →
     Some last.slot ≡ slot_of (victim lives act now history)
 unfolding victim

@@ -9,7 +9,7 @@ use Rattle.std.proofs.lemmas.Bool.Decides.{nat_tests}
 use Rattle.psi_spec.specs.declared.machine.GroupLife.{GroupLife}
 use Rattle.kill_spec.specs.declared.reading.GroupReading.{GroupReading}
 use Rattle.kill_spec.specs.Readings.{Ascend, path_of}
-use Rattle.kill_spec.specs.Victims.{is_larger, largest_few, size_of, unbeaten}
+use Rattle.kill_spec.specs.Victims.{is_larger, largest_few, memory_in_use, unbeaten}
 use Rattle.kill_spec.proofs.Foremost.{Orders, each_map, each_passes, foremost, pairs_filter}
 use Rattle.kill_spec.proofs.ChoiceLaws.{IsBefore, greater_order, in_order, then_first, then_one_way}
 use Rattle.kill_spec.proofs.ChoiceLaws.{then_same, then_tells, then_told, walk_unbeaten}
@@ -22,8 +22,8 @@ use Rattle.victim_rank.proofs.Scoped.{filter_filter, foremost_none, leads_plainl
 abbrev pub leads_over : (GroupReading → List ℕ) → GroupReading → GroupReading → Bool
 leads_over sizes next best =
     nat_lt (growth_over sizes best next) (growth_over sizes next best)
-    || (growth_over sizes next best == growth_over sizes best next && nat_lt (size_of best)
-    (size_of next))
+    || (growth_over sizes next best == growth_over sizes best next && nat_lt (memory_in_use best)
+    (memory_in_use next))
 
 -- ---- quotients, compared by products
 
@@ -72,20 +72,20 @@ HasPast sizes group = 0 < sum (sizes group)
 pub growth_order : (lives : List GroupLife) (sizes : GroupReading → List ℕ) →
     Orders (HasPast sizes) (IsBefore lives) (has_grown_more_over sizes lives) (leads_over sizes)
 growth_order lives sizes =
-    let larger = greater_order lives size_of in
+    let larger = greater_order lives memory_in_use in
     record {
       one_way = λ x y over. then_one_way (growth_over sizes x y) (growth_over sizes y x)
           (is_larger lives x y) (is_larger lives y x) (larger.one_way x y) over;
       onward = λ x y z p q r first second.
-          by_products (size_of x * length (sizes x)) (size_of y * length (sizes y))
-          (size_of z * length (sizes z)) (sum (sizes x)) (sum (sizes y)) (sum (sizes z))
+          by_products (memory_in_use x * length (sizes x)) (memory_in_use y * length (sizes y))
+          (memory_in_use z * length (sizes z)) (sum (sizes x)) (sum (sizes y)) (sum (sizes z))
           (is_larger lives x y) (is_larger lives y z) (is_larger lives x z) p q r
           (larger.onward x y z tt tt tt) first second;
       second = λ x y before leads. then_same (growth_over sizes y x) (growth_over sizes x y)
-          (nat_lt (size_of x) (size_of y)) (is_larger lives y x)
+          (nat_lt (memory_in_use x) (memory_in_use y)) (is_larger lives y x)
           (λ more. larger.second x y before (rw (leads_plainly y x) more)) leads;
       first = λ x y before trails. then_first (growth_over sizes y x) (growth_over sizes x y)
-          (nat_lt (size_of x) (size_of y)) (is_larger lives x y)
+          (nat_lt (memory_in_use x) (memory_in_use y)) (is_larger lives x y)
           (λ less. larger.first x y before (rw (leads_plainly y x) less)) trails;
     }
 
@@ -113,7 +113,7 @@ has_past : (sizes : GroupReading → List ℕ) (ratio : ℕ) (group : GroupReadi
     is_growing_over sizes ratio group ≡ true → HasPast sizes group
 has_past sizes ratio group growing =
     let some = (and_parts (nat_lt 0 (sum (sizes group)))
-    (nat_le (ratio * sum (sizes group)) (size_of group * length (sizes group) * 1000))
+    (nat_le (ratio * sum (sizes group)) (memory_in_use group * length (sizes group) * 1000))
     growing).0 in
     grind (arith, nat_tests)
 

@@ -9,7 +9,7 @@ use Rattle.kill_spec.specs.declared.reading.GroupReading.{GroupReading}
 use Rattle.kill_spec.specs.Readings.{IsReading, Reading, group_in}
 use Rattle.kill_spec.specs.Victims.{sizes_in}
 use Rattle.victim_rank.specs.declared.past.Sizes.{Sizes}
-use Rattle.victim_rank.specs.Pasts.{IsPastOf, Kept, Takes, sizes_of}
+use Rattle.victim_rank.specs.Pasts.{IsPastOf, Kept, PastTakes, sizes_of}
 use Rattle.victim_rank.specs.Tables.{newer_sizes}
 use Rattle.victim_rank.proofs.Tables.{newer_history, scans_taken, sizes_taken, taken, with_scan}
 use Rattle.victim_rank.proofs.Tables.{with_size}
@@ -96,7 +96,7 @@ pub one_reading_more : (old new : Kept) (now : Reading) →
     (get_or old.sizes slot [])) →
     ((slot : ℕ) → get_or new.scans slot None ≡ option_map (λ (group : GroupReading). group.scan)
     (group_in now slot)) →
-    Takes old now new
+    PastTakes old now new
 one_reading_more old new now sizes scans history past = record {
   sizes = λ slot. sizes slot ∙ ap (newer_sizes (group_in now slot)) (past.sizes slot) ∙
       newer_history (group_in now slot) (sizes_in slot history);

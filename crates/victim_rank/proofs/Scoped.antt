@@ -8,11 +8,11 @@ use Rattle.path_match.specs.Match.{is_match}
 use Rattle.ruleset_json.specs.declared.types.Action.{Action}
 use Rattle.kill_spec.specs.declared.reading.GroupReading.{GroupReading}
 use Rattle.kill_spec.specs.Readings.{Ascend, Reading, path_of}
-use Rattle.kill_spec.specs.Victims.{beats_by, patterns_of, rank_of, size_of, unbeaten}
+use Rattle.kill_spec.specs.Victims.{action_patterns, beats_by, memory_in_use, rank_of, unbeaten}
 use Rattle.kill_spec.proofs.Foremost.{Each, by_test, foremost, pairs_filter}
 use Rattle.kill_spec.proofs.ChoiceLaws.{IsBefore, beats_order, each_unit, in_order, leads_by}
 use Rattle.kill_spec.proofs.ChoiceLaws.{leads_larger, walk_unbeaten}
-use Rattle.victim_rank.specs.Scopes.{among, is_among}
+use Rattle.victim_rank.specs.Scopes.{among, is_in_scope}
 
 pub filter_filter : (p q : GroupReading → Bool) (groups : List GroupReading) →
     filter q (filter p groups) ≡ filter (λ group. p group && q group) groups
@@ -41,12 +41,12 @@ each_every P (first ∷ groups) every = (every first, each_every P groups every)
 
 -- the groups of a scope are those that the test tells
 pub among_is : (lives : List GroupLife) (act : Action) (above : Option Slot) (now : Reading) →
-    among lives act above now ≡ filter (is_among lives act above) now.groups
+    among lives act above now ≡ filter (is_in_scope lives act above) now.groups
 among_is lives act None now =
-    filter_filter (λ (group : GroupReading). is_match (patterns_of act) (path_of lives group))
+    filter_filter (λ (group : GroupReading). is_match (action_patterns act) (path_of lives group))
     (λ (group : GroupReading). group.populated) now.groups
     ∙ filter_same _ _ now.groups (each_every _ now.groups
-    (λ group. and_swap (is_match (patterns_of act) (path_of lives group)) group.populated))
+    (λ group. and_swap (is_match (action_patterns act) (path_of lives group)) group.populated))
 among_is lives act (Some above) now = refl
 
 -- ---- the walk over groups with their measures
@@ -59,9 +59,9 @@ or_false a b true is = absurd (true≢false is)
 
 -- where all leads by size, that is all there is to it
 pub leads_plainly : (next best : GroupReading) →
-    leads_larger size_of next best ≡ nat_lt (size_of best) (size_of next)
-leads_plainly next best = or_false (nat_lt (size_of best) (size_of next))
-    (size_of next == size_of best) false refl
+    leads_larger memory_in_use next best ≡ nat_lt (memory_in_use best) (memory_in_use next)
+leads_plainly next best = or_false (nat_lt (memory_in_use best) (memory_in_use next))
+    (memory_in_use next == memory_in_use best) false refl
 
 pub leads_same : (measure : GroupReading → ℕ) (next best : GroupReading) →
     leads_by measure next best ≡ (nat_lt (rank_of best) (rank_of next) ||
@@ -89,12 +89,12 @@ pub walked : (lives : List GroupLife) (act : Action) (above : Option Slot) (now 
     (measure : GroupReading → ℕ) (q : GroupReading → Bool) →
     Ascend (map (path_of lives) now.groups) →
     (best : Option GroupReading) → foremost (leads_by measure) best [] ≡ foremost (leads_by measure)
-    None (filter (λ group. is_among lives act above group && q group) now.groups) →
+    None (filter (λ group. is_in_scope lives act above group && q group) now.groups) →
     best ≡ unbeaten (beats_by lives measure) (filter q (among lives act above now))
 walked lives act above now measure q ascend best rest =
     sym (foremost_none (leads_by measure) best) ∙ rest
-    ∙ walk_filter lives measure (λ group. is_among lives act above group && q group) now.groups
+    ∙ walk_filter lives measure (λ group. is_in_scope lives act above group && q group) now.groups
     ascend
     ∙ ap (unbeaten (beats_by lives measure)) (sym
     (ap (filter q) (among_is lives act above now) ∙
-    filter_filter (is_among lives act above) q now.groups))
+    filter_filter (is_in_scope lives act above) q now.groups))

@@ -11,7 +11,7 @@ use Rattle.ruleset_json.specs.declared.types.Action.TheVariants as action
 use Rattle.kill_spec.specs.declared.reading.GroupReading.{GroupReading}
 use Rattle.kill_spec.specs.declared.reading.HostReading.{HostReading}
 use Rattle.kill_spec.specs.Victims.{◌or_else◌, beats_by, best_of, count_above, is_larger}
-use Rattle.kill_spec.specs.Victims.{large_choice, largest, largest_few, rank_of, size_of}
+use Rattle.kill_spec.specs.Victims.{large_choice, largest, largest_few, memory_in_use, rank_of}
 use Rattle.kill_spec.specs.Victims.{total_size, unbeaten}
 use Rattle.kill_spec.proofs.Foremost.{Each, Has, IsBelow, IsBest, Pairs, any_has, any_none}
 use Rattle.kill_spec.proofs.Foremost.{best_unbeaten, by_test, each_filter, each_map, each_passes}
@@ -59,37 +59,37 @@ each_both P Q R (group ∷ groups) both first second =
 pub by_size : (act : Action) (host : HostReading) (kept : Kept) (lives : List GroupLife)
     (groups : List GroupReading) → IsSizes act →
     unbeaten (beats_by lives (measure_of act kept)) (filter (is_eligible act host kept) groups) ≡
-    unbeaten (beats_by lives size_of) groups
+    unbeaten (beats_by lives memory_in_use) groups
 by_size (action.SizeOrGrowth cgroup size_threshold percentile ratio after) host kept lives groups is
-    = ap (unbeaten (beats_by lives size_of)) (filter_all groups)
+    = ap (unbeaten (beats_by lives memory_in_use)) (filter_all groups)
 by_size (action.SwapUsage cgroup threshold after) host kept lives groups is = absurd is
 by_size (action.Pressure cgroup resource after) host kept lives groups is = absurd is
 by_size (action.PgScan cgroup after) host kept lives groups is = absurd is
 
 is_best : (lives : List GroupLife) (groups : List GroupReading) (best : GroupReading) →
-    Pairs (IsBefore lives) groups → unbeaten (beats_by lives size_of) groups ≡ Some best →
-    IsBest (beats_by lives size_of) groups best
+    Pairs (IsBefore lives) groups → unbeaten (beats_by lives memory_in_use) groups ≡ Some best →
+    IsBest (beats_by lives memory_in_use) groups best
 is_best lives [] best pairs is = not_none _ best (sym is)
 is_best lives (first ∷ groups) best pairs is =
-    let order = beats_order lives size_of in
-    let walked = walk_best (λ group. Unit {0}) (IsBefore lives) (beats_by lives size_of)
-    (leads_by size_of) order first groups tt (each_unit groups) pairs.0 pairs.1 in
-    subst (IsBest (beats_by lives size_of) (first ∷ groups))
-    (same_some _ best (sym (best_unbeaten (beats_by lives size_of) order.one_way (first ∷ groups)
-    (foremost_of (leads_by size_of) first groups) walked) ∙ is)) walked
+    let order = beats_order lives memory_in_use in
+    let walked = walk_best (λ group. Unit {0}) (IsBefore lives) (beats_by lives memory_in_use)
+    (leads_by memory_in_use) order first groups tt (each_unit groups) pairs.0 pairs.1 in
+    subst (IsBest (beats_by lives memory_in_use) (first ∷ groups))
+    (same_some _ best (sym (best_unbeaten (beats_by lives memory_in_use) order.one_way (first ∷ groups)
+    (foremost_of (leads_by memory_in_use) first groups) walked) ∙ is)) walked
 
 empty_is : (lives : List GroupLife) (groups : List GroupReading) → Pairs (IsBefore lives) groups →
-    unbeaten (beats_by lives size_of) groups ≡ None → groups ≡ []
+    unbeaten (beats_by lives memory_in_use) groups ≡ None → groups ≡ []
 empty_is lives [] pairs is = refl
 empty_is lives (first ∷ groups) pairs is =
-    let order = beats_order lives size_of in
-    let walked = walk_best (λ group. Unit {0}) (IsBefore lives) (beats_by lives size_of)
-    (leads_by size_of) order first groups tt (each_unit groups) pairs.0 pairs.1 in
-    not_none _ _ (sym (best_unbeaten (beats_by lives size_of) order.one_way (first ∷ groups)
-    (foremost_of (leads_by size_of) first groups) walked) ∙ is)
+    let order = beats_order lives memory_in_use in
+    let walked = walk_best (λ group. Unit {0}) (IsBefore lives) (beats_by lives memory_in_use)
+    (leads_by memory_in_use) order first groups tt (each_unit groups) pairs.0 pairs.1 in
+    not_none _ _ (sym (best_unbeaten (beats_by lives memory_in_use) order.one_way (first ∷ groups)
+    (foremost_of (leads_by memory_in_use) first groups) walked) ∙ is)
 
 rank_below : (lives : List GroupLife) (best group : GroupReading) →
-    IsBelow (beats_by lives size_of) best group → rank_of group ≤ rank_of best
+    IsBelow (beats_by lives memory_in_use) best group → rank_of group ≤ rank_of best
 rank_below lives best group below = ⊎_elim
     (λ same. rw same (omega arith))
     (λ over. ⊎_elim (λ less. omega (arith, less)) (λ tied. omega (arith, tied.0))
@@ -102,7 +102,7 @@ abbrev pub has_rank : GroupReading → GroupReading → Bool
 has_rank best group = rank_of group == rank_of best
 
 pub best_of_is : (lives : List GroupLife) (groups : List GroupReading) (best : GroupReading) →
-    IsBest (beats_by lives size_of) groups best → best_of groups ≡ filter (has_rank best) groups
+    IsBest (beats_by lives memory_in_use) groups best → best_of groups ≡ filter (has_rank best) groups
 best_of_is lives groups best is = filter_same (λ
     group. not (list_any (λ other. nat_lt (rank_of group) (rank_of other)) groups)) (has_rank best)
     groups
@@ -118,7 +118,7 @@ best_of_is lives groups best is = filter_same (λ
 
 -- where its rank is that of the best, a group is the best or smaller
 below_size : (lives : List GroupLife) (best group : GroupReading) →
-    IsBelow (beats_by lives size_of) best group → has_rank best group ≡ true →
+    IsBelow (beats_by lives memory_in_use) best group → has_rank best group ≡ true →
     IsBelow (is_larger lives) best group
 below_size lives best group below same = ⊎_elim
     (λ is. inl is)
@@ -131,20 +131,20 @@ below_size lives best group below same = ⊎_elim
     below
 
 size_below : (lives : List GroupLife) (best group : GroupReading) →
-    IsBelow (is_larger lives) best group → size_of group ≤ size_of best
+    IsBelow (is_larger lives) best group → memory_in_use group ≤ memory_in_use best
 size_below lives best group below = ⊎_elim
     (λ same. rw same (omega arith))
     (λ over. ⊎_elim (λ less. omega (arith, less)) (λ tied. omega (arith, tied.0))
-    (then_tells (size_of best) (size_of group) _ _ (λ is. is) over))
+    (then_tells (memory_in_use best) (memory_in_use group) _ _ (λ is. is) over))
     below
 
 all_below : (lives : List GroupLife) (groups : List GroupReading) (best : GroupReading) →
-    IsBest (beats_by lives size_of) groups best →
+    IsBest (beats_by lives memory_in_use) groups best →
     Each (IsBelow (is_larger lives) best) (filter (has_rank best) groups)
-all_below lives groups best is = each_both (IsBelow (beats_by lives size_of) best)
+all_below lives groups best is = each_both (IsBelow (beats_by lives memory_in_use) best)
     (λ group. has_rank best group ≡ true) (IsBelow (is_larger lives) best)
     (filter (has_rank best) groups)
-    (below_size lives best) (each_filter (IsBelow (beats_by lives size_of) best) (has_rank best)
+    (below_size lives best) (each_filter (IsBelow (beats_by lives memory_in_use) best) (has_rank best)
     groups is.1) (each_passes (has_rank best) groups)
 
 best_in : (groups : List GroupReading) (best : GroupReading) → Has groups best →
@@ -152,22 +152,22 @@ best_in : (groups : List GroupReading) (best : GroupReading) → Has groups best
 best_in groups best there = has_filter (has_rank best) groups best there (grind (arith, nat_tests))
 
 largest_is : (lives : List GroupLife) (groups : List GroupReading) (best : GroupReading) →
-    IsBest (beats_by lives size_of) groups best →
+    IsBest (beats_by lives memory_in_use) groups best →
     largest lives (filter (has_rank best) groups) ≡ Some best
 largest_is lives groups best is = best_unbeaten (is_larger lives)
-    (greater_order lives size_of).one_way (filter (has_rank best) groups) best
+    (greater_order lives memory_in_use).one_way (filter (has_rank best) groups) best
     (best_in groups best is.0, all_below lives groups best is)
 
 -- a group has so many percent of a total
 abbrev pub is_share : ℕ → ℕ → GroupReading → Bool
-is_share size_threshold total group = nat_le (size_threshold * total) (size_of group * 100)
+is_share size_threshold total group = nat_le (size_threshold * total) (memory_in_use group * 100)
 
 large_is : (lives : List GroupLife) (size_threshold : ℕ) (groups : List GroupReading)
-    (best : GroupReading) → IsBest (beats_by lives size_of) groups best →
+    (best : GroupReading) → IsBest (beats_by lives memory_in_use) groups best →
     is_share size_threshold (total_size groups) best ≡ true →
     large_choice lives size_threshold groups ≡ Some best
 large_is lives size_threshold groups best is share = rw (best_of_is lives groups best is)
-    (best_unbeaten (is_larger lives) (greater_order lives size_of).one_way
+    (best_unbeaten (is_larger lives) (greater_order lives memory_in_use).one_way
     (filter (is_share size_threshold (total_size groups)) (filter (has_rank best) groups)) best (
       has_filter (is_share size_threshold (total_size groups)) (filter (has_rank best) groups) best
           (best_in groups best is.0) share,
@@ -176,7 +176,7 @@ large_is lives size_threshold groups best is share = rw (best_of_is lives groups
     ))
 
 none_large : (lives : List GroupLife) (size_threshold : ℕ) (groups : List GroupReading)
-    (best : GroupReading) → IsBest (beats_by lives size_of) groups best →
+    (best : GroupReading) → IsBest (beats_by lives memory_in_use) groups best →
     is_share size_threshold (total_size groups) best ≡ false →
     large_choice lives size_threshold groups ≡ None
 none_large lives size_threshold groups best is share = rw (best_of_is lives groups best is)
@@ -191,7 +191,7 @@ none_large lives size_threshold groups best is share = rw (best_of_is lives grou
 pub choice_none : (sizes : GroupReading → List ℕ) (lives : List GroupLife)
     (size_threshold percentile ratio : ℕ) (groups : List GroupReading) →
     Pairs (IsBefore lives) groups →
-    unbeaten (beats_by lives size_of) groups ≡ None →
+    unbeaten (beats_by lives memory_in_use) groups ≡ None →
     None ≡ size_choice sizes lives size_threshold percentile ratio groups
 choice_none sizes lives size_threshold percentile ratio groups pairs none =
     rw (empty_is lives groups pairs none) refl
@@ -199,7 +199,7 @@ choice_none sizes lives size_threshold percentile ratio groups pairs none =
 pub choice_large : (sizes : GroupReading → List ℕ) (lives : List GroupLife)
     (size_threshold percentile ratio : ℕ) (groups : List GroupReading) (best : GroupReading) →
     Pairs (IsBefore lives) groups →
-    unbeaten (beats_by lives size_of) groups ≡ Some best →
+    unbeaten (beats_by lives memory_in_use) groups ≡ Some best →
     is_share size_threshold (total_size groups) best ≡ true →
     Some best ≡ size_choice sizes lives size_threshold percentile ratio groups
 choice_large sizes lives size_threshold percentile ratio groups best pairs some share =
@@ -208,7 +208,7 @@ choice_large sizes lives size_threshold percentile ratio groups best pairs some 
 pub choice_small : (sizes : GroupReading → List ℕ) (lives : List GroupLife)
     (size_threshold percentile ratio : ℕ) (groups : List GroupReading) (best : GroupReading) →
     Pairs (IsBefore lives) groups →
-    unbeaten (beats_by lives size_of) groups ≡ Some best →
+    unbeaten (beats_by lives memory_in_use) groups ≡ Some best →
     is_share size_threshold (total_size groups) best ≡ false →
     (unbeaten (has_grown_more_over sizes lives)
     (filter (is_growing_over sizes ratio) (largest_few lives

@@ -2,14 +2,14 @@
 use Rattle.std.specs.Prelude.{◌≡◌, ℕ, ◌*◌, ◌≤◌, ◌^◌, List, length, sum, nat_lt, ◌==◌, ◌&&◌, ◌||◌}
 use Rattle.std.specs.Prelude.{Bool}
 use Rattle.kill_spec.specs.declared.reading.GroupReading.{GroupReading}
-use Rattle.kill_spec.specs.Victims.{size_of}
+use Rattle.kill_spec.specs.Victims.{memory_in_use}
 use Rattle.victim_rank.specs.declared.growth.Grown.{Grown}
 
 -- a group with its growth over sizes that each group had
 pub record IsGrown (sizes_had : GroupReading → List ℕ) (grown : Grown) (seen : GroupReading)
     : Type 0 where
   pub itself : grown.group ≡ seen
-  pub sizes_is : grown.sizes ≡ size_of seen * length (sizes_had seen)
+  pub sizes_is : grown.sizes ≡ memory_in_use seen * length (sizes_had seen)
   pub sum_is : grown.sum ≡ sum (sizes_had seen)
   pub sizes_fit : grown.sizes ≤ 2 ^ 62
   pub sum_fits : grown.sum ≤ 2 ^ 62
@@ -20,4 +20,4 @@ abbrev pub leads_grown : Grown → Grown → Bool
 leads_grown next best =
     nat_lt (best.sizes * next.sum) (next.sizes * best.sum)
     || (next.sizes * best.sum == best.sizes * next.sum
-    && nat_lt (size_of best.group) (size_of next.group))
+    && nat_lt (memory_in_use best.group) (memory_in_use next.group))

@@ -3,7 +3,7 @@ use Rattle.std.specs.Prelude.{ℕ, ◌*◌, List, [], length, sum, nat_le, nat_l
 use Rattle.std.specs.Prelude.{slice_index_or}
 use Rattle.psi_spec.specs.declared.machine.GroupLife.{GroupLife}
 use Rattle.kill_spec.specs.declared.reading.GroupReading.{GroupReading}
-use Rattle.kill_spec.specs.Victims.{is_larger, size_of}
+use Rattle.kill_spec.specs.Victims.{is_larger, memory_in_use}
 use Rattle.victim_rank.specs.Pasts.{Kept}
 
 -- the sizes (bytes) that are kept of a group
@@ -15,11 +15,11 @@ sizes_from kept group = slice_index_or kept.sizes group.slot.0 []
 abbrev pub is_growing_over : (GroupReading → List ℕ) → ℕ → GroupReading → Bool
 is_growing_over sizes ratio group =
     nat_lt 0 (sum (sizes group))
-    && nat_le (ratio * sum (sizes group)) (size_of group * length (sizes group) * 1000)
+    && nat_le (ratio * sum (sizes group)) (memory_in_use group * length (sizes group) * 1000)
 
 -- a group's size over the mean of its past, times the sums of its own past and another's
 abbrev pub growth_over : (GroupReading → List ℕ) → GroupReading → GroupReading → ℕ
-growth_over sizes group other = size_of group * length (sizes group) * sum (sizes other)
+growth_over sizes group other = memory_in_use group * length (sizes group) * sum (sizes other)
 
 -- a group has grown more than another, or as much and it is larger
 abbrev pub has_grown_more_over : (GroupReading → List ℕ) → List GroupLife →

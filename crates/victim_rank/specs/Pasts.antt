@@ -26,8 +26,8 @@ pub record IsPastOf (kept : Kept) (history : List Reading) : Type 0 where
   pub scans : (slot : ℕ) → slice_index_or kept.scans slot None ≡ scan_before history slot
 
 -- What is kept takes a reading: it stands for it and those before it afterwards.
-abbrev pub Takes : Kept → Reading → Kept → Type 0
-Takes old now new = (history : List Reading) → IsPastOf old history → IsPastOf new (now ∷ history)
+abbrev pub PastTakes : Kept → Reading → Kept → Type 0
+PastTakes old now new = (history : List Reading) → IsPastOf old history → IsPastOf new (now ∷ history)
 
 -- ---- how it is kept
 

@@ -11,8 +11,8 @@ use Rattle.ruleset_json.specs.Ranges.{FitsAction}
 use Rattle.kill_spec.specs.declared.reading.GroupReading.{GroupReading}
 use Rattle.kill_spec.specs.declared.reading.HostReading.{HostReading}
 use Rattle.kill_spec.specs.Readings.{Reading, path_of}
-use Rattle.kill_spec.specs.Victims.{candidates, children, is_at_least, is_slot, patterns_of}
-use Rattle.kill_spec.specs.Victims.{pressure_measure, rank_of, size_of}
+use Rattle.kill_spec.specs.Victims.{action_patterns, candidates, children, is_at_least, names_slot}
+use Rattle.kill_spec.specs.Victims.{memory_in_use, pressure_measure, rank_of}
 use Rattle.detectors.specs.Views.{ReadingView}
 use Rattle.victim_rank.specs.Pasts.{Kept}
 
@@ -27,22 +27,22 @@ pub record ScopeView : Type 0 where
 
 -- the groups at a reading among which a choice is made
 abbrev pub among : List GroupLife → Action → Option Slot → Reading → List GroupReading
-among lives act None now = candidates lives (patterns_of act) now
+among lives act None now = candidates lives (action_patterns act) now
 among lives act (Some above) now = children lives above.0 now
 
 -- a group is one of them, if it was read
-abbrev pub is_among : List GroupLife → Action → Option Slot → GroupReading → Bool
-is_among lives act None group = group.populated && is_match (patterns_of act) (path_of lives group)
-is_among lives act (Some above) group =
-    group.populated && is_slot above.0 (slice_index_or (parents_of lives) group.slot.0 None)
+abbrev pub is_in_scope : List GroupLife → Action → Option Slot → GroupReading → Bool
+is_in_scope lives act None group = group.populated && is_match (action_patterns act) (path_of lives group)
+is_in_scope lives act (Some above) group =
+    group.populated && names_slot above.0 (slice_index_or (parents_of lives) group.slot.0 None)
 
 -- the same by a scope
-abbrev pub is_in : ScopeView → GroupReading → Bool
-is_in scope group = is_among scope.lives scope.act scope.above group
+abbrev pub is_in_view : ScopeView → GroupReading → Bool
+is_in_view scope group = is_in_scope scope.lives scope.act scope.above group
 
 -- a group is one of a scope, and its preference has a rank
 abbrev pub is_in_rank : ScopeView → ℕ → GroupReading → Bool
-is_in_rank scope best_rank group = is_in scope group && rank_of group == best_rank
+is_in_rank scope best_rank group = is_in_view scope group && rank_of group == best_rank
 
 -- A scope is used with a reading and a past of the same groups, and its action is in its ranges.
 pub record IsUse (scope : ScopeView) (reading : ReadingView) (kept : Kept) : Type 0 where
@@ -71,7 +71,7 @@ rise_from kept group = above_count group.scan (slice_index_or kept.scans group.s
 -- the measure by which an action compares groups
 abbrev pub measure_of : Action → Kept → GroupReading → ℕ
 measure_of (action.SizeOrGrowth cgroup size_threshold percentile ratio after) kept group =
-    size_of group
+    memory_in_use group
 measure_of (action.SwapUsage cgroup threshold after) kept group = group.swap
 measure_of (action.Pressure cgroup resource after) kept group = pressure_measure resource group
 measure_of (action.PgScan cgroup after) kept group = rise_from kept group

@@ -85,8 +85,8 @@ fn descend(scope: &Scope<'_>, reading: &Reading, past: &Past, chosen: GroupReadi
 
 /// The group that an action kills at a reading, after those for which the past stands, if it has a victim: the choice among
 /// the populated groups that its patterns match, and for a recursive action again and again among the children of the one
-/// that was chosen. It takes no memory. A choice walks the groups once, and for growth once more for each group that has
-/// grown more than all before it.
+/// that was chosen. It takes no memory. A choice by a measure walks the groups once; one by size or growth up to four times, and
+/// as `grown_most` says. A recursive action chooses once for each level.
 pub fn victim(action: &Action, reading: &Reading, past: &Past, lives: &[GroupLife]) -> Option<Slot>
     requires fits { FitsAction action.now }
     requires lives { reading.now.lives ≡ lives.now }

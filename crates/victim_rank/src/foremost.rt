@@ -3,7 +3,7 @@ ghost use Rattle.std.specs.Prelude.{◌≡◌, ◌&&◌, ◌<◌, MatchOption, f
 ghost use Rattle.ruleset_json.specs.Ranges.{FitsAction};
 ghost use Rattle.kill_spec.specs.Readings.{Ascend, IsGroupReading, IsHostReading, path_of};
 ghost use Rattle.kill_spec.specs.Victims.{beats_by, unbeaten};
-ghost use Rattle.victim_rank.specs.Scopes.{IsUse, among, is_eligible, is_in, measure_of};
+ghost use Rattle.victim_rank.specs.Scopes.{IsUse, among, is_eligible, is_in_view, measure_of};
 ghost use Rattle.victim_rank.specs.Walks.{leads_measured};
 
 use crate::measure::{measured, rank};
@@ -51,8 +51,9 @@ fn measured_in(
     requires slots { length past.now.sizes ≡ length scope.now.lives }
     requires group { IsGroupReading (length scope.now.lives) group.now }
     ensures { MatchOption result
-        ((is_in scope.now group.now && is_eligible scope.now.act host past.now group.now) ≡ false)
-        (λ measure. ((is_in scope.now group.now
+        ((is_in_view scope.now group.now
+        && is_eligible scope.now.act host past.now group.now) ≡ false)
+        (λ measure. ((is_in_view scope.now group.now
         && is_eligible scope.now.act host past.now group.now) ≡ true)
         × (measure ≡ measure_of scope.now.act past.now group.now)) }
 {

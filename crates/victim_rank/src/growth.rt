@@ -81,7 +81,7 @@ fn leads_any(next: &Grown, best: Option<Grown>) -> bool
 }
 
 /// The growing group that has grown most, among the so many largest of a scope and a rank. It walks the groups once, and once
-/// more for each group that has grown more than all before it.
+/// more for each growing one that leads the best found before it, also where it isn't among the largest.
 pub(crate) fn grown_most(
     scope: &Scope<'_>,
     best_rank: u8,
@@ -95,7 +95,8 @@ pub(crate) fn grown_most(
     requires few { 0 < few }
     ensures { result ≡ unbeaten (has_grown_more_over (sizes_from past.now) scope.now.lives)
         (filter (is_growing_over (sizes_from past.now) ratio)
-        (largest_few scope.now.lives few (filter (is_in_rank scope.now best_rank) reading.now.seen.groups))) }
+        (largest_few scope.now.lives few
+        (filter (is_in_rank scope.now best_rank) reading.now.seen.groups))) }
 {
     let mut best: Option<Grown> = None;
     'groups: for group in reading.groups() {

@@ -1,9 +1,6 @@
 //! How an action compares groups.
 ghost use Rattle.std.specs.Prelude.{◌≡◌, ◌<◌, ◌≤◌, ◌^◌, All, MatchOption, false, length, true};
-ghost use Rattle.psi_base.specs.declared.event.Level.TheVariants.{FullStalled};
-ghost use Rattle.psi_spec.specs.Stall.{state_number};
 ghost use Rattle.pressure_spec.specs.Average.{IsRow};
-ghost use Rattle.pressure_spec.specs.Samples.{state_of};
 ghost use Rattle.pressure_spec.specs.Share.{pressure_places};
 ghost use Rattle.ruleset_json.specs.Ranges.{FitsAction, IsSize};
 ghost use Rattle.kill_spec.specs.Readings.{IsGroupReading, IsHostReading};
@@ -11,8 +8,9 @@ ghost use Rattle.kill_spec.specs.Victims.{is_at_least, pressure_measure, rank_of
 ghost use Rattle.victim_rank.specs.Scopes.{is_eligible, measure_of, rise_from};
 
 use crate::past::Past;
+use detectors::full_state;
 use kill_spec::{GroupReading, HostReading};
-use psi_base::{Preference, Res, State};
+use psi_base::{Preference, Res};
 use ruleset_json::{Action, Size};
 
 /// The rank of a group's preference: what is preferred is chosen first, and what is avoided last.
@@ -23,18 +21,6 @@ pub(crate) fn rank(group: &GroupReading) -> u8
         Preference::Prefer => 2,
         Preference::Plain => 1,
         Preference::Avoid => 0,
-    }
-}
-
-// The state of which a resource's full pressure is told.
-fn full_state(resource: Res) -> State
-    ensures value { result ≡ state_of resource FullStalled }
-    ensures pressure { state_number result < 6 }
-{
-    match resource {
-        Res::Io => State::IoFull,
-        Res::Memory => State::MemFull,
-        Res::Cpu => State::CpuFull,
     }
 }
 

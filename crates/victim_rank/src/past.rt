@@ -3,7 +3,7 @@ ghost use Rattle.std.specs.Prelude.{◌≡◌, ◌≤◌, ◌^◌, ℕ, [], ◌�
 ghost use Rattle.kill_spec.specs.declared.reading.GroupReading.{GroupReading};
 ghost use Rattle.kill_spec.specs.Readings.{group_in};
 ghost use Rattle.kill_spec.specs.Victims.{size_at};
-ghost use Rattle.victim_rank.specs.Pasts.{AreSizes, IsPastOf, Takes, sizes_of};
+ghost use Rattle.victim_rank.specs.Pasts.{AreSizes, IsPastOf, PastTakes, sizes_of};
 ghost use Rattle.victim_rank.specs.Growth.{sizes_from};
 ghost use Rattle.victim_rank.specs.Scopes.{rise_from};
 ghost use Rattle.victim_rank.specs.Tables.{newer_sizes};
@@ -123,7 +123,7 @@ impl Past {
     pub fn push(&mut self, reading: &Reading)
         requires { length self.old.sizes ≡ length reading.now.lives }
         ensures slots { length self.new.sizes ≡ length self.old.sizes }
-        ensures next { Takes self.old reading.now.seen self.new }
+        ensures next { PastTakes self.old reading.now.seen self.new }
     {
         take_sizes(&mut self.sizes, reading);
         take_scans(&mut self.scans, reading);

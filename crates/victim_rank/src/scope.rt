@@ -1,8 +1,8 @@
 //! Among which groups a choice is made.
 ghost use Rattle.std.specs.Prelude.{◌≡◌, ◌<◌, None, Some, length};
 ghost use Rattle.path_match.specs.Match.{is_match};
-ghost use Rattle.kill_spec.specs.Victims.{after_of, patterns_of};
-ghost use Rattle.victim_rank.specs.Scopes.{is_in};
+ghost use Rattle.kill_spec.specs.Victims.{action_patterns, after_of};
+ghost use Rattle.victim_rank.specs.Scopes.{is_in_view};
 
 use kill_spec::GroupReading;
 use path_match::Patterns;
@@ -31,7 +31,7 @@ impl<'a> Model for Scope<'a> {
 
 // The patterns of an action.
 fn patterns(action: &Action) -> &Patterns
-    ensures { result.now ≡ patterns_of action.now }
+    ensures { result.now ≡ action_patterns action.now }
 {
     match action {
         Action::SizeOrGrowth { cgroup, .. } => cgroup,
@@ -97,7 +97,7 @@ impl<'a> Scope<'a> {
     /// Whether the choice is made among others with this group, which was read.
     pub(crate) fn has(&self, group: &GroupReading) -> bool
         requires { group.now.slot.0 < length self.now.lives }
-        ensures { result ≡ is_in self.now group.now }
+        ensures { result ≡ is_in_view self.now group.now }
     {
         if !group.populated {
             return false;

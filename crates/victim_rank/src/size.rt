@@ -1,8 +1,8 @@
 //! The sizes of groups against one another.
 ghost use Rattle.std.specs.Prelude.{◌≡◌, ◌≤◌, ◌<◌, ◌^◌, ◌*◌, filter, length, nat_le, nat_lt};
 ghost use Rattle.ruleset_json.specs.Ranges.{IsPercent};
-ghost use Rattle.kill_spec.specs.Victims.{count_above, is_larger, rank_of, size_of, total_size};
-ghost use Rattle.victim_rank.specs.Scopes.{is_in, is_in_rank};
+ghost use Rattle.kill_spec.specs.Victims.{count_above, is_larger, memory_in_use, rank_of, total_size};
+ghost use Rattle.victim_rank.specs.Scopes.{is_in_rank, is_in_view};
 
 use crate::measure::rank;
 use crate::scope::Scope;
@@ -13,7 +13,7 @@ use psi_spec::GroupLife;
 /// The memory that the groups of a scope use together, in bytes.
 pub(crate) fn total_size(scope: &Scope<'_>, reading: &Reading) -> u128
     requires { reading.now.lives ≡ scope.now.lives }
-    ensures sum { result ≡ total_size (filter (is_in scope.now) reading.now.seen.groups) }
+    ensures sum { result ≡ total_size (filter (is_in_view scope.now) reading.now.seen.groups) }
     ensures fits { result < 2 ^ 120 }
 {
     let mut total: u128 = 0;
@@ -29,7 +29,7 @@ pub(crate) fn total_size(scope: &Scope<'_>, reading: &Reading) -> u128
 pub(crate) fn is_large(size_threshold: u32, total: u128, group: &GroupReading) -> bool
     requires percent { IsPercent size_threshold }
     requires total { total < 2 ^ 120 }
-    ensures { result ≡ nat_le (size_threshold * total) (size_of group.now * 100) }
+    ensures { result ≡ nat_le (size_threshold * total) (memory_in_use group.now * 100) }
 {
     u128::from(group.current) * 100 >= u128::from(size_threshold) * total
 }

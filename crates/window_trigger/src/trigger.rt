@@ -54,7 +54,7 @@ impl Model for Trigger {
 }
 
 /// How much a total grew in the window, which isn't over: besides the growth since it began, a part of the growth in
-/// the window before, as large as the part of the window that is left. The product has up to 90 bits.
+/// the window before, as large as the part of the window that is left. The product has up to 89 bits.
 fn slid(growth: u64, previous: u64, size: Ns, elapsed: Ns) -> u64
     requires growth { growth ≤ last_moment }
     requires previous { previous ≤ last_moment }
@@ -109,7 +109,7 @@ impl Trigger {
         self.signal(now)
     }
 
-    /// The total changed. A window that is over begins anew, and growth up to the threshold makes an event pending.
+    /// The total changed. A window that is over begins anew, and growth that reaches the threshold makes an event pending.
     fn grow(&mut self, now: Ns, value: u64)
         requires now { now ≤ last_moment }
         requires value { value ≤ last_moment }
@@ -131,7 +131,7 @@ impl Trigger {
         self.last_value = value;
     }
 
-    /// Signals the event that is pending, where the last one was a window ago.
+    /// Signals the event that is pending, where the last one was at least a window ago or there was none.
     fn signal(&mut self, now: Ns) -> bool
         requires { now ≤ last_moment }
         ensures state { self.new ≡ model.settled self.old now }

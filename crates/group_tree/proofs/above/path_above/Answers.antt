@@ -7,5 +7,5 @@ use Rattle.group_tree.proofs.above.path_above.Goals as goal
 
 pub unreachable-requires : goal.unreachable-requires
 unreachable-requires c =
-    let is = c.before_last_slash.ensures ∙ ap parent_path c.as_bytes.ensures.value in
+    let is = c.parent_bytes.ensures ∙ ap parent_path c.as_bytes.ensures.value in
     c.in-Err.ensures.cases.0 (subst IsUtf8 (sym is) (IsUtf8-from_ascii _ (above_ascii _ c.text.ensures.ascii)))

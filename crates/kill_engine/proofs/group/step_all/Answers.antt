@@ -6,7 +6,7 @@ use Rattle.ruleset_json.specs.declared.types.DetectorSpec.{DetectorSpec}
 use Rattle.kill_spec.specs.Detectors.{is_true}
 use Rattle.detectors.specs.Views.{DetectorView}
 use Rattle.detectors.specs.Stands.{StandsFor}
-use Rattle.kill_engine.specs.Rulesets.{IsAt, IsReady}
+use Rattle.kill_engine.specs.Rulesets.{IsAt, IsStateReady}
 use Rattle.kill_engine.proofs.ZipLaws as laws
 use Rattle.kill_engine.proofs.group.step_all.Goals as goal
 
@@ -18,7 +18,7 @@ detectors-preserved c =
     let item : DetectorView = get_or c.detectors.detectors i c.detector-item.result in
     let stepped : (d : DetectorView) → get_or (set c.detectors.detectors i c.step-hold.new.self) i d ≡ c.step-hold.new.self = λ d. get_or-set_same c.detectors.detectors i c.step-hold.new.self d (omega arith) in
     let before : (d : DetectorView) → get_or old i d ≡ item = λ d. sym (c.detectors.invariant.left i d (omega arith)) ∙ get_or_default c.detectors.detectors i d c.detector-item.result (omega arith) in
-    let ready : IsReady c.args.reading.now item = subst (λ d. IsReady c.args.reading.now d) (before item) (c.requires.ready i item (omega arith)) in
+    let ready : IsStateReady c.args.reading.now item = subst (λ d. IsStateReady c.args.reading.now d) (before item) (c.requires.ready i item (omega arith)) in
     let now : IsAt (Some c.args.reading.now.seen.at) (length lives) c.step-hold.new.self = record { last = c.step-hold.ensures.last; places = c.step-hold.ensures.slots ∙ sym ready.slots } in
     record {
       take = below_more _ i

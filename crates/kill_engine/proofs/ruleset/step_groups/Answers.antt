@@ -5,7 +5,7 @@ use Rattle.psi_spec.specs.declared.machine.GroupLife.{GroupLife}
 use Rattle.ruleset_json.specs.declared.types.DetectorGroup.{DetectorGroup}
 use Rattle.kill_spec.specs.Detectors.{group_holds}
 use Rattle.detectors.specs.Views.{DetectorView}
-use Rattle.kill_engine.specs.Rulesets.{DetectorsStand, IsReady}
+use Rattle.kill_engine.specs.Rulesets.{DetectorsStand, IsStateReady}
 use Rattle.kill_engine.proofs.ZipLaws as laws
 use Rattle.kill_engine.proofs.ruleset.step_groups.Goals as goal
 
@@ -13,7 +13,7 @@ pub step-fires-requires : goal.step-fires-requires
 step-fires-requires c =
     let i = c.groups.group-index in
     let before : get_or c.args.groups.now i c.group-item.result ≡ get_or c.groups.groups i c.group-item.result = sym (c.groups.invariant.left i c.group-item.result (omega arith)) in
-    record { ready = subst (λ group. All (IsReady c.args.reading.now) group) before (c.requires.ready i c.group-item.result (omega arith)) }
+    record { ready = subst (λ group. All (IsStateReady c.args.reading.now) group) before (c.requires.ready i c.group-item.result (omega arith)) }
 
 pub groups-preserved : goal.groups-preserved
 groups-preserved c =

@@ -1,11 +1,11 @@
 use Rattle.std.proofs.Common.{arith}
 use Rattle.psi_base.proofs.Grows.{AppendsFront-then, PutsAll-failed, flat_map-at}
-use Rattle.pressure_text.specs.Pieces.{spaced}
+use Rattle.pressure_text.specs.Pieces.{spaced_number}
 use Rattle.pressure_text.proofs.pieces.put_numbers.Goals as goal
 
 -- the numbers before the one that failed, and a front of that one, are a front of all
 pub returns-in_err-put_spaced-clause-bytes : goal.returns-in_err-put_spaced-clause-bytes
 returns-in_err-put_spaced-clause-bytes g c =
-    let parts = flat_map-at spaced c.args.numbers.now c.loop-number.number-index 0 (omega arith) in
+    let parts = flat_map-at spaced_number c.args.numbers.now c.loop-number.number-index 0 (omega arith) in
     let front = AppendsFront-then _ _ _ _ _ _ c.loop-number.invariant.sent c.in_err-put_spaced.ensures.bytes in
     PutsAll-failed _ _ _ _ c.from_residual.ensures.0 (rw parts front)

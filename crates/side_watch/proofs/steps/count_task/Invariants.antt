@@ -1,9 +1,9 @@
 use Rattle.std.proofs.Common.{◌≡◌, ℕ, ◌<◌, length}
 use Rattle.std.specs.Prelude.{Some}
 use Rattle.psi_spec.specs.Stall.{number_of_slot}
-use Rattle.slot_clocks.specs.Clocks.{numbers_of}
+use Rattle.slot_clocks.specs.Clocks.{parent_numbers}
 use Rattle.slot_clocks.specs.Walk.{height}
-use Rattle.side_watch.specs.Sides.{cell_counted, cell_in}
+use Rattle.side_watch.specs.Sides.{cell_counted, side_cell_in}
 use Rattle.side_watch.specs.Watch.{AreSmallCells}
 use Rattle.side_watch.proofs.steps.count_task.Given as goal
 
@@ -12,7 +12,7 @@ abbrev pub invariant-up : goal.invariant-up
 invariant-up l = record {
   each : length l.cells ≡ length l.fn.cells;
   small : AreSmallCells l.cells;
-  counted : (at : ℕ) → at < length l.fn.cells → cell_counted (numbers_of l.parents) (number_of_slot l.next) l.came at (cell_in l.cells at) ≡ cell_counted (numbers_of l.parents) (Some l.fn.slot.0) l.came at (cell_in l.fn.cells at);
+  counted : (at : ℕ) → at < length l.fn.cells → cell_counted (parent_numbers l.parents) (number_of_slot l.next) l.came at (side_cell_in l.cells at) ≡ cell_counted (parent_numbers l.parents) (Some l.fn.slot.0) l.came at (side_cell_in l.fn.cells at);
 }
 
 abbrev pub decreases-up : goal.decreases-up

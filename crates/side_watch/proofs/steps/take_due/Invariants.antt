@@ -1,7 +1,7 @@
 use Rattle.std.proofs.Common.{◌≡◌, ℕ, ◌+◌, ◌-◌, ◌<◌, length, drop}
-use Rattle.slot_clocks.specs.Clocks.{numbers_of}
+use Rattle.slot_clocks.specs.Clocks.{parent_numbers}
 use Rattle.kill_spec.specs.Readings.{IsHostReading}
-use Rattle.side_watch.specs.Sides.{cell_by, cell_in, due_by, host_by}
+use Rattle.side_watch.specs.Sides.{cell_by, due_by, host_by, side_cell_in}
 use Rattle.side_watch.specs.Watch.{AreSmallCells}
 use Rattle.side_watch.proofs.steps.take_due.Given as goal
 
@@ -11,7 +11,7 @@ invariant-sides l = record {
   each : length l.cells ≡ length l.fn.cells;
   small : AreSmallCells l.cells;
   host : IsHostReading l.host;
-  cells : (slot : ℕ) → slot < length l.fn.cells → cell_by (numbers_of l.parents) slot (cell_in l.cells slot) (due_by l.at (drop l.taken l.sides)) ≡ cell_by (numbers_of l.parents) slot (cell_in l.fn.cells slot) (due_by l.at (drop l.fn.from l.sides));
+  cells : (slot : ℕ) → slot < length l.fn.cells → cell_by (parent_numbers l.parents) slot (side_cell_in l.cells slot) (due_by l.at (drop l.taken l.sides)) ≡ cell_by (parent_numbers l.parents) slot (side_cell_in l.fn.cells slot) (due_by l.at (drop l.fn.from l.sides));
   hosts : host_by l.host (due_by l.at (drop l.taken l.sides)) ≡ host_by l.fn.host (due_by l.at (drop l.fn.from l.sides));
   taken : l.taken + length (due_by l.at (drop l.taken l.sides)) ≡ l.fn.from + length (due_by l.at (drop l.fn.from l.sides));
 }

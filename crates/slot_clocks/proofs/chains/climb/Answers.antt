@@ -1,19 +1,19 @@
 use Rattle.std.proofs.Common.{◌≡◌, ℕ, ◌+◌, ◌-◌, ◌<◌, length, sym, ◌∙◌, arith, length-set}
 use Rattle.std.specs.Prelude.{slice_index_or, None}
-use Rattle.slot_clocks.specs.Clocks.{cell_in, numbers_of}
+use Rattle.slot_clocks.specs.Clocks.{cell_in, parent_numbers}
 use Rattle.slot_clocks.specs.Walk.{height, top}
 use Rattle.slot_clocks.proofs.WalkLaws as laws
 use Rattle.slot_clocks.proofs.chains.climb.Goals as goal
 
 pub returns-then-here-eq0-clause-turned : goal.returns-then-here-eq0-clause-turned
 returns-then-here-eq0-clause-turned c = λ slot.
-    laws.all_walked (numbers_of c.args.parents.now) c.args.current c.args.change.now c.args.starts c.up.chains slot _ _ c.requires.can.start (sym c.top-here.ensures ∙ c.if-here-eq0.true) (c.requires.can.told slot) (c.requires.can.up_to slot) (c.up.invariant.groups slot)
+    laws.all_walked (parent_numbers c.args.parents.now) c.args.current c.args.change.now c.args.starts c.up.chains slot _ _ c.requires.can.start (sym c.top-here.ensures ∙ c.if-here-eq0.true) (c.requires.can.told slot) (c.requires.can.up_to slot) (c.up.invariant.groups slot)
 
 pub turn_at-requires-clause-fits : goal.turn_at-requires-clause-fits
 turn_at-requires-clause-fits c =
     let here = c.top-here.result in
     let slot : ℕ = here - 1 in
-    let parents = numbers_of c.args.parents.now in
+    let parents = parent_numbers c.args.parents.now in
     let change = c.args.change.now in
     let at : here ≡ slot + 1 = omega (arith, c.if-here-eq0.false) in
     let is : top c.up.chains ≡ here = sym c.top-here.ensures in
@@ -27,7 +27,7 @@ pub turn_at-requires-clause-up_to : goal.turn_at-requires-clause-up_to
 turn_at-requires-clause-up_to c =
     let here = c.top-here.result in
     let slot : ℕ = here - 1 in
-    let parents = numbers_of c.args.parents.now in
+    let parents = parent_numbers c.args.parents.now in
     let change = c.args.change.now in
     let at : here ≡ slot + 1 = omega (arith, c.if-here-eq0.false) in
     let is : top c.up.chains ≡ here = sym c.top-here.ensures in
@@ -39,7 +39,7 @@ pub turn_at-requires-clause-told : goal.turn_at-requires-clause-told
 turn_at-requires-clause-told c = λ stays.
     let here = c.top-here.result in
     let slot : ℕ = here - 1 in
-    let parents = numbers_of c.args.parents.now in
+    let parents = parent_numbers c.args.parents.now in
     let change = c.args.change.now in
     let at : here ≡ slot + 1 = omega (arith, c.if-here-eq0.false) in
     let is : top c.up.chains ≡ here = sym c.top-here.ensures in
@@ -55,7 +55,7 @@ up-smaller c =
     let slot : ℕ = here - 1 in
     let at : here ≡ slot + 1 = omega (arith, c.if-here-eq0.false) in
     let is : top c.up.chains ≡ here = sym c.top-here.ensures in
-    let low = laws.top_passed (numbers_of c.args.parents.now) c.up.chains (slice_index_or c.args.parents.now slot None) here slot c.requires.can.older (laws.parent_number c.args.parents.now slot) at is in
+    let low = laws.top_passed (parent_numbers c.args.parents.now) c.up.chains (slice_index_or c.args.parents.now slot None) here slot c.requires.can.older (laws.parent_number c.args.parents.now slot) at is in
     let fallen : top c.pass.new.self < top c.up.chains = rw (c.pass.ensures, c.height.ensures) (omega (arith, low, is, at)) in
     fallen
 
@@ -63,7 +63,7 @@ pub up-preserved : goal.up-preserved
 up-preserved c =
     let here = c.top-here.result in
     let slot : ℕ = here - 1 in
-    let parents = numbers_of c.args.parents.now in
+    let parents = parent_numbers c.args.parents.now in
     let change = c.args.change.now in
     let starts = c.args.starts in
     let at : here ≡ slot + 1 = omega (arith, c.if-here-eq0.false) in

@@ -1,5 +1,5 @@
 use Rattle.std.proofs.Common.{◌≡◌, ℕ, ◌≤◌, length, true}
-use Rattle.slot_clocks.specs.Clocks.{cell_in, numbers_of}
+use Rattle.slot_clocks.specs.Clocks.{cell_in, parent_numbers}
 use Rattle.slot_clocks.specs.Walk.{AreTogether, top}
 use Rattle.slot_clocks.proofs.WalkLaws.{IsWalked}
 use Rattle.slot_clocks.proofs.chains.climb.Given as goal
@@ -10,7 +10,7 @@ invariant-up l = record {
   slots : top l.chains ≤ length l.parents;
   together : l.together ≡ true → AreTogether l.chains;
   room : length l.cells ≡ length l.fn.cells;
-  groups : (slot : ℕ) → IsWalked (numbers_of l.parents) l.change l.fn.starts l.chains slot (cell_in l.fn.cells slot) (cell_in l.cells slot);
+  groups : (slot : ℕ) → IsWalked (parent_numbers l.parents) l.change l.fn.starts l.chains slot (cell_in l.fn.cells slot) (cell_in l.cells slot);
 }
 
 abbrev pub decreases-up : goal.decreases-up

@@ -1,6 +1,6 @@
 use Rattle.std.proofs.Common.{◌≡◌, ◌∙◌, ap, sym}
 use Rattle.std.specs.Prelude.{Some, filter, nat_le, ◌*◌}
-use Rattle.kill_spec.specs.Victims.{◌or_else◌, size_of, total_size}
+use Rattle.kill_spec.specs.Victims.{◌or_else◌, memory_in_use, total_size}
 use Rattle.victim_rank.specs.Growth.{sizes_from}
 use Rattle.victim_rank.specs.Scopes.{among, is_in_rank}
 use Rattle.victim_rank.proofs.Scoped.{among_is}
@@ -29,7 +29,7 @@ returns-then-is_large c =
     ∙ sym c.foremost.ensures.choice ∙ c.in-Some.is in
     let total : c.total_size.result ≡ total_size groups = c.total_size.ensures.sum ∙
     ap total_size (sym (among_is scope.lives scope.act scope.above seen)) in
-    let share = sym (ap (λ n. nat_le (c.args.size_threshold * n) (size_of c.in-Some.largest * 100))
+    let share = sym (ap (λ n. nat_le (c.args.size_threshold * n) (memory_in_use c.in-Some.largest * 100))
     total) ∙ sym c.is_large.ensures ∙ c.if-is_large.true in
     choice_large (sizes_from c.args.past.now) scope.lives c.args.size_threshold c.args.percentile
     c.args.ratio groups c.in-Some.largest pairs some share
@@ -45,7 +45,7 @@ returns-in-Some-grown_most c =
     ∙ sym c.foremost.ensures.choice ∙ c.in-Some.is in
     let total : c.total_size.result ≡ total_size groups = c.total_size.ensures.sum ∙
     ap total_size (sym (among_is scope.lives scope.act scope.above seen)) in
-    let share = sym (ap (λ n. nat_le (c.args.size_threshold * n) (size_of best * 100)) total) ∙
+    let share = sym (ap (λ n. nat_le (c.args.size_threshold * n) (memory_in_use best * 100)) total) ∙
     sym c.is_large.ensures ∙ c.if-is_large.false in
     let grown = grown_among scope.lives (sizes_from c.args.past.now) c.args.percentile c.args.ratio
     c.count_above-few.result c.count_in_rank.result c.rank-best_rank.result best groups
@@ -68,7 +68,7 @@ returns-in-None c =
     ∙ sym c.foremost.ensures.choice ∙ c.in-Some.is in
     let total : c.total_size.result ≡ total_size groups = c.total_size.ensures.sum ∙
     ap total_size (sym (among_is scope.lives scope.act scope.above seen)) in
-    let share = sym (ap (λ n. nat_le (c.args.size_threshold * n) (size_of best * 100)) total) ∙
+    let share = sym (ap (λ n. nat_le (c.args.size_threshold * n) (memory_in_use best * 100)) total) ∙
     sym c.is_large.ensures ∙ c.if-is_large.false in
     let grown = grown_among scope.lives (sizes_from c.args.past.now) c.args.percentile c.args.ratio
     c.count_above-few.result c.count_in_rank.result c.rank-best_rank.result best groups

@@ -4,7 +4,7 @@ use Rattle.kill_spec.specs.declared.reading.GroupReading.{GroupReading}
 use Rattle.kill_spec.proofs.Foremost.{foremost}
 use Rattle.kill_spec.proofs.ChoiceLaws.{leads_by}
 use Rattle.victim_rank.specs.declared.foremost.Measured.{Measured}
-use Rattle.victim_rank.specs.Scopes.{is_eligible, is_in, measure_of}
+use Rattle.victim_rank.specs.Scopes.{is_eligible, is_in_view, measure_of}
 use Rattle.victim_rank.proofs.foremost.foremost.Given as goal
 
 abbrev pub invariant-groups : goal.invariant-groups
@@ -12,11 +12,11 @@ invariant-groups l = record {
   measure : IfSome l.best (λ best. best.measure ≡ measure_of l.scope.act l.past best.group);
   rest : foremost (leads_by (measure_of l.scope.act l.past))
       (option_map (λ (best : Measured). best.group) l.best)
-      (filter (λ (group : GroupReading). is_in
+      (filter (λ (group : GroupReading). is_in_view
       l.scope group && is_eligible l.scope.act l.reading.seen.host l.past group)
       (drop l.group-index l.group-items))
       ≡ foremost (leads_by (measure_of l.scope.act l.past)) None
-      (filter (λ (group : GroupReading). is_in
+      (filter (λ (group : GroupReading). is_in_view
       l.scope group && is_eligible l.scope.act l.reading.seen.host l.past group)
       l.reading.seen.groups);
 }

@@ -4,7 +4,7 @@ use Rattle.clock_row.specs.declared.view.View.TheVariants.{Writer}
 use Rattle.clock_row.specs.declared.view.WriterView.{WriterView}
 use Rattle.clock_row.specs.Row.{HoldsRule, first_view, writer_at_start}
 use Rattle.clock_row.specs.Seats.{as_writer, writer_on}
-use Rattle.clock_row.specs.Words.{AreClocks}
+use Rattle.clock_row.specs.Words.{AreClockWords}
 use Rattle.clock_row.proofs.Keeps.{start_holds}
 use Rattle.clock_row.proofs.NineWords.{row_long, row_of_zeros, zeros_are}
 use Rattle.clock_row.proofs.writer.Row.make.Goals as goal
@@ -32,5 +32,5 @@ invariant_of-result c =
       plan_is = ap (λ (w : WriterView). w.plan) is;
       clocks_plan = search rules;
       clocks_made = search rules;
-      words = subst (λ (w : WriterView). AreClocks plan w.count w.body) (sym is) (zeros_are plan);
+      words = subst (λ (w : WriterView). AreClockWords plan w.count w.body) (sym is) (zeros_are plan);
     }

@@ -3,7 +3,7 @@ use Rattle.std.specs.Prelude.{find, nat_lt, option_map}
 use Rattle.psi_spec.specs.declared.machine.GroupLife.{GroupLife}
 use Rattle.kill_spec.specs.declared.kill.Kill.{Kill}
 use Rattle.kill_spec.specs.Readings.{Reading}
-use Rattle.kill_spec.specs.Detectors.{fires}
+use Rattle.kill_spec.specs.Detectors.{ruleset_fires}
 use Rattle.kill_spec.specs.Kills.{chain, ends_chain, kills_at, kills_of, last_ending}
 use Rattle.kill_engine.specs.Rulesets.{GroupsStand, RulesetView, rest_after, rest_of}
 use Rattle.kill_engine.proofs.RestLaws as laws
@@ -37,7 +37,7 @@ returns-clause-take c = λ rule history stands is_past.
     let over : nat_lt now.at (rest_after rule.actions (last_ending rule.actions earlier)) ≡ false =
     subst (λ at. nat_lt at (rest_after rule.actions (last_ending rule.actions earlier)) ≡ false) c.at.ensures
     (subst (λ until. nat_lt c.at.result until ≡ false) until (sym c.is_resting.ensures ∙ c.if-is_resting.false)) in
-    let fired : fires lives rule now history ≡ true = sym (c.fires-fires.ensures.answer rule.groups history stands.groups) ∙ c.if-not-fires.false in
+    let fired : ruleset_fires lives rule now history ≡ true = sym (c.fires-fires.ensures.answer rule.groups history stands.groups) ∙ c.if-not-fires.false in
     let whole = laws.taken lives c.args.number rule now history earlier fired over in
     let inside : c.self.inside.actions ≡ rule.actions = subst (λ (state : RulesetView). state.actions ≡ rule.actions) (sym c.self.view_is) (c.fires-fires.ensures.actions ∙ stands.actions) in
     let acts : c.items.result.now ≡ rule.actions = c.items.ensures.items ∙ inside in

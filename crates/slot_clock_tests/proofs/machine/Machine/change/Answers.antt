@@ -1,7 +1,7 @@
 use Rattle.std.proofs.Common.{◌≡◌, ◌<◌, length, arith, subst, None}
 use Rattle.std.specs.Prelude.{slice_index_or}
 use Rattle.std.proofs.lemmas.List.{get_or_read}
-use Rattle.slot_clocks.specs.Clocks.{cell_at, numbers_of}
+use Rattle.slot_clocks.specs.Clocks.{cell_at, parent_numbers}
 use Rattle.slot_clock_tests.specs.Machine.{IsTask}
 use Rattle.slot_clock_tests.proofs.Sums.{can_follow}
 use Rattle.slot_clock_tests.proofs.machine.Machine.change.Goals as goal
@@ -14,4 +14,4 @@ apply-requires-clause-fits c =
     let groups : c.len-groups.result ≡ length self.parents.items = omega (arith, c.len-groups.ensures) in
     let is_task : IsTask (length self.parents.items) c.args.now = subst (λ n. IsTask n c.args.now) groups (c.is_task.ensures c.if-not-is_task.false) in
     rw (c.deref.ensures.value, part) (λ slot.
-    can_follow (numbers_of self.parents.items) slot (length self.parents.items) c.args.task self.tasks.items c.args.now (cell_at self.clocks slot).counts (self.kept.sums slot) self.kept.are_tasks is_task self.kept.few room)
+    can_follow (parent_numbers self.parents.items) slot (length self.parents.items) c.args.task self.tasks.items c.args.now (cell_at self.clocks slot).counts (self.kept.sums slot) self.kept.are_tasks is_task self.kept.few room)

@@ -2,7 +2,7 @@ use Rattle.std.proofs.Common.{◌≡◌, length, arith}
 use Rattle.std.specs.Prelude.{map}
 use Rattle.std.proofs.lemmas.List.{length-map}
 use Rattle.aggregate.specs.Table.{new_table}
-use Rattle.tick_engine.specs.Step.{new_group, new_watch}
+use Rattle.tick_engine.specs.Step.{new_watch, unsampled_group}
 use Rattle.tick_engine.proofs.MakeLaws as first
 use Rattle.tick_engine.proofs.engine.Engine.make.Goals as goal
 
@@ -10,7 +10,7 @@ use Rattle.tick_engine.proofs.engine.Engine.make.Goals as goal
 rows_are : (c : goal.In_ok-with_capacity) → c.in_ok-make.field-0 ≡ new_table c.args.cpus (length c.args.lives.now)
 rows_are c = c.in_ok-make.ensures
 
-groups_are : (c : goal.In_ok-with_capacity) → c.in_ok-groups_of.field-0.items ≡ map new_group c.args.lives.now
+groups_are : (c : goal.In_ok-with_capacity) → c.in_ok-groups_of.field-0.items ≡ map unsampled_group c.args.lives.now
 groups_are c = c.in_ok-groups_of.ensures
 
 watches_are : (c : goal.In_ok-with_capacity) → c.in_ok-watches_of.field-0.items ≡ map new_watch c.args.triggers.now

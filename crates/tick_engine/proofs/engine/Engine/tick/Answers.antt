@@ -5,7 +5,7 @@ use Rattle.pressure_spec.specs.Ticks.{IsNextTick}
 use Rattle.aggregate.specs.Table.{HasSizes}
 use Rattle.tick_engine.specs.declared.watch.Watch.{Watch}
 use Rattle.tick_engine.specs.Tables.{tick_at}
-use Rattle.tick_engine.specs.Step.{group_in, group_step, watch_begun}
+use Rattle.tick_engine.specs.Step.{engine_group, group_step, watch_begun}
 use Rattle.tick_engine.specs.Engine.{EngineView, StandsFor}
 use Rattle.tick_engine.proofs.StandLaws as stand
 use Rattle.tick_engine.proofs.engine.Engine.tick.Goals as goal
@@ -41,7 +41,7 @@ ticked c =
     let begun_long : length c.begin_all.new.watches ≡ length old.watches.items = ap length begun ∙ length-map old.watches.items (watch_begun old.groups.items now) in
     let begun_seen : c.deref_mut-4.result.now ≡ map (watch_begun old.groups.items now) old.watches.items = c.deref_mut-4.ensures.value ∙ seam c.begin_all.new.watches _ _ (length old.watches.items) begun_long watches_long ∙ begun in
     let many : length c.deref_mut-4.result.now ≡ length old.watches.items = ap length begun_seen ∙ length-map old.watches.items (watch_begun old.groups.items now) in
-    let stepped : (slot : ℕ) → slot < length c.deref_mut-2.result.now → group_in c.tick_all.new.groups slot ≡ group_step old.last (tick_at now c.args.rows.now) slot (group_in c.deref_mut-2.result.now slot) = c.tick_all.ensures.stepped in
+    let stepped : (slot : ℕ) → slot < length c.deref_mut-2.result.now → engine_group c.tick_all.new.groups slot ≡ group_step old.last (tick_at now c.args.rows.now) slot (engine_group c.deref_mut-2.result.now slot) = c.tick_all.ensures.stepped in
     let groups_before : c.deref_mut-2.result.now ≡ old.groups.items = c.deref_mut-2.ensures.value in
     record {
       cpus = omega (arith, c.tick_all.auto.growths, ap length c.deref_mut-3.ensures.value);

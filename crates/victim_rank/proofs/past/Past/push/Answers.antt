@@ -1,7 +1,7 @@
 use Rattle.std.proofs.Common.{◌≡◌, length, refl, rules, subst, sym}
 use Rattle.std.specs.Vec.{with_items}
 use Rattle.std.proofs.lemmas.List.{with_items_is}
-use Rattle.victim_rank.specs.Pasts.{Takes, kept_of}
+use Rattle.victim_rank.specs.Pasts.{PastTakes, kept_of}
 use Rattle.victim_rank.proofs.Places.{one_reading_more}
 use Rattle.victim_rank.proofs.past.Past.push.Goals as goal
 
@@ -19,6 +19,6 @@ returns-clause-next c =
       with_items_is c.self.inside.scans c.take_scans.new.scans scans_len,
     ) refl in
     let sizes = rw c.deref_mut.ensures.value at c.take_sizes.ensures.sizes in
-    subst (λ new. Takes c.args.self.now now new) (sym written)
-    (subst (λ old. Takes old now after) c.self.view_is
+    subst (λ new. PastTakes c.args.self.now now new) (sym written)
+    (subst (λ old. PastTakes old now after) c.self.view_is
     (one_reading_more before after now sizes c.take_scans.ensures))

@@ -72,6 +72,6 @@ file_at bytes = do
   if_end second.1 (record { some_line = first.0; full_line = second.0 })
 
 -- the call found what the definition finds, and this is left
-abbrev pub Takes : {A : Type 0} → Option A → List ℕ → Option (A × List ℕ) → Type 0
-Takes None rest read = read ≡ None
-Takes (Some x) rest read = read ≡ Some (x, rest)
+abbrev pub TakesPiece : {A : Type 0} → Option A → List ℕ → Option (A × List ℕ) → Type 0
+TakesPiece None rest read = read ≡ None
+TakesPiece (Some x) rest read = read ≡ Some (x, rest)

@@ -1,5 +1,5 @@
 use Rattle.aggregate.proofs.TableLaws as laws
-use Rattle.aggregate.proofs.rows.tables.Goals as goal
+use Rattle.aggregate.proofs.rows.law_rows.Goals as goal
 
 pub returns-clause-sizes : goal.returns-clause-sizes
 returns-clause-sizes c = laws.keeps_sizes

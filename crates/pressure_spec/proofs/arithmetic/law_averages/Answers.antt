@@ -1,5 +1,5 @@
 use Rattle.pressure_spec.proofs.AverageLaws as laws
-use Rattle.pressure_spec.proofs.arithmetic.averages.Goals as goal
+use Rattle.pressure_spec.proofs.arithmetic.law_averages.Goals as goal
 
 pub returns-clause-most : goal.returns-clause-most
 returns-clause-most c = laws.at_most_hundred

@@ -1,5 +1,5 @@
 use Rattle.pressure_spec.proofs.ShareLaws as laws
-use Rattle.pressure_spec.proofs.arithmetic.shares.Goals as goal
+use Rattle.pressure_spec.proofs.arithmetic.law_shares.Goals as goal
 
 pub returns-clause-mean : goal.returns-clause-mean
 returns-clause-mean c = laws.share_is_mean

@@ -1,5 +1,5 @@
 use Rattle.ruleset_json.proofs.FirstFaults.{refuses_first}
-use Rattle.ruleset_json.proofs.laws.first_faults.Goals as goal
+use Rattle.ruleset_json.proofs.laws.law_first_faults.Goals as goal
 
 pub returns-clause-detectors : goal.returns-clause-detectors
 returns-clause-detectors c = refuses_first

@@ -1,5 +1,5 @@
 use Rattle.ruleset_json.proofs.FirstFaults.{reads_each}
-use Rattle.ruleset_json.proofs.laws.lists_are_read.Goals as goal
+use Rattle.ruleset_json.proofs.laws.law_lists_are_read.Goals as goal
 
 pub returns-clause-detectors : goal.returns-clause-detectors
 returns-clause-detectors c = reads_each

@@ -1,5 +1,5 @@
 use Rattle.pressure_spec.proofs.SignalLaws as laws
-use Rattle.pressure_spec.proofs.arithmetic.signals.Goals as goal
+use Rattle.pressure_spec.proofs.arithmetic.law_signals.Goals as goal
 
 pub returns-clause-apart : goal.returns-clause-apart
 returns-clause-apart c = laws.signals_apart
