@@ -73,7 +73,8 @@ class Table:
 
     def __init__(self, program, events):
         self.program, self.events, self.lines = program, events, events // 2
-        self.rows, self.differ = [], 0
+        self.differ = 0
+        self.row("what was done", "status and note", "s", "MB")
         self.room = tempfile.TemporaryDirectory()
 
     def path(self, name):
@@ -87,24 +88,21 @@ class Table:
     def start(self, *words, **streams):
         return Run(self.program, words, **streams)
 
+    def row(self, what, said, seconds="", memory=""):
+        """Tells of one case at once, since some take minutes."""
+        print(f"{what:<48}  {seconds:>7}  {memory:>6}  {said}", flush=True)
+
     def tell(self, what, run, is_right, more=""):
         said = f"{run.status} {run.note.strip()}".strip() + (f" ({more})" if more else "")
-        self.rows.append((what, said, f"{run.seconds:.2f}", f"{run.memory / 1e6:.0f}"))
-        if not is_right:
-            self.differ += 1
-            self.rows.append(("", "^ THIS DIFFERS", "", ""))
+        self.row(what, said if is_right else said + "  THIS DIFFERS", f"{run.seconds:.2f}", f"{run.memory / 1e6:.0f}")
+        self.differ += not is_right
 
     def wants(self, what, run, status, note="", more=""):
         wanted = note and note + "\n"
         self.tell(what, run, (run.status, run.note) == (status, wanted), more)
 
     def skip(self, what, why):
-        self.rows.append((what, f"skipped, {why}", "", ""))
-
-    def show(self):
-        widths = [max(len(row[at]) for row in self.rows) for at in range(4)]
-        for what, said, seconds, memory in [("what was done", "status and note", "s", "MB"), *self.rows]:
-            print(f"{what:<{widths[0]}}  {said:<{widths[1]}}  {seconds:>{widths[2]}}  {memory:>{widths[3]}}")
+        self.row(what, f"skipped, {why}")
 
 
 def feed(pipe, front, piece, bytes_at_most):
@@ -320,7 +318,6 @@ def main():
     for part in PARTS:
         if not given or part.__name__ in given:
             part(table)
-    table.show()
     sys.exit(1 if table.differ else 0)
 
 

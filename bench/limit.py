@@ -3,7 +3,7 @@
 
 usage: bench/limit.py
 
-Takes some 200 MB of disk for a moment and half a minute, so it isn't in the gate. Ends with status 1 where an answer
+Takes some 100 MB of disk at a time and more than a minute, so it isn't in the gate. Ends with status 1 where an answer
 differs.
 """
 import os
