@@ -2,11 +2,20 @@
 use Rattle.std.specs.Prelude.{◌≡◌, Result, Ok, Err, ⊤}
 use Rattle.psi_base.specs.declared.event.Fault.{Fault}
 use Rattle.psi_base.specs.declared.event.Fault.TheVariants.{Refused, NoMemory}
+use Rattle.psi_base.specs.declared.text.NoMemory as token
+
+-- want of memory, of which there is one value
+abbrev pub no_memory : token.NoMemory
+no_memory = record { refused = tt }
+
+-- the fault where memory ran out
+abbrev pub lacks_memory : {E : Type 0} → Fault E
+lacks_memory = NoMemory no_memory
 
 -- the fault is the one that was read, unless memory ran out
 abbrev pub FaultOf : {A E : Type 0} → Fault E → Result A E → Type 0
 FaultOf (Refused fault) read = read ≡ Err fault
-FaultOf NoMemory read = ⊤
+FaultOf (NoMemory _) read = ⊤
 
 -- the call returned what the definition reads, unless memory ran out
 abbrev pub Gives : {A E : Type 0} → Result A (Fault E) → Result A E → Type 0

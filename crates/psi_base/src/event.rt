@@ -156,6 +156,11 @@ pub enum Act {
         threshold_us: u64,
         window_us: u64,
     },
+    /// `irq`: interrupts took so much time (ns) on a processor.
+    Irq {
+        cpu: Cpu,
+        ns: u64,
+    },
     /// `end`: the trace ends.
     End,
 }
@@ -245,6 +250,8 @@ pub enum Cause {
     AfterEnd,
     /// The input ends before an `end` line.
     NoEnd,
+    /// Interrupts took more than a second, or more than passed since the last `irq` line of the processor.
+    IrqTooLong,
 }
 
 /// The first refused line of a trace.
@@ -262,7 +269,7 @@ pub enum Fault<E> {
     /// What it was given is refused, for this cause.
     Refused(E),
     /// There was no memory.
-    NoMemory,
+    NoMemory(NoMemory),
 }
 
 impl From<Cause> for Fault<Cause> {
@@ -278,34 +285,34 @@ impl From<Cause> for Fault<Cause> {
 
 impl<E> From<NoMemory> for Fault<E> {
     ghost use Rattle.std.specs.Prelude.{◌≡◌};
-    ghost use Rattle.psi_base.specs.declared.event.Fault.TheVariants as fault;
+    ghost use Rattle.psi_base.specs.Gives.{lacks_memory};
 
-    ghost from_gives = { λ _ e. e ≡ fault.NoMemory };
+    ghost from_gives = { λ _ e. e ≡ lacks_memory };
 
-    fn from(_: NoMemory) -> Self {
-        Fault::NoMemory
+    fn from(none: NoMemory) -> Self {
+        Fault::NoMemory(none)
     }
 }
 
 impl<E> From<AllocError> for Fault<E> {
     ghost use Rattle.std.specs.Prelude.{◌≡◌};
-    ghost use Rattle.psi_base.specs.declared.event.Fault.TheVariants as fault;
+    ghost use Rattle.psi_base.specs.Gives.{lacks_memory};
 
-    ghost from_gives = { λ _ e. e ≡ fault.NoMemory };
+    ghost from_gives = { λ _ e. e ≡ lacks_memory };
 
-    fn from(_: AllocError) -> Self {
-        Fault::NoMemory
+    fn from(refused: AllocError) -> Self {
+        Fault::NoMemory(NoMemory::from(refused))
     }
 }
 
 /// The value that found no place is let go.
 impl<E, T: Drop> From<AllocFailed<T>> for Fault<E> {
     ghost use Rattle.std.specs.Prelude.{◌≡◌};
-    ghost use Rattle.psi_base.specs.declared.event.Fault.TheVariants as fault;
+    ghost use Rattle.psi_base.specs.Gives.{lacks_memory};
 
-    ghost from_gives = { λ _ e. e ≡ fault.NoMemory };
+    ghost from_gives = { λ _ e. e ≡ lacks_memory };
 
-    fn from(_failed: AllocFailed<T>) -> Self {
-        Fault::NoMemory
+    fn from(failed: AllocFailed<T>) -> Self {
+        Fault::NoMemory(NoMemory::from(failed))
     }
 }

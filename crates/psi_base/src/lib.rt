@@ -27,7 +27,7 @@ pub use event::{
 };
 pub use honest::{HonestShelf, HonestSink};
 pub use memory::{MemShelf, MemSink};
-pub use number::{put_number, read_number};
+pub use number::{put_number, read_digits, read_number};
 pub use outside::{Gate, OpenGate, Shelf, ShelfFault, Sink, WriteFailed};
 pub use parts::Parts;
 pub use path::Path;

@@ -9,10 +9,10 @@ use crate::put::put_all;
 /// Below this, a number has room for one digit more, whichever it is.
 const LARGE: u64 = u64::MAX / 10;
 
-// The number that these bytes write, leading zeros allowed. Only for a large number it is asked whether the next digit fits:
-// a division for each digit would take a quarter of the time of reading an event.
+/// The number that these bytes write, up to 2^64 - 1, leading zeros allowed; no bytes write 0. None exactly where one of them is no
+/// digit, or the number is greater.
 #[tactic(auto, using(crate::proofs::NumberLaws::steps))]
-fn read_digits(bytes: &[u8]) -> Option<u64>
+pub fn read_digits(bytes: &[u8]) -> Option<u64>
     ensures { result ≡ digits_of bytes.now }
 {
     let mut number: u64 = 0;
@@ -21,6 +21,8 @@ fn read_digits(bytes: &[u8]) -> Option<u64>
             return None;
         }
         let digit = u64::from(*byte - b'0');
+        // Only for a large number it is asked whether the next digit fits: a division for each digit would take a quarter of the
+        // time of reading an event.
         if number >= LARGE && number > (u64::MAX - digit) / 10 {
             return None;
         }

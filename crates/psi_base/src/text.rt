@@ -4,20 +4,22 @@ ghost use Rattle.std.specs.Prelude.{◌≡◌, ℕ, List, IfOk};
 use std::alloc::{AllocError, AllocFailed, Global};
 use std::marker::Model;
 
-/// There was no memory.
+/// There was no memory. Its field is private, so that one comes only of what a refused growth gave back.
 #[derive(Clone, Copy, Debug, PartialEq, Eq)]
-pub struct NoMemory;
+pub struct NoMemory {
+    refused: (),
+}
 
 impl From<AllocError> for NoMemory {
     fn from(_: AllocError) -> Self {
-        NoMemory
+        NoMemory { refused: () }
     }
 }
 
 /// The value that found no place is let go.
 impl<T: Drop> From<AllocFailed<T>> for NoMemory {
     fn from(_failed: AllocFailed<T>) -> Self {
-        NoMemory
+        NoMemory { refused: () }
     }
 }
 
