@@ -4,3 +4,4 @@ pub mod JoinedParts
 pub mod PatternLaws
 pub mod SpelledLaws
 pub mod PathLaws
+pub mod Texts

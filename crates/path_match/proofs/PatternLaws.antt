@@ -112,7 +112,7 @@ pattern_text-parts (part ∷ parts) has = refl
 parts_some : (parts : List (List ℕ)) → HasFirst parts → parts ≢ []
 parts_some parts has is = let first = has.2 in absurd cc
 
-spells_parts : (bytes : List ℕ) → pattern_text (parts_at 47 bytes) ≡ bytes
+pub spells_parts : (bytes : List ℕ) → pattern_text (parts_at 47 bytes) ≡ bytes
 spells_parts bytes = pattern_text-parts (parts_at 47 bytes) (first_part 47 bytes) ∙ joined_by-parts 47 bytes
 
 -- a text that is a pattern spells its components

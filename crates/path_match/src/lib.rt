@@ -1,10 +1,12 @@
-//! Patterns of paths of control groups, as a rules file has them: read from a text, and matched against paths.
+//! Patterns of paths of control groups, as a rules file has them: read from a text, matched
+//! against paths, and written as a text.
 #![tactic(auto)]
 
 mod component;
 mod form;
 mod matches;
 mod patterns;
+mod text;
 
 pub use matches::{PatternFault, law_matching, law_reading_patterns};
 pub use patterns::Patterns;

@@ -1,13 +1,13 @@
 //! Lists of patterns.
-ghost use Rattle.std.specs.Prelude.{◌≡◌, ◌↔◌, Err, IsTrue, IsOk, IfOk, map};
-ghost use Rattle.psi_base.specs.declared.event.Fault.TheVariants as fault;
+ghost use Rattle.std.specs.Prelude.{◌≡◌, ◌↔◌, ◌++◌, Err, IsTrue, IsOk, IfOk, OnOk, map};
 ghost use Rattle.psi_base.specs.Path.{parts_at};
-ghost use Rattle.path_match.specs.Match.{ArePatterns, MatchesSome, components, is_match, patterns_of};
-ghost use Rattle.psi_base.specs.Gives.{Gives};
+ghost use Rattle.path_match.specs.Match.{ArePatterns, MatchesSome, components, is_match, patterns_of, patterns_text};
+ghost use Rattle.psi_base.specs.Gives.{Gives, lacks_memory};
 
 use crate::component::matches_pattern;
 use crate::form::{are_few, are_patterns};
 use crate::matches::PatternFault;
+use crate::text::write_patterns;
 use psi_base::{Fault, NoMemory, Parts, Path, Text};
 use std::alloc::Global;
 use std::marker::Model;
@@ -54,7 +54,7 @@ impl Patterns {
     #[tactic(auto, unfolding(crate::specs::Match::patterns_of))]
     pub fn read(alloc: Global, text: &str) -> Result<Patterns, Fault<PatternFault>>
         ensures exact { Gives result (patterns_of text.now) }
-        ensures memory { result ≡ Err fault.NoMemory → IsOk (patterns_of text.now) }
+        ensures memory { result ≡ Err lacks_memory → IsOk (patterns_of text.now) }
     {
         let bytes = text.as_bytes();
         if !are_patterns(bytes) {
@@ -83,5 +83,14 @@ impl Patterns {
     {
         let text = Text::make(alloc, self.text.bytes())?;
         Ok(Patterns { text })
+    }
+
+    /// Appends the text of the patterns: a comma between them, `/` for the root, and no slash before the first
+    /// component of another.
+    pub fn write(&self, to: &mut Vec<u8>) -> Result<(), NoMemory>
+        ensures text { OnOk result (to.new.items ≡ to.old.items ++ patterns_text self.now) }
+        ensures patterns { ArePatterns self.now }
+    {
+        write_patterns(self.text.bytes(), to)
     }
 }

@@ -1,0 +1,37 @@
+-- The text of patterns, one after another.
+use Rattle.std.proofs.Common.{◌≡◌, ℕ, List, [], ◌∷◌, ◌++◌, Bool, true, false, refl, sym, ap, ◌∙◌, append_assoc}
+use Rattle.std.specs.Prelude.{codes, if◌then◌else◌, map}
+use Rattle.std.specs.List.{join_with_byte}
+use Rattle.std.specs.Str.{bytes_eq}
+use Rattle.std.proofs.lemmas.List.{append-nil}
+use Rattle.std.proofs.lemmas.Slice.Eq.{bytes_eq-Decides}
+use Rattle.psi_base.specs.Path.{parts_at}
+use Rattle.path_match.specs.Match.{components, behind_slash, pattern_text, patterns_text}
+use Rattle.path_match.proofs.PatternLaws.{spells_parts}
+
+slashless_if : (b : Bool) (text : List ℕ) → bytes_eq text (codes "/") ≡ b → pattern_text (components text) ≡ (if b then codes "/" else behind_slash text)
+unfolding components
+slashless_if true text is = rw is refl
+slashless_if false text is = rw is (spells_parts (behind_slash text))
+
+-- the text of a pattern is its own, but for the slash that may stand first
+pub slashless : (text : List ℕ) → pattern_text (components text) ≡ (if bytes_eq text (codes "/") then codes "/" else behind_slash text)
+slashless text = slashless_if _ text refl
+
+-- the root's is its own
+pub root_text : (text : List ℕ) → bytes_eq text (codes "/") ≡ true → text ≡ pattern_text (components text)
+root_text text is = (bytes_eq-Decides text (codes "/")).0 is ∙ sym (slashless_if true text is)
+
+-- what is written behind the first
+abbrev pub behind : List (List ℕ) → List ℕ
+behind [] = []
+behind (part ∷ parts) = 44 ∷ (pattern_text (components part) ++ behind parts)
+
+pub text_from : (part : List ℕ) (parts : List (List ℕ)) → patterns_text (map components (part ∷ parts)) ≡ pattern_text (components part) ++ behind parts
+text_from part [] = sym (append-nil _)
+text_from part (next ∷ parts) = ap (λ rest. pattern_text (components part) ++ 44 ∷ rest) (text_from next parts)
+
+-- once the first is written
+pub text_began : (whole parts : List (List ℕ)) (first before now piece : List ℕ) → whole ≡ first ∷ parts → piece ≡ pattern_text (components first) → now ≡ before ++ piece
+    → now ++ behind parts ≡ before ++ patterns_text (map components whole)
+text_began whole parts first before now piece is text put = rw (put, is, text, text_from first parts) (append_assoc before (pattern_text (components first)) (behind parts))
