@@ -3,8 +3,8 @@ ghost use Rattle.std.specs.Prelude.{◌≡◌, ◌+◌, ◌<◌, ◌≤◌, ℕ,
 ghost use Rattle.psi_base.specs.Outside.{Lacks, counts_of, told};
 ghost use Rattle.file_reader.specs.Front.{CausesFileFault, TellsNothing};
 
-use psi_base::{Shelf, ShelfFault, read_behind};
-use std::alloc::{AllocError, Global};
+use psi_base::{NoMemory, Shelf, ShelfFault, read_behind};
+use std::alloc::Global;
 
 /// Why a file wasn't read.
 #[derive(Clone, Copy, Debug, PartialEq, Eq)]
@@ -14,7 +14,7 @@ pub enum FileFault {
     /// A read failed.
     ReadFault,
     /// There was no memory.
-    NoMemory,
+    NoMemory(NoMemory),
 }
 
 impl From<ShelfFault> for FileFault {
@@ -31,15 +31,22 @@ impl From<ShelfFault> for FileFault {
     }
 }
 
-impl From<AllocError> for FileFault {
+impl From<NoMemory> for FileFault {
     ghost use Rattle.std.specs.Prelude.{◌≡◌};
     ghost use Rattle.file_reader.specs.declared.front.FileFault.TheVariants as fault;
 
-    ghost from_gives = { λ _ e. e ≡ fault.NoMemory };
+    ghost from_gives = { λ none e. e ≡ fault.NoMemory none };
 
-    fn from(_: AllocError) -> Self {
-        FileFault::NoMemory
+    fn from(none: NoMemory) -> Self {
+        FileFault::NoMemory(none)
     }
+}
+
+// So many zeros.
+fn zeros(alloc: Global, count: usize) -> Result<Vec<u8>, NoMemory>
+    ensures { IfOk result (λ bytes. length bytes.items ≡ count) }
+{
+    Ok(vec![in alloc; 0; count]?)
 }
 
 // Reads from the start of a file on until the buffer is full or the file ends, and says how many bytes.
@@ -88,7 +95,7 @@ pub fn read_front<S: Shelf>(
         told (S.holds shelf.old) name.now ≡ None }
     ensures lacking { Lacks (S.holds shelf.old) name.now → TellsNothing result }
 {
-    let mut bytes = vec![in alloc; 0; most]?;
+    let mut bytes = zeros(alloc, most)?;
     let held = fill(shelf, name, &mut bytes)?;
     bytes.truncate(held);
     Ok(bytes)

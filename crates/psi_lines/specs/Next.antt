@@ -1,5 +1,5 @@
 -- What reading the next line gives.
-use Rattle.std.specs.Prelude.{◌≡◌, ℕ, ◌+◌, ◌-◌, ◌*◌, List, [], ◌++◌, drop, take, length, ◌<◌, ◌≤◌, slice_index, Option, None, Some, Result, Ok, Err, IsErrOf, ⊤}
+use Rattle.std.specs.Prelude.{◌≡◌, ℕ, ◌+◌, ◌-◌, ◌*◌, List, [], ◌++◌, drop, take, length, ◌<◌, ◌≤◌, ◌⊎◌, slice_index, Option, None, Some, Result, Ok, Err, IsErrOf, ⊤}
 use Rattle.psi_base.specs.Outside.{ShelfCounts, HasCauses}
 use Rattle.psi_lines.specs.Lines.{Reader, HasNoNewline, left, BeginsWithLine, IsTooLong, IsCut}
 use Rattle.psi_base.specs.declared.outside.ShelfFault.{ShelfFault}
@@ -16,7 +16,7 @@ NextOf bytes old new (Err (TooLong number)) = IsTooLong (left old bytes) × (num
 NextOf bytes old new (Err (Cut number)) = IsCut (left old bytes) × (number ≡ old.number) × (left new bytes ≡ left old bytes)
 NextOf bytes old new (Err NoFile) = left new bytes ≡ left old bytes
 NextOf bytes old new (Err ReadFault) = left new bytes ≡ left old bytes
-NextOf bytes old new (Err NoMemory) = left new bytes ≡ left old bytes
+NextOf bytes old new (Err (NoMemory _)) = left new bytes ≡ left old bytes
 
 -- the number of the next line: one more behind a line
 abbrev pub number_after : ℕ → Result (Option Line) LineFault → ℕ
@@ -46,7 +46,7 @@ IsReadFault (Err (TooLong number)) = ⊥
 IsReadFault (Err (Cut number)) = ⊥
 IsReadFault (Err NoFile) = ⊤
 IsReadFault (Err ReadFault) = ⊤
-IsReadFault (Err NoMemory) = ⊥
+IsReadFault (Err (NoMemory _)) = ⊥
 
 -- what is answered for a file that isn't there: that, or a failed read, or want of memory
 abbrev pub IsMissing : {T : Type 0} → Result T LineFault → Type 0
@@ -55,7 +55,7 @@ IsMissing (Err (TooLong number)) = ⊥
 IsMissing (Err (Cut number)) = ⊥
 IsMissing (Err NoFile) = ⊤
 IsMissing (Err ReadFault) = ⊤
-IsMissing (Err NoMemory) = ⊤
+IsMissing (Err (NoMemory _)) = ⊤
 
 -- reads moved on by as many bytes as they gave, behind those that were held
 pub record ReadsOn (held : List ℕ) (at : ℕ) (held_now : List ℕ) (at_now : ℕ) : Type 0 where
@@ -75,7 +75,11 @@ FindsLine number held (Err (TooLong n)) = (n ≡ number) × (513 ≤ length held
 FindsLine number held (Err (Cut n)) = (n ≡ number) × (0 < length held) × (length held ≤ 512) × HasNoNewline held (length held)
 FindsLine number held (Err NoFile) = ⊤
 FindsLine number held (Err ReadFault) = ⊤
-FindsLine number held (Err NoMemory) = ⊥
+FindsLine number held (Err (NoMemory _)) = ⊥
+
+-- What is held tells of the next line with no read: a newline is among it, or more bytes than a line and its newline can have.
+abbrev pub TellsLine : List ℕ → Type 0
+TellsLine held = (513 ≤ length held) ⊎ (i : ℕ) × (i < length held) × (slice_index held i ≡ 10)
 
 -- where no line stands in front, or a cut one, the input is read to its end; of other answers nothing is said
 abbrev pub EndsAt : List ℕ → ℕ → Result (Option ℕ) LineFault → Type 0
@@ -85,7 +89,7 @@ EndsAt bytes at (Err (TooLong n)) = ⊤
 EndsAt bytes at (Err (Cut n)) = drop at bytes ≡ []
 EndsAt bytes at (Err NoFile) = ⊤
 EndsAt bytes at (Err ReadFault) = ⊤
-EndsAt bytes at (Err NoMemory) = ⊤
+EndsAt bytes at (Err (NoMemory _)) = ⊤
 
 -- a line, and a fault of a line, have the number of the next line, also where the files aren't told
 abbrev pub IsNumbered : ℕ → Result (Option Line) LineFault → Type 0
@@ -95,7 +99,7 @@ IsNumbered number (Err (TooLong n)) = n ≡ number
 IsNumbered number (Err (Cut n)) = n ≡ number
 IsNumbered number (Err NoFile) = ⊤
 IsNumbered number (Err ReadFault) = ⊤
-IsNumbered number (Err NoMemory) = ⊤
+IsNumbered number (Err (NoMemory _)) = ⊤
 
 -- a line has at most 512 bytes, also where the files aren't told
 abbrev pub IsShortLine : Result (Option Line) LineFault → Type 0

@@ -1,8 +1,9 @@
 //! Lines of a name's bytes, however the shelf cuts them.
 ghost use Rattle.std.specs.Prelude.{◌≡◌, ◌≢◌, ◌+◌, ◌-◌, ◌*◌, ◌<◌, ◌≤◌, ◌^◌, ◌↔◌, ◌⊎◌, [], ◌++◌, ℕ, List, length, drop, take, IfOk, OnErr, IsErrOf, IsTrue, MatchOption, slice_index, Ok, Some, None, false};
+ghost use Rattle.psi_base.specs.Gives.{no_memory};
 ghost use Rattle.psi_base.specs.Outside.{told, Lacks, counts_of};
 ghost use Rattle.psi_lines.specs.Lines.{HasNoNewline, Reader, left};
-ghost use Rattle.psi_lines.specs.Next.{CausesFault, EndsAt, FindsLine, IsMissing, IsNumbered, IsReadFault, IsShortLine, NextOf, ReadsOn, furthest, number_after};
+ghost use Rattle.psi_lines.specs.Next.{CausesFault, EndsAt, FindsLine, IsMissing, IsNumbered, IsReadFault, IsShortLine, NextOf, ReadsOn, TellsLine, furthest, number_after};
 
 use crate::buffer::{Buffer, LINE, ROOM};
 use memchr::memchr;
@@ -31,17 +32,17 @@ pub enum LineFault {
     /// A read failed.
     ReadFault,
     /// There was no memory.
-    NoMemory,
+    NoMemory(NoMemory),
 }
 
 impl From<NoMemory> for LineFault {
     ghost use Rattle.std.specs.Prelude.{◌≡◌};
     ghost use Rattle.psi_lines.specs.declared.lines.LineFault.TheVariants as fault;
 
-    ghost from_gives = { λ _ e. e ≡ fault.NoMemory };
+    ghost from_gives = { λ none e. e ≡ fault.NoMemory none };
 
-    fn from(_: NoMemory) -> Self {
-        LineFault::NoMemory
+    fn from(none: NoMemory) -> Self {
+        LineFault::NoMemory(none)
     }
 }
 
@@ -116,6 +117,7 @@ fn find_line<S: Shelf>(
     ensures cause { CausesFault (counts_of (S.faults shelf.old) (S.absent shelf.old))
         (counts_of (S.faults shelf.new) (S.absent shelf.new)) result }
     ensures given { S.given shelf.new + at.old ≡ S.given shelf.old + at.new }
+    ensures held { TellsLine held.old → shelf.new ≡ shelf.old }
     ensures missed { IsErrOf result LineFault.NoFile →
         told (S.holds shelf.old) name.now ≡ None }
     ensures missing { held.old ≡ [] → Lacks (S.holds shelf.old) name.now → (held.new ≡ [])
@@ -167,6 +169,8 @@ impl Lines {
     ///
     /// It reads no further than a whole buffer behind the lines that were handed out, each with its newline.
     ///
+    /// Where what it holds tells of the line, it doesn't read: then neither a failing shelf nor a slow one holds it up.
+    ///
     /// `TooLong` exactly where 513 bytes stand without a newline, `Cut` exactly where the input ends inside a line of
     /// at most 512 bytes. `NoFile` and `ReadFault` only where the shelf counted an absent name or a fault in this call.
     pub fn next<S: Shelf>(&mut self, shelf: &mut S) -> Result<Option<Line>, LineFault>
@@ -183,6 +187,7 @@ impl Lines {
             (counts_of (S.faults shelf.new) (S.absent shelf.new)) result }
         ensures given { S.given shelf.new + self.old.at ≡ S.given shelf.old + self.new.at }
         ensures place { self.new.at ≤ furthest self.old.number }
+        ensures held { TellsLine self.old.held → shelf.new ≡ shelf.old }
         ensures missed { IsErrOf result LineFault.NoFile
             → told (S.holds shelf.old) self.old.name ≡ None }
         ensures missing { self.old.held ≡ [] → Lacks (S.holds shelf.old) self.old.name
@@ -216,11 +221,12 @@ impl Lines {
         ensures short { IsShortLine (lent_line self.old.number result) }
         ensures cause { CausesFault (counts_of (S.faults shelf.old) (S.absent shelf.old))
             (counts_of (S.faults shelf.new) (S.absent shelf.new)) result }
+        ensures held { TellsLine self.old.held → shelf.new ≡ shelf.old }
         ensures missed { IsErrOf result LineFault.NoFile
             → told (S.holds shelf.old) self.old.name ≡ None }
         ensures missing { self.old.held ≡ [] → Lacks (S.holds shelf.old) self.old.name
             → IsMissing result }
-        ensures memory { IsErrOf result LineFault.NoMemory → ⊥ }
+        ensures memory { IsErrOf result (LineFault.NoMemory no_memory) → ⊥ }
     {
         let number = self.number();
         let found = find_line(

@@ -1,7 +1,7 @@
 use Rattle.std.proofs.Common.{◌≡◌, ℕ, ◌+◌, ◌-◌, ◌≤◌, [], length, List, ◌++◌, drop}
 use Rattle.std.specs.Prelude.{Some}
 use Rattle.psi_base.specs.Outside.{told, Lacks}
-use Rattle.psi_lines.specs.Next.{ReadsOn}
+use Rattle.psi_lines.specs.Next.{ReadsOn, TellsLine}
 use Rattle.psi_lines.proofs.lines.find_line.Given as goal
 
 abbrev pub invariant-reads : goal.invariant-reads
@@ -13,6 +13,7 @@ invariant-reads g l = record {
   faults : g.S.Shelf.faults l.shelf ≡ g.S.Shelf.faults l.fn.shelf;
   absent : g.S.Shelf.absent l.shelf ≡ g.S.Shelf.absent l.fn.shelf;
   given : g.S.Shelf.given l.shelf + l.fn.at ≡ g.S.Shelf.given l.fn.shelf + l.at;
+  held : TellsLine l.fn.held → (l.shelf ≡ l.fn.shelf) × (l.held ≡ l.fn.held);
   missing : l.fn.held ≡ [] → Lacks (g.S.Shelf.holds l.fn.shelf) l.fn.name → l.held ≡ [];
 }
 
