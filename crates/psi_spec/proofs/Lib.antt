@@ -1,13 +1,5 @@
-pub mod Accepting
-pub mod GrammarCauses
-pub mod GrammarFields
-pub mod GrammarHeaders
-pub mod GrammarParts
-pub mod GrammarReads
-pub mod GrammarWords
-pub mod Reading
-pub mod Splitting
 pub mod StallLaws
 pub mod TaskLaws
 pub mod GroupLaws
 pub mod RefusalLaws
+pub mod Following

@@ -1,14 +1,14 @@
 -- How stall time grows, event by event and with time.
-use Rattle.std.proofs.Common.{◌≡◌, ℕ, zero, suc, ◌+◌, ◌-◌, ◌≤◌, ◌<◌, List, [], ◌∷◌, ◌++◌, length, take, map, refl, sym, ◌∙◌, arith, ◌⊎◌, ⊎_elim}
-use Rattle.std.specs.Prelude.{if◌then◌else◌, slice_index_or}
+use Rattle.std.proofs.Common.{◌≡◌, ℕ, zero, suc, Some, ◌+◌, ◌-◌, ◌≤◌, ◌<◌, List, [], ◌∷◌, ◌++◌, length, take, map, refl, sym, ◌∙◌, arith, ◌⊎◌, ⊎_elim}
+use Rattle.std.specs.Prelude.{if◌then◌else◌, slice_get, slice_index_or}
 use Rattle.std.specs.List.{range_with_len}
 use Rattle.std.proofs.lemmas.List.{length-append, length-map, map-append, take-append-le, take_all, get_or_past, get_or_default, get_or_append_left}
-use Rattle.std.proofs.Math.Seq.{get_or-append_seam}
+use Rattle.std.proofs.Math.Seq.{get_or-append_seam, take-append_seam}
 use Rattle.std.proofs.lemmas.List.FromFn.{sum_by-map-range_with_len_more}
 use Rattle.psi_base.specs.declared.event.Event.{Event}
 use Rattle.psi_base.specs.declared.event.State.{State}
 use Rattle.psi_spec.specs.World.{after}
-use Rattle.psi_spec.specs.Stall.{holds, stall, stall_after, moment_of, GrowsByEvent, GrowsWithTime}
+use Rattle.psi_spec.specs.Stall.{holds, irq_by, irq_from, irq_time, stall, stall_after, moment_of, GrowsByEvent, GrowsWithTime, IrqByEvent}
 
 -- functions that agree on n numbers have the same list of values there
 pub map_same : (f g : ℕ → ℕ) (from n : ℕ) → ((i : ℕ) → from ≤ i → i < from + n → f i ≡ g i) → map f (range_with_len from n) ≡ map g (range_with_len from n)
@@ -17,6 +17,16 @@ map_same f g from (suc n) same =
     let here : f from ≡ g from = same from (omega arith) (omega arith) in
     let rest = map_same f g (from + 1) n (λ i low high. same i (omega (arith, low)) (omega (arith, high))) in
     cc (here, rest)
+
+-- what stands in a list with another behind it
+pub get_left : {A : Type 0} (xs ys : List A) (i : ℕ) → i < length xs → slice_get (xs ++ ys) i ≡ slice_get xs i
+get_left [] ys i low = absurd (omega (arith, low))
+get_left (x ∷ xs) ys zero low = refl
+get_left (x ∷ xs) ys (suc i) low = get_left xs ys i (omega (arith, low))
+
+pub get_seam : {A : Type 0} (xs : List A) (x : A) → slice_get (xs ++ x ∷ []) (length xs) ≡ Some x
+get_seam [] x = refl
+get_seam (y ∷ xs) x = get_seam xs x
 
 abbrev times : List Event → List ℕ
 times events = map (λ (event : Event). event.at) events
@@ -71,3 +81,26 @@ by_event state cpu slot events event at =
 pub with_time : GrowsWithTime
 with_time state cpu slot events event at later from to =
     rw (by_event state cpu slot events event at, by_event state cpu slot events event later) (grind arith)
+
+-- ---- interrupt time
+
+-- what an event added to the sum isn't changed by a later one
+irq_kept : (cpu slot : ℕ) (events : List Event) (event : Event) (i : ℕ) → 1 ≤ i → i < 1 + length events → irq_by cpu slot (events ++ event ∷ []) i ≡ irq_by cpu slot events i
+irq_kept cpu slot events event i low high =
+    let front : take (i - 1) (events ++ event ∷ []) ≡ take (i - 1) events = take-append-le (i - 1) events (event ∷ []) (omega (arith, high)) in
+    let here : slice_get (events ++ event ∷ []) (i - 1) ≡ slice_get events (i - 1) = get_left events (event ∷ []) (i - 1) (omega (arith, low, high)) in
+    rw (front, here) refl
+
+-- the last event's part of the sum
+irq_last : (cpu slot : ℕ) (events : List Event) (event : Event) → irq_by cpu slot (events ++ event ∷ []) (1 + length events) ≡ irq_from cpu slot (after events) (Some event)
+irq_last cpu slot events event =
+    let before : (1 + length events) - 1 ≡ length events = omega arith in
+    rw (before, take-append_seam events (event ∷ []), get_seam events event) refl
+
+pub irq_by_event : IrqByEvent
+unfolding irq_time
+irq_by_event cpu slot events event =
+    let len : length (events ++ event ∷ []) ≡ length events + 1 = length-append events (event ∷ []) in
+    let more = sum_by-map-range_with_len_more (λ x. x) (irq_by cpu slot (events ++ event ∷ [])) 1 (length events) (1 + length events) refl in
+    let same = map_same (irq_by cpu slot (events ++ event ∷ [])) (irq_by cpu slot events) 1 (length events) (irq_kept cpu slot events event) in
+    rw (len, more, same, irq_last cpu slot events event) refl

@@ -4,7 +4,7 @@ use Rattle.std.specs.List.{range_with_len}
 use Rattle.psi_base.specs.declared.event.Act.{Act}
 use Rattle.psi_base.specs.declared.event.Event.{Event}
 use Rattle.psi_spec.specs.declared.machine.Task.{Task}
-use Rattle.psi_spec.specs.World.{Effect, forks, moves, none, readies, stalls, switches, effect_of}
+use Rattle.psi_spec.specs.World.{Effect, forks, interrupts, moves, none, readies, stalls, switches, effect_of}
 use Rattle.psi_spec.specs.World.{World, Tasks, task_of, test_task, task_part, running_on, after, up_to}
 use Rattle.psi_spec.specs.Stall.{stall, states}
 
@@ -19,6 +19,7 @@ before_effect tasks (readies pid cpu) = task_of tasks pid.0
 before_effect tasks (stalls pid stalled) = task_of tasks pid.0
 before_effect tasks (moves pid path) = task_of tasks pid.0
 before_effect tasks (switches cpu next how) = task_part (running_on tasks cpu.0)
+before_effect tasks (interrupts cpu) = None
 
 -- the one task whose counts an act changes, before it
 abbrev pub before : Tasks → Act → Option Task
@@ -29,7 +30,8 @@ abbrev pub is_at : ℕ → Task → Bool
 is_at cpu task = task.cpu.0 == cpu
 
 -- An effect touches a processor, by the task that it changes as it is before: the processor that a fork or a switch names, the
--- one that a task comes to and the one that it was on where it is put on a run queue, and the task's where it stays there.
+-- one that a task comes to and the one that it was on where it is put on a run queue, the task's where it stays there, and the
+-- one that interrupts hold up.
 abbrev pub touched_by : Effect → Option Task → ℕ → Bool
 touched_by none old cpu = false
 touched_by (forks pid path named) old cpu = named.0 == cpu
@@ -37,6 +39,7 @@ touched_by (readies pid named) old cpu = named.0 == cpu || test_task old (is_at 
 touched_by (stalls pid stalled) old cpu = test_task old (is_at cpu)
 touched_by (moves pid path) old cpu = test_task old (is_at cpu)
 touched_by (switches named next how) old cpu = named.0 == cpu
+touched_by (interrupts named) old cpu = named.0 == cpu
 
 -- An act touches a processor of the machine, by the task that it changes as it is before. It is asked of processors that there
 -- are alone: an act that touches every processor touches whichever is asked for.

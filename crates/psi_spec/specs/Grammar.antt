@@ -1,6 +1,6 @@
 -- The lines of a trace, as this profile has them: which bytes spell a header and an event, which event a line has,
 -- and for what a line is refused that spells none.
-use Rattle.std.specs.Prelude.{◌≡◌, ◌≢◌, ◌↔◌, ℕ, ◌+◌, ◌≤◌, ◌<◌, ◌^◌, List, [], ◌∷◌, ◌++◌, drop, map, length, slice_index, EachIndex, codes, decimal, Option, None, Some, Result, Ok, Err}
+use Rattle.std.specs.Prelude.{◌≡◌, ◌≢◌, ◌↔◌, ◌⊎◌, ℕ, ◌+◌, ◌≤◌, ◌<◌, ◌^◌, ◌==◌, if◌then◌else◌, List, [], ◌∷◌, ◌++◌, drop, map, length, slice_index, EachIndex, codes, decimal, Option, None, Some, Result, Ok, Err}
 use Rattle.std.specs.List.{flat_map, range_with_len, slice_get}
 use Rattle.psi_base.specs.Number.{number_of}
 use Rattle.psi_base.specs.Path.{parts_at}
@@ -21,10 +21,24 @@ joined (text ∷ next ∷ words) = text ++ 32 ∷ joined (next ∷ words)
 -- the versions of traces
 pub data Version : Type 0 where
   One : Version
+  Two : Version
+
+-- all of them
+abbrev pub versions : List Version
+versions = One ∷ Two ∷ []
 
 -- how a version is written
 abbrev pub version_number : Version → ℕ
 version_number One = 1
+version_number Two = 2
+
+-- a number is that of a version
+abbrev pub IsVersion : ℕ → Type 0
+IsVersion number = (number ≡ 1) ⊎ (number ≡ 2)
+
+-- the version with a number, and the first for a number of none
+abbrev pub version_of : ℕ → Version
+version_of number = if number == 2 then Two else One
 
 -- what a header tells: the version, and how many processors there are
 pub record Header : Type 0 where
@@ -55,6 +69,7 @@ pub data Verb : Type 0 where
   Mem : Verb
   Host : Verb
   Trigger : Verb
+  Irq : Verb
   End : Verb
 
 -- the word of a verb, the kinds of its fields, and the act that their values make
@@ -82,6 +97,7 @@ form_of Move = form (codes "move") (kind.pid ∷ kind.path ∷ []) (λ v. act.Mo
 form_of Mem = form (codes "mem") (kind.path ∷ kind.amount ∷ kind.amount ∷ kind.amount ∷ []) (λ v. act.Mem v.0 v.1.0 v.1.1.0 v.1.1.1.0)
 form_of Host = form (codes "host") (kind.amount ∷ kind.amount ∷ kind.amount ∷ []) (λ v. act.Host v.0 v.1.0 v.1.1.0)
 form_of Trigger = form (codes "trigger") (kind.path ∷ kind.resource ∷ kind.level ∷ kind.number ∷ kind.number ∷ []) (λ v. act.Trigger v.0 v.1.0 v.1.1.0 v.1.1.1.0 v.1.1.1.1.0)
+form_of Irq = form (codes "irq") (kind.cpu ∷ kind.number ∷ []) (λ v. act.Irq v.0 v.1.0)
 form_of End = form (codes "end") [] (λ v. act.End)
 
 -- how a verb is written
@@ -92,9 +108,18 @@ verb_word verb = (form_of verb).word
 abbrev pub kinds_of : Verb → List Kind
 kinds_of verb = (form_of verb).kinds
 
--- the verbs of a version; no two are written alike, and those that a trace has most of stand first
+-- the verbs of every version, of which those that a trace has most of stand first
+abbrev pub first_verbs : List Verb
+first_verbs = Switch ∷ Wake ∷ Stall ∷ Unstall ∷ Migrate ∷ Move ∷ Fork ∷ Mem ∷ Host ∷ Group ∷ Remove ∷ Prefer ∷ Trigger ∷ End ∷ []
+
+-- the verbs that a version has besides
+abbrev pub more_verbs : Version → List Verb
+more_verbs One = []
+more_verbs Two = Irq ∷ []
+
+-- the verbs of a version; no two are written alike
 abbrev pub verbs_of : Version → List Verb
-verbs_of One = Switch ∷ Wake ∷ Stall ∷ Unstall ∷ Migrate ∷ Move ∷ Fork ∷ Mem ∷ Host ∷ Group ∷ Remove ∷ Prefer ∷ Trigger ∷ End ∷ []
+verbs_of version = first_verbs ++ more_verbs version
 
 -- a verb with the values of its fields
 pub record Phrase : Type 0 where
@@ -120,6 +145,7 @@ phrase_of (act.Move pid path) = phrase Move (pid, (path, tt))
 phrase_of (act.Mem path current swap scan) = phrase Mem (path, (current, (swap, (scan, tt))))
 phrase_of (act.Host mem_total swap_total swap_free) = phrase Host (mem_total, (swap_total, (swap_free, tt)))
 phrase_of (act.Trigger path res level threshold_us window_us) = phrase Trigger (path, (res, (level, (threshold_us, (window_us, tt)))))
+phrase_of (act.Irq cpu ns) = phrase Irq (cpu, (ns, tt))
 phrase_of act.End = phrase End tt
 
 -- ---- spelling
@@ -214,9 +240,9 @@ event_at verbs (time ∷ words) = event_in verbs (number_of time) words
 unfoldable pub event_of : List Verb → List ℕ → Result Event Cause
 event_of verbs line = event_at verbs (parts_at 32 line)
 
--- what a header of the first version tells
-abbrev pub plain_header : ℕ → Header
-plain_header cpus = record { version = One; cpus = cpus }
+-- what a header tells that has the number of a version
+abbrev pub header_with : ℕ → ℕ → Header
+header_with number cpus = record { version = version_of number; cpus = cpus }
 
 -- the line of a header
 abbrev pub header_line : Header → List ℕ

@@ -33,4 +33,5 @@ names (act.Move pid path) = record no_names { live_path = Some path; live_task =
 names (act.Mem path current swap scan) = record no_names { live_path = Some path }
 names (act.Host mem_total swap_total swap_free) = no_names
 names (act.Trigger path res level threshold_us window_us) = record no_names { live_path = Some path }
+names (act.Irq cpu ns) = record no_names { cpu = Some cpu.0 }
 names act.End = no_names

@@ -1,5 +1,5 @@
 -- Which events are legal in a world, and the cause against one that isn't.
-use Rattle.std.specs.Prelude.{◌≡◌, ℕ, List, [], ◌∷◌, length, nat_lt, nat_le, ◌==◌, ◌&&◌, ◌||◌, not, Bool, true, false, Option, None, Some, is_some, find}
+use Rattle.std.specs.Prelude.{◌≡◌, ℕ, ◌-◌, List, [], ◌∷◌, length, slice_index_or, nat_lt, nat_le, ◌==◌, ◌&&◌, ◌||◌, not, Bool, true, false, Option, None, Some, is_some, find}
 use Rattle.std.specs.List.{list_any}
 use Rattle.std.specs.FinMap as tasks_by
 use Rattle.psi_base.specs.declared.event.Pid.{Pid}
@@ -126,6 +126,11 @@ abbrev pub bad_window : Act → Bool
 bad_window (act.Trigger path res level threshold_us window_us) = not (is_window threshold_us window_us)
 bad_window _ = false
 
+-- interrupts took more than a second, or more time (ns) than passed since the last `irq` line of the processor
+abbrev pub irq_too_long : List ℕ → ℕ → Act → Bool
+irq_too_long irqs at (act.Irq cpu ns) = nat_lt 1000000000 ns || nat_lt (at - slice_index_or irqs cpu.0 0) ns
+irq_too_long irqs at _ = false
+
 -- ---- causes
 
 -- When each cause stands against an event in a world. Causes that a line's bytes alone can have stand against no event.
@@ -151,6 +156,7 @@ applies cause.NotBlocked limits w event = not_blocked w.tasks event.act
 applies cause.WrongHow limits w event = wrong_how w.tasks event.act
 applies cause.InStall limits w event = in_stall w.tasks event.act
 applies cause.NotInStall limits w event = not_in_stall w.tasks event.act
+applies cause.IrqTooLong limits w event = irq_too_long w.irqs event.at event.act
 applies cause.BadHeader limits w event = false
 applies cause.LineTooLong limits w event = false
 applies cause.BadTime limits w event = false
@@ -165,7 +171,8 @@ cause_order =
     ∷ cause.TooManyEvents ∷ cause.TooManyGroups ∷ cause.TooManyTasks ∷ cause.TooManyTriggers
     ∷ cause.UnknownGroup ∷ cause.GroupExists ∷ cause.NoParent ∷ cause.GroupBusy
     ∷ cause.UnknownTask ∷ cause.TaskExists ∷ cause.BadWindow ∷ cause.BadCpu
-    ∷ cause.NotRunning ∷ cause.NotReady ∷ cause.NotBlocked ∷ cause.WrongHow ∷ cause.InStall ∷ cause.NotInStall ∷ []
+    ∷ cause.NotRunning ∷ cause.NotReady ∷ cause.NotBlocked ∷ cause.WrongHow ∷ cause.InStall ∷ cause.NotInStall
+    ∷ cause.IrqTooLong ∷ []
 
 -- the first cause against an event, or none where the event is legal
 unfoldable pub cause_of : Limits → World → Event → Option Cause

@@ -1,10 +1,12 @@
--- When a group is in a state on a processor, and for how long.
-use Rattle.std.specs.Prelude.{◌≡◌, ℕ, zero, suc, ◌+◌, ◌-◌, ◌≤◌, List, [], ◌∷◌, ◌++◌, length, sum, map, take, filter, slice_index_or, ◌==◌, ◌&&◌, ◌||◌, not, Bool, false, if◌then◌else◌, Option, None, Some}
+-- When a group is in a state on a processor, and for how long; and how long interrupts took from it there.
+use Rattle.std.specs.Prelude.{◌≡◌, ℕ, zero, suc, ◌+◌, ◌-◌, ◌≤◌, List, [], ◌∷◌, ◌++◌, length, sum, map, take, filter, slice_get, slice_index_or, ◌==◌, ◌&&◌, ◌||◌, not, Bool, false, if◌then◌else◌, Option, None, Some}
 use Rattle.std.specs.List.{list_any, list_all, range_with_len}
 use Rattle.std.specs.FinMap as tasks_by
 use Rattle.psi_base.specs.declared.event.Slot.{Slot}
 use Rattle.psi_base.specs.declared.event.State.{State}
 use Rattle.psi_base.specs.declared.event.State.TheVariants.{IoSome, IoFull, MemSome, MemFull, CpuSome, CpuFull, Nonidle}
+use Rattle.psi_base.specs.declared.event.Act.{Act}
+use Rattle.psi_base.specs.declared.event.Act.TheVariants as act
 use Rattle.psi_base.specs.declared.event.Event.{Event}
 use Rattle.psi_spec.specs.declared.machine.Task.{Task}
 use Rattle.psi_spec.specs.declared.machine.GroupLife.{GroupLife}
@@ -106,6 +108,31 @@ stall_after state cpu slot events at i = if holds state cpu slot (after (take i 
 unfoldable pub stall : State → ℕ → ℕ → List Event → ℕ → ℕ
 stall state cpu slot events at = sum (map (stall_after state cpu slot events at) (range_with_len 1 (length events)))
 
+-- ---- interrupt time
+
+-- a task runs on a processor, in a group or below it
+unfoldable pub has_running : ℕ → ℕ → World → Bool
+has_running cpu slot w = list_any runs (tasks_in (parents_of w.groups) cpu slot w.tasks)
+
+-- the time (ns) that interrupts took on a processor, as an act tells it
+abbrev pub irq_told : ℕ → Act → ℕ
+irq_told cpu (act.Irq named ns) = if named.0 == cpu then ns else 0
+irq_told cpu _ = 0
+
+-- the time (ns) that interrupts took from a group on a processor, by an event, if there is one, in a world: what the event
+-- tells, where a task of the group runs there
+abbrev pub irq_from : ℕ → ℕ → World → Option Event → ℕ
+irq_from cpu slot w None = 0
+irq_from cpu slot w (Some event) = if has_running cpu slot w then irq_told cpu event.act else 0
+
+-- the time (ns) that interrupts took from a group on a processor by the event with a number from 1, in the world before it
+abbrev pub irq_by : ℕ → ℕ → List Event → ℕ → ℕ
+irq_by cpu slot events i = irq_from cpu slot (after (take (i - 1) events)) (slice_get events (i - 1))
+
+-- how long (ns) interrupts took from a group on a processor: the sum over the events
+unfoldable pub irq_time : ℕ → ℕ → List Event → ℕ
+irq_time cpu slot events = sum (map (irq_by cpu slot events) (range_with_len 1 (length events)))
+
 -- ---- laws
 
 -- Stall time grows by an event as a clock does: up to the event by what was before it, and from it on where the state
@@ -118,3 +145,8 @@ GrowsByEvent = (state : State) (cpu slot : ℕ) (events : List Event) (event : E
 abbrev pub GrowsWithTime : Type 0
 GrowsWithTime = (state : State) (cpu slot : ℕ) (events : List Event) (event : Event) (at later : ℕ) → event.at ≤ at → at ≤ later →
     stall state cpu slot (events ++ event ∷ []) later ≡ stall state cpu slot (events ++ event ∷ []) at + (if holds state cpu slot (after (events ++ event ∷ [])) then later - at else 0)
+
+-- Interrupt time grows by an event as that tells in the world before it.
+abbrev pub IrqByEvent : Type 0
+IrqByEvent = (cpu slot : ℕ) (events : List Event) (event : Event) →
+    irq_time cpu slot (events ++ event ∷ []) ≡ irq_time cpu slot events + irq_from cpu slot (after events) (Some event)

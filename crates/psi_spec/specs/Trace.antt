@@ -8,8 +8,8 @@ use Rattle.psi_base.specs.declared.event.Cause.{Cause}
 use Rattle.psi_base.specs.declared.event.Cause.TheVariants as cause
 use Rattle.psi_base.specs.declared.event.Refusal.{Refusal}
 use Rattle.psi_spec.specs.Fields.{IsAmong}
-use Rattle.psi_spec.specs.Grammar.{Fits, Header, IsKnown, Verb, Version, event_of, One, header, header_of, spelling, verbs_of, version_number}
-use Rattle.psi_spec.specs.World.{World, Limits, first_world, after_event, after}
+use Rattle.psi_spec.specs.Grammar.{Fits, Header, IsKnown, Verb, Version, event_of, header, header_of, spelling, verbs_of, version_number}
+use Rattle.psi_spec.specs.World.{World, Limits, first_world, after_event, after, most_cpus}
 use Rattle.psi_spec.specs.Refusal.{cause_of, AreLegal}
 
 -- an accepted trace: its version, how many processors it has, and its events
@@ -66,9 +66,9 @@ pub record Accepts : Type 0 where
   pub versions : List Version
   pub verbs : Version → List Verb
 
--- all that there is, at a length of a tick (ns)
-abbrev pub accepts_all : ℕ → Accepts
-accepts_all tick = record { tick = tick; versions = One ∷ []; verbs = verbs_of }
+-- traces of these versions with all their verbs, at a length of a tick (ns)
+abbrev pub accepts_with : List Version → ℕ → Accepts
+accepts_with versions tick = record { tick = tick; versions = versions; verbs = verbs_of }
 
 -- ---- one line
 
@@ -155,7 +155,7 @@ trace_of accepts bytes = trace_of_parts accepts (parts_at 10 bytes)
 
 -- how many processors a trace may have
 abbrev pub IsCpuCount : ℕ → Type 0
-IsCpuCount cpus = (1 ≤ cpus) × (cpus ≤ 64)
+IsCpuCount cpus = (1 ≤ cpus) × (cpus ≤ most_cpus)
 
 -- what makes bytes a trace, with no reader in sight: they are its text, its version is accepted, and its events, each by a verb
 -- that is accepted, make up a trace

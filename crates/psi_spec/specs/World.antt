@@ -1,5 +1,5 @@
 -- The tasks and groups of a machine, and what an event does to them.
-use Rattle.std.specs.Prelude.{ℕ, ◌+◌, List, [], ◌∷◌, ◌++◌, map, filter, nat_le, ◌==◌, ◌&&◌, ◌||◌, not, Bool, true, false, if◌then◌else◌, codes, Option, None, Some, is_some, find, unwrap_or}
+use Rattle.std.specs.Prelude.{ℕ, ◌+◌, List, [], ◌∷◌, ◌++◌, map, filter, nat_le, ◌==◌, ◌&&◌, ◌||◌, not, Bool, true, false, if◌then◌else◌, codes, Option, None, Some, is_some, find, unwrap_or, replicate, slice_set}
 use Rattle.std.specs.List.{list_any}
 use Rattle.std.specs.Str.{bytes_eq}
 use Rattle.std.specs.Ordering.{nat_cmp}
@@ -139,7 +139,11 @@ marked_removed path at group = if is_live group && bytes_eq group.path path then
 
 -- ---- the world
 
--- how many event lines a trace may have, how many groups there may ever be, the root among them, and how many live tasks
+-- how many processors a machine may have, how many event lines its trace, how many groups there may ever be, the root among
+-- them, and how many live tasks
+abbrev pub most_cpus : ℕ
+most_cpus = 64
+
 abbrev pub most_events : ℕ
 most_events = 4000000
 
@@ -154,11 +158,12 @@ pub record Limits : Type 0 where
   pub cpus : ℕ
   pub latest : ℕ
 
--- the live tasks, all groups ever made in the order of their slots, and how many triggers and event lines there were,
--- the moment of the last line (ns), and whether the trace has ended
+-- the live tasks, all groups ever made in the order of their slots, for each processor the moment (ns) of its last `irq` line
+-- or 0, how many triggers and event lines there were, the moment of the last line (ns), and whether the trace has ended
 pub record World : Type 0 where
   pub tasks : Tasks
   pub groups : List GroupLife
+  pub irqs : List ℕ
   pub triggers : ℕ
   pub lines : ℕ
   pub last : ℕ
@@ -166,7 +171,7 @@ pub record World : Type 0 where
 
 -- the root alone, and no task
 abbrev pub first_world : World
-first_world = record { tasks = no_tasks; groups = root ∷ []; triggers = 0; lines = 0; last = 0; ended = false }
+first_world = record { tasks = no_tasks; groups = root ∷ []; irqs = replicate most_cpus 0; triggers = 0; lines = 0; last = 0; ended = false }
 
 -- ---- effects
 
@@ -211,7 +216,8 @@ start None tasks = tasks
 start (Some pid) tasks = change tasks pid.0 (λ task. record task { mode = Running })
 
 -- what an act does to tasks: nothing; a task is made in a group on a processor, is put on the run queue of a processor, starts
--- or ends a memory stall, or goes to another group; or the task that runs on a processor leaves, and the next starts
+-- or ends a memory stall, or goes to another group; the task that runs on a processor leaves, and the next starts; or the one
+-- that runs there is held up by interrupts, and is as before
 pub data Effect : Type 0 where
   none : Effect
   forks : Pid → List ℕ → Cpu → Effect
@@ -219,6 +225,7 @@ pub data Effect : Type 0 where
   stalls : Pid → Bool → Effect
   moves : Pid → List ℕ → Effect
   switches : Cpu → Option Pid → How → Effect
+  interrupts : Cpu → Effect
 
 -- what each act does to tasks
 abbrev pub effect_of : Act → Effect
@@ -235,6 +242,7 @@ effect_of (act.Move pid path) = moves pid path
 effect_of (act.Mem path current swap scan) = none
 effect_of (act.Host mem_total swap_total swap_free) = none
 effect_of (act.Trigger path res level threshold_us window_us) = none
+effect_of (act.Irq cpu ns) = interrupts cpu
 effect_of act.End = none
 
 -- the tasks after an effect
@@ -245,6 +253,7 @@ tasks_by_effect groups tasks (readies pid cpu) = change tasks pid.0 (readied cpu
 tasks_by_effect groups tasks (stalls pid stalled) = change tasks pid.0 (λ task. record task { stalled = stalled })
 tasks_by_effect groups tasks (moves pid path) = change tasks pid.0 (λ task. record task { slot = record { 0 = unwrap_or (slot_of groups path) 0 } })
 tasks_by_effect groups tasks (switches cpu next how) = start next (leave how tasks (running_on tasks cpu.0))
+tasks_by_effect groups tasks (interrupts cpu) = tasks
 
 -- what an act does to the tasks
 abbrev pub tasks_after : List GroupLife → Tasks → Act → Tasks
@@ -264,6 +273,11 @@ with_removed at (Some path) groups = map (marked_removed path at) groups
 abbrev pub groups_after : ℕ → List GroupLife → Act → List GroupLife
 groups_after at groups what = with_new at (names what).new_path (with_removed at (names what).removed_path groups)
 
+-- the moments (ns) of the last `irq` lines of all processors after an act at a moment
+abbrev pub irqs_after : ℕ → List ℕ → Act → List ℕ
+irqs_after at irqs (act.Irq cpu ns) = slice_set irqs cpu.0 at
+irqs_after at irqs _ = irqs
+
 -- the act makes a trigger
 abbrev pub is_trigger : Act → Bool
 is_trigger (act.Trigger path res level threshold_us window_us) = true
@@ -279,6 +293,7 @@ abbrev pub after_event : World → Event → World
 after_event w event = record {
   tasks = tasks_after w.groups w.tasks event.act;
   groups = groups_after event.at w.groups event.act;
+  irqs = irqs_after event.at w.irqs event.act;
   triggers = w.triggers + (if is_trigger event.act then 1 else 0);
   lines = w.lines + 1;
   last = event.at;

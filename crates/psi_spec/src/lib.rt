@@ -3,16 +3,14 @@
 //!
 //! In `specs/`, in the order of reading: `Fields` and `Grammar` (which bytes spell an event), `Names` (what an act names),
 //! `World` (tasks and groups, and what an event does to them), `Refusal` (which events are legal, and the first cause against
-//! others), `Groups`, `Stall` (when a group is in a state, and for how long), `Changes` (which events change a processor),
-//! `Told` (the triggers that a trace sets), `Trace` (which bytes are a trace).
+//! others), `Groups`, `Stall` (when a group is in a state, and for how long; how long interrupts took from it), `Changes` (which
+//! events change a processor), `Told` (the triggers that a trace sets), `Trace` (which bytes are a trace).
 #![tactic(auto)]
 
-mod grammar;
 mod groups;
 mod laws;
 mod machine;
 
-pub use grammar::{law_event_lines, law_header_lines};
 pub use groups::{law_ancestors, law_kept_parents, law_legal_groups};
-pub use laws::{law_stall_time, law_traces};
+pub use laws::{law_irq_time, law_stall_time};
 pub use machine::{GroupLife, Mode, Task};

@@ -15,8 +15,9 @@ use Rattle.psi_base.specs.declared.event.How.{How}
 use Rattle.psi_base.specs.declared.event.Pid.{Pid}
 use Rattle.psi_base.proofs.NumberLaws.{numerals}
 use Rattle.psi_spec.specs.Fields.{InRange, IsPid, how_word, next_word, word}
-use Rattle.psi_spec.specs.Grammar.{AreInRange, act_words, form_of, joined, kinds_of, spelling, phrase_of, verb_word, field_words}
-use Rattle.psi_spec.proofs.GrammarReads.{spelled_in_line}
+use Rattle.psi_spec.specs.Grammar.{AreInRange, IsKnown, act_words, first_verbs, form_of, joined, kinds_of, spelling, phrase_of, verb_word, field_words}
+use Rattle.psi_spec.specs.Grammar as verb
+use Rattle.trace_laws.proofs.GrammarReads.{found_first, spelled_in_line}
 use Rattle.psi_trace.specs.Front.{AreDigits, BeginsWithEvent, HasInFront}
 
 -- ---- digits
@@ -119,6 +120,7 @@ pub switch_front : (at : ℕ) (cpu : Cpu) (next : Option Pid) (how : How) (field
 unfolding spelling
 switch_front at cpu next how fields more last rest fits cpu_fits is_next is then ends = record {
   fits = record { at = fits; act = (cpu_fits, (is_next, (tt, tt))) };
+  known = found_first verb.Switch refl;
   whole = three_fields (decimal at) (codes "switch") (decimal cpu.0) (next_word next) (how_word how) fields more last rest is then ends;
 }
 
@@ -127,6 +129,7 @@ pub wake_front : (at : ℕ) (pid : Pid) (cpu : Cpu) (fields more rest : List ℕ
 unfolding spelling
 wake_front at pid cpu fields more rest fits is_pid cpu_fits is then = record {
   fits = record { at = fits; act = (is_pid, (cpu_fits, tt)) };
+  known = found_first verb.Wake refl;
   whole = two_fields (decimal at) (codes "wake") (decimal pid.0) (decimal cpu.0) fields more rest is then;
 }
 
@@ -135,6 +138,7 @@ pub migrate_front : (at : ℕ) (pid : Pid) (cpu : Cpu) (fields more rest : List 
 unfolding spelling
 migrate_front at pid cpu fields more rest fits is_pid cpu_fits is then = record {
   fits = record { at = fits; act = (is_pid, (cpu_fits, tt)) };
+  known = found_first verb.Migrate refl;
   whole = two_fields (decimal at) (codes "migrate") (decimal pid.0) (decimal cpu.0) fields more rest is then;
 }
 
@@ -142,6 +146,7 @@ pub stall_front : (at : ℕ) (pid : Pid) (fields rest : List ℕ) → at < 2 ^ 6
 unfolding spelling
 stall_front at pid fields rest fits is_pid is = record {
   fits = record { at = fits; act = (is_pid, tt) };
+  known = found_first verb.Stall refl;
   whole = one_field (decimal at) (codes "stall") (decimal pid.0) fields rest is;
 }
 
@@ -149,6 +154,7 @@ pub unstall_front : (at : ℕ) (pid : Pid) (fields rest : List ℕ) → at < 2 ^
 unfolding spelling
 unstall_front at pid fields rest fits is_pid is = record {
   fits = record { at = fits; act = (is_pid, tt) };
+  known = found_first verb.Unstall refl;
   whole = one_field (decimal at) (codes "unstall") (decimal pid.0) fields rest is;
 }
 

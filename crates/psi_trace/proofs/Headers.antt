@@ -1,81 +1,134 @@
 -- A header line, cut behind `cpus=`.
-use Rattle.std.proofs.Common.{◌≡◌, ◌≢◌, ℕ, ◌^◌, ◌<◌, ◌≤◌, List, [], ◌∷◌, ◌++◌, length, take, drop, refl, sym, ap, ◌∙◌, arith, true, false, take-append-drop, inl}
-use Rattle.std.specs.Prelude.{Option, None, Some, MatchOption, IfSome, IfNone, decimal, codes}
+use Rattle.std.proofs.Common.{◌≡◌, ◌≢◌, ℕ, ◌^◌, ◌<◌, ◌≤◌, List, [], ◌∷◌, ◌++◌, length, take, drop, refl, sym, ap, ◌∙◌, arith, true, false, get_or, take-append-drop, inl, inr, ⊎_elim}
+use Rattle.std.specs.Prelude.{Option, None, Some, IfSome, IfNone, decimal, codes}
 use Rattle.std.specs.Str.{bytes_eq}
 use Rattle.std.proofs.lemmas.Slice.Eq.{bytes_eq-Decides}
-use Rattle.std.proofs.lemmas.Fmt.{decimal_digit}
-use Rattle.psi_spec.specs.Grammar.{Header, One, Version, header, header_of, plain_header, version_number}
-use Rattle.psi_spec.proofs.GrammarWords.{decimal_short}
-use Rattle.psi_spec.proofs.GrammarHeaders.{headers_spelled, header-injective}
+use Rattle.std.proofs.Math.Seq.{take-append_seam}
+use Rattle.std.proofs.lemmas.Fmt.{decimal_digit, decimal_injective}
+use Rattle.psi_spec.specs.Fields.{IsAmong}
+use Rattle.psi_spec.specs.Grammar.{Header, IsVersion, One, Two, Version, header, header_line, header_of, header_with, version_number, version_of, versions}
+use Rattle.trace_laws.proofs.GrammarWords.{decimal_short}
+use Rattle.trace_laws.proofs.GrammarHeaders.{headers_spelled}
+use Rattle.psi_trace.specs.Heads.{before_cpus}
 
--- what stands ahead of the number of processors
-abbrev pub prefix : List ℕ
-prefix = codes "psitrace 1 cpus="
+-- ---- the bytes of a header
 
-pub header-prefix : (n : ℕ) → header 1 n ≡ prefix ++ decimal n
+pub header-before : (version n : ℕ) → header version n ≡ before_cpus version ++ decimal n
 unfolding header
-header-prefix n = ap (λ version. codes "psitrace " ++ version ++ codes " cpus=" ++ decimal n) (decimal_digit 1 (omega arith))
+header-before version n = refl
 
--- a header has at most 36 bytes
+-- what stands ahead of the number of processors in the first version
+abbrev pub first_before : List ℕ
+first_before = codes "psitrace 1 cpus="
+
+-- and in the second
+abbrev pub second_before : List ℕ
+second_before = codes "psitrace 2 cpus="
+
+pub before-first : (version : ℕ) → version ≡ 1 → before_cpus version ≡ first_before
+before-first version is = ap before_cpus is ∙ ap (λ digits. codes "psitrace " ++ digits ++ codes " cpus=") (decimal_digit 1 (omega arith))
+
+pub before-second : (version : ℕ) → version ≡ 2 → before_cpus version ≡ second_before
+before-second version is = ap before_cpus is ∙ ap (λ digits. codes "psitrace " ++ digits ++ codes " cpus=") (decimal_digit 2 (omega arith))
+
+-- a header of the first version
+pub header-prefix : (n : ℕ) → header 1 n ≡ first_before ++ decimal n
+header-prefix n = header-before 1 n ∙ ap (λ bytes. bytes ++ decimal n) (before-first 1 refl)
+
+-- it has at most 36 bytes
 pub header_short : (n : ℕ) → n < 2 ^ 64 → length (header 1 n) ≤ 36
 header_short n fits = rw (header-prefix n) (let short = decimal_short n fits in omega (arith, short))
 
--- what a line is from which a number of processors was read, or none
-abbrev pub HasNumber : List ℕ → Option ℕ → Type 0
-HasNumber line found = MatchOption found ((n : ℕ) → n < 2 ^ 64 → line ≢ header 1 n) (λ n. line ≡ header 1 n)
+-- ---- fronts
 
--- a line that has the prefix
-pub with_prefix : (line front rest : List ℕ) → front ≡ prefix → bytes_eq (take (length front) line) front ≡ true → rest ≡ drop (length front) line → line ≡ prefix ++ rest
-with_prefix line front rest same starts is =
+-- a line that has a front
+pub with_front : (line front rest known : List ℕ) → front ≡ known → bytes_eq (take (length front) line) front ≡ true → rest ≡ drop (length front) line → line ≡ known ++ rest
+with_front line front rest known same starts is =
     sym (take-append-drop (length front) line) ∙ ap (λ bytes. bytes ++ drop (length front) line) ((bytes_eq-Decides (take (length front) line) front).0 starts) ∙ ap (λ bytes. front ++ bytes) (sym is) ∙ ap (λ bytes. bytes ++ rest) same
+
+-- a line without it
+without_front : (line front known rest : List ℕ) → front ≡ known → bytes_eq (take (length front) line) front ≡ false → line ≢ known ++ rest
+without_front line front known rest same other is =
+    let starts : take (length front) line ≡ front = ap (take (length front)) is ∙ ap (λ bytes. take (length bytes) (known ++ rest)) same ∙ take-append_seam known rest ∙ sym same in
+    let equal = (bytes_eq-Decides (take (length front) line) front).1 starts in cc
+
+-- a line with neither front is no header
+pub no_front : (line one two : List ℕ) → one ≡ first_before → two ≡ second_before → bytes_eq (take (length one) line) one ≡ false → bytes_eq (take (length two) line) two ≡ false → (version n : ℕ) → IsVersion version → line ≢ header version n
+no_front line one two first second not_first not_second version n is spelled = ⊎_elim
+    (λ same. without_front line one first_before (decimal n) first not_first (spelled ∙ header-before version n ∙ ap (λ bytes. bytes ++ decimal n) (before-first version same)))
+    (λ same. without_front line two second_before (decimal n) second not_second (spelled ∙ header-before version n ∙ ap (λ bytes. bytes ++ decimal n) (before-second version same)))
+    is
+
+-- ---- headers that are read
+
+number_again : (version : ℕ) → IsVersion version → version_number (version_of version) ≡ version
+number_again version is = ⊎_elim (λ same. rw same refl) (λ same. rw same refl) is
+
+among : (version : Version) → IsAmong version versions
+among One = inl refl
+among Two = inr (inl refl)
+
+-- the number of a version is that of one
+pub is_version : (version : Version) → IsVersion (version_number version)
+is_version One = inl refl
+is_version Two = inr refl
+
+-- a header in range is read
+pub header_of-some : (line : List ℕ) (version n : ℕ) → IsVersion version → line ≡ header version n → 1 ≤ n → n ≤ 64 → header_of versions line ≡ Some (header_with version n)
+header_of-some line version n known is low high =
+    (headers_spelled versions line (header_with version n)).1 (among (version_of version), low, high, is ∙ ap (λ number. header number n) (sym (number_again version known)))
+
+no_header : (line : List ℕ) (read : Option Header) → header_of versions line ≡ read → ((version n : ℕ) → IsVersion version → 1 ≤ n → n ≤ 64 → line ≢ header version n) → read ≡ None
+no_header line None is none = refl
+no_header line (Some head) is none =
+    let spells = (headers_spelled versions line head).0 is in
+    absurd (none (version_number head.version) head.cpus (is_version head.version) spells.1 spells.2 spells.3)
+
+pub header_of-none : (line : List ℕ) → ((version n : ℕ) → IsVersion version → 1 ≤ n → n ≤ 64 → line ≢ header version n) → header_of versions line ≡ None
+header_of-none line none = no_header line (header_of versions line) refl none
+
+-- ---- headers by what stands behind their fronts
 
 front_same : (front xs ys : List ℕ) → front ++ xs ≡ front ++ ys → xs ≡ ys
 front_same [] xs ys is = is
 front_same (byte ∷ front) xs ys is = front_same front xs ys cc
 
--- a line with the prefix is the header of the number behind it
-pub HasNumber-prefix : (line rest : List ℕ) (found : Option ℕ) → line ≡ prefix ++ rest → IfSome found (λ n. rest ≡ decimal n) → IfNone found ((n : ℕ) → n < 2 ^ 64 → rest ≡ decimal n → ⊥) → HasNumber line found
-HasNumber-prefix line rest None is some none =
-    λ n fits spelled. none n fits (front_same prefix rest (decimal n) (sym is ∙ spelled ∙ header-prefix n))
-HasNumber-prefix line rest (Some n) is some none = is ∙ ap (λ bytes. prefix ++ bytes) some ∙ sym (header-prefix n)
+-- lines of the two versions differ in their tenth byte
+versions_differ : (xs ys : List ℕ) → first_before ++ xs ≡ second_before ++ ys → ⊥
+versions_differ xs ys is = let bytes : 49 ≡ 50 = ap (λ text. get_or text 9 0) is in omega (arith, bytes)
 
--- a line without the prefix is no header
-pub HasNumber-other : (line front : List ℕ) → front ≡ prefix → bytes_eq (take (length front) line) front ≡ false → HasNumber line None
-HasNumber-other line front same other n fits spelled =
-    let starts : take (length front) line ≡ front = ap (take (length front)) (spelled ∙ header-prefix n) ∙ ap (λ bytes. take (length bytes) (prefix ++ decimal n)) same ∙ sym same in
-    let equal = (bytes_eq-Decides (take (length front) line) front).1 starts in cc
+same_behind : (version other : ℕ) (xs ys : List ℕ) → IsVersion version → IsVersion other → before_cpus version ++ xs ≡ before_cpus other ++ ys → xs ≡ ys
+same_behind version other xs ys is also same =
+    let known : (number : ℕ) (front text : List ℕ) → before_cpus number ≡ front → before_cpus number ++ text ≡ front ++ text = λ number front text so. ap (λ bytes. bytes ++ text) so in
+    ⊎_elim
+    (λ one. ⊎_elim
+    (λ first. front_same first_before xs ys (sym (known version first_before xs (before-first version one)) ∙ same ∙ known other first_before ys (before-first other first)))
+    (λ second. absurd (versions_differ xs ys (sym (known version first_before xs (before-first version one)) ∙ same ∙ known other second_before ys (before-second other second))))
+    also)
+    (λ two. ⊎_elim
+    (λ first. absurd (versions_differ ys xs (sym (known other first_before ys (before-first other first)) ∙ sym same ∙ known version second_before xs (before-second version two))))
+    (λ second. front_same second_before xs ys (sym (known version second_before xs (before-second version two)) ∙ same ∙ known other second_before ys (before-second other second)))
+    also)
+    is
 
-pub header_of-some : (line : List ℕ) (n : ℕ) → line ≡ header 1 n → 1 ≤ n → n ≤ 64 → header_of (One ∷ []) line ≡ Some (plain_header n)
-header_of-some line n is low high = (headers_spelled (One ∷ []) line (plain_header n)).1 (inl refl, low, high, is)
+-- no number stands there
+pub header_of-wrong : (line : List ℕ) (version : ℕ) (rest : List ℕ) → IsVersion version → line ≡ before_cpus version ++ rest → ((n : ℕ) → n < 2 ^ 64 → rest ≡ decimal n → ⊥) → header_of versions line ≡ None
+header_of-wrong line version rest known cut none =
+    header_of-none line (λ other n is low high spelled. none n (omega (arith, high)) (same_behind version other rest (decimal n) known is (sym cut ∙ spelled ∙ header-before other n)))
 
--- a header that was read is one of the first version
-one_version : (version : Version) → version ≡ One
-one_version One = refl
+-- one of too few or too many processors does
+pub header_of-other : (line : List ℕ) (version n : ℕ) (rest : List ℕ) → IsVersion version → line ≡ before_cpus version ++ rest → rest ≡ decimal n → n < 2 ^ 64 → (1 ≤ n → 64 < n) → header_of versions line ≡ None
+header_of-other line version n rest known cut is fits out =
+    header_of-none line (λ other m also low high spelled.
+    let same = decimal_injective n m fits (omega (arith, high)) (sym is ∙ same_behind version other rest (decimal m) known also (sym cut ∙ spelled ∙ header-before other m)) in
+    omega (arith, same, out, low, high))
 
-plain_spells : (line : List ℕ) (head : Header) → header_of (One ∷ []) line ≡ Some head → (1 ≤ head.cpus) × (head.cpus ≤ 64) × (line ≡ header 1 head.cpus)
-plain_spells line head is =
-    let spells = (headers_spelled (One ∷ []) line head).0 is in
-    (spells.1, spells.2, spells.3 ∙ ap (λ v. header (version_number v) head.cpus) (one_version head.version))
+-- ---- the same, of what was read
 
-no_header : (line : List ℕ) (read : Option Header) → header_of (One ∷ []) line ≡ read → ((n : ℕ) → 1 ≤ n → n ≤ 64 → line ≢ header 1 n) → read ≡ None
-no_header line None is none = refl
-no_header line (Some head) is none =
-    let spells = plain_spells line head is in
-    absurd (none head.cpus spells.0 spells.1 spells.2)
+pub header_found : (line : List ℕ) (version n : ℕ) → IsVersion version → header_of versions line ≡ Some (header_with version n) → IsVersion version × (1 ≤ n) × (n ≤ 64) × (line ≡ header version n)
+header_found line version n known is =
+    let spells = (headers_spelled versions line (header_with version n)).0 is in
+    (known, spells.1, spells.2, spells.3 ∙ ap (λ number. header number n) (number_again version known))
 
-pub header_of-none : (line : List ℕ) → ((n : ℕ) → 1 ≤ n → n ≤ 64 → line ≢ header 1 n) → header_of (One ∷ []) line ≡ None
-header_of-none line none = no_header line (header_of (One ∷ []) line) refl none
-
--- a header of too few or too many processors is none
-pub header_of-other : (line : List ℕ) (n : ℕ) → line ≡ header 1 n → n < 2 ^ 64 → (1 ≤ n → 64 < n) → header_of (One ∷ []) line ≡ None
-header_of-other line n is fits out =
-    header_of-none line (λ m low high spelled.
-    let same = header-injective 1 n m fits (omega arith) (sym is ∙ spelled) in
-    omega (arith, same, out))
-
--- the same, of what was read
-pub header_found : (line : List ℕ) (n : ℕ) → header_of (One ∷ []) line ≡ Some (plain_header n) → (1 ≤ n) × (n ≤ 64) × (line ≡ header 1 n)
-header_found line n is = plain_spells line (plain_header n) is
-
-pub header_missed : (line : List ℕ) → header_of (One ∷ []) line ≡ None → (n : ℕ) → 1 ≤ n → n ≤ 64 → line ≢ header 1 n
-header_missed line is n low high spelled = let some = header_of-some line n spelled low high in cc
+pub header_missed : (line : List ℕ) → header_of versions line ≡ None → (version n : ℕ) → IsVersion version → 1 ≤ n → n ≤ 64 → line ≢ header version n
+header_missed line is version n known low high spelled = let some = header_of-some line version n known spelled low high in cc

@@ -6,7 +6,7 @@ use Rattle.psi_base.specs.declared.event.Event.{Event}
 use Rattle.psi_base.specs.Path.{is_path}
 use Rattle.psi_spec.specs.Fields as kind
 use Rattle.psi_spec.specs.Grammar.{joined, act_words, spelling}
-use Rattle.psi_spec.proofs.GrammarWords.{word_short}
+use Rattle.trace_laws.proofs.GrammarWords.{word_short}
 use Rattle.psi_trace.proofs.Headers.{header-prefix}
 use Rattle.psi_trace.specs.Writes.{spaced}
 

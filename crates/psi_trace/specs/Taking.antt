@@ -6,7 +6,7 @@ use Rattle.psi_base.specs.declared.event.Event.{Event}
 use Rattle.psi_base.specs.declared.event.Fault.{Fault}
 use Rattle.psi_base.specs.declared.event.Fault.TheVariants.{Refused, NoMemory}
 use Rattle.psi_spec.specs.Fields.{Kind, path}
-use Rattle.psi_spec.specs.Grammar.{One, verbs_of, Verb, kinds_of, verb_of}
+use Rattle.psi_spec.specs.Grammar.{Verb, kinds_of, verb_of}
 
 -- the call took from the words what the definition takes, and these are left
 abbrev pub TakesWords : {A W : Type 0} → Result A Cause → W → Result (A × W) Cause → Type 0
@@ -17,7 +17,7 @@ TakesWords (Err cause) rest read = read ≡ Err cause
 abbrev pub TakesAny : {A W : Type 0} → Result A (Fault Cause) → W → Result (A × W) Cause → Type 0
 TakesAny (Ok x) rest read = read ≡ Ok (x, rest)
 TakesAny (Err (Refused cause)) rest read = read ≡ Err cause
-TakesAny (Err NoMemory) rest read = ⊤
+TakesAny (Err (NoMemory _)) rest read = ⊤
 
 -- the event at a time (ns) of an act that was read
 abbrev pub dated : ℕ → Result Act Cause → Result Event Cause
@@ -35,7 +35,7 @@ abbrev pub takes_path : Option Verb → Bool
 takes_path None = false
 takes_path (Some verb) = has_path (kinds_of verb)
 
--- the parts from the verb on, of which the verb has a path among its fields
-abbrev pub names_path : List (List ℕ) → Bool
-names_path [] = false
-names_path (text ∷ words) = takes_path (verb_of (verbs_of One) text)
+-- the parts from the verb on, which is one of these verbs and has a path among its fields
+abbrev pub names_path : List Verb → List (List ℕ) → Bool
+names_path verbs [] = false
+names_path verbs (text ∷ words) = takes_path (verb_of verbs text)

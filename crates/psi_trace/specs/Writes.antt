@@ -15,5 +15,6 @@ is_short (act.Switch cpu next how) = true
 is_short (act.Stall pid) = true
 is_short (act.Unstall pid) = true
 is_short (act.Migrate pid cpu) = true
+is_short (act.Irq cpu ns) = true
 is_short act.End = true
 is_short _ = false

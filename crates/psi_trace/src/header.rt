@@ -1,43 +1,65 @@
 //! The header of a trace.
-ghost use Rattle.std.specs.Prelude.{◌≡◌, ◌≢◌, ℕ, ◌≤◌, ◌<◌, ◌^◌, Some, None, MatchOption, MatchResult, option_map, [], ◌∷◌};
+ghost use Rattle.std.specs.Prelude.{◌≡◌, ◌≢◌, ℕ, ◌≤◌, ◌++◌, None, Some, IfSome, MatchOption, MatchResult, option_map};
 ghost use Rattle.psi_base.specs.declared.event.Cause.TheVariants as cause;
-ghost use Rattle.psi_spec.specs.Grammar.{One, header, header_of, plain_header};
+ghost use Rattle.psi_spec.specs.Grammar.{IsVersion, header, header_of, header_with, versions};
+ghost use Rattle.psi_trace.specs.Heads.{before_cpus};
 
 use psi_base::{Cause, read_number};
 
-// The number of processors of a header of version 1, of however many.
-fn number_in(line: &[u8]) -> Option<u64>
-    ensures { MatchOption result ((n : ℕ) → n < 2 ^ 64 → line.now ≢ header 1 n)
-        (λ n. line.now ≡ header 1 n) }
-{
-    match line.strip_prefix(b"psitrace 1 cpus=".as_slice()) {
-        Some(number) => read_number(number),
-        None => None,
-    }
+/// What a header tells.
+#[derive(Clone, Copy, Debug, PartialEq, Eq)]
+pub struct Header {
+    /// The number of the trace's version, 1 or 2.
+    pub version: u32,
+    /// How many processors there are, 1 to 64.
+    pub cpus: u32,
 }
 
-fn processors_in(line: &[u8]) -> Option<u32>
-    ensures { header_of (One ∷ []) line.now ≡ option_map plain_header result }
+// The number of the version of a header, and what stands where the number of processors is due.
+fn version_in(line: &[u8]) -> Option<(u32, &[u8])>
+    ensures { MatchOption result
+        ((version n : ℕ) → IsVersion version → line.now ≢ header version n)
+        (λ found. IsVersion found.0 × (line.now ≡ before_cpus found.0 ++ found.1.now)) }
 {
-    let cpus = number_in(line)?;
+    if let Some(number) = line.strip_prefix(b"psitrace 1 cpus=".as_slice()) {
+        return Some((1, number));
+    }
+    if let Some(number) = line.strip_prefix(b"psitrace 2 cpus=".as_slice()) {
+        return Some((2, number));
+    }
+    None
+}
+
+fn header_in(line: &[u8]) -> Option<Header>
+    ensures version { IfSome result (λ head. IsVersion head.version) }
+    ensures exact { header_of versions line.now
+        ≡ option_map (λ head. header_with head.version head.cpus) result }
+{
+    let (version, number) = version_in(line)?;
+    let cpus = read_number(number)?;
     if cpus < 1 || cpus > 64 {
         return None;
     }
-    Some(cpus as u32)
+    Some(Header {
+        version,
+        cpus: cpus as u32,
+    })
 }
 
-/// The number of processors of a header line, 1 to 64, given without its newline. `BadHeader` where the line is no
-/// header of version 1.
-pub fn read_header(line: &[u8]) -> Result<u32, Cause>
+/// What a header line tells, given without its newline. `BadHeader` where the line is no header of a version.
+pub fn read_header(line: &[u8]) -> Result<Header, Cause>
     ensures spelled { MatchResult result
-        (λ cpus. (1 ≤ cpus) × (cpus ≤ 64) × (line.now ≡ header 1 cpus))
-        (λ e. (e ≡ cause.BadHeader) × ((n : ℕ) → 1 ≤ n → n ≤ 64 → line.now ≢ header 1 n)) }
+        (λ head. IsVersion head.version × (1 ≤ head.cpus) × (head.cpus ≤ 64)
+        × (line.now ≡ header head.version head.cpus))
+        (λ e. (e ≡ cause.BadHeader)
+        × ((version n : ℕ) → IsVersion version → 1 ≤ n → n ≤ 64 →
+        line.now ≢ header version n)) }
     ensures exact { MatchResult result
-        (λ cpus. header_of (One ∷ []) line.now ≡ Some (plain_header cpus))
-        (λ _. header_of (One ∷ []) line.now ≡ None) }
+        (λ head. header_of versions line.now ≡ Some (header_with head.version head.cpus))
+        (λ _. header_of versions line.now ≡ None) }
 {
-    match processors_in(line) {
-        Some(cpus) => Ok(cpus),
+    match header_in(line) {
+        Some(head) => Ok(head),
         None => Err(Cause::BadHeader),
     }
 }

@@ -13,6 +13,6 @@ mod read;
 mod write;
 
 pub use front::front_event;
-pub use header::read_header;
+pub use header::{Header, read_header};
 pub use read::read_event;
 pub use write::{write_event, write_header};

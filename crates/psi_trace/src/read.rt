@@ -3,10 +3,10 @@ ghost use Rattle.std.specs.Prelude.{◌≡◌, ◌≢◌, IfOk, Err, drop, true}
 ghost use Rattle.psi_base.specs.Path.{parts_at};
 ghost use Rattle.psi_base.specs.declared.event.Cause.{Cause};
 ghost use Rattle.psi_base.specs.declared.event.Event.{Event};
-ghost use Rattle.psi_base.specs.declared.event.Fault.TheVariants as fault;
 ghost use Rattle.psi_spec.specs.Grammar as verb;
-ghost use Rattle.psi_spec.specs.Grammar.{Fits, IsCause, One, act_at, act_from, event_of, spelling, verbs_of};
-ghost use Rattle.psi_base.specs.Gives.{Gives};
+ghost use Rattle.psi_spec.specs.Grammar.{Fits, IsCause, IsKnown, IsVersion, act_at, act_from, event_of, spelling, verbs_of, version_of};
+ghost use Rattle.psi_base.specs.declared.event.Fault.TheVariants as fault;
+ghost use Rattle.psi_base.specs.Gives.{Gives, lacks_memory};
 ghost use Rattle.psi_trace.specs.Taking.{dated, names_path};
 
 use crate::field::{
@@ -24,7 +24,7 @@ use std::alloc::Global;
 #[inline(always)]
 fn switch_of(at: Ns, mut words: Words) -> Result<Event, Fault<Cause>>
     ensures exact { Gives result (dated at (act_from verb.Switch words.entry)) }
-    ensures memory { result ≢ Err fault.NoMemory }
+    ensures memory { result ≢ Err lacks_memory }
 {
     let cpu = cpu_field(&mut words, 1)?;
     let next = next_field(&mut words, 2)?;
@@ -38,7 +38,7 @@ fn switch_of(at: Ns, mut words: Words) -> Result<Event, Fault<Cause>>
 #[inline(always)]
 fn wake_of(at: Ns, mut words: Words) -> Result<Event, Fault<Cause>>
     ensures exact { Gives result (dated at (act_from verb.Wake words.entry)) }
-    ensures memory { result ≢ Err fault.NoMemory }
+    ensures memory { result ≢ Err lacks_memory }
 {
     let pid = pid_field(&mut words, 1)?;
     let cpu = cpu_field(&mut words, 2)?;
@@ -51,7 +51,7 @@ fn wake_of(at: Ns, mut words: Words) -> Result<Event, Fault<Cause>>
 #[inline(always)]
 fn stall_of(at: Ns, mut words: Words) -> Result<Event, Fault<Cause>>
     ensures exact { Gives result (dated at (act_from verb.Stall words.entry)) }
-    ensures memory { result ≢ Err fault.NoMemory }
+    ensures memory { result ≢ Err lacks_memory }
 {
     let pid = pid_field(&mut words, 1)?;
     end_of(&mut words, 2)?;
@@ -63,7 +63,7 @@ fn stall_of(at: Ns, mut words: Words) -> Result<Event, Fault<Cause>>
 #[inline(always)]
 fn unstall_of(at: Ns, mut words: Words) -> Result<Event, Fault<Cause>>
     ensures exact { Gives result (dated at (act_from verb.Unstall words.entry)) }
-    ensures memory { result ≢ Err fault.NoMemory }
+    ensures memory { result ≢ Err lacks_memory }
 {
     let pid = pid_field(&mut words, 1)?;
     end_of(&mut words, 2)?;
@@ -75,7 +75,7 @@ fn unstall_of(at: Ns, mut words: Words) -> Result<Event, Fault<Cause>>
 #[inline(always)]
 fn migrate_of(at: Ns, mut words: Words) -> Result<Event, Fault<Cause>>
     ensures exact { Gives result (dated at (act_from verb.Migrate words.entry)) }
-    ensures memory { result ≢ Err fault.NoMemory }
+    ensures memory { result ≢ Err lacks_memory }
 {
     let pid = pid_field(&mut words, 1)?;
     let cpu = cpu_field(&mut words, 2)?;
@@ -132,7 +132,7 @@ fn mem_of(alloc: Global, at: Ns, mut words: Words) -> Result<Event, Fault<Cause>
 #[inline(always)]
 fn host_of(at: Ns, mut words: Words) -> Result<Event, Fault<Cause>>
     ensures exact { Gives result (dated at (act_from verb.Host words.entry)) }
-    ensures memory { result ≢ Err fault.NoMemory }
+    ensures memory { result ≢ Err lacks_memory }
 {
     let mem_total = amount_field(&mut words, 1)?;
     let swap_total = amount_field(&mut words, 2)?;
@@ -203,20 +203,35 @@ fn trigger_of(alloc: Global, at: Ns, mut words: Words) -> Result<Event, Fault<Ca
 
 #[tactic(auto, unfolding(psi_spec::specs::Grammar::act_from))]
 #[inline(always)]
+fn irq_of(at: Ns, mut words: Words) -> Result<Event, Fault<Cause>>
+    ensures exact { Gives result (dated at (act_from verb.Irq words.entry)) }
+    ensures memory { result ≢ Err lacks_memory }
+{
+    let cpu = cpu_field(&mut words, 1)?;
+    let ns = number_field(&mut words, 2)?;
+    end_of(&mut words, 3)?;
+    let act = Act::Irq { cpu, ns };
+    Ok(Event { at, act })
+}
+
+#[tactic(auto, unfolding(psi_spec::specs::Grammar::act_from))]
+#[inline(always)]
 fn end_of_trace(at: Ns, mut words: Words) -> Result<Event, Fault<Cause>>
     ensures exact { Gives result (dated at (act_from verb.End words.entry)) }
-    ensures memory { result ≢ Err fault.NoMemory }
+    ensures memory { result ≢ Err lacks_memory }
 {
     end_of(&mut words, 1)?;
     let act = Act::End;
     Ok(Event { at, act })
 }
 
-// The event at a time (ns) of the verb that is the next part, and of its fields: the verbs that a trace has most of first.
+// The event at a time (ns) of the verb that is the next part, and of its fields, in a trace of a version: the verbs that a
+// trace has most of first.
 #[tactic(auto, unfolding(psi_spec::specs::Grammar::act_at, psi_spec::specs::Grammar::verb_of))]
-fn event_at(alloc: Global, at: Ns, mut words: Words) -> Result<Event, Fault<Cause>>
-    ensures exact { Gives result (dated at (act_at (verbs_of One) words.entry)) }
-    ensures memory { result ≡ Err fault.NoMemory → names_path words.entry ≡ true }
+fn event_at(alloc: Global, version: u32, at: Ns, mut words: Words) -> Result<Event, Fault<Cause>>
+    ensures exact { Gives result (dated at (act_at (verbs_of (version_of version)) words.entry)) }
+    ensures memory { result ≡ Err lacks_memory →
+        names_path (verbs_of (version_of version)) words.entry ≡ true }
 {
     let Some(verb) = words.next_part() else {
         return Err(Fault::Refused(Cause::BadVerb));
@@ -249,17 +264,19 @@ fn event_at(alloc: Global, at: Ns, mut words: Words) -> Result<Event, Fault<Caus
         trigger_of(alloc, at, words)
     } else if verb == b"end".as_slice() {
         end_of_trace(at, words)
+    } else if version == 2 && verb == b"irq".as_slice() {
+        irq_of(at, words)
     } else {
         Err(Fault::Refused(Cause::BadVerb))
     }
 }
 
-// The event of a line: its time, and behind it its act.
+// The event of a line in a trace of a version: its time, and behind it its act.
 #[tactic(auto, unfolding(psi_spec::specs::Grammar::event_of, psi_spec::specs::Grammar::event_at))]
-fn event_in(alloc: Global, line: &[u8]) -> Result<Event, Fault<Cause>>
-    ensures exact { Gives result (event_of (verbs_of One) line.now) }
-    ensures memory { result ≡ Err fault.NoMemory →
-        names_path (drop 1 (parts_at 32 line.now)) ≡ true }
+fn event_in(alloc: Global, version: u32, line: &[u8]) -> Result<Event, Fault<Cause>>
+    ensures exact { Gives result (event_of (verbs_of (version_of version)) line.now) }
+    ensures memory { result ≡ Err lacks_memory →
+        names_path (verbs_of (version_of version)) (drop 1 (parts_at 32 line.now)) ≡ true }
 {
     let mut words: Words = Parts::new(line);
     let Some(time) = words.next_part() else {
@@ -268,22 +285,25 @@ fn event_in(alloc: Global, line: &[u8]) -> Result<Event, Fault<Cause>>
     let Some(at) = read_number(time) else {
         return Err(Fault::Refused(Cause::BadTime));
     };
-    event_at(alloc, at, words)
+    event_at(alloc, version, at, words)
 }
 
-/// The event that a line spells, given without its newline; else the first cause against the line from the left:
-/// `BadTime`, `BadVerb`, or `BadField` with the number of the leftmost field that is missing, wrong or surplus.
+/// The event that a line spells in a trace of version 1 or 2, given without its newline; else the first cause against the line
+/// from the left: `BadTime`, `BadVerb`, or `BadField` with the number of the leftmost field that is missing, wrong or surplus.
 /// `NoMemory` comes only for a verb that has a path among its fields, since its bytes alone are allocated.
-pub fn read_event(alloc: Global, line: &[u8]) -> Result<Event, Fault<Cause>>
-    ensures exact { Gives result (event_of (verbs_of One) line.now) }
-    ensures found { IfOk result (λ event. Fits event × (line.now ≡ spelling event)) }
+pub fn read_event(alloc: Global, version: u32, line: &[u8]) -> Result<Event, Fault<Cause>>
+    requires version { IsVersion version }
+    ensures exact { Gives result (event_of (verbs_of (version_of version)) line.now) }
+    ensures found { IfOk result (λ event. Fits event
+        × IsKnown (verbs_of (version_of version)) event × (line.now ≡ spelling event)) }
     ensures none { (why : Cause) → result ≡ Err (fault.Refused why) → (event : Event) →
         Fits event →
+        IsKnown (verbs_of (version_of version)) event →
         line.now ≢ spelling event }
-    ensures memory { result ≡ Err fault.NoMemory →
-        names_path (drop 1 (parts_at 32 line.now)) ≡ true }
+    ensures memory { result ≡ Err lacks_memory →
+        names_path (verbs_of (version_of version)) (drop 1 (parts_at 32 line.now)) ≡ true }
     ensures cause { (why : Cause) → result ≡ Err (fault.Refused why) →
-        IsCause (verbs_of One) (parts_at 32 line.now) why }
+        IsCause (verbs_of (version_of version)) (parts_at 32 line.now) why }
 {
-    event_in(alloc, line)
+    event_in(alloc, version, line)
 }

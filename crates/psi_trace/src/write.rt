@@ -26,6 +26,7 @@ fn is_short(act: &Act) -> bool
             | Act::Stall { .. }
             | Act::Unstall { .. }
             | Act::Migrate { .. }
+            | Act::Irq { .. }
             | Act::End
     )
 }
@@ -44,6 +45,7 @@ fn put_short_act(line: &mut ShortLine, act: &Act)
         Act::Stall { pid } => put_task(line, b" stall ", *pid),
         Act::Unstall { pid } => put_task(line, b" unstall ", *pid),
         Act::Migrate { pid, cpu } => put_task_on(line, b" migrate ", *pid, *cpu),
+        Act::Irq { cpu, ns } => put_irq(line, *cpu, *ns),
         Act::End => line.text(b" end"),
         _ => unreachable!(),
     }
@@ -206,6 +208,20 @@ fn put_switch(line: &mut ShortLine, cpu: Cpu, next: Option<Pid>, how: How)
     line.text(b" ");
     line.number(u64::from(cpu.0));
     line.text(b" switch ");
+}
+
+/// Puts the words of time that interrupts took in front.
+#[tactic(auto, using(crate::proofs::InPieces::lines))]
+fn put_irq(line: &mut ShortLine, cpu: Cpu, ns: u64)
+    requires { length line.old ≡ 0 }
+    ensures bytes { line.new
+        ≡ spaced (codes "irq" ∷ decimal cpu.0 ∷ decimal ns ∷ []) ++ line.old }
+    ensures room { length line.new ≤ 60 }
+{
+    line.number(ns);
+    line.text(b" ");
+    line.number(u64::from(cpu.0));
+    line.text(b" irq ");
 }
 
 /// Puts a verb between spaces and a task behind it in front.

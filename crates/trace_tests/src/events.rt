@@ -1,7 +1,21 @@
 //! Event lines: which are read and written again, and which are refused for what.
+ghost use Rattle.psi_spec.specs.Grammar.{IsVersion};
+
 use psi_base::{Cause, Fault};
 use psi_trace::{read_event, write_event};
+use std::alloc::Global;
 use std::test::Fail;
+
+/// The line of a trace of this version, read and written again; nothing where it is refused.
+fn rewritten(alloc: Global, version: u32, line: &str) -> Result<Vec<u8>, Fail>
+    requires { IsVersion version }
+{
+    let mut written = Vec::new(alloc);
+    if let Ok(event) = read_event(alloc, version, line.as_bytes()) {
+        write_event(&event, &mut written)?;
+    }
+    Ok(written)
+}
 
 #[test]
 fn writes_what_it_reads(rt: HostRuntime) -> Result<(), Fail> {
@@ -39,23 +53,57 @@ fn writes_what_it_reads(rt: HostRuntime) -> Result<(), Fail> {
         "5 group /aaaaaaaaaaaaaaaaaaaaaaaaaaaaaaaaaaaaaaaaaaaaaaaaaaaaaaaaaaaaaaaaaaaaaaaaaaaaaaaaaaaaaaaaaaaaaaaaaaaaaaaaaaaaaaaaaaaaaaaaaaaaaaaaaaaaaaaaaaaaaaaaaaaaaaaaaaaaaaaaaaaaaaaaaaaaaaaaaaaaaaaaaaaaaaaaaaaaaaaaaaaaaaaaaaaaaaaaaaaaaaaaaaaaaaaaaaaaaaaaaaaaaaaaaaaaaa",
         "5 group /a/a/a/a/a/a/a/a/a/a/a/a/a/a/a/a/a/a/a/a/a/a/a/a/a/a/a/a/a/a/a/a",
     ] {
-        match read_event(alloc, line.as_bytes()) {
-            Ok(event) => {
-                let mut written = Vec::new(alloc);
-                write_event(&event, &mut written)?;
-                assert_eq!(rt; written.as_slice(), line.as_bytes(), "at {line}");
-            }
-            Err(fault) => assert_eq!(rt; Some(fault), None, "at {line}"),
-        }
+        let first = rewritten(alloc, 1, line)?;
+        assert_eq!(rt; first.as_slice(), line.as_bytes(), "at {line}");
+        let second = rewritten(alloc, 2, line)?;
+        assert_eq!(rt; second.as_slice(), line.as_bytes(), "at {line}");
     }
     Ok(())
+}
+
+#[test]
+fn writes_interrupts_of_the_second_version(rt: HostRuntime) -> Result<(), Fail> {
+    let alloc = rt.alloc();
+    for line in [
+        "5 irq 0 0",
+        "5 irq 63 1000000000",
+        "18446744073709551615 irq 4294967295 18446744073709551615",
+    ] {
+        let second = rewritten(alloc, 2, line)?;
+        assert_eq!(rt; second.as_slice(), line.as_bytes(), "at {line}");
+        let first = read_event(alloc, 1, line.as_bytes()).err();
+        assert_eq!(rt; first, Some(Fault::Refused(Cause::BadVerb)), "at {line}");
+    }
+    Ok(())
+}
+
+#[test]
+fn refuses_the_leftmost_fault_of_interrupts(rt: HostRuntime) {
+    let alloc = rt.alloc();
+    for (line, cause) in [
+        ("x irq 0 1", Cause::BadTime),
+        ("5 Irq 0 1", Cause::BadVerb),
+        ("5 irqs 0 1", Cause::BadVerb),
+        ("5 irq", Cause::BadField(1)),
+        ("5 irq x", Cause::BadField(1)),
+        ("5 irq 4294967296 1", Cause::BadField(1)),
+        ("5 irq 0", Cause::BadField(2)),
+        ("5 irq 0 ", Cause::BadField(2)),
+        ("5 irq 0 01", Cause::BadField(2)),
+        ("5 irq 0 18446744073709551616", Cause::BadField(2)),
+        ("5 irq 0 1 ", Cause::BadField(3)),
+        ("5 irq 0 1 1", Cause::BadField(3)),
+    ] {
+        let refused = read_event(alloc, 2, line.as_bytes()).err();
+        assert_eq!(rt; refused, Some(Fault::Refused(cause)), "at {line}");
+    }
 }
 
 #[test]
 fn appends_to_what_is_there(rt: HostRuntime) -> Result<(), Fail> {
     let alloc = rt.alloc();
     let mut written = Vec::from_slice(alloc, b"psitrace 1 cpus=1\n")?;
-    if let Ok(event) = read_event(alloc, b"0 fork 1 / 0") {
+    if let Ok(event) = read_event(alloc, 1, b"0 fork 1 / 0") {
         write_event(&event, &mut written)?;
     }
     assert_eq!(rt;
@@ -66,7 +114,7 @@ fn appends_to_what_is_there(rt: HostRuntime) -> Result<(), Fail> {
 }
 
 #[test]
-fn refuses_the_leftmost_fault(rt: HostRuntime) {
+fn refuses_what_is_no_time_and_no_verb(rt: HostRuntime) {
     let alloc = rt.alloc();
     for (line, cause) in [
         ("", Cause::BadTime),
@@ -88,13 +136,24 @@ fn refuses_the_leftmost_fault(rt: HostRuntime) {
         ("5 End", Cause::BadVerb),
         ("5 ends", Cause::BadVerb),
         ("5 en", Cause::BadVerb),
-        ("5 irq 0 1", Cause::BadVerb),
         ("5 pressure / off", Cause::BadVerb),
         ("5 end\r", Cause::BadVerb),
         ("5 grouprm /a", Cause::BadVerb),
         ("18446744073709551615 x", Cause::BadVerb),
         ("5 end ", Cause::BadField(1)),
         ("5 end x", Cause::BadField(1)),
+    ] {
+        for version in [1, 2] {
+            let refused = read_event(alloc, version, line.as_bytes()).err();
+            assert_eq!(rt; refused, Some(Fault::Refused(cause)), "at {line}");
+        }
+    }
+}
+
+#[test]
+fn refuses_the_leftmost_fault_of_tasks(rt: HostRuntime) {
+    let alloc = rt.alloc();
+    for (line, cause) in [
         ("5 wake", Cause::BadField(1)),
         ("5 wake ", Cause::BadField(1)),
         ("5 wake 01 0", Cause::BadField(1)),
@@ -112,29 +171,6 @@ fn refuses_the_leftmost_fault(rt: HostRuntime) {
         ("5 wake 1 0 ", Cause::BadField(3)),
         ("5 wake 1 0 0", Cause::BadField(3)),
         ("5 wake 1 0  ", Cause::BadField(3)),
-        ("5 group", Cause::BadField(1)),
-        ("5 group a", Cause::BadField(1)),
-        ("5 group /a/", Cause::BadField(1)),
-        ("5 group //", Cause::BadField(1)),
-        ("5 group /.", Cause::BadField(1)),
-        ("5 group /a/..", Cause::BadField(1)),
-        ("5 group /a,b", Cause::BadField(1)),
-        ("5 group /a b", Cause::BadField(2)),
-        ("5 rmgroup ", Cause::BadField(1)),
-        ("5 rmgroup / ", Cause::BadField(2)),
-        (
-            "5 group /aaaaaaaaaaaaaaaaaaaaaaaaaaaaaaaaaaaaaaaaaaaaaaaaaaaaaaaaaaaaaaaaaaaaaaaaaaaaaaaaaaaaaaaaaaaaaaaaaaaaaaaaaaaaaaaaaaaaaaaaaaaaaaaaaaaaaaaaaaaaaaaaaaaaaaaaaaaaaaaaaaaaaaaaaaaaaaaaaaaaaaaaaaaaaaaaaaaaaaaaaaaaaaaaaaaaaaaaaaaaaaaaaaaaaaaaaaaaaaaaaaaaaaaaaaaaaaa",
-            Cause::BadField(1),
-        ),
-        (
-            "5 group /a/a/a/a/a/a/a/a/a/a/a/a/a/a/a/a/a/a/a/a/a/a/a/a/a/a/a/a/a/a/a/a/a",
-            Cause::BadField(1),
-        ),
-        ("5 prefer none", Cause::BadField(1)),
-        ("5 prefer /", Cause::BadField(2)),
-        ("5 prefer / plain", Cause::BadField(2)),
-        ("5 prefer / None", Cause::BadField(2)),
-        ("5 prefer / none none", Cause::BadField(3)),
         ("5 fork 0 / 0", Cause::BadField(1)),
         ("5 fork 1 0 /", Cause::BadField(2)),
         ("5 fork 1 / -", Cause::BadField(3)),
@@ -159,6 +195,41 @@ fn refuses_the_leftmost_fault(rt: HostRuntime) {
         ("5 move / 1", Cause::BadField(1)),
         ("5 move 1 a", Cause::BadField(2)),
         ("5 move 1 / /", Cause::BadField(3)),
+    ] {
+        for version in [1, 2] {
+            let refused = read_event(alloc, version, line.as_bytes()).err();
+            assert_eq!(rt; refused, Some(Fault::Refused(cause)), "at {line}");
+        }
+    }
+}
+
+#[test]
+fn refuses_the_leftmost_fault_of_groups(rt: HostRuntime) {
+    let alloc = rt.alloc();
+    for (line, cause) in [
+        ("5 group", Cause::BadField(1)),
+        ("5 group a", Cause::BadField(1)),
+        ("5 group /a/", Cause::BadField(1)),
+        ("5 group //", Cause::BadField(1)),
+        ("5 group /.", Cause::BadField(1)),
+        ("5 group /a/..", Cause::BadField(1)),
+        ("5 group /a,b", Cause::BadField(1)),
+        ("5 group /a b", Cause::BadField(2)),
+        ("5 rmgroup ", Cause::BadField(1)),
+        ("5 rmgroup / ", Cause::BadField(2)),
+        (
+            "5 group /aaaaaaaaaaaaaaaaaaaaaaaaaaaaaaaaaaaaaaaaaaaaaaaaaaaaaaaaaaaaaaaaaaaaaaaaaaaaaaaaaaaaaaaaaaaaaaaaaaaaaaaaaaaaaaaaaaaaaaaaaaaaaaaaaaaaaaaaaaaaaaaaaaaaaaaaaaaaaaaaaaaaaaaaaaaaaaaaaaaaaaaaaaaaaaaaaaaaaaaaaaaaaaaaaaaaaaaaaaaaaaaaaaaaaaaaaaaaaaaaaaaaaaaaaaaaaaa",
+            Cause::BadField(1),
+        ),
+        (
+            "5 group /a/a/a/a/a/a/a/a/a/a/a/a/a/a/a/a/a/a/a/a/a/a/a/a/a/a/a/a/a/a/a/a/a",
+            Cause::BadField(1),
+        ),
+        ("5 prefer none", Cause::BadField(1)),
+        ("5 prefer /", Cause::BadField(2)),
+        ("5 prefer / plain", Cause::BadField(2)),
+        ("5 prefer / None", Cause::BadField(2)),
+        ("5 prefer / none none", Cause::BadField(3)),
         ("5 mem 0 0 0", Cause::BadField(1)),
         ("5 mem / 1152921504606846977 0 0", Cause::BadField(2)),
         ("5 mem / 0 1152921504606846977 0", Cause::BadField(3)),
@@ -185,7 +256,9 @@ fn refuses_the_leftmost_fault(rt: HostRuntime) {
         ),
         ("5 trigger / io some 1 1 1", Cause::BadField(6)),
     ] {
-        let refused = read_event(alloc, line.as_bytes()).err();
-        assert_eq!(rt; refused, Some(Fault::Refused(cause)), "at {line}");
+        for version in [1, 2] {
+            let refused = read_event(alloc, version, line.as_bytes()).err();
+            assert_eq!(rt; refused, Some(Fault::Refused(cause)), "at {line}");
+        }
     }
 }

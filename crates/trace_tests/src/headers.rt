@@ -1,16 +1,19 @@
-//! Header lines: the numbers of processors that they name, and which are none.
+//! Header lines: the versions and the numbers of processors that they name, and which are none.
 use psi_base::Cause;
-use psi_trace::read_header;
+use psi_trace::{Header, read_header};
 
 #[test]
-fn reads_the_number_of_processors(rt: HostRuntime) {
-    for (line, cpus) in [
-        ("psitrace 1 cpus=1", 1),
-        ("psitrace 1 cpus=9", 9),
-        ("psitrace 1 cpus=10", 10),
-        ("psitrace 1 cpus=64", 64),
+fn reads_the_version_and_the_number_of_processors(rt: HostRuntime) {
+    for (line, version, cpus) in [
+        ("psitrace 1 cpus=1", 1, 1),
+        ("psitrace 1 cpus=9", 1, 9),
+        ("psitrace 1 cpus=10", 1, 10),
+        ("psitrace 1 cpus=64", 1, 64),
+        ("psitrace 2 cpus=1", 2, 1),
+        ("psitrace 2 cpus=64", 2, 64),
     ] {
-        assert_eq!(rt; read_header(line.as_bytes()), Ok(cpus), "at {line}");
+        let head = Header { version, cpus };
+        assert_eq!(rt; read_header(line.as_bytes()), Ok(head), "at {line}");
     }
 }
 
@@ -34,7 +37,11 @@ fn refuses_other_headers(rt: HostRuntime) {
         "psitrace 1 cpus=18446744073709551617",
         "psitrace 01 cpus=1",
         "psitrace 0 cpus=1",
-        "psitrace 2 cpus=1",
+        "psitrace 2",
+        "psitrace 2 cpus=0",
+        "psitrace 2 cpus=65",
+        "psitrace 02 cpus=1",
+        "psitrace 12 cpus=1",
         "psitrace 3 cpus=1",
         "Psitrace 1 cpus=1",
         "0 end",

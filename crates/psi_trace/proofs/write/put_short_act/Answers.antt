@@ -18,3 +18,6 @@ returns-in-Unstall-clause-bytes c = rw c.in-Unstall.is (search lines)
 
 pub returns-in-Migrate-clause-bytes : goal.returns-in-Migrate-clause-bytes
 returns-in-Migrate-clause-bytes c = rw c.in-Migrate.is (search lines)
+
+pub returns-in-Irq-clause-bytes : goal.returns-in-Irq-clause-bytes
+returns-in-Irq-clause-bytes c = rw c.in-Irq.is (search lines)

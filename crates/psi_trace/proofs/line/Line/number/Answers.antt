@@ -1,5 +1,5 @@
 use Rattle.std.proofs.Common.{ap, arith, decimal, drop, length, length-append}
-use Rattle.psi_spec.proofs.GrammarWords.{decimal_short}
+use Rattle.trace_laws.proofs.GrammarWords.{decimal_short}
 use Rattle.psi_trace.proofs.InPieces.{behind}
 use Rattle.psi_trace.proofs.line.Line.number.Goals as goal
 

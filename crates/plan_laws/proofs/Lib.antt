@@ -1,0 +1,15 @@
+pub mod PlanLaws
+pub mod PlanStates
+pub mod PlanTimes
+pub mod PlanStalls
+pub mod PlanClocks
+pub mod PlanUpTo
+pub mod PlanSteps
+pub mod PlanWhole
+pub mod MomentsEvents
+pub mod MomentsStall
+pub mod MomentsLives
+pub mod MomentsOrder
+pub mod MomentsTold
+pub mod MomentsTriggers
+pub mod PlanPlanned

@@ -1,0 +1,8 @@
+use Rattle.plan_laws.proofs.MomentsOrder as laws
+use Rattle.plan_laws.proofs.moments.law_path_order.Goals as goal
+
+pub returns-clause-live : goal.returns-clause-live
+returns-clause-live c = laws.order_tells_live
+
+pub returns-clause-slots : goal.returns-clause-slots
+returns-clause-slots c = laws.order_tells_slots

@@ -1,0 +1,7 @@
+pub mod ClockLaws
+pub mod CountLaws
+pub mod MaskLaws
+pub mod TouchCounts
+pub mod TouchLaws
+pub mod TouchWithin
+pub mod LegalLaws

@@ -1,0 +1,139 @@
+-- How counts of tasks follow a task that comes, changes or goes.
+use Rattle.std.proofs.Common.{◌≡◌, ℕ, ◌+◌, List, [], ◌∷◌, refl, ap, ◌∙◌, sym, subst, Bool, true, false, arith, cond, Option, None, Some, ◌==◌, ⊎_elim}
+use Rattle.std.specs.Prelude.{T, map, find, filter, ◌&&◌}
+use Rattle.std.specs.Ordering.{nat_cmp, is_lt, is_eq}
+use Rattle.std.specs.declared.cmp.Ordering.{Ordering}
+use Rattle.std.specs.declared.cmp.Ordering.TheVariants.{Less, Equal, Greater}
+use Rattle.std.specs.Cmp.{nat_cmp_total, unsigned_tied}
+use Rattle.std.specs.FinMap as fin
+use Rattle.std.specs.List.{AllByRecursion}
+use Rattle.std.proofs.lemmas.Bool.Decides.{nat_tests, eqb_tells}
+use Rattle.psi_base.specs.declared.event.How.{How}
+use Rattle.psi_spec.specs.declared.machine.Task.{Task}
+use Rattle.psi_spec.specs.World.{Tasks, task_of, put, remove, test_task, task_part, placed, leave, left_by, running_on, is_running_on, change_to}
+use Rattle.psi_counts.specs.Counts.{how_many}
+use Rattle.psi_counts.specs.Touch.{changed, left_if}
+use Rattle.psi_counts.proofs.CountLaws.{one, how_many-cons}
+use Rattle.psi_spec.proofs.TaskLaws.{firstT, found, get_put, get_remove, itself, lower, same_tasks, secondT}
+
+-- ---- counts as sums
+
+-- how many of a list pass a test, one task after the other
+abbrev pub tally : (Task → Bool) → List Task → ℕ
+tally test [] = 0
+tally test (task ∷ tasks) = one (test task) + tally test tasks
+
+-- that is how many pass it
+pub tallied : (test : Task → Bool) (tasks : List Task) → how_many test tasks ≡ tally test tasks
+tallied test [] = refl
+tallied test (task ∷ tasks) = how_many-cons test task tasks ∙ ap (λ n. one (test task) + n) (tallied test tasks)
+
+-- how many tasks pass a test
+abbrev pub counted : (Task → Bool) → Tasks → ℕ
+counted test tasks = tally test (fin.values tasks)
+
+-- how many of those that pass one test pass another
+pub tallied_both : (within test : Task → Bool) (tasks : List Task) → how_many test (filter within tasks) ≡ tally (λ task. within task && test task) tasks
+tallied_both within test [] = refl
+tallied_both within test (task ∷ tasks) =
+    let rest = tallied_both within test tasks in
+    elim (within task) as (λ b. how_many test (cond b (task ∷ filter within tasks) (filter within tasks)) ≡ one (b && test task) + tally (λ t. within t && test t) tasks) [
+      | true ↦ how_many-cons test task (filter within tasks) ∙ ap (λ n. one (test task) + n) rest
+      | false ↦ omega (arith, rest)
+    ]
+
+-- ---- an entry put among those in order
+
+-- a number below the first is not a later one
+above : (k x y : ℕ) → nat_cmp k x ≡ Less → T (is_lt (nat_cmp x y)) → (k == y) ≡ false
+above k x y h t = grind (arith, nat_tests)
+
+-- no entry has a number below the first
+none_above : (k x : ℕ) (es : List (ℕ × Task)) → nat_cmp k x ≡ Less → T (lower x es) → fin.find nat_cmp k es ≡ None
+none_above k x [] h t = refl
+none_above k x (e ∷ es) h t =
+    ap (λ b. cond b (Some e.1) (fin.find nat_cmp k es)) (unsigned_tied k e.0 ∙ above k x e.0 h (firstT (is_lt (nat_cmp x e.0)) (lower x es) t))
+    ∙ none_above k x es h (secondT (is_lt (nat_cmp x e.0)) (lower x es) t)
+
+-- one of three, by an order
+abbrev ordered : {A : Type 0} → Ordering → A → A → A → A
+ordered Less a b c = a
+ordered Equal a b c = b
+ordered Greater a b c = c
+
+-- how many entries have a task that passes a test
+abbrev count : (Task → Bool) → List (ℕ × Task) → ℕ
+count p es = tally p (map (λ e. e.1) es)
+
+-- an entry more, or another in the place of one, counts by itself
+count_put : (p : Task → Bool) (k : ℕ) (v : Task) (es : List (ℕ × Task)) → T (fin.is_sorted nat_cmp es) → count p (fin.put nat_cmp k v es) + one (test_task (fin.find nat_cmp k es) p) ≡ count p es + one (p v)
+count_put p k v [] s =
+    let goal : (one (p v) + 0) + 0 ≡ 0 + one (p v) = omega arith in goal
+count_put p k v (e ∷ es) s =
+    elim (nat_cmp k e.0) as (λ r. nat_cmp k e.0 ≡ r → count p (ordered r ((k, v) ∷ e ∷ es) ((e.0, v) ∷ es) (e ∷ fin.put nat_cmp k v es)) + one (test_task (cond (is_eq r) (Some e.1) (fin.find nat_cmp k es)) p) ≡ count p (e ∷ es) + one (p v)) [
+      | Less ↦ λ h. rw (none_above k e.0 es h (firstT (lower e.0 es) (fin.is_sorted nat_cmp es) s)) (let goal : (one (p v) + (one (p e.1) + count p es)) + 0 ≡ (one (p e.1) + count p es) + one (p v) = omega arith in goal)
+      | Equal ↦ λ h. let goal : (one (p v) + count p es) + one (p e.1) ≡ (one (p e.1) + count p es) + one (p v) = omega arith in goal
+      | Greater ↦ λ h.
+          let rest = count_put p k v es (secondT (lower e.0 es) (fin.is_sorted nat_cmp es) s) in
+          let goal : (one (p e.1) + count p (fin.put nat_cmp k v es)) + one (test_task (fin.find nat_cmp k es) p) ≡ (one (p e.1) + count p es) + one (p v) = omega (arith, rest) in goal
+    ] refl
+
+-- ---- one task more, less or another
+
+-- one more task, or another for the one with this number
+pub counted_put : (p : Task → Bool) (tasks : Tasks) (k : ℕ) (t : Task) → counted p (put tasks k t) + one (test_task (task_of tasks k) p) ≡ counted p tasks + one (p t)
+counted_put p tasks k t =
+    rw (fin.entries-insert nat_cmp_total tasks k t, fin.get-entries tasks k) (count_put p k t (fin.entries tasks) (fin.entries_sorted tasks))
+
+-- a task that is removed and put back is found as before
+pub put_back : (tasks : Tasks) (k : ℕ) (t : Task) → task_of tasks k ≡ Some t → (q : ℕ) → task_of (put (remove tasks k) k t) q ≡ task_of tasks q
+put_back tasks k t is q =
+    get_put (remove tasks k) k t q ∙ ap (cond (q == k) (Some t)) (get_remove tasks k q)
+    ∙ ⊎_elim (λ same. rw (same.0) (sym (ap (task_of tasks) same.1 ∙ is))) (λ other. rw (other.0) refl) (eqb_tells q k)
+
+-- removing a number that no task has changes nothing
+pub same_without : (tasks : Tasks) (k : ℕ) → task_of tasks k ≡ None → (q : ℕ) → task_of (remove tasks k) q ≡ task_of tasks q
+same_without tasks k is q =
+    get_remove tasks k q ∙ ⊎_elim (λ same. rw (same.0) (sym (ap (task_of tasks) same.1 ∙ is))) (λ other. rw (other.0) refl) (eqb_tells q k)
+
+-- one task less
+pub counted_remove : (p : Task → Bool) (tasks : Tasks) (k : ℕ) → counted p (remove tasks k) + one (test_task (task_of tasks k) p) ≡ counted p tasks
+counted_remove p tasks k =
+    elim (task_of tasks k) as (λ o. task_of tasks k ≡ o → counted p (remove tasks k) + one (test_task o p) ≡ counted p tasks) [
+      | None ↦ λ is. let same = ap (counted p) (same_tasks (remove tasks k) tasks (same_without tasks k is)) in omega (arith, same)
+      | Some t ↦ λ is.
+          let whole = ap (counted p) (same_tasks (put (remove tasks k) k t) tasks (put_back tasks k t is)) in
+          let gone : task_of (remove tasks k) k ≡ None = get_remove tasks k k ∙ ap (λ b. cond b None (task_of tasks k)) (itself k) in
+          let more = rw gone at (counted_put p (remove tasks k) k t) in
+          omega (arith, whole, more)
+    ] refl
+
+-- another in its place, or none
+pub counted_placed : (p : Task → Bool) (tasks : Tasks) (k : ℕ) (x : Option Task) → counted p (placed tasks k x) + one (test_task (task_of tasks k) p) ≡ counted p tasks + one (test_task x p)
+counted_placed p tasks k None = let less = counted_remove p tasks k in omega (arith, less)
+counted_placed p tasks k (Some t) = counted_put p tasks k t
+
+-- the task with a number changes, if there is one
+pub counted_changed : (p : Task → Bool) (tasks : Tasks) (pid : ℕ) (f : Task → Task) (o : Option Task) → task_of tasks pid ≡ o → counted p (change_to tasks pid f o) + one (test_task o p) ≡ counted p tasks + one (test_task (changed f o) p)
+counted_changed p tasks pid f None is = refl
+counted_changed p tasks pid f (Some t) is = rw is at (counted_put p tasks pid (f t))
+
+-- ---- the running task
+
+-- what a search finds passes its test, and is as all are
+find_has : (P : ℕ × Task → Type 0) (test : ℕ × Task → Bool) (es : List (ℕ × Task)) (e : ℕ × Task) → AllByRecursion P es → find test es ≡ Some e → P e × (test e ≡ true)
+find_has P test [] e h is = cc is
+find_has P test (x ∷ es) e h is =
+    elim (test x) as (λ b. test x ≡ b → cond b (Some x) (find test es) ≡ Some e → P e × (test e ≡ true)) [
+      | true ↦ λ t i. let same : x ≡ e = cc i in (subst P same h.0, subst (λ y. test y ≡ true) same t)
+      | false ↦ λ t i. find_has P test es e h.1 i
+    ] refl is
+
+-- the running task of a processor is there, and runs there
+pub running_found : (tasks : Tasks) (cpu : ℕ) (e : ℕ × Task) → running_on tasks cpu ≡ Some e → (task_of tasks e.0 ≡ Some e.1) × (is_running_on cpu e.1 ≡ true)
+running_found tasks cpu e is = find_has (λ e. task_of tasks e.0 ≡ Some e.1) (λ e. is_running_on cpu e.1) (fin.entries tasks) e (found tasks) is
+
+-- the running task leaves, if there is one
+pub counted_leave : (p : Task → Bool) (tasks : Tasks) (cpu : ℕ) (how : How) (o : Option (ℕ × Task)) → running_on tasks cpu ≡ o → counted p (leave how tasks o) + one (test_task (task_part o) p) ≡ counted p tasks + one (test_task (left_if how (task_part o)) p)
+counted_leave p tasks cpu how None is = refl
+counted_leave p tasks cpu how (Some e) is = rw ((running_found tasks cpu e is).0) at (counted_placed p tasks e.0 (left_by how e.1))

@@ -1,0 +1,495 @@
+-- What a legal event does to counts of tasks, on the processors that it touches and on the others.
+use Rattle.std.proofs.Common.{◌≡◌, ℕ, ◌+◌, ◌≤◌, List, [], ◌∷◌, refl, ap, ◌∙◌, sym, Bool, true, false, arith, cond, Option, None, Some, nat_lt, ◌==◌, ⊎_elim}
+use Rattle.std.specs.Prelude.{map, find, ◌&&◌, ◌||◌, if◌then◌else◌}
+use Rattle.std.specs.List.{list_any}
+use Rattle.std.specs.FinMap as fin
+use Rattle.std.proofs.lemmas.Bool.Decides.{nat_tests, eqb_tells}
+use Rattle.psi_base.specs.declared.event.How.{How}
+use Rattle.psi_base.specs.declared.event.How.TheVariants.{Preempt, Sleep, IoWait, Exit, Idle}
+use Rattle.psi_base.specs.declared.event.Pid.{Pid}
+use Rattle.psi_base.specs.declared.event.Act.{Act}
+use Rattle.psi_base.specs.declared.event.Act.TheVariants as act
+use Rattle.psi_base.specs.declared.event.Event.{Event}
+use Rattle.psi_spec.specs.declared.machine.Task.{Task}
+use Rattle.psi_counts.specs.declared.changes.Change.{Change}
+use Rattle.psi_counts.specs.declared.changes.Counts.{Counts}
+use Rattle.psi_spec.specs.declared.machine.Mode.{Mode}
+use Rattle.psi_spec.specs.declared.machine.Mode.TheVariants.{Blocked, Waiting, Ready, Running}
+use Rattle.psi_spec.specs.World.{World, Limits, Tasks, task_of, test_task, task_part, change_to, leave, left_by, start, running_on, is_running_on, is_ready_on, is_running, is_ready, is_waiting, is_active, tasks_after, after_event, new_task, readied}
+use Rattle.psi_spec.specs.Refusal.{cause_of, is_wrong, isnt_ready}
+use Rattle.psi_spec.specs.Stall.{is_under, is_in, tasks_in, waits, stalls, is_up, runs}
+use Rattle.psi_counts.specs.Counts.{how_many, counts_among, is_up_stalled, runs_stalled}
+use Rattle.psi_counts.specs.Touch.{changed, task_after, part, shown, change_on, change_of, no_counts, on_chain, RunsOnce, is_current_in, is_current_stalled, CountsFollow, RunsOnceFirst, RunsOnceKept, CurrentTells, StaysUntouched}
+use Rattle.psi_spec.specs.Changes.{before, is_at, touched}
+use Rattle.psi_counts.proofs.CountLaws.{one, how_many-cons, any_counted}
+use Rattle.psi_spec.proofs.RefusalLaws.{first_true, is_none, none_stands, not_false, second_true}
+use Rattle.psi_spec.proofs.TaskLaws.{no_entries, task_placed}
+use Rattle.psi_counts.proofs.TouchCounts.{tally, tallied, tallied_both, counted, counted_put, counted_changed, counted_leave, running_found}
+
+-- two tests of which none holds
+or_false : (a b : Bool) → (a || b) ≡ false → (a ≡ false) × (b ≡ false)
+or_false false b h = (refl, h)
+or_false true b h = cc h
+
+-- ---- a ready task stays as it is when the running one leaves
+
+-- no mode is both ready and running
+ready_off : (m : Mode) → is_ready m ≡ true → is_running m ≡ true → ⊥
+ready_off Ready r s = cc s
+ready_off Running r s = cc r
+ready_off Blocked r s = cc r
+ready_off Waiting r s = cc r
+
+-- no task is both ready and running on a processor
+not_both : (o : Option Task) (cpu : ℕ) → test_task o (is_ready_on cpu) ≡ true → test_task o (is_running_on cpu) ≡ true → ⊥
+not_both None cpu r s = cc r
+not_both (Some t) cpu r s = ready_off t.mode (second_true (t.cpu.0 == cpu) (is_ready t.mode) r) (second_true (t.cpu.0 == cpu) (is_running t.mode) s)
+
+-- a ready task stays as it is when the running one leaves
+pub ready_left : (tasks : Tasks) (cpu : ℕ) (how : How) (q : ℕ) → test_task (task_of tasks q) (is_ready_on cpu) ≡ true → (o : Option (ℕ × Task)) → running_on tasks cpu ≡ o → task_of (leave how tasks o) q ≡ task_of tasks q
+ready_left tasks cpu how q ready None is = refl
+ready_left tasks cpu how q ready (Some e) is =
+    let f = running_found tasks cpu e is in
+    task_placed tasks e.0 (left_by how e.1) q ∙ ⊎_elim
+    (λ same. absurd (not_both (task_of tasks q) cpu ready (ap (λ o. test_task o (is_running_on cpu)) (ap (task_of tasks) same.1 ∙ f.0) ∙ f.1)))
+    (λ other. ap (λ b. cond b (left_by how e.1) (task_of tasks q)) other.0)
+    (eqb_tells q e.0)
+
+-- ---- what an act does to a count
+
+-- a test that doesn't tell ready from running
+abbrev pub Blind : (Task → Bool) → Type 0
+Blind p = (t : Task) → is_ready t.mode ≡ true → p (record t { mode = Running }) ≡ p t
+
+-- a task that is ready on a processor is ready
+ready_somewhere : (o : Option Task) (cpu : ℕ) → test_task o (is_ready_on cpu) ≡ true → test_task o (λ t. is_ready t.mode) ≡ true
+ready_somewhere None cpu h = h
+ready_somewhere (Some t) cpu h = second_true (t.cpu.0 == cpu) (is_ready t.mode) h
+
+-- a ready task that starts counts as before
+counted_started : (p : Task → Bool) → Blind p → (tasks : Tasks) (pid : ℕ) (o : Option Task) → task_of tasks pid ≡ o → test_task o (λ t. is_ready t.mode) ≡ true → counted p (change_to tasks pid (λ task. record task { mode = Running }) o) ≡ counted p tasks
+counted_started p blind tasks pid None is ready = refl
+counted_started p blind tasks pid (Some t) is ready =
+    let same = ap one (blind t ready) in
+    let more = rw is at (counted_put p tasks pid (record t { mode = Running })) in
+    omega (arith, same, more)
+
+-- so it is where the running one leaves before
+counted_start : (p : Task → Bool) → Blind p → (tasks : Tasks) (cpu : ℕ) (how : How) (next : Option Pid) → isnt_ready tasks cpu next ≡ false → counted p (start next (leave how tasks (running_on tasks cpu))) ≡ counted p (leave how tasks (running_on tasks cpu))
+counted_start p blind tasks cpu how None h = refl
+counted_start p blind tasks cpu how (Some pid) h =
+    let ready = not_false (test_task (task_of tasks pid.0) (is_ready_on cpu)) h in
+    let still = ready_left tasks cpu how pid.0 ready (running_on tasks cpu) refl in
+    counted_started p blind (leave how tasks (running_on tasks cpu)) pid.0 _ refl (rw still (ready_somewhere (task_of tasks pid.0) cpu ready))
+
+-- an act changes a count by the one task that it changes
+abbrev pub CountsOne : (Task → Bool) → World → Act → Type 0
+CountsOne p w a = counted p (tasks_after w.groups w.tasks a) + one (test_task (before w.tasks a) p) ≡ counted p w.tasks + one (test_task (task_after w.groups w.tasks a) p)
+
+-- each legal act counts so
+pub counted_act : (p : Task → Bool) → Blind p → (limits : Limits) (w : World) (at : ℕ) (a : Act) → cause_of limits w (record { at = at; act = a }) ≡ None → CountsOne p w a
+counted_act p blind limits w at (act.Fork pid path cpu) h =
+    let new : task_of w.tasks pid.0 ≡ None = is_none _ (none_stands limits w _ h).task_exists in
+    rw new at (counted_put p w.tasks pid.0 (new_task w.groups path cpu.0))
+counted_act p blind limits w at (act.Wake pid cpu) h = counted_changed p w.tasks pid.0 _ (task_of w.tasks pid.0) refl
+counted_act p blind limits w at (act.Switch cpu next how) h =
+    let same = counted_start p blind w.tasks cpu.0 how next (none_stands limits w _ h).not_ready in
+    let left = counted_leave p w.tasks cpu.0 how (running_on w.tasks cpu.0) refl in
+    omega (arith, same, left)
+counted_act p blind limits w at (act.Stall pid) h = counted_changed p w.tasks pid.0 _ (task_of w.tasks pid.0) refl
+counted_act p blind limits w at (act.Unstall pid) h = counted_changed p w.tasks pid.0 _ (task_of w.tasks pid.0) refl
+counted_act p blind limits w at (act.Migrate pid cpu) h = counted_changed p w.tasks pid.0 _ (task_of w.tasks pid.0) refl
+counted_act p blind limits w at (act.Move pid path) h = counted_changed p w.tasks pid.0 _ (task_of w.tasks pid.0) refl
+counted_act p blind limits w at _ h = refl
+
+-- ---- the same of the four counts
+
+-- one task by itself
+how_many_one : (kind : Task → Bool) (t : Task) → how_many kind (t ∷ []) ≡ one (kind t)
+how_many_one kind t = how_many-cons kind t [] ∙ (let goal : one (kind t) + 0 ≡ one (kind t) = omega arith in goal)
+
+-- a field of a task's part on a chain is whether the task counts there
+chain_field : (f : Counts → ℕ) → f no_counts ≡ 0 → (kind : Task → Bool) → ((t : Task) → f (counts_among (t ∷ [])) ≡ one (kind t)) → (parents : List (Option ℕ)) (cpu slot : ℕ) (o : Option Task) → one (test_task o (λ t. is_in parents cpu slot t && kind t)) ≡ f (on_chain parents slot (part cpu o))
+chain_field f none kind same parents cpu slot None = sym none
+chain_field f none kind same parents cpu slot (Some t) =
+    elim (t.cpu.0 == cpu) as (λ a. one ((a && is_under parents t.slot.0 slot) && kind t) ≡ f (on_chain parents slot (if a then Some (t.slot, counts_among (t ∷ [])) else None))) [
+      | true ↦ elim (is_under parents t.slot.0 slot) as (λ b. one (b && kind t) ≡ f (if b then counts_among (t ∷ []) else no_counts)) [ true ↦ sym (same t) | false ↦ sym none ]
+      | false ↦ sym none
+    ]
+
+-- a test stays blind beside one of group and processor
+blind_in : (kind : Task → Bool) → Blind kind → (parents : List (Option ℕ)) (cpu slot : ℕ) → Blind (λ t. is_in parents cpu slot t && kind t)
+blind_in kind blind parents cpu slot t ready = ap (λ b. is_in parents cpu slot t && b) (blind t ready)
+
+-- a ready task doesn't wait for IO
+ready_waits : (m : Mode) → is_ready m ≡ true → is_waiting m ≡ false
+ready_waits Ready h = refl
+ready_waits Waiting h = cc h
+ready_waits Blocked h = refl
+ready_waits Running h = refl
+
+-- a ready task is up
+ready_up : (m : Mode) → is_ready m ≡ true → is_active m ≡ true
+ready_up Ready h = refl
+ready_up Waiting h = cc h
+ready_up Blocked h = cc h
+ready_up Running h = refl
+
+-- a count of a group on a processor follows its field of the change
+abbrev FollowsField : (Counts → ℕ) → (Task → Bool) → World → Event → List (Option ℕ) → ℕ → ℕ → Type 0
+FollowsField f kind w event parents cpu slot =
+    how_many kind (tasks_in parents cpu slot (after_event w event).tasks) + f (on_chain parents slot (part cpu (before w.tasks event.act)))
+    ≡ how_many kind (tasks_in parents cpu slot w.tasks) + f (on_chain parents slot (part cpu (task_after w.groups w.tasks event.act)))
+
+-- each field follows
+field : (f : Counts → ℕ) → f no_counts ≡ 0 → (kind : Task → Bool) → ((t : Task) → f (counts_among (t ∷ [])) ≡ one (kind t)) → Blind kind → (limits : Limits) (w : World) (event : Event) → cause_of limits w event ≡ None → (parents : List (Option ℕ)) (cpu slot : ℕ) → FollowsField f kind w event parents cpu slot
+field f none kind same blind limits w event legal parents cpu slot =
+    rw (
+      ← chain_field f none kind same parents cpu slot (before w.tasks event.act),
+      ← chain_field f none kind same parents cpu slot (task_after w.groups w.tasks event.act),
+      tallied_both (is_in parents cpu slot) kind (fin.values (tasks_after w.groups w.tasks event.act)),
+      tallied_both (is_in parents cpu slot) kind (fin.values w.tasks),
+    )
+    (counted_act (λ t. is_in parents cpu slot t && kind t) (blind_in kind blind parents cpu slot) limits w event.at event.act legal)
+
+-- all four follow
+pub counts_follow : CountsFollow
+counts_follow limits w event legal parents cpu slot = record {
+  io = field (λ n. n.io) refl waits (how_many_one waits) (λ t r. sym (ready_waits t.mode r)) limits w event legal parents cpu slot;
+  stalled = field (λ n. n.stalled) refl stalls (how_many_one stalls) (λ t r. refl) limits w event legal parents cpu slot;
+  running = field (λ n. n.running) refl is_up (how_many_one is_up) (λ t r. sym (ready_up t.mode r)) limits w event legal parents cpu slot;
+  stalled_running = field (λ n. n.stalled_running) refl is_up_stalled (how_many_one is_up_stalled) (λ t r. ap (λ b. b && t.stalled) (sym (ready_up t.mode r))) limits w event legal parents cpu slot;
+}
+
+-- ---- what an act leaves as it was on a processor that it doesn't touch
+
+-- a test of tasks on a processor
+abbrev at_cpu : ℕ → (Task → Bool) → Task → Bool
+at_cpu c g t = is_at c t && g t
+
+-- a task elsewhere doesn't count
+off : (c : ℕ) (g : Task → Bool) (t : Task) → is_at c t ≡ false → one (at_cpu c g t) ≡ 0
+off c g t h = ap (λ b. one (b && g t)) h
+
+-- nor does it after it left
+left_other : (how : How) (c : ℕ) (g : Task → Bool) (t : Task) → is_at c t ≡ false → one (test_task (left_by how t) (at_cpu c g)) ≡ 0
+left_other Preempt c g t h = off c g (record t { mode = Ready }) h
+left_other Sleep c g t h = off c g (record t { mode = Blocked }) h
+left_other IoWait c g t h = off c g (record t { mode = Waiting }) h
+left_other Exit c g t h = refl
+left_other Idle c g t h = off c g t h
+
+-- a processor that is another is none
+elsewhere : (x cpu c : ℕ) → (x == cpu) ≡ true → (cpu == c) ≡ false → (x == c) ≡ false
+elsewhere x cpu c s h = grind (arith, nat_tests)
+
+-- a task that leaves a processor changes no count on others
+quiet_leave : (g : Task → Bool) (tasks : Tasks) (cpu c : ℕ) (how : How) → (cpu == c) ≡ false → (o : Option (ℕ × Task)) → running_on tasks cpu ≡ o → counted (at_cpu c g) (leave how tasks o) ≡ counted (at_cpu c g) tasks
+quiet_leave g tasks cpu c how h None is = refl
+quiet_leave g tasks cpu c how h (Some e) is =
+    let other = elsewhere e.1.cpu.0 cpu c (first_true (e.1.cpu.0 == cpu) (is_running e.1.mode) ((running_found tasks cpu e is).1)) h in
+    let left = counted_leave (at_cpu c g) tasks cpu how (Some e) is in
+    let was = off c g e.1 other in
+    let gone = left_other how c g e.1 other in
+    omega (arith, left, was, gone)
+
+-- a task that is elsewhere before and after a change changes no count
+quiet_changed : (g : Task → Bool) (tasks : Tasks) (pid c : ℕ) (f : Task → Task) (o : Option Task) → task_of tasks pid ≡ o → test_task o (is_at c) ≡ false → test_task (changed f o) (is_at c) ≡ false → counted (at_cpu c g) (change_to tasks pid f o) ≡ counted (at_cpu c g) tasks
+quiet_changed g tasks pid c f None is h k = refl
+quiet_changed g tasks pid c f (Some t) is h k =
+    let more = rw is at (counted_put (at_cpu c g) tasks pid (f t)) in
+    let was = off c g t h in
+    let now = off c g (f t) k in
+    omega (arith, more, was, now)
+
+-- a task that is ready on a processor is on no other
+ready_elsewhere : (o : Option Task) (cpu c : ℕ) → test_task o (is_ready_on cpu) ≡ true → (cpu == c) ≡ false → test_task o (is_at c) ≡ false
+ready_elsewhere None cpu c r h = refl
+ready_elsewhere (Some t) cpu c r h = elsewhere t.cpu.0 cpu c (first_true (t.cpu.0 == cpu) (is_ready t.mode) r) h
+
+-- a change that leaves a task on its processor
+same_cpu : (f : Task → Task) → ((t : Task) → (f t).cpu ≡ t.cpu) → (o : Option Task) (c : ℕ) → test_task o (is_at c) ≡ false → test_task (changed f o) (is_at c) ≡ false
+same_cpu f same None c h = refl
+same_cpu f same (Some t) c h = rw (same t) h
+
+-- a task that comes to a processor is on no other
+readied_cpu : (o : Option Task) (cpu c : ℕ) → (cpu == c) ≡ false → test_task (changed (readied cpu) o) (is_at c) ≡ false
+readied_cpu None cpu c h = refl
+readied_cpu (Some t) cpu c h = h
+
+-- a task that starts on a processor changes no count on others
+quiet_start : (g : Task → Bool) (tasks : Tasks) (cpu c : ℕ) (how : How) (next : Option Pid) → (cpu == c) ≡ false → isnt_ready tasks cpu next ≡ false → counted (at_cpu c g) (start next (leave how tasks (running_on tasks cpu))) ≡ counted (at_cpu c g) (leave how tasks (running_on tasks cpu))
+quiet_start g tasks cpu c how None h k = refl
+quiet_start g tasks cpu c how (Some pid) h k =
+    let ready = not_false (test_task (task_of tasks pid.0) (is_ready_on cpu)) k in
+    let still = ready_left tasks cpu how pid.0 ready (running_on tasks cpu) refl in
+    let other : test_task (task_of (leave how tasks (running_on tasks cpu)) pid.0) (is_at c) ≡ false = rw still (ready_elsewhere (task_of tasks pid.0) cpu c ready h) in
+    quiet_changed g (leave how tasks (running_on tasks cpu)) pid.0 c (λ task. record task { mode = Running }) (task_of (leave how tasks (running_on tasks cpu)) pid.0) refl other
+    (same_cpu (λ task. record task { mode = Running }) (λ _. refl) (task_of (leave how tasks (running_on tasks cpu)) pid.0) c other)
+
+-- a task that comes to another processor
+quiet_readied : (g : Task → Bool) (tasks : Tasks) (pid cpu c : ℕ) → (cpu == c || test_task (task_of tasks pid) (is_at c)) ≡ false → counted (at_cpu c g) (change_to tasks pid (readied cpu) (task_of tasks pid)) ≡ counted (at_cpu c g) tasks
+quiet_readied g tasks pid cpu c h =
+    let both = or_false (cpu == c) (test_task (task_of tasks pid) (is_at c)) h in
+    quiet_changed g tasks pid c (readied cpu) (task_of tasks pid) refl both.1 (readied_cpu (task_of tasks pid) cpu c both.0)
+
+-- a task on another processor changes there
+quiet_there : (g : Task → Bool) (tasks : Tasks) (pid c : ℕ) (f : Task → Task) → ((t : Task) → (f t).cpu ≡ t.cpu) → test_task (task_of tasks pid) (is_at c) ≡ false → counted (at_cpu c g) (change_to tasks pid f (task_of tasks pid)) ≡ counted (at_cpu c g) tasks
+quiet_there g tasks pid c f same h = quiet_changed g tasks pid c f (task_of tasks pid) refl h (same_cpu f same (task_of tasks pid) c h)
+
+-- each count of tasks on a processor stays where an act doesn't touch it
+quiet_act : (g : Task → Bool) (limits : Limits) (w : World) (at : ℕ) (a : Act) (c : ℕ) → cause_of limits w (record { at = at; act = a }) ≡ None → touched a (before w.tasks a) c ≡ false → counted (at_cpu c g) (tasks_after w.groups w.tasks a) ≡ counted (at_cpu c g) w.tasks
+quiet_act g limits w at (act.Fork pid path cpu) c legal h =
+    let new : task_of w.tasks pid.0 ≡ None = is_none _ (none_stands limits w _ legal).task_exists in
+    let more = rw new at (counted_put (at_cpu c g) w.tasks pid.0 (new_task w.groups path cpu.0)) in
+    let now = off c g (new_task w.groups path cpu.0) h in
+    omega (arith, more, now)
+quiet_act g limits w at (act.Wake pid cpu) c legal h = quiet_readied g w.tasks pid.0 cpu.0 c h
+quiet_act g limits w at (act.Switch cpu next how) c legal h =
+    quiet_start g w.tasks cpu.0 c how next h (none_stands limits w _ legal).not_ready ∙ quiet_leave g w.tasks cpu.0 c how h (running_on w.tasks cpu.0) refl
+quiet_act g limits w at (act.Stall pid) c legal h = quiet_there g w.tasks pid.0 c _ (λ _. refl) h
+quiet_act g limits w at (act.Unstall pid) c legal h = quiet_there g w.tasks pid.0 c _ (λ _. refl) h
+quiet_act g limits w at (act.Migrate pid cpu) c legal h = quiet_readied g w.tasks pid.0 cpu.0 c h
+quiet_act g limits w at (act.Move pid path) c legal h = quiet_there g w.tasks pid.0 c _ (λ _. refl) h
+quiet_act g limits w at _ c legal h = refl
+
+-- tests that agree on each task count the same
+tally_same : (p q : Task → Bool) → ((t : Task) → p t ≡ q t) → (tasks : List Task) → tally p tasks ≡ tally q tasks
+tally_same p q same [] = refl
+tally_same p q same (t ∷ tasks) =
+    let here = ap one (same t) in
+    let rest = tally_same p q same tasks in
+    omega (arith, here, rest)
+
+-- three tests, grouped the other way
+and_shift : (a b c : Bool) → ((a && b) && c) ≡ (a && (b && c))
+and_shift true b c = refl
+and_shift false b c = refl
+
+-- how many count for a group on a processor, as a count of tasks on that processor
+many_in : (parents : List (Option ℕ)) (cpu slot : ℕ) (kind : Task → Bool) (tasks : Tasks) → how_many kind (tasks_in parents cpu slot tasks) ≡ counted (at_cpu cpu (λ t. is_under parents t.slot.0 slot && kind t)) tasks
+many_in parents cpu slot kind tasks =
+    tallied_both (is_in parents cpu slot) kind (fin.values tasks)
+    ∙ tally_same (λ t. is_in parents cpu slot t && kind t) (at_cpu cpu (λ t. is_under parents t.slot.0 slot && kind t)) (λ t. and_shift (t.cpu.0 == cpu) (is_under parents t.slot.0 slot) (kind t)) (fin.values tasks)
+
+-- where nothing is let through, the test fails
+not_then : (b : Bool) (change : Change) → (if b then Some change else None) ≡ None → b ≡ false
+not_then true change h = cc h
+not_then false change h = refl
+
+-- an event without a change of a processor doesn't touch it
+untouched : (w : World) (event : Event) (cpu : ℕ) → change_of w event cpu ≡ None → touched event.act (before w.tasks event.act) cpu ≡ false
+unfolding change_of
+untouched w event cpu h =
+    not_then (touched event.act (before w.tasks event.act) cpu) (change_on event.at (before w.tasks event.act) (task_after w.groups w.tasks event.act) (tasks_after w.groups w.tasks event.act) cpu) h
+
+-- so it is of each count of a group
+quiet_many : (limits : Limits) (w : World) (event : Event) → cause_of limits w event ≡ None → (cpu : ℕ) → change_of w event cpu ≡ None → (parents : List (Option ℕ)) (slot : ℕ) (kind : Task → Bool) → how_many kind (tasks_in parents cpu slot (after_event w event).tasks) ≡ how_many kind (tasks_in parents cpu slot w.tasks)
+quiet_many limits w event legal cpu none parents slot kind =
+    many_in parents cpu slot kind (after_event w event).tasks
+    ∙ quiet_act (λ t. is_under parents t.slot.0 slot && kind t) limits w event.at event.act cpu legal (untouched w event cpu none)
+    ∙ sym (many_in parents cpu slot kind w.tasks)
+
+-- as many that pass, so one or none
+any_same : (test : Task → Bool) (tasks others : List Task) → how_many test others ≡ how_many test tasks → list_any test tasks ≡ list_any test others
+any_same test tasks others same = any_counted test tasks ∙ ap (nat_lt 0) (sym same) ∙ sym (any_counted test others)
+
+-- all four counts stay, and what runs
+pub stays_untouched : StaysUntouched
+stays_untouched limits w event legal cpu none parents slot =
+    let same = quiet_many limits w event legal cpu none parents slot in (
+      rw (same waits, same stalls, same is_up, same is_up_stalled) refl,
+      λ on stalled told. record {
+        at_most_one = rw (same runs) told.at_most_one;
+        one_runs = told.one_runs ∙ any_same runs (tasks_in parents cpu slot w.tasks) (tasks_in parents cpu slot (after_event w event).tasks) (same runs);
+        it_is_stalled = told.it_is_stalled ∙ any_same runs_stalled (tasks_in parents cpu slot w.tasks) (tasks_in parents cpu slot (after_event w event).tasks) (same runs_stalled);
+      },
+    )
+
+-- ---- at most one task runs on each processor
+
+-- the same of a sum
+abbrev Once : Tasks → ℕ → Type 0
+Once tasks cpu = counted (is_running_on cpu) tasks ≤ 1
+
+-- at most one, as a sum
+once_of : (tasks : Tasks) → RunsOnce tasks → (cpu : ℕ) → Once tasks cpu
+once_of tasks once cpu = rw (← tallied (is_running_on cpu) (fin.values tasks)) (once cpu)
+
+-- and back
+of_once : (tasks : Tasks) → ((cpu : ℕ) → Once tasks cpu) → RunsOnce tasks
+of_once tasks once cpu = rw (tallied (is_running_on cpu) (fin.values tasks)) (once cpu)
+
+-- where a search finds none, none counts
+none_count : (p : Task → Bool) (es : List (ℕ × Task)) → find (λ e. p e.1) es ≡ None → tally p (map (λ e. e.1) es) ≡ 0
+none_count p [] h = refl
+none_count p (e ∷ es) h =
+    elim (p e.1) as (λ b. p e.1 ≡ b → cond b (Some e) (find (λ e. p e.1) es) ≡ None → one b + tally p (map (λ e. e.1) es) ≡ 0) [
+      | true ↦ λ t i. cc i
+      | false ↦ λ t i. let rest = none_count p es i in omega (arith, rest)
+    ] refl h
+
+-- a task that doesn't run counts nowhere as running
+not_running : (c : ℕ) (t : Task) → is_running t.mode ≡ false → one (is_running_on c t) ≡ 0
+not_running c t h = rw h (elim (t.cpu.0 == c) as (λ b. one (b && false) ≡ 0) [ true ↦ refl | false ↦ refl ])
+
+-- a task that left doesn't run
+left_off : (how : How) (e : ℕ × Task) (cpu : ℕ) → is_wrong how (Some e) ≡ false → one (test_task (left_by how e.1) (is_running_on cpu)) ≡ 0
+left_off Preempt e cpu h = not_running cpu (record e.1 { mode = Ready }) refl
+left_off Sleep e cpu h = not_running cpu (record e.1 { mode = Blocked }) refl
+left_off IoWait e cpu h = not_running cpu (record e.1 { mode = Waiting }) refl
+left_off Exit e cpu h = refl
+left_off Idle e cpu h = cc h
+
+-- after the running task left, none runs there
+none_left : (tasks : Tasks) (cpu : ℕ) (how : How) → Once tasks cpu → (o : Option (ℕ × Task)) → running_on tasks cpu ≡ o → is_wrong how o ≡ false → counted (is_running_on cpu) (leave how tasks o) ≡ 0
+none_left tasks cpu how once None is legal = none_count (is_running_on cpu) (fin.entries tasks) is
+none_left tasks cpu how once (Some e) is legal =
+    let left = counted_leave (is_running_on cpu) tasks cpu how (Some e) is in
+    let was = ap one ((running_found tasks cpu e is).1) in
+    let gone = left_off how e cpu legal in
+    omega (arith, left, was, gone, once)
+
+-- a test counts at most one
+one_le : (b : Bool) → one b ≤ 1
+one_le true = omega arith
+one_le false = omega arith
+
+-- one that starts counts one more at most
+start_le : (c : ℕ) (tasks : Tasks) (next : Option Pid) → counted (is_running_on c) (start next tasks) ≤ counted (is_running_on c) tasks + 1
+start_le c tasks None = omega arith
+start_le c tasks (Some pid) =
+    let more = counted_changed (is_running_on c) tasks pid.0 (λ task. record task { mode = Running }) (task_of tasks pid.0) refl in
+    let small = one_le (test_task (changed (λ task. record task { mode = Running }) (task_of tasks pid.0)) (is_running_on c)) in
+    omega (arith, more, small)
+
+-- a change that starts no task lets no more run
+once_changed : (c : ℕ) (tasks : Tasks) (pid : ℕ) (f : Task → Task) → ((o : Option Task) → one (test_task (changed f o) (is_running_on c)) ≤ one (test_task o (is_running_on c))) → Once tasks c → Once (change_to tasks pid f (task_of tasks pid)) c
+once_changed c tasks pid f fewer once =
+    let more = counted_changed (is_running_on c) tasks pid f (task_of tasks pid) refl in
+    let less = fewer (task_of tasks pid) in
+    omega (arith, more, less, once)
+
+-- a task that becomes ready no longer runs
+readied_fewer : (c cpu : ℕ) (o : Option Task) → one (test_task (changed (readied cpu) o) (is_running_on c)) ≤ one (test_task o (is_running_on c))
+readied_fewer c cpu None = omega arith
+readied_fewer c cpu (Some t) = let none = not_running c (readied cpu t) refl in omega (arith, none)
+
+-- a change that leaves whether it runs
+kept_fewer : (c : ℕ) (f : Task → Task) → ((t : Task) → is_running_on c (f t) ≡ is_running_on c t) → (o : Option Task) → one (test_task (changed f o) (is_running_on c)) ≤ one (test_task o (is_running_on c))
+kept_fewer c f same None = omega arith
+kept_fewer c f same (Some t) = let here = ap one (same t) in omega (arith, here)
+
+-- each legal act lets at most one run
+once_act : (limits : Limits) (w : World) (at : ℕ) (a : Act) → cause_of limits w (record { at = at; act = a }) ≡ None → ((cpu : ℕ) → Once w.tasks cpu) → (c : ℕ) → Once (tasks_after w.groups w.tasks a) c
+once_act limits w at (act.Fork pid path cpu) legal once c =
+    let more = counted_put (is_running_on c) w.tasks pid.0 (new_task w.groups path cpu.0) in
+    let none = not_running c (new_task w.groups path cpu.0) refl in
+    let was = once c in
+    omega (arith, more, none, was)
+once_act limits w at (act.Wake pid cpu) legal once c = once_changed c w.tasks pid.0 _ (readied_fewer c cpu.0) (once c)
+once_act limits w at (act.Switch cpu next how) legal once c =
+    ⊎_elim
+    (λ same.
+    let free = none_left w.tasks cpu.0 how (once cpu.0) (running_on w.tasks cpu.0) refl (none_stands limits w _ legal).wrong_how in
+    let more = start_le cpu.0 (leave how w.tasks (running_on w.tasks cpu.0)) next in
+    rw (← same.1) (omega (arith, free, more)))
+    (λ other. let same = quiet_act (λ t. is_running t.mode) limits w at (act.Switch cpu next how) c legal other.0 in let was = once c in omega (arith, same, was))
+    (eqb_tells cpu.0 c)
+once_act limits w at (act.Stall pid) legal once c = once_changed c w.tasks pid.0 _ (kept_fewer c _ (λ _. refl)) (once c)
+once_act limits w at (act.Unstall pid) legal once c = once_changed c w.tasks pid.0 _ (kept_fewer c _ (λ _. refl)) (once c)
+once_act limits w at (act.Migrate pid cpu) legal once c = once_changed c w.tasks pid.0 _ (readied_fewer c cpu.0) (once c)
+once_act limits w at (act.Move pid path) legal once c = once_changed c w.tasks pid.0 _ (kept_fewer c _ (λ _. refl)) (once c)
+once_act limits w at _ legal once c = once c
+
+-- no task runs at first
+pub runs_once_first : RunsOnceFirst
+runs_once_first cpu = rw no_entries (omega arith)
+
+-- legal events keep it
+pub runs_once_kept : RunsOnceKept
+runs_once_kept limits w event legal once = of_once (after_event w event).tasks (once_act limits w event.at event.act legal (once_of w.tasks once))
+
+-- ---- what the running task tells
+
+-- a stricter test counts no more
+tally_fewer : (p q : Task → Bool) (tasks : List Task) → tally (λ t. p t && q t) tasks ≤ tally p tasks
+tally_fewer p q [] = omega arith
+tally_fewer p q (t ∷ tasks) =
+    let rest = tally_fewer p q tasks in
+    elim (p t) as (λ b. one (b && q t) + tally (λ t. p t && q t) tasks ≤ one b + tally p tasks) [
+      | true ↦ let small = one_le (q t) in let goal : one (q t) + tally (λ t. p t && q t) tasks ≤ 1 + tally p tasks = omega (arith, rest, small) in goal
+      | false ↦ omega (arith, rest)
+    ]
+
+-- of the only one that passes a test, a search finds it and tells whether it passes another
+only_one : (p f : Task → Bool) (es : List (ℕ × Task)) → tally p (map (λ e. e.1) es) ≤ 1 → tally (λ t. p t && f t) (map (λ e. e.1) es) ≡ one (test_task (task_part (find (λ e. p e.1) es)) f)
+only_one p f [] few = refl
+only_one p f (e ∷ es) few =
+    elim (p e.1) as (λ b. one b + tally p (map (λ e. e.1) es) ≤ 1 → one (b && f e.1) + tally (λ t. p t && f t) (map (λ e. e.1) es) ≡ one (test_task (task_part (cond b (Some e) (find (λ e. p e.1) es))) f)) [
+      | true ↦ λ few. let less = tally_fewer p f (map (λ e. e.1) es) in let rest : 1 + tally p (map (λ e. e.1) es) ≤ 1 = few in let goal : one (f e.1) + tally (λ t. p t && f t) (map (λ e. e.1) es) ≡ one (f e.1) = omega (arith, less, rest) in goal
+      | false ↦ λ few. let small : 0 + tally p (map (λ e. e.1) es) ≤ 1 = few in let rest = only_one p f es (omega (arith, small)) in let goal : 0 + tally (λ t. p t && f t) (map (λ e. e.1) es) ≡ one (test_task (task_part (find (λ e. p e.1) es)) f) = omega (arith, rest) in goal
+    ] few
+
+-- a number of at most one, tested
+some_of_one : (b : Bool) → nat_lt 0 (one b) ≡ b
+some_of_one true = refl
+some_of_one false = refl
+
+-- four tests, the inner two exchanged
+swapped : (a u r s : Bool) → ((a && u) && (r && s)) ≡ ((a && r) && (u && s))
+swapped true true true s = refl
+swapped true true false s = refl
+swapped true false true s = refl
+swapped true false false s = refl
+swapped false u r s = refl
+
+-- of the running tasks of a processor, how many are in a group and pass a test: whether the one does
+many_running : (tasks : Tasks) → RunsOnce tasks → (parents : List (Option ℕ)) (cpu slot : ℕ) (test : Task → Bool) → how_many (λ t. runs t && test t) (tasks_in parents cpu slot tasks) ≡ one (test_task (task_part (running_on tasks cpu)) (λ t. is_under parents t.slot.0 slot && test t))
+many_running tasks once parents cpu slot test =
+    tallied_both (is_in parents cpu slot) (λ t. runs t && test t) (fin.values tasks)
+    ∙ tally_same (λ t. is_in parents cpu slot t && (runs t && test t)) (λ t. is_running_on cpu t && (is_under parents t.slot.0 slot && test t)) (λ t. swapped (t.cpu.0 == cpu) (is_under parents t.slot.0 slot) (is_running t.mode) (test t)) (fin.values tasks)
+    ∙ only_one (is_running_on cpu) (λ t. is_under parents t.slot.0 slot && test t) (fin.entries tasks) (once_of tasks once cpu)
+
+-- beside a test that holds
+and_true : (a : Bool) → (a && true) ≡ a
+and_true true = refl
+and_true false = refl
+
+-- any test of the running tasks
+any_running : (tasks : Tasks) → RunsOnce tasks → (parents : List (Option ℕ)) (cpu slot : ℕ) (test : Task → Bool) → list_any (λ t. runs t && test t) (tasks_in parents cpu slot tasks) ≡ test_task (task_part (running_on tasks cpu)) (λ t. is_under parents t.slot.0 slot && test t)
+any_running tasks once parents cpu slot test =
+    any_counted (λ t. runs t && test t) (tasks_in parents cpu slot tasks)
+    ∙ ap (nat_lt 0) (many_running tasks once parents cpu slot test)
+    ∙ some_of_one (test_task (task_part (running_on tasks cpu)) (λ t. is_under parents t.slot.0 slot && test t))
+
+-- tests that agree on each task find alike
+any_alike : (p q : Task → Bool) → ((t : Task) → p t ≡ q t) → (tasks : List Task) → list_any p tasks ≡ list_any q tasks
+any_alike p q same [] = refl
+any_alike p q same (t ∷ tasks) = rw (same t, any_alike p q same tasks) refl
+
+-- the running task is in a group, by what is shown
+current_in : (parents : List (Option ℕ)) (slot : ℕ) (o : Option (ℕ × Task)) → is_current_in parents slot (shown o) ≡ test_task (task_part o) (λ t. is_under parents t.slot.0 slot && true)
+current_in parents slot None = refl
+current_in parents slot (Some e) = sym (and_true (is_under parents e.1.slot.0 slot))
+
+-- it is in a stall besides, by what is shown
+current_stalled : (parents : List (Option ℕ)) (slot : ℕ) (o : Option (ℕ × Task)) → (is_current_in parents slot (shown o) && is_current_stalled (shown o)) ≡ test_task (task_part o) (λ t. is_under parents t.slot.0 slot && stalls t)
+current_stalled parents slot None = refl
+current_stalled parents slot (Some e) = refl
+
+-- tests that agree on each task count alike
+tally_alike : (p q : Task → Bool) → ((t : Task) → p t ≡ q t) → (tasks : List Task) → how_many p tasks ≡ how_many q tasks
+tally_alike p q same tasks = tallied p tasks ∙ tally_same p q same tasks ∙ sym (tallied q tasks)
+
+-- what is shown tells what runs
+pub current_tells : CurrentTells
+current_tells tasks once parents cpu slot =
+    let list = tasks_in parents cpu slot tasks in
+    let plain : (t : Task) → runs t ≡ (runs t && true) = λ t. sym (and_true (runs t)) in
+    let many = tally_alike runs (λ t. runs t && true) plain list ∙ many_running tasks once parents cpu slot (λ _. true) in
+    record {
+      at_most_one = rw many (one_le (test_task (task_part (running_on tasks cpu)) (λ t. is_under parents t.slot.0 slot && true)));
+      one_runs = current_in parents slot (running_on tasks cpu) ∙ sym (any_alike runs (λ t. runs t && true) plain list ∙ any_running tasks once parents cpu slot (λ _. true));
+      it_is_stalled = current_stalled parents slot (running_on tasks cpu) ∙ sym (any_running tasks once parents cpu slot stalls);
+    }

@@ -1,0 +1,8 @@
+use Rattle.psi_counts.proofs.TouchLaws as laws
+use Rattle.psi_counts.proofs.touches.law_runs_once.Goals as goal
+
+pub returns-clause-first : goal.returns-clause-first
+returns-clause-first c = laws.runs_once_first
+
+pub returns-clause-kept : goal.returns-clause-kept
+returns-clause-kept c = laws.runs_once_kept

@@ -1,0 +1,66 @@
+-- What counts of tasks tell of the states, and masks of states.
+use Rattle.std.specs.Prelude.{◌≡◌, ℕ, ◌≤◌, ◌<◌, List, length, filter, nat_lt, ◌==◌, ◌&&◌, ◌||◌, not, Bool, if◌then◌else◌}
+use Rattle.std.specs.List.{list_any}
+use Rattle.std.specs.Int.{bit_at}
+use Rattle.psi_base.specs.declared.event.State.{State}
+use Rattle.psi_base.specs.declared.event.State.TheVariants.{IoSome, IoFull, MemSome, MemFull, CpuSome, CpuFull, Nonidle}
+use Rattle.psi_spec.specs.declared.machine.Task.{Task}
+use Rattle.psi_counts.specs.declared.changes.Counts.{Counts}
+use Rattle.psi_spec.specs.Stall.{holds_of, waits, runs, is_up, stalls, state_number}
+
+-- ---- counts
+
+-- how many of a list of tasks pass a test
+abbrev pub how_many : (Task → Bool) → List Task → ℕ
+how_many test tasks = length (filter test tasks)
+
+-- the task is ready or runs, and is in a memory stall
+abbrev pub is_up_stalled : Task → Bool
+is_up_stalled task = is_up task && stalls task
+
+-- the task runs, and is in a memory stall
+abbrev pub runs_stalled : Task → Bool
+runs_stalled task = runs task && stalls task
+
+-- The counts of a list of tasks: how many wait for IO, are in a memory stall, are ready or run, and are ready or run in a
+-- memory stall. The kernel has them as tasks[NR_IOWAIT], tasks[NR_MEMSTALL], tasks[NR_RUNNING], tasks[NR_MEMSTALL_RUNNING].
+abbrev pub counts_among : List Task → Counts
+counts_among tasks = record { io = how_many waits tasks; stalled = how_many stalls tasks; running = how_many is_up tasks; stalled_running = how_many is_up_stalled tasks }
+
+-- The states by counts, after the kernel's test_states, and for a running task in a stall after its psi_group_change.
+-- `on_cpu` says that the processor's running task is among the counted ones (PSI_ONCPU), and `current_stalled` that the
+-- running task is in a memory stall.
+abbrev pub tells : State → Counts → Bool → Bool → Bool
+tells IoSome counts on_cpu current_stalled = nat_lt 0 counts.io
+tells IoFull counts on_cpu current_stalled = nat_lt 0 counts.io && counts.running == 0
+tells MemSome counts on_cpu current_stalled = nat_lt 0 counts.stalled
+tells MemFull counts on_cpu current_stalled = (nat_lt 0 counts.stalled && counts.running == counts.stalled_running) || (on_cpu && current_stalled)
+tells CpuSome counts on_cpu current_stalled = if on_cpu then nat_lt 1 counts.running else nat_lt 0 counts.running
+tells CpuFull counts on_cpu current_stalled = nat_lt 0 counts.running && not on_cpu
+tells Nonidle counts on_cpu current_stalled = nat_lt 0 counts.io || nat_lt 0 counts.stalled || nat_lt 0 counts.running
+
+-- At most one of the tasks runs. `on_cpu` says whether one does, and where one does, `current_stalled` says whether it is in
+-- a memory stall.
+pub record IsRunningTold (tasks : List Task) (on_cpu current_stalled : Bool) : Type 0 where
+  pub at_most_one : how_many runs tasks ≤ 1
+  pub one_runs : on_cpu ≡ list_any runs tasks
+  pub it_is_stalled : (on_cpu && current_stalled) ≡ list_any runs_stalled tasks
+
+-- The states of a list of tasks are those that its counts and its running task tell.
+abbrev pub CountsTell : Type 0
+CountsTell = (tasks : List Task) (on_cpu current_stalled : Bool) → IsRunningTold tasks on_cpu current_stalled → (state : State) →
+    holds_of state tasks ≡ tells state (counts_among tasks) on_cpu current_stalled
+
+-- ---- masks
+
+-- a number with bits of states alone: there are seven
+abbrev pub IsMask : ℕ → Type 0
+IsMask mask = mask < 128
+
+-- a mask holds a state: it has the bit at the state's number
+abbrev pub mask_holds : ℕ → State → Bool
+mask_holds mask state = bit_at mask (state_number state) == 1
+
+-- Masks that hold the same states are equal.
+abbrev pub MasksAreTheirStates : Type 0
+MasksAreTheirStates = (one other : ℕ) → IsMask one → IsMask other → ((state : State) → mask_holds one state ≡ mask_holds other state) → one ≡ other

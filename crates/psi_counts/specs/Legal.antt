@@ -1,0 +1,74 @@
+-- What holds of the world after legal events, and what follows of states.
+use Rattle.std.specs.Prelude.{◌≡◌, ℕ, ◌≤◌, List, ◌++◌, length, Option, None, ◌+◌, [], ◌∷◌, Some}
+use Rattle.std.specs.FinMap as tasks_by
+use Rattle.psi_base.specs.declared.event.Event.{Event}
+use Rattle.psi_spec.specs.World.{World, Limits, first_world, after_event, after, most_tasks, most_events}
+use Rattle.psi_spec.specs.Refusal.{cause_of, AreLegal}
+use Rattle.psi_spec.specs.Stall.{parents_of, tasks_in}
+use Rattle.psi_counts.specs.Counts.{counts_among}
+use Rattle.psi_spec.specs.Groups.{AreGroups}
+use Rattle.psi_counts.specs.Touch.{AreAtMost, AreWithin, Follows, RunsOnce, change_of, no_counts, on_chain}
+use Rattle.psi_counts.specs.declared.changes.Change.{Change}
+use Rattle.psi_counts.specs.declared.changes.Counts.{Counts}
+
+-- What holds of each legal world: its groups are so; each task is on a processor and in a slot that there is; at most one
+-- runs on a processor; tasks, triggers and lines are few, and the last moment isn't too late.
+pub record IsLegalWorld (limits : Limits) (w : World) : Type 0 where
+  pub groups : AreGroups w.groups
+  pub within : AreWithin limits.cpus (length w.groups) w.tasks
+  pub once : RunsOnce w.tasks
+  pub few_tasks : tasks_by.len w.tasks ≤ most_tasks
+  pub few_triggers : w.triggers ≤ 256
+  pub few_lines : w.lines ≤ most_events
+  pub early : w.last ≤ limits.latest
+
+-- ---- counts over a trace
+
+-- a change, if there is one, and those after it
+abbrev pub with_change : Option Change → List Change → List Change
+with_change None changes = changes
+with_change (Some change) changes = change ∷ changes
+
+-- the changes of a processor by events from a world on, in their order
+abbrev pub changes_from : ℕ → World → List Event → List Change
+changes_from cpu w [] = []
+changes_from cpu w (event ∷ events) = with_change (change_of w event cpu) (changes_from cpu (after_event w event) events)
+
+-- two counts together
+abbrev pub both_counts : Counts → Counts → Counts
+both_counts one other = record { io = one.io + other.io; stalled = one.stalled + other.stalled; running = one.running + other.running; stalled_running = one.stalled_running + other.stalled_running }
+
+-- all counts that changes add on the chain of a slot
+abbrev pub added : List (Option ℕ) → ℕ → List Change → Counts
+added parents slot [] = no_counts
+added parents slot (change ∷ changes) = both_counts (on_chain parents slot change.plus) (added parents slot changes)
+
+-- all counts that changes take there
+abbrev pub taken : List (Option ℕ) → ℕ → List Change → Counts
+taken parents slot [] = no_counts
+taken parents slot (change ∷ changes) = both_counts (on_chain parents slot change.minus) (taken parents slot changes)
+
+-- ---- laws
+
+-- The first world is one.
+abbrev pub LegalFirst : Type 0
+LegalFirst = (limits : Limits) → IsLegalWorld limits first_world
+
+-- So is each after a legal event.
+abbrev pub LegalKept : Type 0
+LegalKept = (limits : Limits) (w : World) (event : Event) → cause_of limits w event ≡ None → IsLegalWorld limits w → IsLegalWorld limits (after_event w event)
+
+-- Groups that are made later change no tasks that count for a group, so that a whole trace may be told by its last parents.
+abbrev pub SameTasksLater : Type 0
+SameTasksLater = (limits : Limits) (w : World) → IsLegalWorld limits w → (more : List (Option ℕ)) (cpu slot : ℕ) →
+    tasks_in (parents_of w.groups ++ more) cpu slot w.tasks ≡ tasks_in (parents_of w.groups) cpu slot w.tasks
+
+-- No group counts more tasks than may live.
+abbrev pub CountsAreFew : Type 0
+CountsAreFew = (limits : Limits) (w : World) → IsLegalWorld limits w → (parents : List (Option ℕ)) (cpu slot : ℕ) → AreAtMost most_tasks (counts_among (tasks_in parents cpu slot w.tasks))
+
+-- After legal events, what the changes of a processor added on a group's chain and took there are the numbers of the tasks
+-- that count for the group on the processor.
+abbrev pub CountsAreSums : Type 0
+CountsAreSums = (limits : Limits) (events : List Event) → AreLegal limits first_world events → (parents : List (Option ℕ)) (cpu slot : ℕ) →
+    Follows no_counts (taken parents slot (changes_from cpu first_world events)) (added parents slot (changes_from cpu first_world events)) (counts_among (tasks_in parents cpu slot (after events).tasks))

@@ -1,0 +1,4 @@
+pub mod Counts
+pub mod Clock
+pub mod Touch
+pub mod Legal

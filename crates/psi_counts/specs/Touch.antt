@@ -1,0 +1,204 @@
+-- What an event changes on the processors that it touches, and how counts of tasks follow such changes.
+use Rattle.std.specs.Prelude.{◌≡◌, ◌≢◌, ℕ, ◌+◌, ◌≤◌, ◌<◌, List, [], ◌∷◌, length, ◌==◌, Bool, true, false, if◌then◌else◌, unwrap_or, Option, None, Some, IfSome}
+use Rattle.std.specs.FinMap as tasks_by
+use Rattle.psi_base.specs.declared.event.Cpu.{Cpu}
+use Rattle.psi_base.specs.declared.event.Slot.{Slot}
+use Rattle.psi_base.specs.declared.event.How.{How}
+use Rattle.psi_base.specs.declared.event.Act.{Act}
+use Rattle.psi_base.specs.declared.event.Event.{Event}
+use Rattle.psi_spec.specs.declared.machine.Task.{Task}
+use Rattle.psi_counts.specs.declared.changes.Counts.{Counts}
+use Rattle.psi_counts.specs.declared.changes.Change.{Change}
+use Rattle.psi_counts.specs.declared.changes.Touch.{Touch}
+use Rattle.psi_spec.specs.declared.machine.GroupLife.{GroupLife}
+use Rattle.psi_spec.specs.Names.{names}
+use Rattle.psi_spec.specs.World.{Effect, forks, interrupts, moves, none, readies, stalls, switches, effect_of}
+use Rattle.psi_spec.specs.World.{World, Limits, Tasks, no_tasks, task_of, test_task, task_part, running_on, is_running_on, new_task, readied, left_by, slot_of, tasks_after, after_event}
+use Rattle.psi_spec.specs.Refusal.{cause_of}
+use Rattle.psi_spec.specs.Stall.{is_under, tasks_in}
+use Rattle.psi_spec.specs.Changes.{before, is_at, touched}
+use Rattle.psi_counts.specs.Counts.{how_many, counts_among, IsRunningTold}
+
+-- ---- the task whose counts an act changes
+
+-- a task after a change, if there is one
+abbrev pub changed : (Task → Task) → Option Task → Option Task
+changed f None = None
+changed f (Some task) = Some (f task)
+
+-- a running task after it left its processor, if there is one
+abbrev pub left_if : How → Option Task → Option Task
+left_if how None = None
+left_if how (Some task) = left_by how task
+
+-- the task whose counts an effect changes, after it
+abbrev pub after_effect : List GroupLife → Tasks → Effect → Option Task
+after_effect groups tasks none = None
+after_effect groups tasks (forks pid path cpu) = Some (new_task groups path cpu.0)
+after_effect groups tasks (readies pid cpu) = changed (readied cpu.0) (task_of tasks pid.0)
+after_effect groups tasks (stalls pid stalled) = changed (λ task. record task { stalled = stalled }) (task_of tasks pid.0)
+after_effect groups tasks (moves pid path) = changed (λ task. record task { slot = record { 0 = unwrap_or (slot_of groups path) 0 } }) (task_of tasks pid.0)
+after_effect groups tasks (switches cpu next how) = left_if how (task_part (running_on tasks cpu.0))
+after_effect groups tasks (interrupts cpu) = None
+
+-- the task whose counts an act changes, after it
+abbrev pub task_after : List GroupLife → Tasks → Act → Option Task
+task_after groups tasks act = after_effect groups tasks (effect_of act)
+
+-- ---- changes
+
+-- a task's slot, and what it counts as by itself, if it is on this processor
+abbrev pub part : ℕ → Option Task → Option (Slot × Counts)
+part cpu None = None
+part cpu (Some task) = if is_at cpu task then Some (task.slot, counts_among (task ∷ [])) else None
+
+-- a running task's slot, and whether it is in a memory stall
+abbrev pub shown : Option (ℕ × Task) → Option (Slot × Bool)
+shown None = None
+shown (Some running) = Some (running.1.slot, running.1.stalled)
+
+-- The change of a processor at a moment (ns): the task's counts before are taken from the chain of its slot, those after
+-- are added to the chain of its slot, and then some task runs there, or none.
+abbrev pub change_on : ℕ → Option Task → Option Task → Tasks → ℕ → Change
+change_on at old new tasks cpu = record { at = at; minus = part cpu old; plus = part cpu new; current = shown (running_on tasks cpu) }
+
+-- the change of a processor by an event, if the event touches it
+unfoldable pub change_of : World → Event → ℕ → Option Change
+change_of w event cpu =
+    if touched event.act (before w.tasks event.act) cpu
+    then Some (change_on event.at (before w.tasks event.act) (task_after w.groups w.tasks event.act) (tasks_after w.groups w.tasks event.act) cpu)
+    else None
+
+-- ---- touches
+
+-- the change of a processor, if it is of this one, else another
+abbrev pub told_first : ℕ → Option (Cpu × Change) → Option Change → Option Change
+told_first cpu None other = other
+told_first cpu (Some touched) other = if touched.0.0 == cpu then Some touched.1 else other
+
+-- the change that a touch tells of a processor
+abbrev pub told_of : Touch → ℕ → Option Change
+told_of touch cpu = told_first cpu touch.first (told_first cpu touch.second None)
+
+-- a second is there only beside a first on another processor
+abbrev pub IsBeside : Option (Cpu × Change) → Option (Cpu × Change) → Type 0
+IsBeside first None = Unit {0}
+IsBeside None (Some second) = ⊥
+IsBeside (Some first) (Some second) = first.0 ≢ second.0
+
+-- a touch tells of each of so many processors the change by the event, and of none two
+pub record IsTouch (cpus : ℕ) (w : World) (event : Event) (touch : Touch) : Type 0 where
+  pub told : (cpu : ℕ) → cpu < cpus → told_of touch cpu ≡ change_of w event cpu
+  pub beside : IsBeside touch.first touch.second
+
+-- each change in a touch is so, with its processor
+abbrev pub AllTouched : (ℕ → Change → Type 0) → Touch → Type 0
+AllTouched IsSo touch = IfSome touch.first (λ first. IsSo first.0.0 first.1) × IfSome touch.second (λ second. IsSo second.0.0 second.1)
+
+-- a change names slots below a bound alone
+pub record HasSlotsBelow (slots : ℕ) (change : Change) : Type 0 where
+  pub minus : IfSome change.minus (λ part. part.0.0 < slots)
+  pub plus : IfSome change.plus (λ part. part.0.0 < slots)
+  pub current : IfSome change.current (λ current. current.0.0 < slots)
+
+-- each count is at most so much
+pub record AreAtMost (most : ℕ) (counts : Counts) : Type 0 where
+  pub io : counts.io ≤ most
+  pub stalled : counts.stalled ≤ most
+  pub running : counts.running ≤ most
+  pub stalled_running : counts.stalled_running ≤ most
+
+-- a change takes and adds the counts of one task each
+pub record IsOfOne (change : Change) : Type 0 where
+  pub minus : IfSome change.minus (λ part. AreAtMost 1 part.1)
+  pub plus : IfSome change.plus (λ part. AreAtMost 1 part.1)
+
+-- ---- how counts follow
+
+-- no task is counted
+abbrev pub no_counts : Counts
+no_counts = record { io = 0; stalled = 0; running = 0; stalled_running = 0 }
+
+-- what counts on the chain of a slot are for another: themselves, if that is the slot or above it
+abbrev pub on_chain : List (Option ℕ) → ℕ → Option (Slot × Counts) → Counts
+on_chain parents slot None = no_counts
+on_chain parents slot (Some part) = if is_under parents part.0.0 slot then part.1 else no_counts
+
+-- the new counts and what was taken are the old counts and what was added
+pub record Follows (old minus plus new : Counts) : Type 0 where
+  pub io : new.io + minus.io ≡ old.io + plus.io
+  pub stalled : new.stalled + minus.stalled ≡ old.stalled + plus.stalled
+  pub running : new.running + minus.running ≡ old.running + plus.running
+  pub stalled_running : new.stalled_running + minus.stalled_running ≡ old.stalled_running + plus.stalled_running
+
+-- on each processor one task runs, or none
+abbrev pub RunsOnce : Tasks → Type 0
+RunsOnce tasks = (cpu : ℕ) → how_many (is_running_on cpu) (tasks_by.values tasks) ≤ 1
+
+-- a processor's running task is in a group or below it
+abbrev pub is_current_in : List (Option ℕ) → ℕ → Option (Slot × Bool) → Bool
+is_current_in parents slot None = false
+is_current_in parents slot (Some current) = is_under parents current.0.0 slot
+
+-- a processor's running task is in a memory stall
+abbrev pub is_current_stalled : Option (Slot × Bool) → Bool
+is_current_stalled None = false
+is_current_stalled (Some current) = current.1
+
+-- the processor of each task is one of so many, and so is its slot
+abbrev pub AreWithin : ℕ → ℕ → Tasks → Type 0
+AreWithin cpus slots tasks = (pid : ℕ) → IfSome (task_of tasks pid) (λ task. (task.cpu.0 < cpus) × (task.slot.0 < slots))
+
+-- ---- laws
+
+-- A legal event changes the counts of each group on each processor by what its change takes and adds there.
+abbrev pub CountsFollow : Type 0
+CountsFollow = (limits : Limits) (w : World) (event : Event) → cause_of limits w event ≡ None → (parents : List (Option ℕ)) (cpu slot : ℕ) →
+    Follows (counts_among (tasks_in parents cpu slot w.tasks)) (on_chain parents slot (part cpu (before w.tasks event.act))) (on_chain parents slot (part cpu (task_after w.groups w.tasks event.act))) (counts_among (tasks_in parents cpu slot (after_event w event).tasks))
+
+-- At most one task runs on each processor, from the first on.
+abbrev pub RunsOnceFirst : Type 0
+RunsOnceFirst = RunsOnce no_tasks
+
+-- It stays so by legal events.
+abbrev pub RunsOnceKept : Type 0
+RunsOnceKept = (limits : Limits) (w : World) (event : Event) → cause_of limits w event ≡ None → RunsOnce w.tasks → RunsOnce (after_event w event).tasks
+
+-- What a change shows of a processor's running task tells which task runs among those of each group there.
+abbrev pub CurrentTells : Type 0
+CurrentTells = (tasks : Tasks) → RunsOnce tasks → (parents : List (Option ℕ)) (cpu slot : ℕ) →
+    IsRunningTold (tasks_in parents cpu slot tasks) (is_current_in parents slot (shown (running_on tasks cpu))) (is_current_stalled (shown (running_on tasks cpu)))
+
+-- A processor's change by a legal event tells all that stall sums need there: the counts of each group follow what it takes
+-- and adds on the chains, and it shows which task of each group runs afterwards.
+abbrev pub ChangeTells : Type 0
+ChangeTells =
+    (limits : Limits) (w : World) (event : Event) → cause_of limits w event ≡ None → RunsOnce w.tasks → (cpu : ℕ) (change : Change) → change_of w event cpu ≡ Some change → (parents : List (Option ℕ)) (slot : ℕ) →
+    Follows (counts_among (tasks_in parents cpu slot w.tasks)) (on_chain parents slot change.minus) (on_chain parents slot change.plus) (counts_among (tasks_in parents cpu slot (after_event w event).tasks))
+    × IsRunningTold (tasks_in parents cpu slot (after_event w event).tasks) (is_current_in parents slot change.current) (is_current_stalled change.current)
+
+-- An act touches the processor that it names, and the one on which the task that it changes is, before it and after it.
+abbrev pub TouchesItsOwn : Type 0
+TouchesItsOwn = (w : World) (event : Event) (cpu : ℕ) →
+    ((names event.act).cpu ≡ Some cpu → touched event.act (before w.tasks event.act) cpu ≡ true)
+    × (test_task (before w.tasks event.act) (is_at cpu) ≡ true → touched event.act (before w.tasks event.act) cpu ≡ true)
+    × (test_task (task_after w.groups w.tasks event.act) (is_at cpu) ≡ true → touched event.act (before w.tasks event.act) cpu ≡ true)
+
+-- A legal event leaves the counts of each group on a processor that it doesn't touch, and which task runs there.
+abbrev pub StaysUntouched : Type 0
+StaysUntouched = (limits : Limits) (w : World) (event : Event) → cause_of limits w event ≡ None → (cpu : ℕ) → change_of w event cpu ≡ None → (parents : List (Option ℕ)) (slot : ℕ) →
+    (counts_among (tasks_in parents cpu slot (after_event w event).tasks) ≡ counts_among (tasks_in parents cpu slot w.tasks))
+    × ((on_cpu current_stalled : Bool) → IsRunningTold (tasks_in parents cpu slot w.tasks) on_cpu current_stalled → IsRunningTold (tasks_in parents cpu slot (after_event w event).tasks) on_cpu current_stalled)
+
+-- No task is anywhere at first.
+abbrev pub WithinFirst : Type 0
+WithinFirst = (cpus slots : ℕ) → AreWithin cpus slots no_tasks
+
+-- Processors and slots of tasks stay below the number of processors and the number of groups by legal events.
+abbrev pub WithinKept : Type 0
+WithinKept = (limits : Limits) (w : World) (event : Event) → cause_of limits w event ≡ None → AreWithin limits.cpus (length w.groups) w.tasks → AreWithin limits.cpus (length w.groups) (after_event w event).tasks
+
+-- So do those of changes; and a change takes and adds the counts of one task, at the event's moment.
+abbrev pub ChangesAreWithin : Type 0
+ChangesAreWithin = (limits : Limits) (w : World) (event : Event) → cause_of limits w event ≡ None → AreWithin limits.cpus (length w.groups) w.tasks → (cpu : ℕ) (change : Change) → change_of w event cpu ≡ Some change →
+    (cpu < limits.cpus) × HasSlotsBelow (length w.groups) change × IsOfOne change × (change.at ≡ event.at)

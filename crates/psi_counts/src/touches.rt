@@ -1,0 +1,44 @@
+//! Laws of what events change on processors. Each function has an empty body: its contract is the law.
+ghost use Rattle.psi_counts.specs.Touch.{ChangeTells, ChangesAreWithin, CountsFollow, CurrentTells, RunsOnceFirst, RunsOnceKept, StaysUntouched, TouchesItsOwn, WithinFirst, WithinKept};
+
+/// A legal event changes the counts of each group on each processor by what its change takes and adds on the chain of
+/// the task's slot, as `psi_group_change` of the kernel's psi.c does group by group.
+pub fn law_counts_follow()
+    ensures { CountsFollow }
+{}
+
+/// At most one task runs on each processor, at first and after each legal event.
+pub fn law_runs_once()
+    ensures first { RunsOnceFirst }
+    ensures kept { RunsOnceKept }
+{}
+
+/// The running task of a processor tells which of the tasks that count for a group runs, so that the states follow
+/// from counts.
+pub fn law_current_tells()
+    ensures { CurrentTells }
+{}
+
+/// The change of a processor tells there all that the states of each group are told by: how the counts follow, and what
+/// runs.
+pub fn law_change_tells()
+    ensures { ChangeTells }
+{}
+
+/// A legal event leaves counts and running task on processors that it doesn't touch, and it touches the processor that
+/// it names and those of the task that it changes.
+pub fn law_touched()
+    ensures others { StaysUntouched }
+    ensures own { TouchesItsOwn }
+{}
+
+/// The processors and slots of tasks are ones that there are, at first and after each legal event.
+pub fn law_within()
+    ensures first { WithinFirst }
+    ensures kept { WithinKept }
+{}
+
+/// So are those of changes, and a change takes and adds the counts of one task.
+pub fn law_changes_are_within()
+    ensures { ChangesAreWithin }
+{}

@@ -1,5 +1,0 @@
-use Rattle.psi_laws.proofs.ClockLaws as laws
-use Rattle.psi_laws.proofs.clocks.law_clock_words.Goals as goal
-
-pub returns : goal.returns
-returns c = laws.words_tell_clock

@@ -1,8 +1,0 @@
-use Rattle.psi_laws.proofs.LegalLaws as laws
-use Rattle.psi_laws.proofs.legal.law_legal_worlds.Goals as goal
-
-pub returns-clause-first : goal.returns-clause-first
-returns-clause-first c = laws.legal_first
-
-pub returns-clause-kept : goal.returns-clause-kept
-returns-clause-kept c = laws.legal_kept

@@ -1,8 +1,0 @@
-use Rattle.psi_laws.proofs.PlanLaws as laws
-use Rattle.psi_laws.proofs.plans.law_numbered_changes.Goals as goal
-
-pub returns-clause-numbered : goal.returns-clause-numbered
-returns-clause-numbered c = laws.changes_are_numbered
-
-pub returns-clause-until : goal.returns-clause-until
-returns-clause-until c = laws.changes_until

@@ -1,0 +1,9 @@
+pub mod Accepting
+pub mod GrammarCauses
+pub mod GrammarFields
+pub mod GrammarHeaders
+pub mod GrammarParts
+pub mod GrammarReads
+pub mod GrammarWords
+pub mod Reading
+pub mod Splitting
