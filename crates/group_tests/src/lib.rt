@@ -6,6 +6,7 @@ mod tests {
     use group_tree::Tree;
     use psi_base::{Cause, Fault, NoMemory, Ns, Path, Slot};
     use std::alloc::Global;
+    use std::process::Abort;
     use std::test::Fail;
 
     fn path(alloc: Global, text: &str) -> Result<Path, NoMemory> {
@@ -15,54 +16,59 @@ mod tests {
         }
     }
 
-    /// Makes a group. The cause that is asked for before it has to be the one that refuses it.
-    fn add(alloc: Global, tree: &mut Tree, text: &str, at: Ns) -> Result<Slot, Fault<Cause>> {
+    /// Makes a group, or tells the cause that refuses it, which is the one that is asked for before it.
+    fn add(
+        rt: &impl Abort,
+        alloc: Global,
+        tree: &mut Tree,
+        text: &str,
+        at: Ns,
+    ) -> Result<Result<Slot, Cause>, NoMemory> {
         let path = path(alloc, text)?;
         let asked = tree.add_cause(&path);
-        let given = tree.add(&path, at);
-        if asked.is_some() == given.is_ok() {
-            return Err(Fault::NoMemory);
-        }
-        given
+        let given = match tree.add(&path, at) {
+            Ok(slot) => Ok(slot),
+            Err(Fault::Refused(cause)) => Err(cause),
+            Err(Fault::NoMemory(none)) => return Err(none),
+        };
+        assert_eq!(rt; given.err(), asked, "{text}");
+        Ok(given)
     }
 
-    /// Removes a group, and asks for the cause before it.
-    fn remove(alloc: Global, tree: &mut Tree, text: &str, at: Ns) -> Result<Slot, Fault<Cause>> {
+    /// Removes a group, or tells the cause that refuses it, which is the one that is asked for before it.
+    fn remove(
+        rt: &impl Abort,
+        alloc: Global,
+        tree: &mut Tree,
+        text: &str,
+        at: Ns,
+    ) -> Result<Result<Slot, Cause>, NoMemory> {
         let path = path(alloc, text)?;
         let asked = tree.remove_cause(&path);
-        match tree.remove(&path, at) {
-            Ok(slot) if asked.is_none() => Ok(slot),
-            Err(cause) if asked == Some(cause) => Err(Fault::Refused(cause)),
-            _ => Err(Fault::NoMemory),
-        }
+        let given = tree.remove(&path, at);
+        assert_eq!(rt; given.err(), asked, "{text}");
+        Ok(given)
     }
 
     /// Groups that are made, and made again under the same paths.
-    fn forest(alloc: Global) -> Result<Tree, Fault<Cause>> {
+    fn small_forest(rt: &impl Abort, alloc: Global) -> Result<Tree, NoMemory> {
         let mut tree = Tree::new(alloc)?;
         for text in ["/a", "/a/b", "/b"] {
-            add(alloc, &mut tree, text, 1)?;
+            assert!(rt; add(rt, alloc, &mut tree, text, 1)?.is_ok(), "{text}");
         }
         for text in ["/a/b", "/a"] {
-            remove(alloc, &mut tree, text, 2)?;
+            assert!(rt; remove(rt, alloc, &mut tree, text, 2)?.is_ok(), "{text}");
         }
         for text in ["/a", "/a/b", "/a.b", "/a/b/c"] {
-            add(alloc, &mut tree, text, 3)?;
+            assert!(rt; add(rt, alloc, &mut tree, text, 3)?.is_ok(), "{text}");
         }
         Ok(tree)
-    }
-
-    fn small_forest(alloc: Global) -> Result<Tree, Fail> {
-        match forest(alloc) {
-            Ok(tree) => Ok(tree),
-            Err(_) => Err(NoMemory.into()),
-        }
     }
 
     // A path that is made again has a new slot, and what was removed stays in its own.
     #[test]
     fn lives_of_groups(rt: HostRuntime) -> Result<(), Fail> {
-        let tree = small_forest(rt.alloc())?;
+        let tree = small_forest(&rt, rt.alloc())?;
         let lives = [
             ("/", None, 0, None),
             ("/a", Some(Slot(0)), 1, Some(2)),
@@ -86,15 +92,15 @@ mod tests {
 
     #[test]
     fn refused_groups(rt: HostRuntime) -> Result<(), Fail> {
-        let mut tree = small_forest(rt.alloc())?;
+        let mut tree = small_forest(&rt, rt.alloc())?;
         for (text, want) in [
             ("/a", Cause::GroupExists),
             ("/", Cause::GroupExists),
             ("/c/d", Cause::NoParent),
         ] {
             assert_eq!(rt;
-                add(rt.alloc(), &mut tree, text, 4),
-                Err(Fault::Refused(want)),
+                add(&rt, rt.alloc(), &mut tree, text, 4)?,
+                Err(want),
                 "{text}"
             );
         }
@@ -105,19 +111,22 @@ mod tests {
             ("/c", Cause::UnknownGroup),
         ] {
             assert_eq!(rt;
-                remove(rt.alloc(), &mut tree, text, 4),
-                Err(Fault::Refused(want)),
+                remove(&rt, rt.alloc(), &mut tree, text, 4)?,
+                Err(want),
                 "{text}"
             );
         }
-        assert_eq!(rt; remove(rt.alloc(), &mut tree, "/a/b/c", 4), Ok(Slot(7)));
-        assert_eq!(rt; remove(rt.alloc(), &mut tree, "/a/b", 4), Ok(Slot(5)));
+        assert_eq!(rt;
+            remove(&rt, rt.alloc(), &mut tree, "/a/b/c", 4)?,
+            Ok(Slot(7))
+        );
+        assert_eq!(rt; remove(&rt, rt.alloc(), &mut tree, "/a/b", 4)?, Ok(Slot(5)));
         Ok(())
     }
 
     #[test]
     fn found_groups(rt: HostRuntime) -> Result<(), Fail> {
-        let tree = small_forest(rt.alloc())?;
+        let tree = small_forest(&rt, rt.alloc())?;
         for (text, want) in [
             ("/", Some(Slot(0))),
             ("/a", Some(Slot(4))),
@@ -130,19 +139,22 @@ mod tests {
     }
 
     /// The slots from one up to the root's.
-    fn chain(alloc: Global, tree: &Tree, slot: Slot) -> Result<Vec<Slot>, NoMemory> {
-        if tree.len() <= slot.0 as usize {
-            return Err(NoMemory);
-        }
+    fn chain(
+        rt: &impl Abort,
+        alloc: Global,
+        tree: &Tree,
+        slot: Slot,
+    ) -> Result<Vec<Slot>, NoMemory> {
+        assert!(rt; (slot.0 as usize) < tree.len());
         Ok(tree.chain(slot).collect(alloc)?)
     }
 
     #[test]
     fn groups_above(rt: HostRuntime) -> Result<(), Fail> {
-        let tree = small_forest(rt.alloc())?;
-        let up = chain(rt.alloc(), &tree, Slot(7))?;
+        let tree = small_forest(&rt, rt.alloc())?;
+        let up = chain(&rt, rt.alloc(), &tree, Slot(7))?;
         assert!(rt; up.as_slice() == [Slot(7), Slot(5), Slot(4), Slot(0)].as_slice());
-        let up = chain(rt.alloc(), &tree, Slot(0))?;
+        let up = chain(&rt, rt.alloc(), &tree, Slot(0))?;
         assert!(rt; up.as_slice() == [Slot(0)].as_slice());
         for (low, high, want) in [
             (7, 4, true),
@@ -165,7 +177,7 @@ mod tests {
     // In the order of bytes `.` comes before `/`.
     #[test]
     fn live_groups_by_path(rt: HostRuntime) -> Result<(), Fail> {
-        let tree = small_forest(rt.alloc())?;
+        let tree = small_forest(&rt, rt.alloc())?;
         let order = tree.live_order(rt.alloc())?;
         let want = [Slot(0), Slot(4), Slot(6), Slot(5), Slot(7), Slot(3)];
         assert!(rt; order.as_slice() == want.as_slice());
@@ -175,13 +187,13 @@ mod tests {
     // Removed groups stand beside those that have their paths now.
     #[test]
     fn all_groups_by_path(rt: HostRuntime) -> Result<(), Fail> {
-        let tree = small_forest(rt.alloc())?;
+        let tree = small_forest(&rt, rt.alloc())?;
         let order = tree.path_order(rt.alloc())?;
         let want = ["/", "/a", "/a", "/a.b", "/a/b", "/a/b", "/a/b/c", "/b"];
         assert_eq!(rt; order.len(), want.len());
         for (slot, path) in order.iter().zip(want.iter()) {
             let Some(life) = tree.lives().get(slot.0 as usize) else {
-                return Err(NoMemory.into());
+                panic!(rt; "no group has the slot {}", slot.0);
             };
             assert!(rt; life.path.text() == *path);
         }
@@ -193,13 +205,16 @@ mod tests {
     fn at_most_1024_groups(rt: HostRuntime) -> Result<(), Fail> {
         let mut tree = Tree::new(rt.alloc())?;
         for slot in 1..1024u32 {
-            assert_eq!(rt; add(rt.alloc(), &mut tree, "/g", 1), Ok(Slot(slot)));
-            assert_eq!(rt; remove(rt.alloc(), &mut tree, "/g", 1), Ok(Slot(slot)));
+            assert_eq!(rt; add(&rt, rt.alloc(), &mut tree, "/g", 1)?, Ok(Slot(slot)));
+            assert_eq!(rt;
+                remove(&rt, rt.alloc(), &mut tree, "/g", 1)?,
+                Ok(Slot(slot))
+            );
         }
         for text in ["/g", "/", "/x/y"] {
             assert_eq!(rt;
-                add(rt.alloc(), &mut tree, text, 2),
-                Err(Fault::Refused(Cause::TooManyGroups)),
+                add(&rt, rt.alloc(), &mut tree, text, 2)?,
+                Err(Cause::TooManyGroups),
                 "{text}"
             );
         }

@@ -31,7 +31,7 @@ remove_cause groups path =
 -- the fault is the first cause; memory is wanted only where there is none
 abbrev pub IsGroupFault : Option Cause → Fault Cause → Type 0
 IsGroupFault why (fault.Refused cause) = why ≡ Some cause
-IsGroupFault why fault.NoMemory = why ≡ None
+IsGroupFault why (fault.NoMemory _) = why ≡ None
 
 -- ---- the groups above a group
 

@@ -58,9 +58,7 @@ pub(crate) fn push_group(
     lives.reserve(1)?;
     children.reserve(1)?;
     let slot = Slot(lives.len() as u32);
-    let Ok(_) = slots.insert(text, slot) else {
-        return Err(NoMemory);
-    };
+    slots.insert(text, slot)?;
     count_child(children, life.parent);
     let Ok(()) = children.push(0) else {
         unreachable!();

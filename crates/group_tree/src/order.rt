@@ -25,9 +25,7 @@ fn live_by_path(alloc: Global, lives: &[GroupLife]) -> Result<BTreeMap<&Path, Sl
         if life.gone.is_some() {
             continue;
         }
-        let Ok(_) = groups.insert(&life.path, Slot(left as u32)) else {
-            return Err(NoMemory);
-        };
+        groups.insert(&life.path, Slot(left as u32))?;
     }
     Ok(groups)
 }

@@ -53,18 +53,14 @@ impl Tree {
         ensures { IfOk result (λ tree. tree ≡ root ∷ []) }
     {
         let mut slots = HashMap::new(alloc);
-        let Ok(_) = slots.insert(String::from_str(alloc, "/")?, Slot(0)) else {
-            return Err(NoMemory);
-        };
+        slots.insert(String::from_str(alloc, "/")?, Slot(0))?;
         let root = GroupLife {
             path: Path::root(alloc)?,
             parent: None,
             made: 0,
             gone: None,
         };
-        let Ok(lives) = Vec::from_array(alloc, [root]) else {
-            return Err(NoMemory);
-        };
+        let lives = Vec::from_array(alloc, [root])?;
         Ok(Tree {
             alloc,
             lives,
@@ -201,9 +197,7 @@ impl Tree {
             return Err(Fault::Refused(cause));
         }
         let life = self.new_life(path, at)?;
-        let Ok(text) = String::from_str(self.alloc, path.text()) else {
-            return Err(Fault::NoMemory);
-        };
+        let text = String::from_str(self.alloc, path.text())?;
         let slot = push_group(
             &mut self.lives,
             &mut self.slots,

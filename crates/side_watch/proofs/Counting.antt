@@ -18,17 +18,17 @@ use Rattle.psi_spec.specs.Groups.{leads_to}
 use Rattle.psi_spec.specs.Told.{slot_named}
 use Rattle.psi_spec.proofs.GroupLaws.{climbs_kept}
 use Rattle.psi_spec.proofs.TaskLaws.{found, no_entries}
-use Rattle.psi_laws.specs.Legal.{IsLegalWorld}
-use Rattle.psi_laws.specs.Touch.{AreWithin, task_after}
+use Rattle.psi_counts.specs.Legal.{IsLegalWorld}
+use Rattle.psi_counts.specs.Touch.{AreWithin, task_after}
 use Rattle.psi_spec.specs.Changes.{before}
-use Rattle.psi_laws.proofs.CountLaws.{one}
-use Rattle.psi_laws.proofs.LegalLaws.{chosen_fewer}
-use Rattle.psi_laws.proofs.MomentsEvents.{by_legal}
-use Rattle.psi_laws.proofs.MomentsTold.{told-push}
-use Rattle.psi_laws.proofs.PlanLaws.{after-push}
-use Rattle.psi_laws.proofs.PlanStates.{Prolongs, legal_after, legal_last}
-use Rattle.psi_laws.proofs.TouchCounts.{counted, counted_remove, running_found, tally, tallied}
-use Rattle.psi_laws.proofs.TouchLaws.{counted_act}
+use Rattle.psi_counts.proofs.CountLaws.{one}
+use Rattle.psi_counts.proofs.LegalLaws.{chosen_fewer}
+use Rattle.plan_laws.proofs.MomentsEvents.{by_legal}
+use Rattle.plan_laws.proofs.MomentsTold.{told-push}
+use Rattle.plan_laws.proofs.PlanLaws.{after-push}
+use Rattle.plan_laws.proofs.PlanStates.{Prolongs, legal_after, legal_last}
+use Rattle.psi_counts.proofs.TouchCounts.{counted, counted_remove, running_found, tally, tallied}
+use Rattle.psi_counts.proofs.TouchLaws.{counted_act}
 use Rattle.proc_plan.specs.declared.side.Side.{Side}
 use Rattle.proc_plan.specs.Sides.{came, went, passage, group_of, sample_by, sides_by, sides_of}
 use Rattle.side_watch.specs.declared.cell.Cell.{Cell}

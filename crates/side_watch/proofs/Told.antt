@@ -15,9 +15,9 @@ use Rattle.psi_spec.specs.declared.machine.Task.{Task}
 use Rattle.psi_spec.specs.World.{World, after, after_event, first_world}
 use Rattle.psi_spec.specs.Stall.{is_under, parents_of}
 use Rattle.psi_spec.specs.Told.{told_from}
-use Rattle.psi_laws.specs.Touch.{task_after}
+use Rattle.psi_counts.specs.Touch.{task_after}
 use Rattle.psi_spec.specs.Changes.{before}
-use Rattle.psi_laws.proofs.CountLaws.{any_counted}
+use Rattle.psi_counts.proofs.CountLaws.{any_counted}
 use Rattle.kill_spec.specs.declared.reading.HostReading.{HostReading}
 use Rattle.kill_spec.specs.Readings.{no_host}
 use Rattle.kill_spec.specs.Evaluations.{MemorySample, last_or, no_memory, memory_told, preference_told, host_told}

@@ -8,9 +8,9 @@ use Rattle.psi_spec.specs.declared.machine.GroupLife.{GroupLife}
 use Rattle.psi_spec.specs.World.{World, Limits, after, after_from, first_world}
 use Rattle.psi_spec.specs.Refusal.{AreLegal}
 use Rattle.psi_spec.specs.Stall.{parents_of}
-use Rattle.psi_spec.proofs.Accepting.{after_from-append}
-use Rattle.psi_laws.proofs.PlanStates.{Prolongs, legal_after, legal_front, prolongs_by}
-use Rattle.psi_laws.proofs.PlanUpTo.{up_to_front}
+use Rattle.psi_spec.proofs.Following.{after_from-append}
+use Rattle.plan_laws.proofs.PlanStates.{Prolongs, legal_after, legal_front, prolongs_by}
+use Rattle.plan_laws.proofs.PlanUpTo.{up_to_front}
 use Rattle.kill_spec.specs.declared.reading.HostReading.{HostReading}
 use Rattle.kill_spec.specs.Readings.{no_host}
 use Rattle.kill_spec.specs.Evaluations.{MemorySample, memory_of, preference_of, host_of}

@@ -11,7 +11,7 @@ use Rattle.psi_spec.specs.World.{World, Limits, after, first_world, up_to}
 use Rattle.psi_spec.specs.Refusal.{AreLegal}
 use Rattle.psi_spec.specs.Groups.{AreOlder}
 use Rattle.psi_spec.specs.Stall.{parents_of, is_under}
-use Rattle.psi_laws.specs.Counts.{how_many}
+use Rattle.psi_counts.specs.Counts.{how_many}
 use Rattle.slot_clocks.specs.Clocks.{parent_numbers}
 use Rattle.kill_spec.specs.declared.reading.HostReading.{HostReading}
 use Rattle.kill_spec.specs.Readings.{IsHostReading, no_host}

@@ -47,9 +47,7 @@ fn parents_of(alloc: Global, lives: &[GroupLife]) -> Result<Vec<Option<Slot>>, N
 {
     let mut parents = Vec::new(alloc);
     'lives: for life in lives {
-        if parents.push(life.parent).is_err() {
-            return Err(NoMemory);
-        }
+        parents.push(life.parent)?;
     }
     Ok(parents)
 }

@@ -81,6 +81,31 @@ const LINES: &str = "5 fork 1 / 0 | ok;\
     1000 end | AfterEnd;\
     4 fork 1 / 2 | AfterEnd";
 
+/// One trace of two processors up to 4 s with `irq` lines, told as above. Each is measured from the last one of its processor,
+/// whatever stands between them.
+const IRQ_LINES: &str = "5 irq 2 6 | BadCpu;\
+    5 irq 2 1000000001 | BadCpu;\
+    5 irq 0 6 | IrqTooLong;\
+    5 irq 0 5 | ok;\
+    5 irq 0 1 | IrqTooLong;\
+    5 irq 0 0 | ok;\
+    5 irq 1 5 | ok;\
+    4 irq 0 0 | TimeBack;\
+    4 irq 2 9 | TimeBack;\
+    4000000001 irq 2 9 | TimeTooLate;\
+    9 irq 0 5 | IrqTooLong;\
+    9 irq 0 4 | ok;\
+    12 host 1 2 3 | ok;\
+    13 irq 0 5 | IrqTooLong;\
+    13 irq 0 4 | ok;\
+    13 irq 1 9 | IrqTooLong;\
+    13 irq 1 8 | ok;\
+    2000000013 irq 0 1000000001 | IrqTooLong;\
+    2000000013 irq 0 18446744073709551615 | IrqTooLong;\
+    2000000013 irq 0 1000000000 | ok;\
+    2000000014 end | ok;\
+    2000000014 irq 0 0 | AfterEnd";
+
 /// The cause has this name, and there is none where it is `ok`.
 fn is_named(alloc: Global, cause: Option<Cause>, name: &str) -> Result<bool, Fail> {
     Ok(match cause {
@@ -94,7 +119,7 @@ fn played(table: &mut Table, event: &Event) -> Result<Option<Cause>, NoMemory> {
     match table.step(event) {
         Ok(_) => Ok(None),
         Err(Fault::Refused(cause)) => Ok(Some(cause)),
-        Err(Fault::NoMemory) => Err(NoMemory),
+        Err(Fault::NoMemory(none)) => Err(none),
     }
 }
 
@@ -103,7 +128,7 @@ fn is_so(alloc: Global, table: &mut Table, row: &str) -> Result<bool, Fail> {
     let Some((line, want)) = row.split_once(" | ") else {
         return Ok(false);
     };
-    let Ok(event) = read_event(alloc, line.as_bytes()) else {
+    let Ok(event) = read_event(alloc, 2, line.as_bytes()) else {
         return Ok(false);
     };
     let checked = table.check(&event);
@@ -121,9 +146,18 @@ fn causes_in_their_order(rt: HostRuntime) -> Result<(), Fail> {
     assert_eq!(rt; table.last(), 1000);
     assert_eq!(rt; table.groups().len(), 4);
     let Some(path) = Path::read(rt.alloc(), b"/a/b")? else {
-        return Err(NoMemory.into());
+        panic!(rt; "/a/b is no path");
     };
     assert_eq!(rt; table.groups().find(&path), Some(Slot(3)));
+    Ok(())
+}
+
+#[test]
+fn interrupts_from_line_to_line(rt: HostRuntime) -> Result<(), Fail> {
+    let mut table = Table::new(rt.alloc(), 2, 4_000_000_000)?;
+    for row in IRQ_LINES.split(';') {
+        assert!(rt; is_so(rt.alloc(), &mut table, row)?, "{row}");
+    }
     Ok(())
 }
 
@@ -131,9 +165,7 @@ fn causes_in_their_order(rt: HostRuntime) -> Result<(), Fail> {
 #[test]
 fn triggers_up_to_the_limit(rt: HostRuntime) -> Result<(), Fail> {
     let mut table = Table::new(rt.alloc(), 1, 1000)?;
-    let Ok(event) = read_event(rt.alloc(), b"1 trigger / io some 1 500000") else {
-        return Err(NoMemory.into());
-    };
+    let event = read_event(rt.alloc(), 1, b"1 trigger / io some 1 500000")?;
     for count in 0..256u32 {
         assert!(rt; table.play(&event).is_ok(), "trigger {count}");
     }

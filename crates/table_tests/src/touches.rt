@@ -1,14 +1,14 @@
 //! What lines change on processors.
 
 use psi_base::{Cpu, Ns, Slot};
-use psi_laws::{Change, Counts, Touch};
+use psi_counts::{Change, Counts, Touch};
 use psi_trace::read_event;
 use std::alloc::Global;
 use std::test::Fail;
 use task_table::Table;
 
 /// A task of one group is in a stall, sleeps, wakes elsewhere, migrates, moves and exits. A wake or a migration from one
-/// processor to another changes both, and one that stays, or a move that stays, is a change too.
+/// processor to another changes both, and one that stays, or a move that stays, is a change too. So are interrupts.
 ///
 /// Behind a line stands each processor that it changes: its number, the task that is taken from the chain of a slot
 /// there, the task that is added to one, and afterwards the slot of the running task. Before each task stands the slot of
@@ -25,6 +25,8 @@ const LINES: &str = "1 group /a;\
     8 move 1 / | 0 1R 0R ..;\
     9 move 1 / | 0 0R 0R ..;\
     10 switch 0 1 idle | 0 .. .. 0!;\
+    10 irq 0 3 | 0 .. .. 0!;\
+    10 irq 1 0 | 1 .. .. ..;\
     11 unstall 1 | 0 0R 0r 0=;\
     12 switch 0 0 iowait | 0 0r 0w ..;\
     13 wake 1 0 | 0 0w 0r ..;\
@@ -77,7 +79,7 @@ fn change(at: Ns, told: &str) -> Option<(Cpu, Change)> {
 fn is_so(alloc: Global, table: &mut Table, row: &str) -> bool {
     let (line, told) = row.split_once(" | ").unwrap_or((row, ""));
     let (first, second) = told.split_once(" | ").unwrap_or((told, ""));
-    let Ok(event) = read_event(alloc, line.as_bytes()) else {
+    let Ok(event) = read_event(alloc, 2, line.as_bytes()) else {
         return false;
     };
     let want = Touch {

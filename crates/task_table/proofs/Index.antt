@@ -16,7 +16,7 @@ use Rattle.psi_spec.specs.declared.machine.Mode.TheVariants.{Blocked, Waiting, R
 use Rattle.psi_base.specs.declared.event.How.{How}
 use Rattle.psi_base.specs.declared.event.How.TheVariants.{Idle}
 use Rattle.psi_spec.proofs.TaskLaws.{found, itself, task_placed}
-use Rattle.psi_laws.proofs.TouchLaws.{ready_left}
+use Rattle.psi_counts.proofs.TouchLaws.{ready_left}
 use Rattle.task_table.specs.Named.{next_task}
 use Rattle.task_table.specs.Stands.{IsIndex, passing, task_on, task_with}
 

@@ -4,3 +4,4 @@ pub mod MemberLaws
 pub mod Replacing
 pub mod Tabled
 pub mod Touching
+pub mod Runners

@@ -10,11 +10,11 @@ use Rattle.psi_base.specs.declared.event.Slot.{Slot}
 use Rattle.psi_spec.specs.declared.machine.Task.{Task}
 use Rattle.psi_spec.specs.World.{Tasks, no_tasks, task_of, put, remove, as_slot}
 use Rattle.psi_spec.specs.Refusal.{has_member, is_slot}
-use Rattle.psi_laws.specs.Counts.{how_many}
-use Rattle.psi_laws.proofs.CountLaws.{any_counted, one}
+use Rattle.psi_counts.specs.Counts.{how_many}
+use Rattle.psi_counts.proofs.CountLaws.{any_counted, one}
 use Rattle.psi_spec.proofs.TaskLaws.{get_put, get_remove, itself, no_entries, same_tasks}
-use Rattle.psi_laws.proofs.TouchCounts.{counted, counted_put, counted_remove, tallied}
-use Rattle.psi_laws.proofs.LegalLaws.{chosen_fewer}
+use Rattle.psi_counts.proofs.TouchCounts.{counted, counted_put, counted_remove, tallied}
+use Rattle.psi_counts.proofs.LegalLaws.{chosen_fewer}
 use Rattle.task_table.specs.Stands.{AreMembers, is_of}
 
 -- how many are in a group, as a sum

@@ -6,7 +6,7 @@ use Rattle.psi_spec.specs.declared.machine.Mode.{Mode}
 use Rattle.psi_spec.specs.declared.machine.Mode.TheVariants.{Blocked, Waiting, Ready, Running}
 use Rattle.psi_spec.specs.declared.machine.Task.{Task}
 use Rattle.psi_spec.specs.World.{Tasks, is_active, is_ready, is_running, readied, task_of, test_task}
-use Rattle.psi_laws.specs.Touch.{changed}
+use Rattle.psi_counts.specs.Touch.{changed}
 use Rattle.psi_spec.proofs.RefusalLaws.{not_false}
 use Rattle.task_table.proofs.Index.{and_false, ready_still}
 use Rattle.task_table.proofs.MemberLaws.{member_room}

@@ -3,19 +3,19 @@ use Rattle.std.proofs.Common.{◌≡◌, ℕ, ◌+◌, ◌<◌, List, Bool, Some
 use Rattle.std.specs.Prelude.{Option, ◌||◌, if◌then◌else◌, slice_index_or}
 use Rattle.psi_base.specs.declared.event.Event.{Event}
 use Rattle.psi_spec.specs.declared.machine.Task.{Task}
-use Rattle.psi_laws.specs.declared.changes.Touch.{Touch}
-use Rattle.psi_spec.specs.World.{World, Limits, Tasks, ends, groups_after, is_trigger, tasks_after}
+use Rattle.psi_counts.specs.declared.changes.Touch.{Touch}
+use Rattle.psi_spec.specs.World.{World, Limits, Tasks, ends, groups_after, irqs_after, is_trigger, tasks_after}
 use Rattle.psi_spec.specs.declared.machine.GroupLife.{GroupLife}
-use Rattle.psi_laws.specs.Legal.{IsLegalWorld}
-use Rattle.psi_laws.proofs.LegalLaws.{legal_kept}
+use Rattle.psi_counts.specs.Legal.{IsLegalWorld}
+use Rattle.psi_counts.proofs.LegalLaws.{legal_kept}
 use Rattle.task_table.proofs.Index.{running_told}
 use Rattle.task_table.specs.declared.task_update.TaskUpdate.{TaskUpdate}
 use Rattle.task_table.specs.Named.{IsChanged, change_for}
 use Rattle.task_table.specs.Stands.{HasPlayed, IsIndex, TableView, table_of}
 use Rattle.psi_spec.specs.Refusal.{cause_of}
-use Rattle.psi_laws.specs.Touch.{change_of, told_of, IsBeside, IsTouch, AllTouched, HasSlotsBelow, IsOfOne, AreWithin}
+use Rattle.psi_counts.specs.Touch.{change_of, told_of, IsBeside, IsTouch, AllTouched, HasSlotsBelow, IsOfOne, AreWithin}
 use Rattle.psi_spec.specs.Changes.{touched}
-use Rattle.psi_laws.proofs.TouchWithin.{changes_are_within, all_touched}
+use Rattle.psi_counts.proofs.TouchWithin.{changes_are_within, all_touched}
 
 -- what is read off the task that an event changes, and off the tasks that run after it, is what the event changes
 touch_told : (w : World) (event : Event) (tasks : Tasks) (changed : TaskUpdate) (running : List (Option (ℕ × Task))) (touch : Touch) → IsChanged w.groups w.tasks event.act changed → tasks ≡ tasks_after w.groups w.tasks event.act → IsIndex running tasks
@@ -54,10 +54,10 @@ told_played old new event changed running touch played is index told beside =
     told_legal old.limits old.world event touch played.legal played.legal_before.within (touch_told old.world event new.world.tasks changed running touch is tasks index told) beside
 
 -- the table's values after an event are those of a legal world
-pub legal_next : (cpus cpus_next latest : ℕ) (tasks tasks_next : Tasks) (groups groups_next : List GroupLife) (triggers triggers_next lines last : ℕ) (ended ended_next : Bool) (event : Event)
-    → cpus_next ≡ cpus → tasks_next ≡ tasks_after groups tasks event.act → groups_next ≡ groups_after event.at groups event.act → triggers_next ≡ triggers + (if is_trigger event.act then 1 else 0) → ended_next ≡ (ended || ends event.act)
-    → cause_of (table_of cpus latest tasks groups triggers lines last ended).limits (table_of cpus latest tasks groups triggers lines last ended).world event ≡ None
-    → IsLegalWorld (table_of cpus latest tasks groups triggers lines last ended).limits (table_of cpus latest tasks groups triggers lines last ended).world
-    → IsLegalWorld (table_of cpus_next latest tasks_next groups_next triggers_next (lines + 1) event.at ended_next).limits (table_of cpus_next latest tasks_next groups_next triggers_next (lines + 1) event.at ended_next).world
-legal_next cpus cpus_next latest tasks tasks_next groups groups_next triggers triggers_next lines last ended ended_next event same tasks_are groups_are triggers_are ends_so legal old =
-    rw (same, tasks_are, groups_are, triggers_are, ends_so) (legal_kept (table_of cpus latest tasks groups triggers lines last ended).limits (table_of cpus latest tasks groups triggers lines last ended).world event legal old)
+pub legal_next : (cpus cpus_next latest : ℕ) (tasks tasks_next : Tasks) (groups groups_next : List GroupLife) (irqs irqs_next : List ℕ) (triggers triggers_next lines last : ℕ) (ended ended_next : Bool) (event : Event)
+    → cpus_next ≡ cpus → tasks_next ≡ tasks_after groups tasks event.act → groups_next ≡ groups_after event.at groups event.act → irqs_next ≡ irqs_after event.at irqs event.act → triggers_next ≡ triggers + (if is_trigger event.act then 1 else 0) → ended_next ≡ (ended || ends event.act)
+    → cause_of (table_of cpus latest tasks groups irqs triggers lines last ended).limits (table_of cpus latest tasks groups irqs triggers lines last ended).world event ≡ None
+    → IsLegalWorld (table_of cpus latest tasks groups irqs triggers lines last ended).limits (table_of cpus latest tasks groups irqs triggers lines last ended).world
+    → IsLegalWorld (table_of cpus_next latest tasks_next groups_next irqs_next triggers_next (lines + 1) event.at ended_next).limits (table_of cpus_next latest tasks_next groups_next irqs_next triggers_next (lines + 1) event.at ended_next).world
+legal_next cpus cpus_next latest tasks tasks_next groups groups_next irqs irqs_next triggers triggers_next lines last ended ended_next event same tasks_are groups_are irqs_are triggers_are ends_so legal old =
+    rw (same, tasks_are, groups_are, irqs_are, triggers_are, ends_so) (legal_kept (table_of cpus latest tasks groups irqs triggers lines last ended).limits (table_of cpus latest tasks groups irqs triggers lines last ended).world event legal old)

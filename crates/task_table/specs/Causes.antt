@@ -1,6 +1,7 @@
 -- Why an act is refused, one verb at a time, over the parts of the world that the verb reads.
 use Rattle.std.specs.Prelude.{◌≡◌, ℕ, List, nat_lt, nat_le, not, Bool, true, false, ◌&&◌, if◌then◌else◌, Option, None, Some, is_some}
 use Rattle.std.specs.FinMap as tasks_by
+use Rattle.psi_base.specs.declared.event.Cpu.{Cpu}
 use Rattle.psi_base.specs.declared.event.Pid.{Pid}
 use Rattle.psi_base.specs.declared.event.How.{How}
 use Rattle.psi_base.specs.declared.event.Act.{Act}
@@ -13,7 +14,7 @@ use Rattle.psi_base.specs.declared.event.Fault.TheVariants as fault
 use Rattle.psi_spec.specs.declared.machine.Task.{Task}
 use Rattle.psi_spec.specs.declared.machine.GroupLife.{GroupLife}
 use Rattle.psi_spec.specs.World.{World, Limits, Tasks, task_of, test_task, running_on, task_part, is_active, is_ready, is_ready_on, is_running, slot_of, most_tasks, most_events}
-use Rattle.psi_spec.specs.Refusal.{has_member, is_window, is_wrong, is_exit, lacks_group}
+use Rattle.psi_spec.specs.Refusal.{has_member, irq_too_long, is_window, is_wrong, is_exit, lacks_group}
 use Rattle.group_tree.specs.Tree.{add_cause, remove_cause}
 use Rattle.task_table.specs.Named.{next_task}
 
@@ -97,22 +98,29 @@ trigger_cause groups triggers path threshold window =
     if lacks_group groups (Some path) then Some cause.UnknownGroup else
     if not (is_window threshold window) then Some cause.BadWindow else None
 
--- the first cause against an act
-abbrev pub act_cause : ℕ → List GroupLife → Tasks → ℕ → Act → Option Cause
-act_cause cpus groups tasks triggers (act.Group path) = add_cause groups path
-act_cause cpus groups tasks triggers (act.Remove path) = empty_cause groups tasks path
-act_cause cpus groups tasks triggers (act.Prefer path preference) = path_cause groups path
-act_cause cpus groups tasks triggers (act.Fork pid path cpu) = fork_cause cpus groups (tasks_by.len tasks) (task_of tasks pid.0) path cpu.0
-act_cause cpus groups tasks triggers (act.Wake pid cpu) = wake_cause cpus (task_of tasks pid.0) cpu.0
-act_cause cpus groups tasks triggers (act.Switch cpu next how) = switch_cause cpus cpu.0 next (next_task tasks next) how (running_on tasks cpu.0)
-act_cause cpus groups tasks triggers (act.Stall pid) = stall_cause (task_of tasks pid.0)
-act_cause cpus groups tasks triggers (act.Unstall pid) = unstall_cause (task_of tasks pid.0)
-act_cause cpus groups tasks triggers (act.Migrate pid cpu) = migrate_cause cpus (task_of tasks pid.0) cpu.0
-act_cause cpus groups tasks triggers (act.Move pid path) = move_cause groups (task_of tasks pid.0) path
-act_cause cpus groups tasks triggers (act.Mem path current swap scan) = path_cause groups path
-act_cause cpus groups tasks triggers (act.Host mem_total swap_total swap_free) = None
-act_cause cpus groups tasks triggers (act.Trigger path res level threshold_us window_us) = trigger_cause groups triggers path threshold_us window_us
-act_cause cpus groups tasks triggers act.End = None
+-- an `irq` line is refused: a processor that isn't there, too much time
+abbrev pub irq_cause : ℕ → List ℕ → ℕ → Cpu → ℕ → Option Cause
+irq_cause cpus irqs at cpu ns =
+    if nat_le cpus cpu.0 then Some cause.BadCpu else
+    if irq_too_long irqs at (act.Irq cpu ns) then Some cause.IrqTooLong else None
+
+-- the first cause against an act at a moment (ns)
+abbrev pub act_cause : ℕ → List GroupLife → Tasks → List ℕ → ℕ → ℕ → Act → Option Cause
+act_cause cpus groups tasks irqs triggers at (act.Group path) = add_cause groups path
+act_cause cpus groups tasks irqs triggers at (act.Remove path) = empty_cause groups tasks path
+act_cause cpus groups tasks irqs triggers at (act.Prefer path preference) = path_cause groups path
+act_cause cpus groups tasks irqs triggers at (act.Fork pid path cpu) = fork_cause cpus groups (tasks_by.len tasks) (task_of tasks pid.0) path cpu.0
+act_cause cpus groups tasks irqs triggers at (act.Wake pid cpu) = wake_cause cpus (task_of tasks pid.0) cpu.0
+act_cause cpus groups tasks irqs triggers at (act.Switch cpu next how) = switch_cause cpus cpu.0 next (next_task tasks next) how (running_on tasks cpu.0)
+act_cause cpus groups tasks irqs triggers at (act.Stall pid) = stall_cause (task_of tasks pid.0)
+act_cause cpus groups tasks irqs triggers at (act.Unstall pid) = unstall_cause (task_of tasks pid.0)
+act_cause cpus groups tasks irqs triggers at (act.Migrate pid cpu) = migrate_cause cpus (task_of tasks pid.0) cpu.0
+act_cause cpus groups tasks irqs triggers at (act.Move pid path) = move_cause groups (task_of tasks pid.0) path
+act_cause cpus groups tasks irqs triggers at (act.Mem path current swap scan) = path_cause groups path
+act_cause cpus groups tasks irqs triggers at (act.Host mem_total swap_total swap_free) = None
+act_cause cpus groups tasks irqs triggers at (act.Trigger path res level threshold_us window_us) = trigger_cause groups triggers path threshold_us window_us
+act_cause cpus groups tasks irqs triggers at (act.Irq cpu ns) = irq_cause cpus irqs at cpu ns
+act_cause cpus groups tasks irqs triggers at act.End = None
 
 -- the part of an act's causes that the tree of groups tells
 abbrev pub groups_cause : List GroupLife → Act → Option Cause
@@ -127,7 +135,7 @@ line_cause limits w event =
     if nat_lt event.at w.last then Some cause.TimeBack else
     if nat_lt limits.latest event.at then Some cause.TimeTooLate else
     if nat_le most_events w.lines then Some cause.TooManyEvents else
-    act_cause limits.cpus w.groups w.tasks w.triggers event.act
+    act_cause limits.cpus w.groups w.tasks w.irqs w.triggers event.at event.act
 
 -- the act makes a group
 abbrev pub makes_group : Act → Bool
@@ -143,4 +151,4 @@ takes_memory _ = false
 -- the fault is the first cause; memory is wanted only where there is no cause, and for acts that take some
 abbrev pub IsFault : Option Cause → Act → Fault Cause → Type 0
 IsFault why a (fault.Refused cause) = why ≡ Some cause
-IsFault why a fault.NoMemory = (why ≡ None) × (takes_memory a ≡ true)
+IsFault why a (fault.NoMemory _) = (why ≡ None) × (takes_memory a ≡ true)

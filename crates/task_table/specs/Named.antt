@@ -3,11 +3,11 @@ use Rattle.std.specs.Prelude.{◌≡◌, ℕ, ◌<◌, List, Option, None, Some,
 use Rattle.psi_base.specs.declared.event.Pid.{Pid}
 use Rattle.psi_base.specs.declared.event.Act.{Act}
 use Rattle.psi_base.specs.declared.event.Act.TheVariants as act
-use Rattle.psi_laws.specs.declared.changes.Change.{Change}
+use Rattle.psi_counts.specs.declared.changes.Change.{Change}
 use Rattle.psi_spec.specs.declared.machine.GroupLife.{GroupLife}
 use Rattle.psi_spec.specs.declared.machine.Task.{Task}
 use Rattle.psi_spec.specs.World.{Tasks, is_running_on, task_of}
-use Rattle.psi_laws.specs.Touch.{part, shown, task_after}
+use Rattle.psi_counts.specs.Touch.{part, shown, task_after}
 use Rattle.psi_spec.specs.Changes.{before}
 use Rattle.task_table.specs.declared.task_update.TaskUpdate.{TaskUpdate}
 

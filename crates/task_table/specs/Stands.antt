@@ -11,8 +11,8 @@ use Rattle.psi_base.specs.declared.event.Cause.{Cause}
 use Rattle.psi_base.specs.declared.event.Fault.{Fault}
 use Rattle.psi_spec.specs.World.{World, Limits, Tasks, after_event, task_of, is_running_on, most_events}
 use Rattle.psi_spec.specs.Refusal.{cause_of}
-use Rattle.psi_laws.specs.Counts.{how_many}
-use Rattle.psi_laws.specs.Legal.{IsLegalWorld}
+use Rattle.psi_counts.specs.Counts.{how_many}
+use Rattle.psi_counts.specs.Legal.{IsLegalWorld}
 use Rattle.task_table.specs.Causes.{IsFault}
 
 -- the value of a table
@@ -78,17 +78,17 @@ PlaysEvent old event new (Ok x) = HasPlayed old event new
 PlaysEvent old event new (Err why) = HasRefused old event new why
 
 -- the value of a table with these fields
-abbrev pub table_of : ℕ → ℕ → Tasks → List GroupLife → ℕ → ℕ → ℕ → Bool → TableView
-table_of cpus latest tasks groups triggers lines last ended = record {
+abbrev pub table_of : ℕ → ℕ → Tasks → List GroupLife → List ℕ → ℕ → ℕ → ℕ → Bool → TableView
+table_of cpus latest tasks groups irqs triggers lines last ended = record {
   limits = record { cpus = cpus; latest = latest };
-  world = record { tasks = tasks; groups = groups; triggers = triggers; lines = lines; last = last; ended = ended };
+  world = record { tasks = tasks; groups = groups; irqs = irqs; triggers = triggers; lines = lines; last = last; ended = ended };
 }
 
 -- a world as nested pairs, by which proofs tell values apart
 abbrev pub world_code : Coded World
 world_code =
-    code_by (Tasks × (List GroupLife × (ℕ × (ℕ × (ℕ × Bool))))) (coded× (tasks_by.code coded_ℕ task_row.the_row.coded) (coded× (coded_list group_row.the_row.coded) (coded× coded_ℕ (coded× coded_ℕ (coded× coded_ℕ coded_bool)))))
-    (λ w. (w.tasks, (w.groups, (w.triggers, (w.lines, (w.last, w.ended)))))) (λ p. record { tasks = p.0; groups = p.1.0; triggers = p.1.1.0; lines = p.1.1.1.0; last = p.1.1.1.1.0; ended = p.1.1.1.1.1 }) (λ _. refl)
+    code_by (Tasks × (List GroupLife × (List ℕ × (ℕ × (ℕ × (ℕ × Bool)))))) (coded× (tasks_by.code coded_ℕ task_row.the_row.coded) (coded× (coded_list group_row.the_row.coded) (coded× (coded_list coded_ℕ) (coded× coded_ℕ (coded× coded_ℕ (coded× coded_ℕ coded_bool))))))
+    (λ w. (w.tasks, (w.groups, (w.irqs, (w.triggers, (w.lines, (w.last, w.ended))))))) (λ p. record { tasks = p.0; groups = p.1.0; irqs = p.1.1.0; triggers = p.1.1.1.0; lines = p.1.1.1.1.0; last = p.1.1.1.1.1.0; ended = p.1.1.1.1.1.1 }) (λ _. refl)
 
 -- a table's value as nested pairs
 abbrev pub view_code : Coded TableView

@@ -2,8 +2,8 @@
 ghost use Rattle.std.specs.Prelude.{◌≡◌, if◌then◌else◌, nat_le, length, slice_index_or, None, Some};
 ghost use Rattle.psi_base.specs.declared.event.Cause.TheVariants as cause;
 ghost use Rattle.psi_spec.specs.Refusal.{has_member, is_window};
-ghost use Rattle.psi_spec.specs.World.{Tasks, slot_of};
-ghost use Rattle.task_table.specs.Causes.{act_cause, empty_cause, fork_cause, how_cause, migrate_cause, move_cause, next_cause, path_cause, stall_cause, switch_cause, trigger_cause, unstall_cause, wake_cause};
+ghost use Rattle.psi_spec.specs.World.{Tasks, most_tasks, slot_of};
+ghost use Rattle.task_table.specs.Causes.{act_cause, empty_cause, fork_cause, how_cause, irq_cause, migrate_cause, move_cause, next_cause, path_cause, stall_cause, switch_cause, trigger_cause, unstall_cause, wake_cause};
 ghost use Rattle.task_table.specs.Named.{named_task};
 ghost use Rattle.task_table.specs.Stands.{AreMembers, IsIndex};
 
@@ -11,7 +11,7 @@ use crate::members::Members;
 use crate::running::{Running, running_at};
 use crate::task_map::TaskMap;
 use group_tree::Tree;
-use psi_base::{Act, Cause, How, Path, Pid};
+use psi_base::{Act, Cause, Cpu, Event, How, Ns, Path, Pid};
 use psi_spec::{Mode, Task};
 
 /// The most tasks that may live at once.
@@ -24,6 +24,16 @@ const MOST_TRIGGERS: u32 = 256;
 const SHORTEST_WINDOW: u64 = 500_000;
 
 const LONGEST_WINDOW: u64 = 10_000_000;
+
+/// The most time that an `irq` line may tell, in ns.
+const LONGEST_IRQ: u64 = 1_000_000_000;
+
+/// So many live tasks are as many as may be.
+pub(crate) fn is_full(live: usize) -> bool
+    ensures { result ≡ nat_le most_tasks live }
+{
+    live >= MOST_TASKS
+}
 
 /// No live group has this path.
 fn lacks_path(tree: &Tree, path: &Path) -> Option<Cause>
@@ -72,7 +82,7 @@ fn fork_refused(
 ) -> Option<Cause>
     ensures { result ≡ fork_cause cpus tree.now live task path.now cpu }
 {
-    if live >= MOST_TASKS {
+    if is_full(live) {
         Some(Cause::TooManyTasks)
     } else if tree.find(path).is_none() {
         Some(Cause::UnknownGroup)
@@ -252,23 +262,41 @@ fn trigger_refused(
     }
 }
 
-/// Why an act isn't legal. `named` is the task with the number that the act names.
+/// Why interrupts can't have taken so long (ns) up to a moment (ns) on a processor. `irqs` has the moments of the last `irq`
+/// lines.
+fn irq_refused(irqs: &[Ns], cpus: usize, at: Ns, cpu: Cpu, ns: u64) -> Option<Cause>
+    ensures { result ≡ irq_cause cpus irqs.now at cpu ns }
+{
+    if cpus <= cpu.0 as usize {
+        return Some(Cause::BadCpu);
+    }
+    let last = irqs.get(cpu.0 as usize).copied().unwrap_or(0);
+    if ns > LONGEST_IRQ || ns > at.saturating_sub(last) {
+        return Some(Cause::IrqTooLong);
+    }
+    None
+}
+
+/// Why the act of an event isn't legal. `irqs` has the moments of the last `irq` lines, and `named` is the task with the number
+/// that the act names.
 pub(crate) fn act_refused(
     tree: &Tree,
     tasks: &TaskMap,
     running: &[Running],
     members: &Members,
+    irqs: &[Ns],
     triggers: u32,
-    act: &Act,
+    event: &Event,
     named: Option<Task>,
 ) -> Option<Cause>
     requires index { IsIndex running.now tasks.now }
     requires members { AreMembers members.now tasks.now }
-    requires named { named ≡ named_task tasks.now act.now }
-    ensures { result ≡ act_cause (length running.now) tree.now tasks.now triggers act.now }
+    requires named { named ≡ named_task tasks.now event.now.act }
+    ensures { result ≡ act_cause (length running.now) tree.now tasks.now irqs.now triggers
+        event.now.at event.now.act }
 {
     let cpus = running.len();
-    match act {
+    match &event.act {
         Act::Group { path } => tree.add_cause(path),
         Act::Remove { path } => remove_refused(tree, members, path),
         Act::Prefer { path, .. } | Act::Mem { path, .. } => lacks_path(tree, path),
@@ -285,6 +313,7 @@ pub(crate) fn act_refused(
             window_us,
             ..
         } => trigger_refused(tree, triggers, path, *threshold_us, *window_us),
+        Act::Irq { cpu, ns } => irq_refused(irqs, cpus, event.at, *cpu, *ns),
         Act::Host { .. } | Act::End => None,
     }
 }

@@ -1,8 +1,8 @@
 //! What a legal act does to tasks and groups.
-ghost use Rattle.std.specs.Prelude.{◌≡◌, ◌≢◌, ℕ, ◌+◌, ◌<◌, ◌≤◌, ◌++◌, ◌||◌, if◌then◌else◌, List, [], ◌∷◌, Option, None, Some, IfOk, IfSome, OnOk, OnErr, true, false, length, slice_index_or, unwrap_or};
+ghost use Rattle.std.specs.Prelude.{◌≡◌, ◌≢◌, ℕ, ◌+◌, ◌<◌, ◌≤◌, ◌++◌, ◌||◌, if◌then◌else◌, List, [], ◌∷◌, Option, None, Some, IfOk, IfSome, OnOk, OnErr, true, false, length, slice_index_or, slice_set, unwrap_or};
 ghost use Rattle.std.specs.FinMap as tasks_by;
-ghost use Rattle.psi_spec.specs.World.{change, ends, groups_after, is_ready, is_running, is_trigger, leave, left_by, most_tasks, new_group, new_task, put, readied, running_on, slot_of, start, task_of, task_part, tasks_after};
-ghost use Rattle.psi_laws.specs.Touch.{changed, left_if};
+ghost use Rattle.psi_spec.specs.World.{change, ends, groups_after, irqs_after, is_ready, is_running, is_trigger, leave, left_by, most_tasks, new_group, new_task, put, readied, running_on, slot_of, start, task_of, task_part, tasks_after};
+ghost use Rattle.psi_counts.specs.Touch.{changed, left_if};
 ghost use Rattle.psi_spec.specs.Refusal.{is_wrong};
 ghost use Rattle.group_tree.specs.Tree.{add_cause};
 ghost use Rattle.task_table.specs.Causes.{act_cause, groups_cause, makes_group, switch_cause, takes_memory};
@@ -15,8 +15,11 @@ use crate::running::{Running, running_at, set_running};
 use crate::task_map::TaskMap;
 use crate::task_update::TaskUpdate;
 use group_tree::Tree;
-use psi_base::{Act, Cpu, How, NoMemory, Ns, Path, Pid, Slot};
+use psi_base::{Act, Cpu, Fault, How, NoMemory, Ns, Path, Pid, Slot};
 use psi_spec::{Mode, Task};
+
+/// The most processors that a machine may have.
+pub(crate) const MOST_CPUS: usize = 64;
 
 /// The act ends the trace.
 fn is_end(act: &Act) -> bool
@@ -40,6 +43,25 @@ pub(crate) fn triggers_with(before: u32, act: &Act) -> u32
     match act {
         Act::Trigger { .. } => before + 1,
         _ => before,
+    }
+}
+
+/// Keeps the moment (ns) of an act where it is the last `irq` line of its processor.
+pub(crate) fn note_irq(irqs: &mut [Ns; MOST_CPUS], at: Ns, act: &Act)
+    ensures { irqs.new ≡ irqs_after at irqs.old act.now }
+{
+    if let Act::Irq { cpu, .. } = act {
+        set_irq(irqs, *cpu, at);
+    }
+}
+
+/// Puts a moment (ns) in the place of a processor, if it has one.
+fn set_irq(irqs: &mut [Ns], cpu: Cpu, at: Ns)
+    ensures { irqs.new ≡ slice_set irqs.old cpu.0 at }
+{
+    let place = cpu.0 as usize;
+    if place < irqs.len() {
+        irqs[place] = at;
     }
 }
 
@@ -298,7 +320,8 @@ fn add_group(tree: &mut Tree, members: &mut Members, path: &Path, at: Ns) -> Res
     members.cover(tree.len() + 1)?;
     match tree.add(path, at) {
         Ok(_) => Ok(()),
-        Err(_) => Err(NoMemory),
+        Err(Fault::NoMemory(none)) => Err(none),
+        Err(Fault::Refused(_)) => unreachable!(),
     }
 }
 
@@ -345,8 +368,8 @@ pub(crate) fn change_tasks(
     requires cover { length tree.now ≤ length members.old }
     requires few { tasks_by.len tasks.old ≤ most_tasks }
     requires named { named ≡ named_task tasks.old act.now }
-    requires legal { (triggers : ℕ)
-        × (act_cause (length running.old) tree.now tasks.old triggers act.now ≡ None) }
+    requires legal { (irqs : List ℕ) × (triggers : ℕ) × (at : ℕ)
+        × (act_cause (length running.old) tree.now tasks.old irqs triggers at act.now ≡ None) }
     ensures tasks { OnOk result (tasks.new ≡ tasks_after tree.now tasks.old act.now) }
     ensures changed { IfOk result (λ changed. IsChanged tree.now tasks.old act.now changed) }
     ensures err { OnErr result ((tasks.new ≡ tasks.old) × (takes_memory act.now ≡ true)) }
@@ -384,6 +407,7 @@ pub(crate) fn change_tasks(
         | Act::Mem { .. }
         | Act::Host { .. }
         | Act::Trigger { .. }
+        | Act::Irq { .. }
         | Act::End => Ok(TaskUpdate {
             old: None,
             new: None,

@@ -27,9 +27,7 @@ impl Members {
     pub(crate) fn new(alloc: Global) -> Result<Members, NoMemory>
         ensures { IfOk result (λ members. members ≡ 0 ∷ []) }
     {
-        let Ok(counts) = Vec::from_array(alloc, [0]) else {
-            return Err(NoMemory);
-        };
+        let counts = Vec::from_array(alloc, [0])?;
         Ok(Members { counts })
     }
 
@@ -41,8 +39,8 @@ impl Members {
         ensures room { OnOk result (groups ≤ length self.new) }
         ensures longer { length self.old ≤ length self.new }
     {
-        if self.counts.len() < groups && self.counts.push(0).is_err() {
-            return Err(NoMemory);
+        if self.counts.len() < groups {
+            self.counts.push(0)?;
         }
         Ok(())
     }

@@ -1,14 +1,17 @@
 //! The table of tasks.
-ghost use Rattle.std.specs.Prelude.{◌≡◌, ◌<◌, ◌≤◌, IfNone, IfOk, length};
-ghost use Rattle.psi_spec.specs.World.{first_world, most_events, running_on, task_of, task_part};
-ghost use Rattle.psi_laws.specs.Touch.{AllTouched, HasSlotsBelow, IsOfOne, IsTouch};
+ghost use Rattle.std.specs.Prelude.{◌≡◌, ◌<◌, ◌≤◌, IfNone, IfOk, length, nat_le};
+ghost use Rattle.std.specs.FinMap as tasks_by;
+ghost use Rattle.psi_spec.specs.World.{first_world, most_events, most_tasks, running_on, task_of, task_part};
+ghost use Rattle.psi_counts.specs.Touch.{AllTouched, HasSlotsBelow, IsOfOne, IsTouch};
 ghost use Rattle.psi_spec.specs.Changes.{before};
 ghost use Rattle.psi_spec.specs.Refusal.{cause_of};
 ghost use Rattle.task_table.specs.Named.{IsChanged, named_task};
 ghost use Rattle.task_table.specs.Stands.{PlaysEvent};
 
-use crate::causes::act_refused;
-use crate::effects::{change_groups, change_tasks, has_ended, named_task, triggers_with};
+use crate::causes::{act_refused, is_full};
+use crate::effects::{
+    MOST_CPUS, change_groups, change_tasks, has_ended, named_task, note_irq, triggers_with,
+};
 use crate::members::Members;
 use crate::running::{Running, running_at};
 use crate::task_map::TaskMap;
@@ -16,7 +19,7 @@ use crate::task_update::TaskUpdate;
 use crate::touch::touch_of;
 use group_tree::Tree;
 use psi_base::{Act, Cause, Cpu, Event, Fault, NoMemory, Ns, Pid};
-use psi_laws::Touch;
+use psi_counts::Touch;
 use psi_spec::Task;
 use std::alloc::Global;
 use std::marker::Model;
@@ -36,6 +39,8 @@ pub struct Table {
     members: Members,
     /// All groups ever made.
     tree: Tree,
+    /// The moment of the last `irq` line of each processor (ns), 0 where there was none.
+    irqs: [Ns; MOST_CPUS],
     /// How many triggers were made.
     triggers: u32,
     /// How many events there were.
@@ -54,10 +59,10 @@ impl Model for Table {
     ghost coded = { view_code };
 
     ghost view = { λ t. table_of (length t.running.items) t.latest t.tasks t.tree
-        t.triggers t.lines t.last t.ended };
+        t.irqs t.triggers t.lines t.last t.ended };
 
     ghost invariant = { λ t. IsTable (table_of (length t.running.items) t.latest t.tasks t.tree
-        t.triggers t.lines t.last t.ended) t.running.items t.members };
+        t.irqs t.triggers t.lines t.last t.ended) t.running.items t.members };
 }
 
 impl Table {
@@ -70,9 +75,7 @@ impl Table {
     {
         let mut running: Vec<Running> = Vec::new(alloc);
         for _ in 0..cpus {
-            if running.push(None).is_err() {
-                return Err(NoMemory);
-            }
+            running.push(None)?;
         }
         Ok(Table {
             latest,
@@ -80,6 +83,7 @@ impl Table {
             running,
             members: Members::new(alloc)?,
             tree: Tree::new(alloc)?,
+            irqs: [0; MOST_CPUS],
             triggers: 0,
             lines: 0,
             last: 0,
@@ -107,6 +111,13 @@ impl Table {
         ensures { result ≡ self.now.world.ended }
     {
         self.ended
+    }
+
+    /// As many tasks are live as may be.
+    pub fn is_full(&self) -> bool
+        ensures { result ≡ nat_le most_tasks (tasks_by.len self.now.world.tasks) }
+    {
+        is_full(self.tasks.len())
     }
 
     /// All groups ever made.
@@ -192,8 +203,9 @@ impl Table {
             &self.tasks,
             &self.running,
             &self.members,
+            &self.irqs,
             self.triggers,
-            &event.act,
+            event,
             named,
         )
     }
@@ -236,19 +248,16 @@ impl Table {
         if let Some(cause) = self.refused(event, named) {
             return Err(Fault::Refused(cause));
         }
-        let Ok(changed) = change_tasks(
+        let changed = change_tasks(
             &mut self.tasks,
             &mut self.running,
             &mut self.members,
             &self.tree,
             act,
             named,
-        ) else {
-            return Err(Fault::NoMemory);
-        };
-        if change_groups(&mut self.tree, &mut self.members, event.at, act).is_err() {
-            return Err(Fault::NoMemory);
-        }
+        )?;
+        change_groups(&mut self.tree, &mut self.members, event.at, act)?;
+        note_irq(&mut self.irqs, event.at, act);
         self.triggers = triggers_with(self.triggers, act);
         self.lines += 1;
         self.last = event.at;

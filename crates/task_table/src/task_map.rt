@@ -115,10 +115,7 @@ impl TaskMap {
 fn empty_places(alloc: Global, count: usize) -> Result<Vec<Option<Task>>, NoMemory>
     ensures { IfOk result (λ places. places.items ≡ replicate count None) }
 {
-    match vec![in alloc; None; count] {
-        Ok(places) => Ok(places),
-        Err(_) => Err(NoMemory),
-    }
+    Ok(vec![in alloc; None; count]?)
 }
 
 /// Puts a task under a number, and gives the one that it had. Where there is no memory for it, nothing changes.
@@ -143,10 +140,7 @@ fn put(
         listed[place] = Some(task);
         return Ok(old);
     }
-    match others.insert(pid, task) {
-        Ok(old) => Ok(old),
-        Err(_) => Err(NoMemory),
-    }
+    Ok(others.insert(pid, task)?)
 }
 
 /// Takes the task with a number away, if there is one.

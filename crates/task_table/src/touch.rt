@@ -1,15 +1,15 @@
 //! What an act changes on the processors that it touches, read off the task that it changes and off the running
 //! ones: no walk over the tasks.
 ghost use Rattle.std.specs.Prelude.{◌≡◌, ℕ, if◌then◌else◌, Some, None, [], ◌∷◌, slice_index_or};
-ghost use Rattle.psi_laws.specs.Counts.{counts_among};
-ghost use Rattle.psi_laws.specs.Touch.{part, shown, told_of, IsBeside};
+ghost use Rattle.psi_counts.specs.Counts.{counts_among};
+ghost use Rattle.psi_counts.specs.Touch.{part, shown, told_of, IsBeside};
 ghost use Rattle.psi_spec.specs.Changes.{touched};
 ghost use Rattle.task_table.specs.Named.{change_for};
 
 use crate::running::{Running, running_at};
 use crate::task_update::TaskUpdate;
 use psi_base::{Act, Cpu, Ns, Slot};
-use psi_laws::{Change, Counts, Touch};
+use psi_counts::{Change, Counts, Touch};
 use psi_spec::{Mode, Task};
 
 /// What a task counts as by itself.
@@ -81,7 +81,7 @@ pub(crate) fn touch_of(at: Ns, act: &Act, changed: TaskUpdate, running: &[Runnin
     ensures beside { IsBeside result.first result.second }
 {
     match act {
-        Act::Fork { cpu, .. } | Act::Switch { cpu, .. } => Touch {
+        Act::Fork { cpu, .. } | Act::Switch { cpu, .. } | Act::Irq { cpu, .. } => Touch {
             first: Some((*cpu, change_of(at, changed, running, *cpu))),
             second: None,
         },

@@ -8,5 +8,5 @@ groups-preserved c =
     let next : c.groups.left ≡ c.groups.left - 1 + 1 = omega (arith, c.groups-test.true) in
     record {
       inside = omega (arith, before);
-      done = rw c.in-Ok.ensures.entries (past_live c.args.lives.now (c.groups.left - 1) c.index-lives-left.result c.groups.groups.entries _ before c.index-lives-left.is (sym c.is_some.ensures ∙ c.if-is_some.false) refl (c.groups.invariant.done ∙ ap (live_rest c.args.lives.now) next));
+      done = rw c.in_ok-insert.ensures.entries (past_live c.args.lives.now (c.groups.left - 1) c.index-lives-left.result c.groups.groups.entries _ before c.index-lives-left.is (sym c.is_some.ensures ∙ c.if-is_some.false) refl (c.groups.invariant.done ∙ ap (live_rest c.args.lives.now) next));
     }

@@ -8,8 +8,8 @@ returns-then-place-listed-clause-old c = sym (tabled.get_listed _ c.args.others.
 pub returns-then-place-listed-clause-ok : goal.returns-then-place-listed-clause-ok
 returns-then-place-listed-clause-ok c = tabled.placed_listed c.args.listed.now c.args.others.now.entries c.args.pid (Some c.args.task) c.if-place-listed.true
 
-pub returns-in-Ok-clause-old : goal.returns-in-Ok-clause-old
-returns-in-Ok-clause-old c = c.in-Ok.ensures.old ∙ sym (tabled.get_other _ c.args.others.now.entries c.args.pid c.if-place-listed.false)
+pub returns-clause-old : goal.returns-clause-old
+returns-clause-old c = c.in_ok-insert.ensures.old ∙ sym (tabled.get_other _ c.args.others.now.entries c.args.pid c.if-place-listed.false)
 
-pub returns-in-Ok-clause-ok : goal.returns-in-Ok-clause-ok
-returns-in-Ok-clause-ok c = tabled.placed_other _ _ _ _ (Some c.args.task) c.if-place-listed.false c.in-Ok.ensures.updates.0
+pub returns-clause-ok : goal.returns-clause-ok
+returns-clause-ok c = tabled.placed_other _ _ _ _ (Some c.args.task) c.if-place-listed.false c.in_ok-insert.ensures.updates.0

@@ -12,6 +12,6 @@ pub invariant_of-result : goal.invariant_of-result
 invariant_of-result c =
     let finds : (path : List ℕ) → get_by_text c.insert.new.self path ≡ (if bytes_eq (codes "/") path then Some (slot_at 0) else None) =
     λ path.
-    let update = rw c.in_ok-from_str.ensures.ok at (hash_map_updates_text (string_bytes c.in_ok-from_str.field-0) c.new-slots.result c.insert.new.self (Some (slot_at 0)) c.in-Ok.ensures.updates path) in
+    let update = rw c.in_ok-from_str.ensures.ok at (hash_map_updates_text (string_bytes c.in_ok-from_str.field-0) c.new-slots.result c.insert.new.self (Some (slot_at 0)) c.in_ok-insert.ensures.updates path) in
     update ∙ ap (λ es. if bytes_eq (codes "/") path then Some (slot_at 0) else lookup (λ k. bytes_eq path (string_bytes k)) es) c.new-slots.ensures.empty in
-    rw (c.in-Ok-from_array.ensures.items, c.in_ok-root.ensures, c.in_ok-from_slice.ensures.items) (first_tree (get_by_text c.insert.new.self) finds)
+    rw (c.in_ok-lives.ensures.items, c.in_ok-root.ensures, c.in_ok-from_slice.ensures.items) (first_tree (get_by_text c.insert.new.self) finds)

@@ -1,6 +1,6 @@
 use Rattle.std.proofs.Common.{◌≡◌, ap, arith, length, ℕ}
 use Rattle.psi_spec.specs.World.{first_world}
-use Rattle.psi_laws.proofs.LegalLaws.{legal_first}
+use Rattle.psi_counts.proofs.LegalLaws.{legal_first}
 use Rattle.task_table.proofs.Index as index
 use Rattle.task_table.proofs.MemberLaws as members
 use Rattle.task_table.specs.Stands.{TableView}
