@@ -6,7 +6,7 @@ use lib.Seq.{set-get_or}
 use Rattle.std.proofs.lemmas.Bool.{eqb-true}
 use Rattle.atomic_table.specs.Table.{Joins, Splits, keeps, stepped}
 use Rattle.atomic_table.proofs.Lists.{at_longer, at_set, at_snoc, set_again, set_else}
-use Rattle.psi_laws.specs.Plan.{PlanView}
+use Rattle.plan_laws.specs.Plan.{PlanView}
 use Rattle.clock_row.specs.Words.{AreClockWords, StoodTogether}
 use Rattle.clock_row.specs.Row.{HoldsRule, IsWholeRow, Knows, KnowsLoaded, RowState, open_bit, sequence, writer_at_start}
 use Rattle.clock_row.specs.Steps.{BeginKeeps, CloseKeeps, EndKeeps, LoadKeeps, OpenKeeps, OwnKeeps, PutKeeps, ReaderTakesNote, SplitKeeps, StartHolds, WriterTakesNote, begun_by, change_opened, closed, count_shown, count_told, ended, ended_by, loaded_at, loaded_too, note_of, put_at, reader_of, try_begun, with_note}

@@ -2,9 +2,9 @@
 use Rattle.std.proofs.Common.{◌≡◌, ℕ, Bool, true, false, eqb, ◌%◌, ◌+◌, ◌*◌, ◌<◌, ◌≤◌, List, ◌∷◌, get_or, get_or-set_same, get_or-set_other, set, length, drop, refl, sym, ap, ◌∙◌, subst, arith, length-take, length-drop}
 use mathlib.Core.Logic.{dite}
 use native.Mathlib.Decide.{ℕ_discrete}
-use Rattle.psi_laws.specs.Clock.{AreWordsOfClock, ClockView, words_of, zero_clock}
-use Rattle.psi_laws.specs.Plan.{IsClock, PlanView}
-use Rattle.psi_laws.proofs.ClockLaws.{words_tell_clock}
+use Rattle.psi_counts.specs.Clock.{AreWordsOfClock, ClockView, words_of, zero_clock}
+use Rattle.plan_laws.specs.Plan.{IsClock, PlanView}
+use Rattle.psi_counts.proofs.ClockLaws.{words_tell_clock}
 use Rattle.clock_row.specs.Words.{Agrees, AreClock, ClockWasLoaded, ClocksWereLoaded, StaysLoaded, StoodTogether, WereLoaded, words_at}
 use Rattle.clock_row.specs.Steps.{begun_by, loaded_at, loaded_too, try_begun}
 use Rattle.clock_row.specs.Seats.{as_reader, loaded_in, with_attempt}

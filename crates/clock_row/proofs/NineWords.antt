@@ -3,10 +3,10 @@ use Rattle.std.proofs.Common.{◌≡◌, ℕ, add-one, ◌+◌, ◌-◌, ◌*◌
 use Rattle.std.proofs.lemmas.Nat.{and_mask}
 use lib.Seq.{set-get_or}
 use Rattle.std.proofs.lemmas.List.{drop-replicate, ext_get_or, get_or-drop, get_or-take, length-replicate, take-replicate}
-use Rattle.psi_laws.specs.Clock.{AreWordsOfClock, ClockView, IsWholeClock, words_of, zero_clock}
-use Rattle.psi_laws.specs.Plan.{IsClock, PlanView}
-use Rattle.psi_laws.proofs.MaskLaws.{masks_are_their_states}
-use Rattle.psi_laws.proofs.PlanClocks.{zero_is_clock}
+use Rattle.psi_counts.specs.Clock.{AreWordsOfClock, ClockView, IsWholeClock, words_of, zero_clock}
+use Rattle.plan_laws.specs.Plan.{IsClock, PlanView}
+use Rattle.psi_counts.proofs.MaskLaws.{masks_are_their_states}
+use Rattle.plan_laws.proofs.PlanClocks.{zero_is_clock}
 use Rattle.clock_row.specs.Words.{AreClock, AreClockWords, ArePut, mask_at, words_at}
 
 -- ---- words at a place

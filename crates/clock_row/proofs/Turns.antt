@@ -11,12 +11,12 @@ use Rattle.psi_base.specs.declared.event.Slot.{Slot}
 use Rattle.psi_spec.specs.Groups.{AreOlder, leads_to}
 use Rattle.psi_spec.specs.Stall.{number_of_slot}
 use Rattle.psi_spec.proofs.GroupLaws.{by_step}
-use Rattle.psi_laws.specs.declared.changes.Change.{Change}
-use Rattle.psi_laws.specs.Clock.{ClockView, words_of}
-use Rattle.psi_laws.specs.Counts.{mask_holds}
-use Rattle.psi_laws.specs.Plan.{IsClock, IsPlan, PlanView, current_after}
-use Rattle.psi_laws.proofs.PlanClocks.{kept_is_clock}
-use Rattle.psi_laws.proofs.PlanSteps.{aside_stays}
+use Rattle.psi_counts.specs.declared.changes.Change.{Change}
+use Rattle.psi_counts.specs.Clock.{ClockView, words_of}
+use Rattle.psi_counts.specs.Counts.{mask_holds}
+use Rattle.plan_laws.specs.Plan.{IsClock, IsPlan, PlanView, current_after}
+use Rattle.plan_laws.proofs.PlanClocks.{kept_is_clock}
+use Rattle.plan_laws.proofs.PlanSteps.{aside_stays}
 use Rattle.proc_plan.specs.Plans.{AreConcerned, IsOnNone, OthersAreAside}
 use Rattle.proc_plan.proofs.ClockSteps.{current_below}
 use Rattle.clock_row.specs.Words.{AreClock, AreClockWords, AreOnTheWay, ArePut, GoesOn, StayByMask, StaysOrTurns, mask_at, words_at}

@@ -1,8 +1,8 @@
 -- What callers see of the two ends of a row, the writer and its readers.
 use Rattle.std.specs.Prelude.{◌≡◌, ◌⊎◌, ℕ, ◌+◌, ◌*◌, ◌%◌, ◌^◌, ◌<◌, List, [], ◌∷◌, ◌++◌, false, length, slice_index_or}
 use Rattle.atomic_table.specs.Seated.{TableId}
-use Rattle.psi_laws.specs.Clock.{ClockView, zero_clock}
-use Rattle.psi_laws.specs.Plan.{IsClock, IsPlan, PlanView}
+use Rattle.psi_counts.specs.Clock.{ClockView, zero_clock}
+use Rattle.plan_laws.specs.Plan.{IsClock, IsPlan, PlanView}
 use Rattle.proc_plan.specs.Clocks.{OnPlan}
 use Rattle.clock_row.specs.Words.{AreClockWords}
 use Rattle.clock_row.specs.Seats.{IsReader, IsWriter, RowSeat, reader_on, writer_on}

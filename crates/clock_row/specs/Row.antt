@@ -6,7 +6,7 @@ use Rattle.std.specs.Prelude.{◌≡◌, ℕ, ◌+◌, ◌*◌, ◌%◌, ◌≤�
 use mathlib.Core.Option.{some}
 use lib.ListN.{get_elem?}
 use Rattle.atomic_table.specs.Table.{State}
-use Rattle.psi_laws.specs.Plan.{PlanView}
+use Rattle.plan_laws.specs.Plan.{PlanView}
 use Rattle.clock_row.specs.Words.{Agrees, AreClockWords}
 use Rattle.clock_row.specs.declared.view.WriterView.{WriterView}
 use Rattle.clock_row.specs.declared.view.Attempt.{Attempt}

@@ -1,7 +1,7 @@
 -- What the seats of a row have for a view.
 use Rattle.std.specs.Prelude.{◌≡◌, ℕ, List, []}
 use Rattle.atomic_table.specs.declared.shared.Seat.{Seat}
-use Rattle.psi_laws.specs.Plan.{no_plan}
+use Rattle.plan_laws.specs.Plan.{no_plan}
 use Rattle.clock_row.specs.Row.{writer_at_start}
 use Rattle.clock_row.specs.Steps.{closed, new_reader}
 use Rattle.clock_row.specs.declared.view.WriterView.{WriterView}

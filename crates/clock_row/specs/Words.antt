@@ -1,7 +1,7 @@
 -- The words of a row behind its sequence number, nine for each slot, and what a reader loaded of them.
 use Rattle.std.specs.Prelude.{◌≡◌, ◌⊎◌, ℕ, ◌+◌, ◌*◌, ◌<◌, ◌≤◌, List, [], ◌∷◌, length, take, drop, slice_index, slice_index_or}
-use Rattle.psi_laws.specs.Clock.{AreWordsOfClock, ClockView, words_of, zero_clock}
-use Rattle.psi_laws.specs.Plan.{IsClock, PlanView}
+use Rattle.psi_counts.specs.Clock.{AreWordsOfClock, ClockView, words_of, zero_clock}
+use Rattle.plan_laws.specs.Plan.{IsClock, PlanView}
 
 -- ---- the words of a slot
 

@@ -1,6 +1,6 @@
 //! One change of a row.
 ghost use Rattle.std.specs.Prelude.{◌≡◌, ◌+◌, ◌<◌, length, IfSome};
-ghost use Rattle.psi_laws.specs.Plan.{IsClock};
+ghost use Rattle.plan_laws.specs.Plan.{IsClock};
 ghost use Rattle.clock_row.specs.declared.view.View.TheVariants.{Writer};
 ghost use Rattle.clock_row.specs.Words.{AreClockWords, StayByMask};
 ghost use Rattle.clock_row.specs.Ends.{IsWriterEnd};

@@ -1,7 +1,7 @@
 //! A reader of a row.
 ghost use Rattle.std.specs.Prelude.{◌≡◌, ◌+◌, ◌<◌, ◌≤◌, ◌∷◌, [], length, IfErr, IfOk};
 ghost use Rattle.std.specs.Arc.{arc_value};
-ghost use Rattle.psi_laws.specs.Plan.{IsClock};
+ghost use Rattle.plan_laws.specs.Plan.{IsClock};
 ghost use Rattle.clock_row.specs.Ends.{AllAreClocks, IsBusy, sample_taken};
 ghost use Rattle.clock_row.specs.Tries.{IsTried, tries_of};
 

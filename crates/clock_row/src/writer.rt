@@ -1,8 +1,8 @@
 //! The writer of a row.
 ghost use Rattle.std.specs.Prelude.{◌≡◌, ◌+◌, ◌*◌, ◌<◌, ◌≤◌, length, replicate, IfOk, Ok};
 ghost use Rattle.atomic_table.specs.Seated.{TableId};
-ghost use Rattle.psi_laws.specs.Clock.{words_of};
-ghost use Rattle.psi_laws.specs.Plan.{IsClock, IsPlan};
+ghost use Rattle.psi_counts.specs.Clock.{words_of};
+ghost use Rattle.plan_laws.specs.Plan.{IsClock, IsPlan};
 ghost use Rattle.clock_row.specs.Row.{writer_at_start};
 ghost use Rattle.clock_row.specs.Steps.{count_shown, count_told, new_reader};
 ghost use Rattle.clock_row.specs.Words.{AreClockWords, StayByMask, words_at};

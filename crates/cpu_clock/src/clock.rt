@@ -1,7 +1,7 @@
 //! One clock, and its words.
 
 ghost use Rattle.std.specs.Prelude.{◌≡◌, if◌then◌else◌};
-ghost use Rattle.psi_laws.specs.Clock.{AreWordsOfClock, ClockFollows, IsInTime, IsWholeClock, advanced, opened, opened_time, words_of, zero_clock};
+ghost use Rattle.psi_counts.specs.Clock.{AreWordsOfClock, ClockFollows, IsInTime, IsWholeClock, advanced, opened, opened_time, words_of, zero_clock};
 
 use psi_base::{Ns, State};
 use state_mask::{Mask, STATES};
@@ -22,7 +22,7 @@ pub struct Clock {
 
 impl Model for Clock {
     ghost use Rattle.std.specs.Prelude.{◌≡◌, length};
-    ghost use Rattle.psi_laws.specs.Clock.{ClockView};
+    ghost use Rattle.psi_counts.specs.Clock.{ClockView};
 
     ghost Value = { ClockView };
 
@@ -94,7 +94,7 @@ impl Clock {
     /// mask stays the clock does too, and goes on from where it started.
     ///
     /// So a clock that stands for a slot after some changes of a plan stands for it after one more, where the mask has the
-    /// states after that: the law of [`psi_laws::law_plan_clocks`].
+    /// states after that: the law of [`plan_laws::law_plan_clocks`].
     pub fn turn(&mut self, at: Ns, mask: Mask)
         requires { IsInTime self.old at }
         ensures mask { self.new.mask ≡ mask }

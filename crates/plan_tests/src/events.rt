@@ -13,10 +13,8 @@ pub fn events_of(alloc: Global, lines: &[&[u8]]) -> Result<Vec<Event>, Fault<Cau
 {
     let mut events = Vec::new(alloc);
     'lines: for line in lines {
-        let event = read_event(alloc, line)?;
-        if events.push(event).is_err() {
-            return Err(Fault::NoMemory);
-        }
+        let event = read_event(alloc, 2, line)?;
+        events.push(event)?;
     }
     Ok(events)
 }

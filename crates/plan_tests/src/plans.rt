@@ -3,7 +3,7 @@
 use crate::events_of;
 use proc_plan::{Plans, Side, SideAct};
 use psi_base::{Cpu, Ns, Slot};
-use psi_laws::{Change, Counts};
+use psi_counts::{Change, Counts};
 use std::test::Fail;
 
 /// A task waits for IO on the first processor, and wakes on the second.

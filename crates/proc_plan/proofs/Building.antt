@@ -51,7 +51,7 @@ refused_next old now new events i event (fault.Refused why) line at room is befo
       cause = takes limits (take i events) taken;
       line_is = omega (arith, lines);
     }))
-refused_next old now new events i event fault.NoMemory line at room is before takes same counted told = λ limits fresh. subst (IsRefusal limits events) (sym told) tt
+refused_next old now new events i event (fault.NoMemory _) line at room is before takes same counted told = λ limits fresh. subst (IsRefusal limits events) (sym told) tt
 
 -- all events were taken, and the trace hasn't ended
 pub lacks_end : (old now : PlannerView) (events : List Event) (i line : ℕ) (at : Fault Refusal) → length events ≤ i → HasFirst old now (take i events) → now.table.world.ended ≢ true → line ≡ now.table.world.lines → IsFaultAt (line + 2) (fault.Refused cause.NoEnd) at

@@ -4,15 +4,15 @@ use Rattle.std.specs.Prelude.{slice_get, slice_index_or}
 use Rattle.std.proofs.lemmas.List.{length-map, length-replicate}
 use Rattle.std.proofs.lemmas.Option.{slice_get_within, slice_get-get_or}
 use Rattle.psi_base.specs.declared.event.Slot.{Slot}
-use Rattle.psi_laws.specs.declared.changes.Change.{Change}
-use Rattle.psi_laws.specs.declared.changes.Counts.{Counts}
-use Rattle.psi_laws.specs.Clock.{ClockFollows}
+use Rattle.psi_counts.specs.declared.changes.Change.{Change}
+use Rattle.psi_counts.specs.declared.changes.Counts.{Counts}
+use Rattle.psi_counts.specs.Clock.{ClockFollows}
 use Rattle.psi_spec.specs.Stall.{is_under, number_of_slot}
-use Rattle.psi_laws.specs.Touch.{AreAtMost, Follows, no_counts, on_chain}
-use Rattle.psi_laws.specs.Plan.{IsClock, IsPlan, PlanView, counts_after, current_after, holds_after, last_change}
-use Rattle.psi_laws.proofs.PlanClocks.{followed_is_clock, zero_is_clock}
-use Rattle.psi_laws.proofs.PlanStates.{counts_are}
-use Rattle.psi_laws.proofs.PlanSteps.{counts_by_change, current_by_change, plan_counts_are_few}
+use Rattle.psi_counts.specs.Touch.{AreAtMost, Follows, no_counts, on_chain}
+use Rattle.plan_laws.specs.Plan.{IsClock, IsPlan, PlanView, counts_after, current_after, holds_after, last_change}
+use Rattle.plan_laws.proofs.PlanClocks.{followed_is_clock, zero_is_clock}
+use Rattle.plan_laws.proofs.PlanStates.{counts_are}
+use Rattle.plan_laws.proofs.PlanSteps.{counts_by_change, current_by_change, plan_counts_are_few}
 use Rattle.slot_clocks.specs.Clocks.{AllCanFollow, AllClocksFollow, AllFollow, AreTold, AreWhole, CanFollow, ClocksView, cell_at, first_clocks, parent_numbers, zero_cell}
 use Rattle.slot_clocks.specs.declared.cell.Cell.{Cell}
 use Rattle.proc_plan.specs.Clocks.{AreClocks}

@@ -4,18 +4,18 @@ use Rattle.std.specs.Prelude.{Option, Some}
 use Rattle.std.specs.List.{All}
 use Rattle.std.proofs.lemmas.List.{get_or-map, get_or_default, length-map}
 use Rattle.psi_base.specs.declared.event.Event.{Event}
-use Rattle.psi_laws.specs.declared.changes.Change.{Change}
+use Rattle.psi_counts.specs.declared.changes.Change.{Change}
 use Rattle.psi_spec.specs.declared.machine.GroupLife.{GroupLife}
 use Rattle.psi_spec.specs.World.{World, Limits, after, first_world}
-use Rattle.psi_laws.specs.Legal.{changes_from}
-use Rattle.psi_laws.specs.Plan.{IsPlan, PlanView, no_plan, plan_of}
+use Rattle.psi_counts.specs.Legal.{changes_from}
+use Rattle.plan_laws.specs.Plan.{IsPlan, PlanView, no_plan, plan_of}
 use Rattle.psi_spec.specs.Groups.{AreGroups}
 use Rattle.psi_spec.specs.Stall.{parents_of}
 use Rattle.psi_spec.specs.Trace.{IsCpuCount}
-use Rattle.psi_laws.proofs.PlanLaws.{changes_are_numbered}
-use Rattle.psi_laws.proofs.PlanStates.{legal_after}
-use Rattle.psi_laws.proofs.PlanWhole.{plan_is_whole}
-use Rattle.psi_spec.proofs.Accepting.{last_end}
+use Rattle.plan_laws.proofs.PlanLaws.{changes_are_numbered}
+use Rattle.plan_laws.proofs.PlanStates.{legal_after}
+use Rattle.plan_laws.proofs.PlanWhole.{plan_is_whole}
+use Rattle.psi_spec.proofs.Following.{last_end}
 use Rattle.proc_plan.specs.Plans.{ArePlans, EndedIsAccepted, HasTaken, IsPlanner, PlannerView, PlansAreOfEvents, PlansView, StandFor, changes_at, plan_at, plan_over, plans_view}
 use Rattle.proc_plan.specs.Room.{ChangesView, lists_of}
 

@@ -5,13 +5,13 @@ use Rattle.std.specs.List.Sorted.{IsPartitionPoint, IsPartitionedBy}
 use Rattle.std.proofs.lemmas.Bool.Decides.{nat_tests}
 use Rattle.std.proofs.lemmas.List.{get_or-map}
 use Rattle.psi_base.specs.declared.event.Slot.{Slot}
-use Rattle.psi_laws.specs.declared.changes.Change.{Change}
-use Rattle.psi_laws.specs.declared.changes.Counts.{Counts}
+use Rattle.psi_counts.specs.declared.changes.Change.{Change}
+use Rattle.psi_counts.specs.declared.changes.Counts.{Counts}
 use Rattle.psi_spec.specs.Groups.{AreOlder, HaveParents, leads_to}
 use Rattle.psi_spec.specs.Stall.{number_of_slot}
-use Rattle.psi_laws.specs.Plan.{AreInOrder, PlanView, changes_up_to, current_after, is_part_in, last_change}
-use Rattle.psi_laws.specs.Touch.{is_current_in}
-use Rattle.psi_laws.proofs.PlanSteps.{place_of_moment}
+use Rattle.plan_laws.specs.Plan.{AreInOrder, PlanView, changes_up_to, current_after, is_part_in, last_change}
+use Rattle.psi_counts.specs.Touch.{is_current_in}
+use Rattle.plan_laws.proofs.PlanSteps.{place_of_moment}
 use Rattle.slot_clocks.specs.Walk.{slot_in}
 use Rattle.proc_plan.specs.Plans.{AreConcerned, IsOnNone, OthersAreAside}
 

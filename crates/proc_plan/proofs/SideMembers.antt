@@ -17,17 +17,17 @@ use Rattle.psi_spec.specs.World.{World, Limits, after, after_event, first_world,
 use Rattle.psi_spec.specs.Refusal.{AreLegal, cause_of}
 use Rattle.psi_spec.proofs.TaskLaws.{no_entries}
 use Rattle.psi_spec.proofs.RefusalLaws.{none_stands}
-use Rattle.psi_laws.specs.Touch.{task_after}
+use Rattle.psi_counts.specs.Touch.{task_after}
 use Rattle.psi_spec.specs.Changes.{before}
-use Rattle.psi_laws.proofs.CountLaws.{one}
-use Rattle.psi_laws.proofs.LegalLaws.{chosen_fewer, more_groups}
-use Rattle.psi_laws.proofs.MomentsEvents.{by_legal}
-use Rattle.psi_laws.proofs.MomentsTold.{told-push}
-use Rattle.psi_laws.proofs.PlanLaws.{after-push}
-use Rattle.psi_laws.proofs.PlanStates.{legal_after, legal_front, legal_last}
-use Rattle.psi_laws.proofs.TouchCounts.{counted, tally, tallied}
-use Rattle.psi_laws.proofs.TouchLaws.{counted_act}
-use Rattle.psi_laws.proofs.TouchWithin.{Fits, fits_after, fits_before, slot_room}
+use Rattle.psi_counts.proofs.CountLaws.{one}
+use Rattle.psi_counts.proofs.LegalLaws.{chosen_fewer, more_groups}
+use Rattle.plan_laws.proofs.MomentsEvents.{by_legal}
+use Rattle.plan_laws.proofs.MomentsTold.{told-push}
+use Rattle.plan_laws.proofs.PlanLaws.{after-push}
+use Rattle.plan_laws.proofs.PlanStates.{legal_after, legal_front, legal_last}
+use Rattle.psi_counts.proofs.TouchCounts.{counted, tally, tallied}
+use Rattle.psi_counts.proofs.TouchLaws.{counted_act}
+use Rattle.psi_counts.proofs.TouchWithin.{Fits, fits_after, fits_before, slot_room}
 use Rattle.proc_plan.specs.declared.side.Side.{Side}
 use Rattle.proc_plan.specs.Sides.{came, went, passage, group_of, sample_by, sides_by, sides_of}
 use Rattle.task_table.specs.Stands.{is_of}

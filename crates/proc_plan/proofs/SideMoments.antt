@@ -7,9 +7,9 @@ use Rattle.psi_base.specs.declared.event.Act.{Act}
 use Rattle.psi_base.specs.declared.event.Act.TheVariants as act
 use Rattle.psi_spec.specs.declared.machine.GroupLife.{GroupLife}
 use Rattle.psi_spec.specs.World.{first_world}
-use Rattle.psi_laws.specs.Touch.{task_after}
+use Rattle.psi_counts.specs.Touch.{task_after}
 use Rattle.psi_spec.specs.Changes.{before}
-use Rattle.psi_laws.proofs.MomentsTold.{TellsAtOnce, told_in_order, told_until}
+use Rattle.plan_laws.proofs.MomentsTold.{TellsAtOnce, told_in_order, told_until}
 use Rattle.proc_plan.specs.declared.side.Side.{Side}
 use Rattle.proc_plan.specs.Sides.{came, went, passage, group_of, sample_by, sides_by}
 use Rattle.proc_plan.specs.SideLaws.{SidesUpTo, SidesAreInOrder}

@@ -8,17 +8,17 @@ use Rattle.psi_base.specs.declared.event.Cpu.{Cpu}
 use Rattle.psi_base.specs.declared.event.Event.{Event}
 use Rattle.psi_base.specs.declared.event.Fault.{Fault}
 use Rattle.psi_base.specs.declared.event.TriggerSpec.{TriggerSpec}
-use Rattle.psi_laws.specs.declared.changes.Change.{Change}
-use Rattle.psi_laws.specs.declared.changes.Touch.{Touch}
+use Rattle.psi_counts.specs.declared.changes.Change.{Change}
+use Rattle.psi_counts.specs.declared.changes.Touch.{Touch}
 use Rattle.psi_spec.specs.declared.machine.Task.{Task}
 use Rattle.psi_spec.specs.Grammar.{Fits}
 use Rattle.psi_spec.specs.Trace.{AllFit}
 use Rattle.psi_spec.specs.World.{World, Limits, after, after_event, after_from, first_world, tasks_after}
 use Rattle.psi_spec.specs.Refusal.{AreLegal, cause_of}
-use Rattle.psi_laws.specs.Legal.{with_change}
-use Rattle.psi_laws.specs.Touch.{AllTouched, IsTouch, change_of, change_on, task_after, told_first, told_of}
+use Rattle.psi_counts.specs.Legal.{with_change}
+use Rattle.psi_counts.specs.Touch.{AllTouched, IsTouch, change_of, change_on, task_after, told_first, told_of}
 use Rattle.psi_spec.specs.Changes.{before, touched}
-use Rattle.psi_laws.proofs.PlanLaws.{after-push, changes_from-push}
+use Rattle.plan_laws.proofs.PlanLaws.{after-push, changes_from-push}
 use Rattle.task_table.specs.Stands.{HasPlayed}
 use Rattle.proc_plan.specs.declared.side.Side.{Side}
 use Rattle.group_tree.specs.Tree.{IsGroupFault}

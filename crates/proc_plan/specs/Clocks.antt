@@ -1,6 +1,6 @@
 -- Clocks that run on a plan.
 use Rattle.std.specs.Prelude.{◌≡◌, ℕ, ◌≤◌, length}
-use Rattle.psi_laws.specs.Plan.{IsClock, IsPlan, PlanView, counts_after, current_after, last_change}
+use Rattle.plan_laws.specs.Plan.{IsClock, IsPlan, PlanView, counts_after, current_after, last_change}
 use Rattle.slot_clocks.specs.Clocks.{ClocksView, cell_at}
 
 -- clocks on a plan: the plan, and how many of its changes were made

@@ -1,7 +1,7 @@
 -- How a change is kept in few bytes.
 use Rattle.std.specs.Prelude.{ℕ, Bool, if◌then◌else◌, Option, None, Some}
 use Rattle.psi_base.specs.declared.event.Slot.{Slot}
-use Rattle.psi_laws.specs.declared.changes.Counts.{Counts}
+use Rattle.psi_counts.specs.declared.changes.Counts.{Counts}
 use Rattle.proc_plan.specs.declared.changes.Marks.{Marks}
 
 -- the count that a mark stands for: 1 for a task that counts there, and 0 for none

@@ -9,22 +9,22 @@ use Rattle.psi_base.specs.declared.event.Fault.TheVariants as fault
 use Rattle.psi_base.specs.declared.event.Refusal.{Refusal}
 use Rattle.psi_base.specs.declared.event.Slot.{Slot}
 use Rattle.psi_base.specs.declared.event.TriggerSpec.{TriggerSpec}
-use Rattle.psi_laws.specs.declared.changes.Change.{Change}
+use Rattle.psi_counts.specs.declared.changes.Change.{Change}
 use Rattle.psi_spec.specs.declared.machine.GroupLife.{GroupLife}
 use Rattle.psi_spec.specs.World.{Limits, after, first_world, most_events}
 use Rattle.psi_spec.specs.Refusal.{AreLegal, cause_of}
 use Rattle.psi_spec.specs.Groups.{AreGroups, leads_to}
 use Rattle.psi_spec.specs.Stall.{number_of_slot, parents_of}
 use Rattle.psi_spec.specs.Trace.{AllFit, IsAccepted, IsCpuCount, last_moment}
-use Rattle.psi_laws.specs.Legal.{changes_from}
-use Rattle.psi_laws.specs.Plan.{IsAside, IsPlan, PlanView, change_at, current_after, no_plan, plan_of}
+use Rattle.psi_counts.specs.Legal.{changes_from}
+use Rattle.plan_laws.specs.Plan.{IsAside, IsPlan, PlanView, change_at, current_after, no_plan, plan_of}
 use Rattle.psi_spec.specs.Changes.{changes_of}
 use Rattle.group_tree.specs.Tree.{IsGroupFault}
 use Rattle.slot_clocks.specs.Clocks.{parent_numbers}
 use Rattle.slot_clocks.specs.Walk.{slot_in}
 use Rattle.std.specs.Coded.{Coded, code_by, coded×, coded_list}
 use Rattle.psi_base.specs.contracts.event.TriggerSpec as trigger_row
-use Rattle.psi_laws.specs.contracts.changes.Change as change_row
+use Rattle.psi_counts.specs.contracts.changes.Change as change_row
 use Rattle.task_table.specs.Stands.{TableView, view_code}
 use Rattle.proc_plan.specs.contracts.side.Side as side_row
 use Rattle.proc_plan.specs.declared.side.Side.{Side}
@@ -136,7 +136,7 @@ pub record LacksEnd (limits : Limits) (events : List Event) (line : ℕ) (why : 
 -- events are refused at a line with a cause; of want of memory nothing is said
 abbrev pub IsRefusal : Limits → List Event → Fault Refusal → Type 0
 IsRefusal limits events (fault.Refused refusal) = IsRefusedAt limits events refusal.line refusal.cause ⊎ LacksEnd limits events refusal.line refusal.cause
-IsRefusal limits events fault.NoMemory = ⊤
+IsRefusal limits events (fault.NoMemory _) = ⊤
 
 -- ---- a trace that is taken apart
 
@@ -189,7 +189,7 @@ IsRefusedAll old events fault = (limits : Limits) → HasTaken old limits [] →
 -- the fault of an event, at its line
 abbrev pub IsFaultAt : ℕ → Fault Cause → Fault Refusal → Type 0
 IsFaultAt line (fault.Refused why) at = at ≡ fault.Refused (record { line = line; cause = why })
-IsFaultAt line fault.NoMemory at = at ≡ fault.NoMemory
+IsFaultAt line (fault.NoMemory none) at = at ≡ fault.NoMemory none
 
 -- plans stand for the events that a planner has taken
 abbrev pub StandForTaken : PlannerView → PlansView → Type 0

@@ -2,8 +2,8 @@
 use Rattle.std.specs.Prelude.{◌≡◌, ℕ, ◌<◌, List, [], ◌++◌, length, map, slice_index_or, Option, true}
 use Rattle.psi_base.specs.declared.event.Act.{Act}
 use Rattle.psi_spec.specs.declared.machine.Task.{Task}
-use Rattle.psi_laws.specs.declared.changes.Change.{Change}
-use Rattle.psi_laws.specs.Legal.{with_change}
+use Rattle.psi_counts.specs.declared.changes.Change.{Change}
+use Rattle.psi_counts.specs.Legal.{with_change}
 use Rattle.psi_spec.specs.Changes.{touched}
 
 -- the changes of a processor so far, and for how many more there is room

@@ -7,7 +7,7 @@ use Rattle.psi_base.specs.declared.event.Event.{Event}
 use Rattle.psi_spec.specs.declared.machine.Task.{Task}
 use Rattle.psi_spec.specs.World.{Tasks, Limits, first_world, after, up_to, most_tasks}
 use Rattle.psi_spec.specs.Refusal.{AreLegal}
-use Rattle.psi_laws.specs.Counts.{how_many}
+use Rattle.psi_counts.specs.Counts.{how_many}
 use Rattle.task_table.specs.Stands.{is_of}
 use Rattle.proc_plan.specs.declared.side.Side.{Side}
 use Rattle.proc_plan.specs.declared.side.SideAct.{SideAct}

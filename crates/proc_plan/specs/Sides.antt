@@ -9,7 +9,7 @@ use Rattle.psi_spec.specs.declared.machine.Task.{Task}
 use Rattle.psi_spec.specs.declared.machine.GroupLife.{GroupLife}
 use Rattle.psi_spec.specs.World.{World, first_world}
 use Rattle.psi_spec.specs.Told.{slot_named, told_from}
-use Rattle.psi_laws.specs.Touch.{task_after}
+use Rattle.psi_counts.specs.Touch.{task_after}
 use Rattle.psi_spec.specs.Changes.{before}
 use Rattle.proc_plan.specs.declared.side.Side.{Side}
 use Rattle.proc_plan.specs.declared.side.SideAct.{SideAct}

@@ -1,11 +1,11 @@
 //! A list of changes, each of which takes 32 bytes.
 
 ghost use Rattle.std.specs.Prelude.{◌≡◌, ◌++◌, ◌<◌, ◌≤◌, [], ◌∷◌, length, IfSome, OnOk};
-ghost use Rattle.psi_laws.specs.Touch.{AreAtMost, IsOfOne};
+ghost use Rattle.psi_counts.specs.Touch.{AreAtMost, IsOfOne};
 ghost use Rattle.proc_plan.specs.Packed.{counts_by, current_by, part_by};
 
 use psi_base::{NoMemory, Ns, Slot};
-use psi_laws::{Change, Counts};
+use psi_counts::{Change, Counts};
 use std::alloc::Global;
 use std::marker::Model;
 
@@ -64,7 +64,7 @@ pub(crate) struct Packed {
 }
 
 impl Model for Packed {
-    ghost use Rattle.psi_laws.specs.declared.changes.Change.{Change};
+    ghost use Rattle.psi_counts.specs.declared.changes.Change.{Change};
     ghost use Rattle.proc_plan.specs.Packed.{current_by, part_by};
 
     ghost Value = { Change };

@@ -1,7 +1,7 @@
 //! Clocks that run on a plan.
 
 ghost use Rattle.std.specs.Prelude.{◌≡◌, ◌+◌, ◌<◌, ℕ, length, IfOk};
-ghost use Rattle.psi_laws.specs.Plan.{IsClock, PlanView};
+ghost use Rattle.plan_laws.specs.Plan.{IsClock, PlanView};
 
 use crate::plan::Plan;
 use cpu_clock::Clock;

@@ -2,14 +2,14 @@
 
 ghost use Rattle.std.specs.Prelude.{◌≡◌, ◌+◌, ◌-◌, ◌<◌, ◌≤◌, ◌↔◌, length, nat_le, slice_get, slice_index_or, None, Some};
 ghost use Rattle.psi_spec.specs.Stall.{number_of_slot};
-ghost use Rattle.psi_laws.specs.Plan.{IsPlan, changes_up_to, current_after, last_change};
+ghost use Rattle.plan_laws.specs.Plan.{IsPlan, changes_up_to, current_after, last_change};
 ghost use Rattle.slot_clocks.specs.Clocks.{parent_numbers};
 ghost use Rattle.slot_clocks.specs.Walk.{slot_in};
 ghost use Rattle.proc_plan.specs.Plans.{AreConcerned, OthersAreAside, plan_view};
 
 use crate::changes::{Changes, Packed};
 use psi_base::{Ns, Slot};
-use psi_laws::{Change, Counts};
+use psi_counts::{Change, Counts};
 use std::marker::Model;
 
 /// The changes of one processor in a trace, and the parents of all slots, by which a change reaches the groups above the
@@ -26,7 +26,7 @@ pub struct Plan {
 }
 
 impl Model for Plan {
-    ghost use Rattle.psi_laws.specs.Plan.{IsPlan, PlanView};
+    ghost use Rattle.plan_laws.specs.Plan.{IsPlan, PlanView};
     ghost use Rattle.proc_plan.specs.Plans.{plan_view};
 
     ghost Value = { PlanView };

@@ -6,7 +6,7 @@ ghost use Rattle.psi_spec.specs.Grammar.{Fits};
 ghost use Rattle.psi_spec.specs.Stall.{parents_of};
 ghost use Rattle.psi_spec.specs.Trace.{IsCpuCount, last_moment};
 ghost use Rattle.psi_spec.specs.World.{most_events};
-ghost use Rattle.psi_laws.specs.Plan.{IsPlan};
+ghost use Rattle.plan_laws.specs.Plan.{IsPlan};
 ghost use Rattle.slot_clocks.specs.Clocks.{parent_numbers};
 ghost use Rattle.proc_plan.specs.Plans.{HasTaken, HasTrace, PlannerTakes, StandForTaken, limits_by, plan_over, plans_over};
 ghost use Rattle.proc_plan.specs.Room.{changes_in};
@@ -55,9 +55,7 @@ fn no_changes(alloc: Global, cpus: u32) -> Result<Vec<Changes>, NoMemory>
 {
     let mut changes = Vec::new(alloc);
     'cpus: for _ in 0..cpus {
-        if changes.push(Changes::new(alloc)).is_err() {
-            return Err(NoMemory);
-        }
+        changes.push(Changes::new(alloc))?;
     }
     Ok(changes)
 }
@@ -68,9 +66,7 @@ fn parents_of(alloc: Global, groups: &Tree) -> Result<Vec<Option<Slot>>, NoMemor
 {
     let mut parents = Vec::new(alloc);
     'groups: for life in groups.lives() {
-        if parents.push(life.parent).is_err() {
-            return Err(NoMemory);
-        }
+        parents.push(life.parent)?;
     }
     Ok(parents)
 }
@@ -83,9 +79,7 @@ fn make_plans(alloc: Global, changes: Vec<Changes>, groups: &Tree) -> Result<Vec
     let mut plans = Vec::new(alloc);
     'cpus: for changes in changes {
         let plan = Plan::new(changes, parents_of(alloc, groups)?);
-        if plans.push(plan).is_err() {
-            return Err(NoMemory);
-        }
+        plans.push(plan)?;
     }
     Ok(plans)
 }
@@ -129,16 +123,17 @@ impl Planner {
     {
         let task = self.table.task_before(&event.act);
         let told = told_by(&self.table, event, task);
-        let Ok(()) = make_room(
+        match make_room(
             &mut self.changes,
             &mut self.triggers,
             &mut self.sides,
             &event.act,
             task,
             &told,
-        ) else {
-            return Err(lacking(&self.table, event));
-        };
+        ) {
+            Ok(()) => {}
+            Err(none) => return Err(lacking(&self.table, event, none)),
+        }
         let touch = self.table.step(event)?;
         add_changes(&mut self.changes, &touch);
         add_trigger(&mut self.triggers, told.trigger);

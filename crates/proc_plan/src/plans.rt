@@ -1,7 +1,7 @@
 //! The plans of all processors.
 
 ghost use Rattle.std.specs.Prelude.{◌≡◌, ◌<◌, ◌≤◌, length, IfErr, IfOk, OnOk};
-ghost use Rattle.psi_laws.specs.Plan.{IsPlan};
+ghost use Rattle.plan_laws.specs.Plan.{IsPlan};
 ghost use Rattle.psi_spec.specs.Groups.{AreGroups};
 ghost use Rattle.psi_spec.specs.Trace.{AllFit, IsAccepted, IsCpuCount, last_moment};
 ghost use Rattle.psi_spec.specs.Stall.{parents_of};
@@ -45,7 +45,7 @@ fn at_line(line: u32, fault: Fault<Cause>) -> Fault<Refusal>
 {
     match fault {
         Fault::Refused(cause) => Fault::Refused(Refusal { line, cause }),
-        Fault::NoMemory => Fault::NoMemory,
+        Fault::NoMemory(none) => Fault::NoMemory(none),
     }
 }
 

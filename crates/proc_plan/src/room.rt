@@ -4,7 +4,7 @@ ghost use Rattle.std.specs.Prelude.{◌≡◌, ◌++◌, ◌+◌, ◌≤◌, ℕ
 ghost use Rattle.psi_spec.specs.Names.{names};
 ghost use Rattle.psi_spec.specs.Refusal.{cause_of};
 ghost use Rattle.psi_spec.specs.Told.{listed};
-ghost use Rattle.psi_laws.specs.Touch.{AllTouched, IsBeside, IsOfOne, told_first, told_of};
+ghost use Rattle.psi_counts.specs.Touch.{AllTouched, IsBeside, IsOfOne, told_first, told_of};
 ghost use Rattle.group_tree.specs.Tree.{IsGroupFault};
 ghost use Rattle.proc_plan.specs.Plans.{AreSmall};
 ghost use Rattle.proc_plan.specs.Room.{AddsTold, HasRoom, HasRoomFor, HasRoomWithin, lists_of};
@@ -14,7 +14,7 @@ use crate::changes::Changes;
 use crate::side::Side;
 use crate::sides::Told;
 use psi_base::{Act, Cause, Cpu, Event, Fault, NoMemory, TriggerSpec};
-use psi_laws::{Change, Touch};
+use psi_counts::{Change, Touch};
 use psi_spec::Task;
 use task_table::Table;
 
@@ -26,7 +26,8 @@ fn named_cpu(act: &Act) -> Option<u32>
         Act::Fork { cpu, .. }
         | Act::Wake { cpu, .. }
         | Act::Switch { cpu, .. }
-        | Act::Migrate { cpu, .. } => Some(cpu.0),
+        | Act::Migrate { cpu, .. }
+        | Act::Irq { cpu, .. } => Some(cpu.0),
         _ => None,
     }
 }
@@ -86,12 +87,12 @@ pub(crate) fn make_room(
 }
 
 /// Why an event isn't taken where memory is wanting. A cause against it comes first.
-pub(crate) fn lacking(table: &Table, event: &Event) -> Fault<Cause>
+pub(crate) fn lacking(table: &Table, event: &Event, none: NoMemory) -> Fault<Cause>
     ensures { IsGroupFault (cause_of table.now.limits table.now.world event.now) result }
 {
     match table.check(event) {
         Some(cause) => Fault::Refused(cause),
-        None => Fault::NoMemory,
+        None => Fault::NoMemory(none),
     }
 }
 

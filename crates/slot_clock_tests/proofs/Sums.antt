@@ -7,10 +7,10 @@ use Rattle.std.proofs.lemmas.List.{get_or_past}
 use Rattle.std.proofs.lemmas.List.Sums.{sum_by-le, get_or-le-sum_by}
 use Rattle.std.proofs.lemmas.List.Elements.{All-from_get_or, All-get_or}
 use Rattle.psi_base.specs.declared.event.Slot.{Slot}
-use Rattle.psi_laws.specs.declared.changes.Counts.{Counts}
+use Rattle.psi_counts.specs.declared.changes.Counts.{Counts}
 use Rattle.psi_spec.specs.Groups.{AreOlder}
 use Rattle.psi_spec.specs.Stall.{is_under, number_of_slot}
-use Rattle.psi_laws.specs.Touch.{AreAtMost, no_counts, on_chain}
+use Rattle.psi_counts.specs.Touch.{AreAtMost, no_counts, on_chain}
 use Rattle.slot_clocks.specs.Clocks.{CanFollow, parent_numbers}
 use Rattle.slot_clock_tests.specs.Machine.{AreSums, IsTask}
 

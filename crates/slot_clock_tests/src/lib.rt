@@ -9,7 +9,7 @@ pub use machine::{Failed, Machine};
 mod tests {
     use crate::machine::{Failed, Machine};
     use psi_base::{Ns, Slot};
-    use psi_laws::Counts;
+    use psi_counts::Counts;
     use std::test::Fail;
 
     /// Counts in the order of their fields, of a task in the group of a slot.

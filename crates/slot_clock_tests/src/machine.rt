@@ -7,10 +7,10 @@ ghost use Rattle.slot_clocks.specs.Clocks.{parent_numbers};
 ghost use Rattle.slot_clock_tests.specs.Machine.{IsMachine, IsSlot, IsTask};
 
 use cpu_clock::Clock;
-use psi_base::{Ns, Slot};
-use psi_laws::{Change, Counts};
+use psi_base::{NoMemory, Ns, Slot};
+use psi_counts::{Change, Counts};
 use slot_clocks::SlotClocks;
-use std::alloc::Global;
+use std::alloc::{AllocError, Global};
 
 /// The last moment of a clock, in ns.
 const LAST_MOMENT: Ns = 60_000_000_000_000_000;
@@ -18,9 +18,21 @@ const LAST_MOMENT: Ns = 60_000_000_000_000_000;
 /// Why a machine wasn't made or didn't make a change.
 #[derive(Clone, Copy, Debug, PartialEq, Eq)]
 pub enum Failed {
-    NoMemory,
+    NoMemory(NoMemory),
     /// It names a task or a group that there isn't, or is out of time.
     Unfit,
+}
+
+impl From<NoMemory> for Failed {
+    fn from(none: NoMemory) -> Self {
+        Failed::NoMemory(none)
+    }
+}
+
+impl From<AllocError> for Failed {
+    fn from(refused: AllocError) -> Self {
+        Failed::NoMemory(NoMemory::from(refused))
+    }
 }
 
 /// A processor with tasks in groups: for each task its group and what it counts as, None where it isn't alive.
@@ -84,12 +96,8 @@ impl Machine {
             return Err(Failed::Unfit);
         };
         let mut none = Vec::new(alloc);
-        if none.resize(tasks, None).is_err() {
-            return Err(Failed::NoMemory);
-        }
-        let Ok(clocks) = SlotClocks::make(alloc, slots) else {
-            return Err(Failed::NoMemory);
-        };
+        none.resize(tasks, None)?;
+        let clocks = SlotClocks::make(alloc, slots)?;
         Ok(Machine {
             parents,
             tasks: none,

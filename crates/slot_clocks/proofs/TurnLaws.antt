@@ -4,11 +4,11 @@ use Rattle.std.specs.Prelude.{if◌then◌else◌}
 use Rattle.psi_base.specs.declared.event.Slot.{Slot}
 use Rattle.psi_base.specs.declared.event.State.{State}
 use Rattle.psi_base.specs.declared.event.State.TheVariants.{IoSome, IoFull, MemSome, MemFull, CpuSome, CpuFull, Nonidle}
-use Rattle.psi_laws.specs.declared.changes.Counts.{Counts}
-use Rattle.psi_laws.specs.declared.changes.Change.{Change}
-use Rattle.psi_laws.specs.Counts.{tells}
-use Rattle.psi_laws.specs.Touch.{Follows, is_current_in, is_current_stalled, no_counts, on_chain}
-use Rattle.psi_laws.proofs.PlanClocks.{clock_stays}
+use Rattle.psi_counts.specs.declared.changes.Counts.{Counts}
+use Rattle.psi_counts.specs.declared.changes.Change.{Change}
+use Rattle.psi_counts.specs.Counts.{tells}
+use Rattle.psi_counts.specs.Touch.{Follows, is_current_in, is_current_stalled, no_counts, on_chain}
+use Rattle.psi_counts.proofs.ClockLaws.{clock_stays}
 use Rattle.slot_clocks.specs.declared.cell.Cell.{Cell}
 use Rattle.slot_clocks.specs.Clocks.{IsUpTo, MaskTells}
 use Rattle.slot_clocks.specs.declared.chains.Chains.{Chains}

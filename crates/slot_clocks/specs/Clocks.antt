@@ -2,13 +2,13 @@
 use Rattle.std.specs.Prelude.{◌≡◌, ℕ, ◌+◌, ◌≤◌, ◌<◌, ◌^◌, List, map, replicate, slice_index_or, Bool, Option, None}
 use Rattle.psi_base.specs.declared.event.Slot.{Slot}
 use Rattle.psi_base.specs.declared.event.State.{State}
-use Rattle.psi_laws.specs.declared.changes.Counts.{Counts}
-use Rattle.psi_laws.specs.declared.changes.Change.{Change}
-use Rattle.psi_laws.specs.Counts.{mask_holds, tells}
-use Rattle.psi_laws.specs.Clock.{ClockFollows, ClockView, IsWholeClock, opened_time, zero_clock}
+use Rattle.psi_counts.specs.declared.changes.Counts.{Counts}
+use Rattle.psi_counts.specs.declared.changes.Change.{Change}
+use Rattle.psi_counts.specs.Counts.{mask_holds, tells}
+use Rattle.psi_counts.specs.Clock.{ClockFollows, ClockView, IsWholeClock, opened_time, zero_clock}
 use Rattle.psi_spec.specs.Trace.{last_moment}
 use Rattle.psi_spec.specs.Stall.{number_of_slot}
-use Rattle.psi_laws.specs.Touch.{Follows, is_current_in, is_current_stalled, no_counts, on_chain}
+use Rattle.psi_counts.specs.Touch.{Follows, is_current_in, is_current_stalled, no_counts, on_chain}
 use Rattle.slot_clocks.specs.declared.cell.Cell.{Cell}
 
 -- ---- parents

@@ -2,10 +2,10 @@
 
 ghost use Rattle.std.specs.Prelude.{◌≡◌, ◌+◌, ◌<◌, ◌≤◌, ◌^◌};
 ghost use Rattle.psi_base.specs.declared.event.State.{State};
-ghost use Rattle.psi_laws.specs.Clock.{ClockFollows};
-ghost use Rattle.psi_laws.specs.Counts.{mask_holds, tells};
+ghost use Rattle.psi_counts.specs.Clock.{ClockFollows};
+ghost use Rattle.psi_counts.specs.Counts.{mask_holds, tells};
 ghost use Rattle.psi_spec.specs.Trace.{last_moment};
-ghost use Rattle.psi_laws.specs.Touch.{Follows, no_counts};
+ghost use Rattle.psi_counts.specs.Touch.{Follows, no_counts};
 ghost use Rattle.slot_clocks.specs.Clocks.{CanFollow, IsUpTo, StaysByMask, zero_cell};
 
 use cpu_clock::Clock;

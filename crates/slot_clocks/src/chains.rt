@@ -2,17 +2,17 @@
 
 ghost use Rattle.std.specs.Prelude.{◌≡◌, ◌⊎◌, ◌+◌, ◌==◌, ◌<◌, ◌≤◌, length, true, if◌then◌else◌, IfSome};
 ghost use Rattle.psi_base.specs.declared.event.State.{State};
-ghost use Rattle.psi_laws.specs.Clock.{ClockFollows};
-ghost use Rattle.psi_laws.specs.Counts.{mask_holds, tells};
+ghost use Rattle.psi_counts.specs.Clock.{ClockFollows};
+ghost use Rattle.psi_counts.specs.Counts.{mask_holds, tells};
 ghost use Rattle.psi_spec.specs.Trace.{last_moment};
-ghost use Rattle.psi_laws.specs.Touch.{Follows, is_current_stalled, no_counts};
+ghost use Rattle.psi_counts.specs.Touch.{Follows, is_current_stalled, no_counts};
 ghost use Rattle.slot_clocks.specs.Clocks.{CanFollow, IsUpTo, StaysByMask, parent_numbers};
 ghost use Rattle.slot_clocks.specs.Walk.{AreSides, AreTogether, AreTurned, CanClimb, MayStart, all_passed, chains_of, height, passed, slot_in, top};
 
 use crate::cell::Cell;
 use crate::part::Part;
 use psi_base::{Ns, Slot};
-use psi_laws::Change;
+use psi_counts::Change;
 
 /// How high the walks up the chains of the four slots stand that a change concerns. A height is one more than the slot, so
 /// that one comparison tells both whether a chain stands somewhere and where; it is 0 behind the root.

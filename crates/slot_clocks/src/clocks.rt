@@ -1,17 +1,17 @@
 //! The clocks of all groups on one processor.
 
 ghost use Rattle.std.specs.Prelude.{◌≡◌, ℕ, ◌<◌, ◌≤◌, length, IfOk, IfSome};
-ghost use Rattle.psi_laws.specs.Clock.{IsInTime};
+ghost use Rattle.psi_counts.specs.Clock.{IsInTime};
 ghost use Rattle.psi_spec.specs.Groups.{AreOlder};
 ghost use Rattle.psi_spec.specs.Trace.{last_moment};
-ghost use Rattle.psi_laws.specs.Touch.{HasSlotsBelow};
+ghost use Rattle.psi_counts.specs.Touch.{HasSlotsBelow};
 ghost use Rattle.slot_clocks.specs.Clocks.{AllCanFollow, AllClocksFollow, AllFollow, AllStayByMask, AreTold, AreWhole, cell_at, first_clocks, parent_numbers};
 
 use crate::cell::Cell;
 use crate::chains::walk;
 use cpu_clock::Clock;
 use psi_base::{NoMemory, Ns, Slot};
-use psi_laws::Change;
+use psi_counts::Change;
 use std::alloc::Global;
 use std::marker::Model;
 

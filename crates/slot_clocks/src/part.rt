@@ -1,12 +1,12 @@
 //! The counts that a change takes or adds, for groups on their chain and for others.
 
 ghost use Rattle.std.specs.Prelude.{◌≡◌, if◌then◌else◌};
-ghost use Rattle.psi_laws.specs.Touch.{no_counts};
+ghost use Rattle.psi_counts.specs.Touch.{no_counts};
 ghost use Rattle.slot_clocks.specs.Walk.{counts_in};
 
 use crate::cell::NO_COUNTS;
 use psi_base::Slot;
-use psi_laws::Counts;
+use psi_counts::Counts;
 use std::marker::Model;
 
 /// The counts of one part of a change, taken or added. A contract sees these.
@@ -18,8 +18,8 @@ pub(crate) struct Part([Counts; 2]);
 
 impl Model for Part {
     ghost use Rattle.std.specs.Prelude.{◌≡◌, ◌∷◌, [], slice_index_or};
-    ghost use Rattle.psi_laws.specs.declared.changes.Counts.{Counts};
-    ghost use Rattle.psi_laws.specs.Touch.{no_counts};
+    ghost use Rattle.psi_counts.specs.declared.changes.Counts.{Counts};
+    ghost use Rattle.psi_counts.specs.Touch.{no_counts};
 
     ghost Value = { Counts };
 

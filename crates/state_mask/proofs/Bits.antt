@@ -7,7 +7,7 @@ use Rattle.std.proofs.lemmas.Nat.{pow_pos}
 use Rattle.std.proofs.lemmas.Nat.Bits.{and_pow, bit_at-lt}
 use Rattle.psi_base.specs.declared.event.State.{State}
 use Rattle.psi_spec.specs.Stall.{state_number}
-use Rattle.psi_laws.specs.Counts.{mask_holds}
+use Rattle.psi_counts.specs.Counts.{mask_holds}
 
 small_bit : (bit power : ℕ) → bit < 2 → 0 < power → not (nat_eq (bit * power) 0) ≡ (bit == 1)
 small_bit zero power few some = let goal : not (nat_eq (0 * power) 0) ≡ false = grind (arith, nat_tests) in goal

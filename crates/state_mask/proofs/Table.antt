@@ -4,8 +4,8 @@ use Rattle.std.specs.Prelude.{◌&&◌, if◌then◌else◌, not, nat_lt, slice_
 use Rattle.std.proofs.lemmas.Bool.Decides.{nat_tests}
 use Rattle.psi_base.specs.declared.event.State.{State}
 use Rattle.psi_base.specs.declared.event.State.TheVariants.{IoSome, IoFull, MemSome, MemFull, CpuSome, CpuFull, Nonidle}
-use Rattle.psi_laws.specs.declared.changes.Counts.{Counts}
-use Rattle.psi_laws.specs.Counts.{IsMask, mask_holds, tells}
+use Rattle.psi_counts.specs.declared.changes.Counts.{Counts}
+use Rattle.psi_counts.specs.Counts.{IsMask, mask_holds, tells}
 use Rattle.state_mask.specs.Signs.{place_by, place_of, tells_by}
 
 -- both answers are the same

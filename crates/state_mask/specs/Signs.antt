@@ -2,7 +2,7 @@
 use Rattle.std.specs.Prelude.{ℕ, ◌+◌, ◌*◌, nat_lt, ◌==◌, ◌&&◌, ◌||◌, not, Bool, if◌then◌else◌}
 use Rattle.psi_base.specs.declared.event.State.{State}
 use Rattle.psi_base.specs.declared.event.State.TheVariants.{IoSome, IoFull, MemSome, MemFull, CpuSome, CpuFull, Nonidle}
-use Rattle.psi_laws.specs.declared.changes.Counts.{Counts}
+use Rattle.psi_counts.specs.declared.changes.Counts.{Counts}
 
 -- 1 for what is so, and 0 for what isn't
 abbrev pub bit_of : Bool → ℕ

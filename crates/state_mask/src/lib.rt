@@ -8,5 +8,5 @@ mod mask;
 mod states;
 
 pub use mask::Mask;
-pub use psi_laws::Counts;
+pub use psi_counts::Counts;
 pub use states::{STATES, mask_of};

@@ -2,7 +2,7 @@
 
 ghost use Rattle.std.specs.Prelude.{◌≡◌, ◌^◌};
 ghost use Rattle.psi_base.specs.declared.event.State.{State};
-ghost use Rattle.psi_laws.specs.Counts.{IsMask, mask_holds};
+ghost use Rattle.psi_counts.specs.Counts.{IsMask, mask_holds};
 ghost use Rattle.psi_spec.specs.Stall.{state_number};
 
 use psi_base::State;
@@ -15,7 +15,7 @@ pub struct Mask(u8);
 
 impl Model for Mask {
     ghost use Rattle.std.specs.Prelude.{ℕ};
-    ghost use Rattle.psi_laws.specs.Counts.{IsMask};
+    ghost use Rattle.psi_counts.specs.Counts.{IsMask};
 
     ghost Value = { ℕ };
 

@@ -2,12 +2,12 @@
 
 ghost use Rattle.std.specs.Prelude.{◌≡◌, ◌<◌};
 ghost use Rattle.psi_base.specs.declared.event.State.{State};
-ghost use Rattle.psi_laws.specs.Counts.{IsMask, mask_holds, tells};
+ghost use Rattle.psi_counts.specs.Counts.{IsMask, mask_holds, tells};
 ghost use Rattle.state_mask.specs.Signs.{place_by};
 
 use crate::mask::Mask;
 use psi_base::State;
-use psi_laws::Counts;
+use psi_counts::Counts;
 
 /// The states in the order of their numbers.
 pub const STATES: [State; 7] = [

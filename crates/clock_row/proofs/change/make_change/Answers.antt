@@ -1,5 +1,5 @@
 use Rattle.std.proofs.Common.{◌≡◌, ℕ, List, ◌+◌, ◌-◌, ◌∙◌, ap, arith, subst, sym}
-use Rattle.psi_laws.specs.Plan.{PlanView}
+use Rattle.plan_laws.specs.Plan.{PlanView}
 use Rattle.clock_row.specs.Words.{AreClockWords}
 use Rattle.clock_row.specs.Seats.{as_writer, writer_on}
 use Rattle.clock_row.specs.declared.view.WriterView.{WriterView}

@@ -1,5 +1,5 @@
 use Rattle.std.proofs.Common.{◌≡◌, ◌≢◌, ℕ, List, ◌+◌, ◌*◌, ◌∙◌, ap, subst, sym}
-use Rattle.psi_laws.specs.Clock.{ClockView, words_of}
+use Rattle.psi_counts.specs.Clock.{ClockView, words_of}
 use Rattle.clock_row.specs.Words.{AreClock, ArePut, mask_at, words_at}
 use Rattle.clock_row.specs.Seats.{as_writer, writer_on}
 use Rattle.clock_row.specs.declared.view.View.{View}

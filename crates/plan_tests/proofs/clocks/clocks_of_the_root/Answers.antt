@@ -1,6 +1,6 @@
 use Rattle.std.proofs.Common.{◌≡◌, ◌≤◌, arith, rules}
-use Rattle.psi_laws.specs.Plan.{last_change}
-use Rattle.psi_laws.proofs.PlanClocks.{clock_is_in_time}
+use Rattle.plan_laws.specs.Plan.{last_change}
+use Rattle.plan_laws.proofs.PlanClocks.{clock_is_in_time}
 use Rattle.plan_tests.proofs.clocks.clocks_of_the_root.Goals as goal
 
 pub opened-requires : goal.opened-requires

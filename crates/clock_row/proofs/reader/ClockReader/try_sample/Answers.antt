@@ -1,5 +1,5 @@
 use Rattle.std.proofs.Common.{rules, ◌≡◌, ◌/◌, ap, ◌∙◌, length, subst}
-use Rattle.psi_laws.specs.Plan.{PlanView}
+use Rattle.plan_laws.specs.Plan.{PlanView}
 use Rattle.clock_row.specs.Words.{StoodTogether}
 use Rattle.clock_row.specs.Ends.{ReaderEnd}
 use Rattle.clock_row.specs.Seats.{as_reader, loaded_in, reader_on}

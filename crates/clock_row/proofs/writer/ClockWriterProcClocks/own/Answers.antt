@@ -1,5 +1,5 @@
 use Rattle.std.proofs.Common.{◌≡◌, ◌<◌, ℕ, ap, ◌∙◌, length, subst, sym}
-use Rattle.psi_laws.specs.Plan.{PlanView}
+use Rattle.plan_laws.specs.Plan.{PlanView}
 use Rattle.clock_row.specs.Ends.{WriterEnd}
 use Rattle.clock_row.specs.Words.{AreClock}
 use Rattle.clock_row.specs.Seats.{writer_on}

@@ -1,6 +1,6 @@
 use Rattle.std.proofs.Common.{◌≡◌, slice_set, ◌∷◌, [], ◌++◌, ℕ, ◌∙◌, ap}
-use Rattle.psi_laws.specs.Clock.{words_of}
-use Rattle.psi_laws.specs.Counts.{IsMask}
+use Rattle.psi_counts.specs.Clock.{words_of}
+use Rattle.psi_counts.specs.Counts.{IsMask}
 use Rattle.cpu_clock.proofs.Placed.{two_placed}
 use Rattle.cpu_clock.proofs.clock.Clock.to_words.Goals as goal
 

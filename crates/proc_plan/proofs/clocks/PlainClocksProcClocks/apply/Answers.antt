@@ -1,8 +1,8 @@
 use Rattle.std.proofs.Common.{arith, subst, sym, ◌≡◌, ◌≤◌, ◌<◌, ◌+◌, ◌-◌, length, Bool}
 use Rattle.std.specs.Prelude.{IfSome}
 use Rattle.psi_base.specs.declared.event.Slot.{Slot}
-use Rattle.psi_laws.specs.Touch.{HasSlotsBelow}
-use Rattle.psi_laws.proofs.PlanSteps.{current_by_change}
+use Rattle.psi_counts.specs.Touch.{HasSlotsBelow}
+use Rattle.plan_laws.proofs.PlanSteps.{current_by_change}
 use Rattle.proc_plan.proofs.ClockSteps.{AreMade, as_many_parents, can_follow, current_below, next_clocks, told}
 use Rattle.proc_plan.proofs.clocks.PlainClocksProcClocks.apply.Goals as goal
 

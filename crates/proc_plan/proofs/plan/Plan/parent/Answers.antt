@@ -1,7 +1,7 @@
 use Rattle.std.proofs.Common.{length, subst, sym, ap, ◌<◌, ◌≡◌, ◌∙◌, arith}
 use Rattle.std.specs.Prelude.{None, slice_index_or}
 use Rattle.std.proofs.lemmas.List.{get_or-map, length-map}
-use Rattle.psi_laws.specs.Plan.{PlanView}
+use Rattle.plan_laws.specs.Plan.{PlanView}
 use Rattle.psi_spec.specs.Stall.{number_of_slot}
 use Rattle.slot_clocks.specs.Clocks.{parent_numbers}
 use Rattle.proc_plan.proofs.PlanReads.{root_alone}

@@ -1,7 +1,7 @@
 use Rattle.std.proofs.Common.{rules, of_calls}
 use Rattle.std.specs.Prelude.{nat_le}
 use Rattle.std.proofs.lemmas.Fn.{always_returns_same}
-use Rattle.psi_laws.specs.declared.changes.Change.{Change}
+use Rattle.psi_counts.specs.declared.changes.Change.{Change}
 use Rattle.proc_plan.specs.Plans.{plan_view}
 use Rattle.proc_plan.proofs.PlanReads.{come_first, point_counts}
 use Rattle.proc_plan.proofs.plan.Plan.until.Goals as goal

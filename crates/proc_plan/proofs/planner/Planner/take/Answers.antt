@@ -4,8 +4,8 @@ use Rattle.std.proofs.Math.ListN.{get_or-map}
 use Rattle.std.proofs.Math.Seq.{take-append_seam}
 use Rattle.std.specs.Prelude.{slice_index_or}
 use Rattle.psi_spec.specs.Told.{listed}
-use Rattle.psi_laws.specs.Legal.{with_change}
-use Rattle.psi_laws.specs.Touch.{told_of}
+use Rattle.psi_counts.specs.Legal.{with_change}
+use Rattle.psi_counts.specs.Touch.{told_of}
 use Rattle.proc_plan.specs.Plans.{HasTaken, changes_at, planner_view}
 use Rattle.proc_plan.specs.Room.{ChangesView, changes_in, lists_of, no_room}
 use Rattle.proc_plan.proofs.Taking.{HasStepped, room_for, taken_more}

@@ -1,6 +1,6 @@
 use Rattle.std.proofs.Common.{length, subst, sym, ◌<◌, ◌∙◌}
 use Rattle.std.proofs.lemmas.List.{get_or_default}
-use Rattle.psi_laws.specs.Plan.{IsPlan, no_plan}
+use Rattle.plan_laws.specs.Plan.{IsPlan, no_plan}
 use Rattle.proc_plan.specs.Plans.{PlansView}
 use Rattle.proc_plan.proofs.plans.Plans.plan.Goals as goal
 
