@@ -78,10 +78,7 @@ fn rows_with(cpus: u32, slots: u32, times: Vec<[u64; 7]>) -> Rows
 fn no_times(alloc: Global, count: usize) -> Result<Vec<[u64; 7]>, NoMemory>
     ensures { IfOk result (λ times. times.items ≡ replicate count table.no_times) }
 {
-    match vec![in alloc; [0u64; 7]; count] {
-        Ok(times) => Ok(times),
-        Err(_) => Err(NoMemory),
-    }
+    Ok(vec![in alloc; [0u64; 7]; count]?)
 }
 
 /// Laws of tables: they keep their sizes, and what is set is found at its place and changes no other.

@@ -21,12 +21,12 @@ pub enum Failed {
     OutOfRange,
     /// The tick can't come next.
     NotNext,
-    NoMemory,
+    NoMemory(NoMemory),
 }
 
 impl From<NoMemory> for Failed {
-    fn from(_: NoMemory) -> Self {
-        Failed::NoMemory
+    fn from(none: NoMemory) -> Self {
+        Failed::NoMemory(none)
     }
 }
 

@@ -55,9 +55,7 @@ fn groups_of(alloc: Global, lives: &[GroupLife]) -> Result<Vec<Group>, NoMemory>
 {
     let mut groups = Vec::with_capacity(alloc, lives.len())?;
     'lives: for life in lives {
-        let Ok(_) = groups.push(Group::of(life)) else {
-            return Err(NoMemory);
-        };
+        groups.push(Group::of(life))?;
     }
     Ok(groups)
 }
@@ -66,10 +64,7 @@ fn groups_of(alloc: Global, lives: &[GroupLife]) -> Result<Vec<Group>, NoMemory>
 fn no_growths(alloc: Global, cpus: u32) -> Result<Vec<[u64; 7]>, NoMemory>
     ensures { IfOk result (λ growths. length growths.items ≡ cpus) }
 {
-    match vec![in alloc; [0u64; 7]; cpus as usize] {
-        Ok(growths) => Ok(growths),
-        Err(_) => Err(NoMemory),
-    }
+    Ok(vec![in alloc; [0u64; 7]; cpus as usize]?)
 }
 
 /// The triggers, before the first tick.
@@ -78,9 +73,7 @@ fn watches_of(alloc: Global, triggers: &[TriggerSpec]) -> Result<Vec<Watch>, NoM
 {
     let mut watches = Vec::with_capacity(alloc, triggers.len())?;
     'triggers: for trigger in triggers {
-        let Ok(_) = watches.push(Watch::of(*trigger)) else {
-            return Err(NoMemory);
-        };
+        watches.push(Watch::of(*trigger))?;
     }
     Ok(watches)
 }
