@@ -1,0 +1,62 @@
+//! The parts of a drop-in file put into rules.
+ghost use Rattle.std.specs.Prelude.{◌≡◌, ◌≢◌, ◌≤◌, length, map, position, Ok, Err, MatchResult};
+ghost use Rattle.psi_base.specs.Gives.{Gives, FaultOf, lacks_memory};
+ghost use Rattle.dropin_rules.specs.Joined.{is_named, joined, part_joined};
+
+use crate::fault::{DropCause, DropFault};
+use psi_base::Fault;
+use ruleset_json::{Part, Place, Rule, RuleList, Rules};
+
+// The number of the first ruleset of this name.
+fn first_named(rules: &[Rule], name: &[u8]) -> Option<usize>
+    ensures { result ≡ position (is_named name.now) rules.now }
+{
+    rules.iter().position(|rule| rule.name.bytes() == name)
+}
+
+// Puts one part, by its number, into rules. A refused one leaves them as they were.
+#[tactic(auto, unfolding(crate::specs::Joined::part_joined))]
+fn put_part(rules: &mut RuleList, number: u32, part: Part) -> Result<(), DropFault>
+    ensures { MatchResult result
+        (λ _. part_joined number part rules.old ≡ Ok rules.new)
+        (λ fault. part_joined number part rules.old ≡ Err fault) }
+{
+    let place = Place::Rule(number);
+    if part.groups.is_none() && part.actions.is_none() {
+        return Err(DropFault {
+            place,
+            what: DropCause::NoParts,
+        });
+    }
+    match first_named(rules.items(), part.name.bytes()) {
+        Some(rule) => {
+            rules.replace(rule as u32, part.groups, part.actions);
+            Ok(())
+        }
+        None => Err(DropFault {
+            place,
+            what: DropCause::UnknownRule,
+        }),
+    }
+}
+
+/// The rules with the parts of a drop-in file put into them, in order: each replaces the groups, the actions or both,
+/// as it gives them, of the first ruleset of its name. Refused, with both given up, at the first part that gives
+/// neither (`NoParts`) or whose name no ruleset has (`UnknownRule`). Takes no memory, so `NoMemory` never comes.
+#[tactic(auto, unfolding(crate::specs::Joined::joined))]
+pub fn join(base: Rules, parts: Vec<Part>) -> Result<Rules, Fault<DropFault>>
+    requires { length parts.items ≤ 64 }
+    ensures exact { Gives result (joined base parts.items) }
+    ensures memory { result ≢ Err lacks_memory }
+{
+    let Rules { mut rules } = base;
+    let mut number = 0;
+    'parts: for part in parts {
+        match put_part(&mut rules, number, part) {
+            Ok(()) => {}
+            Err(fault) => return Err(Fault::Refused(fault)),
+        }
+        number += 1;
+    }
+    Ok(Rules { rules })
+}
