@@ -110,7 +110,7 @@ fn is_read(alloc: Global, text: &str, fault: Option<PatternFault>) -> bool {
     match Patterns::read(alloc, text) {
         Ok(_) => fault == None,
         Err(Fault::Refused(found)) => fault == Some(found),
-        Err(Fault::NoMemory) => false,
+        Err(Fault::NoMemory(_)) => false,
     }
 }
 

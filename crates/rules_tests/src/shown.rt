@@ -1,6 +1,6 @@
 //! What a rules file is read as, as one text: the rules, or the fault as it is told.
 use path_match::Patterns;
-use psi_base::{Fault, MemSink, NoMemory, Path, Text};
+use psi_base::{Fault, MemSink, Path, Text};
 use ruleset_json::{Action, After, DetectorSpec, Rules, RulesFault, put_fault, read};
 use std::alloc::{AllocError, Global};
 use std::process::Abort;
@@ -175,7 +175,7 @@ pub fn shown(alloc: Global, bytes: &[u8]) -> Result<String, Fail> {
     match read(alloc, bytes) {
         Ok(read) => rules(alloc, &read),
         Err(Fault::Refused(refused)) => fault(alloc, refused),
-        Err(Fault::NoMemory) => Err(Fail::from(NoMemory)),
+        Err(Fault::NoMemory(none)) => Err(Fail::from(none)),
     }
 }
 

@@ -61,7 +61,7 @@ pub item_faulted : {A : Type 0} (f : ℕ → Data → Result A RulesFault) (vs :
     → FaultOf e (f i (view v))
     → FaultOf e whole
 item_faulted f vs i v front (Refused e) whole inside here so_far is = each_refused f vs i v front e whole inside so_far (ap (λ w. f i (view w)) (sym here) ∙ is)
-item_faulted f vs i v front NoMemory whole inside here so_far is = tt
+item_faulted f vs i v front (NoMemory _) whole inside here so_far is = tt
 
 -- all were read
 pub items_done : {A : Type 0} (f : ℕ → Data → Result A RulesFault) (vs : List Value) (i : ℕ) (front : List A) (whole : Result (List A) RulesFault) → length vs ≤ i

@@ -2,3 +2,4 @@ pub mod Views
 pub mod Texts
 pub mod Each
 pub mod FirstFaults
+pub mod Replacing

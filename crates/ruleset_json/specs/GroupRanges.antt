@@ -1,11 +1,11 @@
 -- What groups of detectors are within.
-use Rattle.std.specs.Prelude.{List}
+use Rattle.std.specs.Prelude.{List, IsUtf8}
 use Rattle.ruleset_json.specs.declared.types.DetectorGroup.{DetectorGroup}
 use Rattle.ruleset_json.specs.Ranges.{FitsList, FitsDetectors}
 
--- a group has at most 16 detectors, with their arguments in their ranges
+-- a group has at most 16 detectors, with their arguments in their ranges, and its name is a text
 abbrev pub FitsGroup : DetectorGroup → Type 0
-FitsGroup group = FitsDetectors group.detectors
+FitsGroup group = FitsDetectors group.detectors × IsUtf8 group.name
 
 abbrev pub FitsGroups : List DetectorGroup → Type 0
 FitsGroups = FitsList FitsGroup 16

@@ -7,5 +7,7 @@ pub mod Ranges
 pub mod GroupRanges
 pub mod RuleRanges
 pub mod Rules
+pub mod Parts
+pub mod Replaced
 pub mod FaultText
 pub mod Laws

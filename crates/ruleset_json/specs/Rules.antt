@@ -137,21 +137,26 @@ rule_at i d = do
   chain ← actions_at i delay whole
   Ok (record { name = name; groups = groups; actions = chain })
 
--- the file
-unfoldable pub rules_in : Data → Result Rules RulesFault
-rules_in d = do
+-- the list of rulesets that a file has
+unfoldable pub rulesets_in : Data → Result (List Data) RulesFault
+rulesets_in d = do
   whole ← object_at place.Whole d
   found ← member_at place.Whole (codes "rulesets") whole
-  items ← list_at place.Whole 64 found
-  rules ← each rule_at 0 items
-  Ok (record { rules = rules })
+  list_at place.Whole 64 found
 
 -- the JSON data of a text; what isn't UTF-8 is no text
 abbrev pub data_of : List ℕ → Option Data
 data_of bytes = if is_utf8 bytes then json.read bytes else None
 
+-- the list of rulesets of a file of these bytes
+abbrev pub rulesets_of : List ℕ → Result (List Data) RulesFault
+rulesets_of bytes =
+    if nat_lt 1048576 (length bytes) then refused_for place.Whole cause.TooLong
+    else or_fault place.Whole cause.BadJson (data_of bytes) >>= rulesets_in
+
 -- the rules that a file's bytes give, or the first fault
 unfoldable pub rules_of : List ℕ → Result Rules RulesFault
-rules_of bytes =
-    if nat_lt 1048576 (length bytes) then refused_for place.Whole cause.TooLong
-    else or_fault place.Whole cause.BadJson (data_of bytes) >>= rules_in
+rules_of bytes = do
+  items ← rulesets_of bytes
+  rules ← each rule_at 0 items
+  Ok (record { rules = rules })

@@ -75,7 +75,7 @@ fn patterns(alloc: Global, value: &Value, place: Place) -> Result<Patterns, Faul
     match Patterns::read(alloc, text.as_str()) {
         Ok(patterns) => Ok(patterns),
         Err(Fault::Refused(fault)) => Err(refused(place, cause_of(fault))),
-        Err(Fault::NoMemory) => Err(Fault::NoMemory),
+        Err(Fault::NoMemory(none)) => Err(Fault::NoMemory(none)),
     }
 }
 

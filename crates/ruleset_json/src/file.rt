@@ -1,15 +1,16 @@
 //! The walk through a rules file: down into each part before the next.
-ghost use Rattle.std.specs.Prelude.{◌≡◌, ◌≤◌, ◌-◌, drop, map, length, IfOk, Err};
+ghost use Rattle.std.specs.Prelude.{◌≡◌, ◌≤◌, ◌-◌, codes, drop, if◌then◌else◌, map, nat_lt, length, IfOk, Err};
 ghost use Rattle.std.specs.List.{slice_get};
+ghost use Rattle.serde_json.specs.Find.{get};
 ghost use Rattle.serde_json.specs.View.{view};
-ghost use Rattle.ruleset_json.specs.Arguments.{or_fault};
+ghost use Rattle.ruleset_json.specs.Arguments.{or_fault, refused_for};
 ghost use Rattle.ruleset_json.specs.GroupRanges.{FitsGroup, FitsGroups};
 ghost use Rattle.ruleset_json.specs.Ranges.{FitsDetectors, FitsActions, IsTime};
 ghost use Rattle.ruleset_json.specs.RuleRanges.{FitsRule, FitsRules};
-ghost use Rattle.ruleset_json.specs.Rules.{each, detector_in, action_in, group_at, delay_at, groups_at, actions_at, rule_at, rules_in, rules_of};
-ghost use Rattle.psi_base.specs.Gives.{Gives, FaultOf};
+ghost use Rattle.ruleset_json.specs.Rules.{each, detector_in, action_in, group_at, delay_at, groups_at, actions_at, data_of, rule_at, rulesets_in, rules_of};
+ghost use Rattle.ruleset_json.specs.Parts.{if_there, part_at, parts_of};
+ghost use Rattle.psi_base.specs.Gives.{Gives, FaultOf, lacks_memory};
 ghost use Rattle.ruleset_json.specs.Gives.{GivesBy, ReadsBy};
-ghost use Rattle.psi_base.specs.declared.event.Fault.TheVariants as outcome;
 ghost use Rattle.ruleset_json.specs.declared.fault.Place.TheVariants as place;
 ghost use Rattle.ruleset_json.specs.declared.fault.RulesCause.TheVariants as cause;
 
@@ -19,7 +20,7 @@ use crate::detector::detector;
 use crate::fault::{Place, RulesCause, RulesFault, refused};
 use crate::json::{list, member, object, text, value_of};
 use crate::name::Key;
-use crate::types::{ActionList, DetectorGroup, GroupList, Rule, RuleList, Rules, SpecList};
+use crate::types::{ActionList, DetectorGroup, GroupList, Part, Rule, RuleList, Rules, SpecList};
 use psi_base::{Fault, Text};
 use serde_json::Value;
 use std::alloc::Global;
@@ -55,9 +56,7 @@ fn detectors(
             Ok(one) => one,
             Err(fault) => return Err(fault),
         };
-        if found.push(one).is_err() {
-            return Err(Fault::NoMemory);
-        }
+        found.push(one)?;
     }
     Ok(SpecList::new(found))
 }
@@ -82,9 +81,7 @@ fn actions(
             Ok(one) => one,
             Err(fault) => return Err(fault),
         };
-        if found.push(one).is_err() {
-            return Err(Fault::NoMemory);
-        }
+        found.push(one)?;
     }
     Ok(ActionList::new(found))
 }
@@ -145,11 +142,33 @@ fn groups(alloc: Global, rule: u32, items: &[Value]) -> Result<GroupList, Fault<
             Ok(one) => one,
             Err(fault) => return Err(fault),
         };
-        if found.push(one).is_err() {
-            return Err(Fault::NoMemory);
-        }
+        found.push(one)?;
     }
     Ok(GroupList::new(found))
+}
+
+// The groups that a ruleset has, which must be there.
+fn groups_in(alloc: Global, rule: u32, whole: &Value) -> Result<GroupList, Fault<RulesFault>>
+    ensures value { Gives result (groups_at rule (view whole.now)) }
+{
+    let place = Place::Rule(rule);
+    let items = list(member(whole, "detectors", place)?, MOST_PARTS, place)?;
+    groups(alloc, rule, items)
+}
+
+// The actions that a ruleset has, which must be there. It rests for so long after a kill.
+fn actions_in(
+    alloc: Global,
+    rule: u32,
+    delay_s: u32,
+    whole: &Value,
+) -> Result<ActionList, Fault<RulesFault>>
+    requires { IsTime delay_s }
+    ensures value { Gives result (actions_at rule delay_s (view whole.now)) }
+{
+    let place = Place::Rule(rule);
+    let items = list(member(whole, "actions", place)?, MOST_PARTS, place)?;
+    actions(alloc, rule, delay_s, items)
 }
 
 // How long a ruleset rests after a kill by an action that doesn't say it itself, in seconds.
@@ -170,12 +189,62 @@ fn rule(alloc: Global, index: u32, value: &Value) -> Result<Rule, Fault<RulesFau
     let whole = object(value, place)?;
     let name = text(member(whole, "name", place)?, place)?;
     let delay_s = delay(alloc, whole, place)?;
-    let items = list(member(whole, "detectors", place)?, MOST_PARTS, place)?;
-    let groups = groups(alloc, index, items)?;
-    let items = list(member(whole, "actions", place)?, MOST_PARTS, place)?;
-    let actions = actions(alloc, index, delay_s, items)?;
+    let groups = groups_in(alloc, index, whole)?;
+    let actions = actions_in(alloc, index, delay_s, whole)?;
     let name = Text::make(alloc, name.as_bytes())?;
     Ok(Rule {
+        name,
+        groups,
+        actions,
+    })
+}
+
+// The groups that a part gives, if it gives any.
+fn groups_if_there(
+    alloc: Global,
+    rule: u32,
+    whole: &Value,
+) -> Result<Option<GroupList>, Fault<RulesFault>>
+    ensures value { Gives result
+        (if_there (get (codes "detectors") (view whole.now)) (groups_at rule (view whole.now))) }
+{
+    match whole.get("detectors") {
+        Some(_) => Ok(Some(groups_in(alloc, rule, whole)?)),
+        None => Ok(None),
+    }
+}
+
+// The actions that a part gives, if it gives any. They rest for so long after a kill.
+fn actions_if_there(
+    alloc: Global,
+    rule: u32,
+    delay_s: u32,
+    whole: &Value,
+) -> Result<Option<ActionList>, Fault<RulesFault>>
+    requires { IsTime delay_s }
+    ensures value { Gives result
+        (if_there (get (codes "actions") (view whole.now))
+        (actions_at rule delay_s (view whole.now))) }
+{
+    match whole.get("actions") {
+        Some(_) => Ok(Some(actions_in(alloc, rule, delay_s, whole)?)),
+        None => Ok(None),
+    }
+}
+
+// A ruleset of a drop-in file.
+#[tactic(auto, unfolding(crate::specs::Parts::part_at))]
+fn part(alloc: Global, index: u32, value: &Value) -> Result<Part, Fault<RulesFault>>
+    ensures value { Gives result (part_at index (view value.now)) }
+{
+    let place = Place::Rule(index);
+    let whole = object(value, place)?;
+    let name = text(member(whole, "name", place)?, place)?;
+    let delay_s = delay(alloc, whole, place)?;
+    let groups = groups_if_there(alloc, index, whole)?;
+    let actions = actions_if_there(alloc, index, delay_s, whole)?;
+    let name = Text::make(alloc, name.as_bytes())?;
+    Ok(Part {
         name,
         groups,
         actions,
@@ -194,26 +263,53 @@ fn rules(alloc: Global, items: &[Value]) -> Result<RuleList, Fault<RulesFault>>
             Ok(one) => one,
             Err(fault) => return Err(fault),
         };
-        if found.push(one).is_err() {
-            return Err(Fault::NoMemory);
-        }
+        found.push(one)?;
     }
     Ok(RuleList::new(found))
 }
 
-// What the file says.
-#[tactic(auto, unfolding(crate::specs::Rules::rules_in))]
-fn file(alloc: Global, value: &Value) -> Result<Rules, Fault<RulesFault>>
-    ensures { Gives result (rules_in (view value.now)) }
+// The rulesets of a drop-in file.
+fn parts(alloc: Global, items: &[Value]) -> Result<Vec<Part>, Fault<RulesFault>>
+    requires { length items.now ≤ 64 }
+    ensures value { GivesBy (λ found. found.items) result (each part_at 0 (map view items.now)) }
+    ensures few { IfOk result (λ found. length found.items ≤ 64) }
+{
+    let mut found = Vec::new(alloc);
+    'items: for index in 0..items.len() {
+        let one = match part(alloc, index as u32, &items[index]) {
+            Ok(one) => one,
+            Err(fault) => return Err(fault),
+        };
+        found.push(one)?;
+    }
+    Ok(found)
+}
+
+// The list of rulesets that a file has.
+#[tactic(auto, unfolding(crate::specs::Rules::rulesets_in))]
+fn rulesets(value: &Value) -> Result<&[Value], RulesFault>
+    ensures read { ReadsBy (λ items. map view items.now) result (rulesets_in (view value.now)) }
+    ensures few { IfOk result (λ items. length items.now ≤ 64) }
 {
     let whole = object(value, Place::Whole)?;
-    let items = list(
+    list(
         member(whole, "rulesets", Place::Whole)?,
         MOST_RULES,
         Place::Whole,
-    )?;
-    let rules = rules(alloc, items)?;
-    Ok(Rules { rules })
+    )
+}
+
+// The value that the bytes of a file are.
+fn value_in(alloc: Global, bytes: &[u8]) -> Result<Value, Fault<RulesFault>>
+    ensures value { GivesBy view result (if nat_lt 1048576 (length bytes.now)
+        then refused_for place.Whole cause.TooLong
+        else or_fault place.Whole cause.BadJson (data_of bytes.now)) }
+    ensures memory { result ≡ Err lacks_memory → length bytes.now ≤ 1048576 }
+{
+    if bytes.len() > MOST_BYTES {
+        return Err(refused(Place::Whole, RulesCause::TooLong));
+    }
+    value_of(alloc, bytes)
 }
 
 /// The rules that a file's bytes give, or the first fault on the walk through it, which goes down into each part
@@ -224,11 +320,22 @@ fn file(alloc: Global, value: &Value) -> Result<Rules, Fault<RulesFault>>
 #[tactic(auto, unfolding(crate::specs::Rules::rules_of))]
 pub fn read(alloc: Global, bytes: &[u8]) -> Result<Rules, Fault<RulesFault>>
     ensures exact { Gives result (rules_of bytes.now) }
-    ensures memory { result ≡ Err outcome.NoMemory → length bytes.now ≤ 1048576 }
+    ensures memory { result ≡ Err lacks_memory → length bytes.now ≤ 1048576 }
 {
-    if bytes.len() > MOST_BYTES {
-        return Err(refused(Place::Whole, RulesCause::TooLong));
-    }
-    let value = value_of(alloc, bytes)?;
-    file(alloc, &value)
+    let value = value_in(alloc, bytes)?;
+    let rules = rules(alloc, rulesets(&value)?)?;
+    Ok(Rules { rules })
+}
+
+/// The parts that a drop-in file's bytes give, at most 64, or the first fault on the walk through it. The file is read
+/// as a rules file, by [`read`], but `detectors` and `actions` may be missing from a ruleset. Actions that give no
+/// `post_action_delay` have their part's, else 15 s.
+#[tactic(auto, unfolding(crate::specs::Parts::parts_of))]
+pub fn read_parts(alloc: Global, bytes: &[u8]) -> Result<Vec<Part>, Fault<RulesFault>>
+    ensures exact { GivesBy (λ parts. parts.items) result (parts_of bytes.now) }
+    ensures few { IfOk result (λ parts. length parts.items ≤ 64) }
+    ensures memory { result ≡ Err lacks_memory → length bytes.now ≤ 1048576 }
+{
+    let value = value_in(alloc, bytes)?;
+    parts(alloc, rulesets(&value)?)
 }

@@ -11,7 +11,7 @@ ghost use Rattle.ruleset_json.specs.declared.fault.RulesCause.TheVariants as cau
 use crate::fault::{Place, RulesCause, RulesFault, refused};
 use psi_base::Fault;
 use serde_json::Value;
-use std::alloc::Global;
+use std::alloc::{AllocError, Global};
 
 /// The value that the bytes are, or BadJson.
 pub fn value_of(alloc: Global, bytes: &[u8]) -> Result<Value, Fault<RulesFault>>
@@ -21,7 +21,7 @@ pub fn value_of(alloc: Global, bytes: &[u8]) -> Result<Value, Fault<RulesFault>>
         Ok(value) => Ok(value),
         Err(error) => {
             if error.is_memory() {
-                Err(Fault::NoMemory)
+                Err(AllocError.into())
             } else {
                 Err(refused(Place::Whole, RulesCause::BadJson))
             }

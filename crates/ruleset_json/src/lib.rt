@@ -2,7 +2,8 @@
 //!
 //! [`read`] makes of any bytes the rules with every default filled in, or the first fault with its place and cause.
 //! Each plugin is one definition in `specs/Plugins.antt` with its table of arguments, one variant of
-//! [`DetectorSpec`] or [`Action`], and one function with a line an argument.
+//! [`DetectorSpec`] or [`Action`], and one function with a line an argument. [`read_parts`] reads drop-in files, of which
+//! a ruleset may lack its detectors or its actions.
 #![tactic(auto)]
 
 mod action;
@@ -18,10 +19,10 @@ mod note;
 mod types;
 
 pub use fault::{Place, RulesCause, RulesFault};
-pub use file::read;
+pub use file::{read, read_parts};
 pub use laws::{law_first_faults, law_lists_are_read};
 pub use note::put_fault;
 pub use types::{
-    Action, ActionList, After, DetectorGroup, DetectorSpec, GroupList, Rule, RuleList, Rules, Size,
-    SpecList,
+    Action, ActionList, After, DetectorGroup, DetectorSpec, GroupList, Part, Rule, RuleList, Rules,
+    Size, SpecList,
 };

@@ -259,6 +259,44 @@ pub struct Rule {
     pub actions: ActionList,
 }
 
+impl Rule {
+    ghost use Rattle.std.specs.Prelude.{◌≡◌, None};
+    ghost use Rattle.ruleset_json.specs.Replaced.{replaced};
+    ghost use Rattle.ruleset_json.specs.RuleRanges.{FitsRule};
+
+    // Puts these groups in place of its own, if any are given.
+    fn put_groups(&mut self, groups: Option<GroupList>)
+        ensures value { self.new ≡ replaced groups None self.old }
+        ensures fits { FitsRule self.old → FitsRule self.new }
+    {
+        if let Some(groups) = groups {
+            self.groups = groups;
+        }
+    }
+
+    // Puts these actions in place of its own, if any are given.
+    fn put_actions(&mut self, actions: Option<ActionList>)
+        ensures value { self.new ≡ replaced None actions self.old }
+        ensures fits { FitsRule self.old → FitsRule self.new }
+    {
+        if let Some(actions) = actions {
+            self.actions = actions;
+        }
+    }
+}
+
+/// A ruleset of a drop-in file: what it puts in place of the groups, of the actions, or of both of a ruleset with its
+/// name.
+#[derive(Drop)]
+pub struct Part {
+    /// The name of the ruleset that it speaks of.
+    pub name: Text,
+    /// Its groups of detectors, if it gives any list of them.
+    pub groups: Option<GroupList>,
+    /// Its actions, if it gives any list of them.
+    pub actions: Option<ActionList>,
+}
+
 /// Rulesets in order, at most 64.
 #[derive(Drop)]
 pub struct RuleList {
@@ -278,7 +316,8 @@ impl Model for RuleList {
 }
 
 impl RuleList {
-    ghost use Rattle.std.specs.Prelude.{◌≡◌};
+    ghost use Rattle.std.specs.Prelude.{◌≡◌, ◌<◌, length};
+    ghost use Rattle.ruleset_json.specs.Replaced.{replaced_at};
     ghost use Rattle.ruleset_json.specs.RuleRanges.{FitsRules};
 
     /// The list of these.
@@ -295,6 +334,17 @@ impl RuleList {
         ensures fits { FitsRules result.now }
     {
         &self.rules
+    }
+
+    /// Puts what is given in place of the groups and the actions of the ruleset with this number, from 0. All else
+    /// stays. Takes no memory.
+    pub fn replace(&mut self, rule: u32, groups: Option<GroupList>, actions: Option<ActionList>)
+        requires { rule < length self.old }
+        ensures { self.new ≡ replaced_at rule groups actions self.old }
+    {
+        let rule = &mut self.rules[rule as usize];
+        rule.put_groups(groups);
+        rule.put_actions(actions);
     }
 
     /// The same as a vector, without taking memory.
