@@ -14,12 +14,12 @@ pub enum Failed {
     OutOfRange,
     /// A group or a reading doesn't come next.
     NotNext,
-    NoMemory,
+    NoMemory(NoMemory),
 }
 
 impl From<NoMemory> for Failed {
-    fn from(_: NoMemory) -> Self {
-        Failed::NoMemory
+    fn from(none: NoMemory) -> Self {
+        Failed::NoMemory(none)
     }
 }
 

@@ -24,9 +24,7 @@ pub(crate) fn copy_lives(alloc: Global, lives: &[GroupLife]) -> Result<Vec<Group
 {
     let mut copies = Vec::with_capacity(alloc, lives.len())?;
     'lives: for life in lives {
-        let Ok(_) = copies.push(copy_life(alloc, life)?) else {
-            return Err(NoMemory);
-        };
+        copies.push(copy_life(alloc, life)?)?;
     }
     Ok(copies)
 }

@@ -55,6 +55,11 @@ pub record StandsFor (killer : KillerView) (lives : List GroupLife) (rules : Lis
   pub last : killer.last ≡ newest_moment history
   pub found : killer.found ≡ newest_kills lives rules history
 
+-- a killer stands for readings of these groups
+abbrev pub IsStanding : KillerView → List GroupLife → Type 0
+IsStanding killer lives = (rules : List Rule) × (history : List Reading) ×
+    StandsFor killer lives rules history
+
 -- A killer decides at a reading: where it stood for readings before, these are the kills at this
 -- one, after them.
 abbrev pub Decides : KillerView → ReadingView → List Kill → Type 0
@@ -69,6 +74,11 @@ KillerTakes old reading new = (rules : List Rule) (history : List Reading) →
     StandsFor new reading.lives rules (reading.seen ∷ history)
 
 -- ---- rulesets one after another
+
+-- rulesets stand for readings of these groups
+abbrev pub AreStanding : List GroupLife → List RulesetView → Type 0
+AreStanding lives states = (rules : List Rule) × (history : List Reading) ×
+    RulesetsStand lives history 0 states rules
 
 -- the kills of rulesets at a reading, after those for which they stood
 abbrev pub AllDecide : List RulesetView → ReadingView → Kept → List Kill → Type 0

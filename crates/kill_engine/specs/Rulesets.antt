@@ -1,5 +1,5 @@
 -- What is kept of a ruleset, and for which readings it stands.
-use Rattle.std.specs.Prelude.{◌≡◌, ℕ, ◌+◌, List, ◌∷◌, ◌++◌, length, find, option_map, slice_get}
+use Rattle.std.specs.Prelude.{◌≡◌, ℕ, ◌+◌, List, ◌∷◌, ◌++◌, length, find, map, option_map, slice_get}
 use Rattle.std.specs.Prelude.{Bool, Option, None, Some, All}
 use Rattle.std.specs.List.{AllZip, list_all, list_any}
 use Rattle.psi_spec.specs.declared.machine.GroupLife.{GroupLife}
@@ -10,9 +10,10 @@ use Rattle.ruleset_json.specs.declared.types.Rule.{Rule}
 use Rattle.kill_spec.specs.declared.kill.Kill.{Kill}
 use Rattle.kill_spec.specs.Readings.{Reading}
 use Rattle.kill_spec.specs.Detectors.{group_holds, is_true}
-use Rattle.kill_spec.specs.Victims.{victim}
+use Rattle.kill_spec.specs.Victims.{action_patterns, victim}
 use Rattle.kill_spec.specs.Kills.{chain, delay_of, ends_chain, kill_by}
 use Rattle.kill_spec.specs.Kills.{kills_at, kills_of, last_ending}
+use Rattle.detectors.specs.Tables.{match_table}
 use Rattle.detectors.specs.Views.{DetectorView, IsAfter, ReadingView, slots_of}
 use Rattle.detectors.specs.Stands.{StandsFor}
 use Rattle.victim_rank.specs.Pasts.{IsPastOf, Kept}
@@ -77,6 +78,13 @@ GroupsTake old reading new = (specs : List DetectorGroup) (history : List Readin
 abbrev pub EachDetector : (DetectorView → Type 0) → List (List DetectorView) → Type 0
 EachDetector Holds groups = All (λ (group : List DetectorView). All Holds group) groups
 
+-- ---- which groups actions match
+
+-- for each action and by slot, whether its patterns match the group
+abbrev pub match_tables : List GroupLife → List Action → List (List Bool)
+match_tables lives actions =
+    map (λ (action : Action). match_table lives (action_patterns action)) actions
+
 -- ---- chains
 
 -- the moment (ns) until which a ruleset rests after a kill that ended its chain
@@ -109,30 +117,39 @@ IsRestOf number actions reading past until = (history : List Reading) → IsPast
 
 -- ---- rulesets
 
--- A ruleset: its detectors in groups, its actions, and the moment (ns) until which it rests.
+-- A ruleset: its detectors in groups, its actions, which groups the patterns of each match, and the
+-- moment (ns) until which it rests.
 pub record RulesetView : Type 0 where
   pub groups : List (List DetectorView)
   pub actions : List Action
+  pub tables : List (List Bool)
   pub rests_until : ℕ
 
 -- a ruleset with these parts
-abbrev pub ruleset_of : List (List DetectorView) → List Action → ℕ → RulesetView
-ruleset_of groups actions rests_until =
-    record { groups = groups; actions = actions; rests_until = rests_until }
+abbrev pub ruleset_of :
+    List (List DetectorView) → List Action → List (List Bool) → ℕ → RulesetView
+ruleset_of groups actions tables rests_until =
+    record { groups = groups; actions = actions; tables = tables; rests_until = rests_until }
 
 -- A ruleset stands for readings, the newest first, as the one with a number: its detectors do, it
--- has the actions, and it rests until its last chain-ending kill at these readings is as long ago as
+-- has the actions and knows which of the groups they match, and it rests until its last chain-ending kill at these readings is as long ago as
 -- the delay of the action that gave it.
 pub record RulesetStands (lives : List GroupLife) (history : List Reading) (number : ℕ)
     (state : RulesetView) (rule : Rule) : Type 0 where
   pub groups : GroupsStand lives history state.groups rule.groups
   pub actions : state.actions ≡ rule.actions
+  pub tables : state.tables ≡ match_tables lives rule.actions
   pub rests : state.rests_until ≡
       rest_after rule.actions (last_ending rule.actions (kills_of lives number rule history))
 
 -- a ruleset can take a reading: each of its detectors can
 abbrev pub IsRulesetReady : ReadingView → RulesetView → Type 0
 IsRulesetReady reading state = EachDetector (IsStateReady reading) state.groups
+
+-- a ruleset stands for readings of these groups, as the one with this number
+abbrev pub IsStanding : List GroupLife → ℕ → RulesetView → Type 0
+IsStanding lives number state = (rule : Rule) × (history : List Reading) ×
+    RulesetStands lives history number state rule
 
 -- each detector of a ruleset is for so many groups, and its last reading was at a moment (ns), if
 -- there was one

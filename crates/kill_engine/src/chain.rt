@@ -2,14 +2,15 @@
 ghost use Rattle.std.specs.Prelude.{◌≡◌, ◌≤◌, ◌+◌, ◌++◌, ◌∷◌, [], length, vec_capacity, vec_len};
 ghost use Rattle.kill_spec.specs.Detectors.{of_seconds};
 ghost use Rattle.kill_spec.specs.Victims as victims;
-ghost use Rattle.kill_engine.specs.Rulesets.{HasChain, IsKillBy, IsRestOf};
+ghost use Rattle.detectors.specs.Tables.{match_table};
+ghost use Rattle.kill_engine.specs.Rulesets.{HasChain, IsKillBy, IsRestOf, match_tables};
 ghost use Rattle.ruleset_json.specs.Ranges.{FitsAction, FitsActions};
 
 use detectors::Reading;
 use kill_spec::Kill;
 use psi_base::Ns;
 use ruleset_json::{Action, After};
-use victim_rank::{Past, victim};
+use victim_rank::{MatchTable, Past, victim};
 
 /// What an action says of the time after it.
 fn after_of(action: &Action) -> After
@@ -33,12 +34,21 @@ fn end_of_rest(at: Ns, delay_s: u32) -> u128
 }
 
 /// The kill of an action, if it has a victim.
-fn kill_by(number: u32, act: u32, action: &Action, reading: &Reading, past: &Past) -> Option<Kill>
+fn kill_by(
+    number: u32,
+    act: u32,
+    action: &Action,
+    table: &MatchTable,
+    reading: &Reading,
+    past: &Past,
+) -> Option<Kill>
     requires fits { FitsAction action.now }
+    requires table { table.now
+        ≡ match_table reading.now.lives (victims.action_patterns action.now) }
     requires slots { length past.now.sizes ≡ length reading.now.lives }
     ensures { IsKillBy number act action.now reading.now past.now result }
 {
-    let victim = victim(action, reading, past, reading.lives())?;
+    let victim = victim(action, table, reading, past, reading.lives())?;
     Some(Kill {
         at: reading.at(),
         rule: number,
@@ -63,12 +73,14 @@ fn put(found: &mut Vec<Kill>, kill: Kill)
 /// doesn't always continue: then it gives the moment (ns) until which the ruleset rests. Takes no memory.
 pub(crate) fn take_chain(
     actions: &[Action],
+    tables: &[MatchTable],
     number: u32,
     reading: &Reading,
     past: &Past,
     found: &mut Vec<Kill>,
 ) -> Option<u128>
     requires fits { FitsActions actions.now }
+    requires tables { tables.now ≡ match_tables reading.now.lives actions.now }
     requires slots { length past.now.sizes ≡ length reading.now.lives }
     requires room { vec_len found.old + 16 ≤ vec_capacity found.old }
     ensures kills { HasChain number 0 actions.now reading.now past.now
@@ -78,7 +90,8 @@ pub(crate) fn take_chain(
     ensures room { vec_capacity found.old ≤ vec_capacity found.new }
 {
     'actions: for (act, action) in actions.iter().enumerate() {
-        let Some(kill) = kill_by(number, act as u32, action, reading, past) else {
+        let table = &tables[act];
+        let Some(kill) = kill_by(number, act as u32, action, table, reading, past) else {
             continue;
         };
         put(found, kill);

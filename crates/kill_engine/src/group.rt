@@ -52,9 +52,7 @@ impl GroupState {
         let mut detectors = Vec::with_capacity(alloc, specs.len())?;
         'specs: for spec in specs {
             let detector = Detector::new(alloc, spec, lives.len() as u32)?;
-            let Ok(_) = detectors.push(detector) else {
-                return Err(NoMemory);
-            };
+            detectors.push(detector)?;
         }
         Ok(GroupState { detectors })
     }

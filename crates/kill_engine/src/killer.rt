@@ -3,7 +3,7 @@ ghost use Rattle.std.specs.Prelude.{◌≡◌, ◌≤◌, ◌+◌, ℕ, [], IfOk
 ghost use Rattle.psi_spec.specs.World.{most_groups};
 ghost use Rattle.detectors.specs.Views.{IsAfter};
 ghost use Rattle.kill_engine.specs.Killers.{Decides, KillerTakes, RulesetsStand, StandsFor, killer_slots};
-ghost use Rattle.kill_engine.specs.Killers.{AllDecide, RulesetsTake};
+ghost use Rattle.kill_engine.specs.Killers.{AllDecide, AreStanding, IsStanding, RulesetsTake};
 ghost use Rattle.kill_engine.specs.Rulesets.{IsRulesetAt, IsRulesetReady};
 
 use crate::ruleset::RuleState;
@@ -55,9 +55,7 @@ fn rulesets_of(
     let mut rulesets = Vec::with_capacity(alloc, rules.len())?;
     'rules: for rule in rules {
         let ruleset = RuleState::of(alloc, rule, lives)?;
-        let Ok(_) = rulesets.push(ruleset) else {
-            return Err(NoMemory);
-        };
+        rulesets.push(ruleset)?;
     }
     Ok(rulesets)
 }
@@ -66,6 +64,7 @@ fn rulesets_of(
 fn evaluate_all(rulesets: &mut [RuleState], reading: &Reading, past: &Past, found: &mut Vec<Kill>)
     requires few { length rulesets.old ≤ 64 }
     requires ready { All (IsRulesetReady reading.now) rulesets.old }
+    requires stand { AreStanding reading.now.lives rulesets.old }
     requires slots { length past.now.sizes ≡ length reading.now.lives }
     requires empty { found.old.items ≡ [] }
     requires room { MOST_KILLS ≤ vec_capacity found.old }
@@ -100,11 +99,9 @@ impl Killer {
     /// [`Killer::kills`] has the kills then. Takes no memory.
     pub fn evaluate(&mut self, reading: &Reading)
         requires later { IsAfter self.old.last reading.now.seen.at }
-        requires slots { length reading.now.lives ≡ killer_slots self.old }
+        requires stands { IsStanding self.old reading.now.lives }
         ensures kills { Decides self.old reading.now self.new.found }
         ensures stands { KillerTakes self.old reading.now self.new }
-
-        // Also of a killer of which nothing is known.
         ensures last { self.new.last ≡ Some reading.now.seen.at }
         ensures slots { killer_slots self.new ≡ killer_slots self.old }
     {

@@ -1,8 +1,8 @@
 //! A ruleset.
 ghost use Rattle.std.specs.Prelude.{◌≡◌, ◌≤◌, ◌+◌, ℕ, [], IfOk, All, Some, length, nat_lt, vec_capacity, vec_len};
 ghost use Rattle.psi_spec.specs.World.{most_groups};
-ghost use Rattle.kill_engine.specs.Rulesets.{EachDetector, GroupsStand, GroupsTake, HasKills, IsAt, IsStateReady};
-ghost use Rattle.kill_engine.specs.Rulesets.{IsRulesetAt, IsRulesetReady, RulesetStands, RulesetTakes, SomeAnswers};
+ghost use Rattle.kill_engine.specs.Rulesets.{EachDetector, GroupsStand, GroupsTake, HasKills, IsAt, IsStateReady, match_tables};
+ghost use Rattle.kill_engine.specs.Rulesets.{IsRulesetAt, IsRulesetReady, IsStanding, RulesetStands, RulesetTakes, SomeAnswers};
 
 use crate::chain::take_chain;
 use crate::group::GroupState;
@@ -10,16 +10,18 @@ use detectors::Reading;
 use kill_spec::Kill;
 use psi_base::{NoMemory, Ns};
 use psi_spec::GroupLife;
-use ruleset_json::{ActionList, DetectorGroup, Rule};
+use ruleset_json::{Action, ActionList, DetectorGroup, Rule};
 use std::alloc::Global;
 use std::marker::Model;
-use victim_rank::Past;
+use victim_rank::{MatchTable, Past};
 
 /// A ruleset, as the readings so far left it.
 #[derive(Drop)]
 pub(crate) struct RuleState {
     groups: Vec<GroupState>,
     actions: ActionList,
+    /// Which groups each action matches.
+    tables: Vec<MatchTable>,
     /// The moment (ns) until which it rests: 0 where no kill ended its chain. It may be later than any of 64 bits.
     rests_until: u128,
 }
@@ -29,7 +31,7 @@ impl Model for RuleState {
 
     ghost Value = { RulesetView };
 
-    ghost view = { λ r. ruleset_of r.groups.items r.actions r.rests_until };
+    ghost view = { λ r. ruleset_of r.groups.items r.actions r.tables.items r.rests_until };
 }
 
 /// Groups of detectors with these arguments, before the first reading.
@@ -44,11 +46,25 @@ fn groups_of(
     let mut groups = Vec::with_capacity(alloc, specs.len())?;
     'specs: for spec in specs {
         let group = GroupState::of(alloc, spec.detectors.items(), lives)?;
-        let Ok(_) = groups.push(group) else {
-            return Err(NoMemory);
-        };
+        groups.push(group)?;
     }
     Ok(groups)
+}
+
+/// Which groups the actions of a ruleset match, so that patterns are matched once, and not at each evaluation.
+fn tables_of(
+    alloc: Global,
+    actions: &[Action],
+    lives: &[GroupLife],
+) -> Result<Vec<MatchTable>, NoMemory>
+    ensures { IfOk result (λ tables. tables.items ≡ match_tables lives.now actions.now) }
+{
+    let mut tables = Vec::with_capacity(alloc, actions.len())?;
+    'actions: for action in actions {
+        let table = MatchTable::of(alloc, action, lives)?;
+        tables.push(table)?;
+    }
+    Ok(tables)
 }
 
 /// Steps the detectors of all groups, also behind one that holds. True where one does.
@@ -74,9 +90,11 @@ impl RuleState {
             RulesetStands lives.now [] number state rule) }
     {
         let groups = groups_of(alloc, rule.groups.items(), lives)?;
+        let tables = tables_of(alloc, rule.actions.items(), lives)?;
         Ok(RuleState {
             groups,
             actions: rule.actions,
+            tables,
             rests_until: 0,
         })
     }
@@ -88,6 +106,7 @@ impl RuleState {
         ensures take { GroupsTake self.old.groups reading.now self.new.groups }
         ensures at { IsRulesetAt (Some reading.now.seen.at) (length reading.now.lives) self.new }
         ensures actions { self.new.actions ≡ self.old.actions }
+        ensures tables { self.new.tables ≡ self.old.tables }
         ensures rests { self.new.rests_until ≡ self.old.rests_until }
     {
         step_groups(&mut self.groups, reading)
@@ -109,6 +128,7 @@ impl RuleState {
         found: &mut Vec<Kill>,
     )
         requires ready { IsRulesetReady reading.now self.old }
+        requires stands { IsStanding reading.now.lives number self.old }
         requires slots { length past.now.sizes ≡ length reading.now.lives }
         requires room { vec_len found.old + 16 ≤ vec_capacity found.old }
         ensures kills { HasKills number self.old reading.now past.now
@@ -122,7 +142,14 @@ impl RuleState {
         if !fires || self.is_resting(reading.at()) {
             return;
         }
-        let rest = take_chain(self.actions.items(), number, reading, past, found);
+        let rest = take_chain(
+            self.actions.items(),
+            &self.tables,
+            number,
+            reading,
+            past,
+            found,
+        );
         if let Some(until) = rest {
             self.rests_until = until;
         }

@@ -4,7 +4,7 @@
 use crate::rig::Rig;
 use detector_tests::life;
 use kill_engine::Kill;
-use psi_base::{Fault, NoMemory, Ns};
+use psi_base::{Fault, Ns};
 use psi_spec::GroupLife;
 use ruleset_json::{Rules, read};
 use std::alloc::Global;
@@ -43,7 +43,7 @@ fn rules(rt: &impl Abort, alloc: Global, text: &str) -> Result<Rules, Fail> {
     let text = text.replace(alloc, "'", "\"")?;
     match read(alloc, text.as_bytes()) {
         Ok(rules) => Ok(rules),
-        Err(Fault::NoMemory) => Err(Fail::from(NoMemory)),
+        Err(Fault::NoMemory(none)) => Err(Fail::from(none)),
         Err(Fault::Refused(_)) => panic!(rt; "refused: {text}"),
     }
 }

@@ -17,14 +17,15 @@ pub struct Rig {
 }
 
 impl Model for Rig {
-    ghost use Rattle.kill_engine.specs.Killers.{KillerView, killer_slots};
+    ghost use Rattle.kill_engine.specs.Killers.{IsStanding, KillerView, killer_slots};
     ghost use Rattle.detector_tests.specs.Rig.{IsRig};
 
     ghost Value = { KillerView };
 
     ghost view = { λ r. r.killer };
 
-    ghost invariant = { λ r. IsRig r.killer.last r.last (killer_slots r.killer) r.reading };
+    ghost invariant = { λ r. IsRig r.killer.last r.last (killer_slots r.killer) r.reading
+        × IsStanding r.killer r.reading.lives };
 }
 
 impl Rig {

@@ -1,5 +1,7 @@
 //! The victim of an action.
 ghost use Rattle.std.specs.Prelude.{◌≡◌, filter, length};
+ghost use Rattle.detectors.specs.Tables.{match_table};
+ghost use Rattle.kill_spec.specs.Victims.{action_patterns};
 ghost use Rattle.ruleset_json.specs.Ranges.{FitsAction, IsPercent, IsRatio};
 ghost use Rattle.victim_rank.specs.Choosing.{Chooses, Descends, IsVictim, size_choice};
 ghost use Rattle.victim_rank.specs.Growth.{sizes_from};
@@ -11,6 +13,7 @@ use crate::measure::rank;
 use crate::past::Past;
 use crate::scope::{Scope, after};
 use crate::size::{count_above, count_in_rank, is_large, total_size};
+use crate::table::MatchTable;
 use detectors::Reading;
 use kill_spec::GroupReading;
 use psi_base::Slot;
@@ -84,16 +87,23 @@ fn descend(scope: &Scope<'_>, reading: &Reading, past: &Past, chosen: GroupReadi
 }
 
 /// The group that an action kills at a reading, after those for which the past stands, if it has a victim: the choice among
-/// the populated groups that its patterns match, and for a recursive action again and again among the children of the one
+/// the populated groups that its patterns match, which its table tells, and for a recursive action again and again among the children of the one
 /// that was chosen. It takes no memory. A choice by a measure walks the groups once; one by size or growth up to four times, and
 /// as `grown_most` says. A recursive action chooses once for each level.
-pub fn victim(action: &Action, reading: &Reading, past: &Past, lives: &[GroupLife]) -> Option<Slot>
+pub fn victim(
+    action: &Action,
+    table: &MatchTable,
+    reading: &Reading,
+    past: &Past,
+    lives: &[GroupLife],
+) -> Option<Slot>
     requires fits { FitsAction action.now }
+    requires table { table.now ≡ match_table lives.now (action_patterns action.now) }
     requires lives { reading.now.lives ≡ lives.now }
     requires slots { length past.now.sizes ≡ length lives.now }
     ensures { IsVictim lives.now action.now reading.now.seen past.now result }
 {
-    let scope = Scope::candidates(lives, action);
+    let scope = Scope::candidates(lives, action, table.slots());
     let Some(chosen) = choose(&scope, reading, past) else {
         return None;
     };

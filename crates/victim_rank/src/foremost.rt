@@ -57,12 +57,10 @@ fn measured_in(
         && is_eligible scope.now.act host past.now group.now) ≡ true)
         × (measure ≡ measure_of scope.now.act past.now group.now)) }
 {
-    let measure = measured(scope.action(), host, past, group)?;
-    if scope.has(group) {
-        Some(measure)
-    } else {
-        None
+    if !scope.has(group) {
+        return None;
     }
+    measured(scope.action(), host, past, group)
 }
 
 /// The eligible group that none beats: by preference, then by the action's measure, then by path. It walks the groups

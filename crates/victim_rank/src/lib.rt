@@ -11,6 +11,8 @@ mod measure;
 mod past;
 mod scope;
 mod size;
+mod table;
 
 pub use choice::victim;
 pub use past::Past;
+pub use table::MatchTable;

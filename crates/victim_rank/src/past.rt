@@ -32,20 +32,14 @@ fn no_sizes(alloc: Global, slots: u32) -> Result<Vec<Sizes>, NoMemory>
         bytes: [0; 4],
         count: 0,
     };
-    match vec![in alloc; none; slots as usize] {
-        Ok(sizes) => Ok(sizes),
-        Err(_) => Err(NoMemory),
-    }
+    Ok(vec![in alloc; none; slots as usize]?)
 }
 
 // No count of scans, for each of so many groups.
 fn no_scans(alloc: Global, slots: u32) -> Result<Vec<Option<u64>>, NoMemory>
     ensures { IfOk result (λ scans. scans.items ≡ replicate slots None) }
 {
-    match vec![in alloc; None; slots as usize] {
-        Ok(scans) => Ok(scans),
-        Err(_) => Err(NoMemory),
-    }
+    Ok(vec![in alloc; None; slots as usize]?)
 }
 
 // These sizes behind a newer one, without the fifth.

@@ -2,6 +2,7 @@
 ghost use Rattle.std.specs.Prelude.{◌≡◌, ◌<◌, None, Some, length};
 ghost use Rattle.path_match.specs.Match.{is_match};
 ghost use Rattle.kill_spec.specs.Victims.{action_patterns, after_of};
+ghost use Rattle.detectors.specs.Tables.{match_table};
 ghost use Rattle.victim_rank.specs.Scopes.{is_in_view};
 
 use kill_spec::GroupReading;
@@ -17,20 +18,28 @@ use std::marker::Model;
 pub(crate) struct Scope<'a> {
     lives: &'a [GroupLife],
     action: &'a Action,
+    /// By slot, whether the action's patterns match the group.
+    matched: &'a [bool],
     /// The group whose children they are.
     above: Option<Slot>,
 }
 
 impl<'a> Model for Scope<'a> {
+    ghost use Rattle.std.specs.Prelude.{◌≡◌};
+    ghost use Rattle.detectors.specs.Tables.{match_table};
+    ghost use Rattle.kill_spec.specs.Victims.{action_patterns};
     ghost use Rattle.victim_rank.specs.Scopes.{ScopeView};
 
     ghost Value = { ScopeView };
 
     ghost view = { λ s. record { lives = s.lives.now; act = s.action.now; above = s.above } };
+
+    ghost invariant = { λ s.
+        s.matched.now ≡ match_table s.lives.now (action_patterns s.action.now) };
 }
 
-// The patterns of an action.
-fn patterns(action: &Action) -> &Patterns
+/// The patterns of an action.
+pub(crate) fn patterns(action: &Action) -> &Patterns
     ensures { result.now ≡ action_patterns action.now }
 {
     match action {
@@ -54,13 +63,19 @@ pub(crate) fn after(action: &Action) -> After
 }
 
 impl<'a> Scope<'a> {
-    /// Among the candidates of an action.
-    pub(crate) fn candidates(lives: &'a [GroupLife], action: &'a Action) -> Scope<'a>
+    /// Among the candidates of an action, whose patterns match these groups, by slot.
+    pub(crate) fn candidates(
+        lives: &'a [GroupLife],
+        action: &'a Action,
+        matched: &'a [bool],
+    ) -> Scope<'a>
+        requires { matched.now ≡ match_table lives.now (action_patterns action.now) }
         ensures { result ≡ record { lives = lives.now; act = action.now; above = None } }
     {
         Scope {
             lives,
             action,
+            matched,
             above: None,
         }
     }
@@ -76,6 +91,7 @@ impl<'a> Scope<'a> {
         Scope {
             lives: self.lives,
             action: self.action,
+            matched: self.matched,
             above: Some(above),
         }
     }
@@ -102,10 +118,10 @@ impl<'a> Scope<'a> {
         if !group.populated {
             return false;
         }
-        let life = &self.lives[group.slot.0 as usize];
+        let slot = group.slot.0 as usize;
         match self.above {
-            Some(above) => life.parent == Some(above),
-            None => patterns(self.action).matches(&life.path),
+            Some(above) => self.lives[slot].parent == Some(above),
+            None => self.matched[slot],
         }
     }
 }

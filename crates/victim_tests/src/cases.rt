@@ -122,7 +122,7 @@ fn kills(
     for row in rows {
         play(&mut rig, row)?;
     }
-    assert_eq!(rt; rig.victim(action)?, wanted);
+    assert_eq!(rt; rig.victim(alloc, action)?, wanted);
     Ok(())
 }
 

@@ -9,7 +9,7 @@ use psi_spec::GroupLife;
 use ruleset_json::{Action, After, Size};
 use std::alloc::Global;
 use std::marker::Model;
-use victim_rank::{Past, victim};
+use victim_rank::{MatchTable, Past, victim};
 
 /// Readings of groups, and the past before the present one.
 #[derive(Drop)]
@@ -108,10 +108,12 @@ impl Rig {
     }
 
     /// The victim of an action at the present reading.
-    pub fn victim(&self, action: &Action) -> Result<Option<Slot>, Failed> {
+    pub fn victim(&self, alloc: Global, action: &Action) -> Result<Option<Slot>, Failed> {
         if !fits(action) {
             return Err(Failed::OutOfRange);
         }
-        Ok(victim(action, &self.reading, &self.past, self.reading.lives()))
+        let lives = self.reading.lives();
+        let table = MatchTable::of(alloc, action, lives)?;
+        Ok(victim(action, &table, &self.reading, &self.past, lives))
     }
 }

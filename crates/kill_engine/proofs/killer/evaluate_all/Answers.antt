@@ -8,6 +8,19 @@ use Rattle.kill_engine.specs.Rulesets.{RulesetStands, RulesetView}
 use Rattle.kill_engine.proofs.RulesetLaws as laws
 use Rattle.kill_engine.proofs.killer.evaluate_all.Goals as goal
 
+-- a ruleset that wasn't evaluated yet stands for what it stood for
+pub evaluate-requires-clause-stands : goal.evaluate-requires-clause-stands
+evaluate-requires-clause-stands c =
+    let i = c.rulesets.number in
+    let old : List RulesetView = c.args.rulesets.now in
+    let lives : List GroupLife = c.args.reading.now.lives in
+    let stand = c.requires.stand in
+    let item : RulesetView = get_or c.rulesets.rulesets i c.index-rulesets-number.result in
+    let before : (d : RulesetView) → get_or old i d ≡ item = λ d. sym (c.rulesets.invariant.left i d (omega arith)) ∙ get_or_default c.rulesets.rulesets i d c.index-rulesets-number.result (omega arith) in
+    let r = laws.ruled_at lives stand.1 0 old stand.0 i stand.2 (omega arith) in
+    let number : 0 + i ≡ i = omega arith in
+    (r.rule, stand.1, subst (λ n. RulesetStands lives stand.1 n item r.rule) number (subst (λ state. RulesetStands lives stand.1 (0 + i) state r.rule) (before item) (r.stands item)))
+
 pub rulesets-preserved : goal.rulesets-preserved
 rulesets-preserved c =
     let i = c.rulesets.number in

@@ -12,5 +12,5 @@ specs-preserved c =
     let next : DetectorGroup = get_or c.args.specs.now i c.spec-item.result in
     let mine : DetectorsStand c.args.lives.now [] c.in_ok-group.group c.spec-item.result.detectors = subst (λ specs. DetectorsStand c.args.lives.now [] c.in_ok-group.group specs) c.items.ensures.items c.in_ok-group.ensures in
     let stands : DetectorsStand c.args.lives.now [] c.in_ok-group.group next.detectors = subst (λ (group : DetectorGroup). DetectorsStand c.args.lives.now [] c.in_ok-group.group group.detectors) c.spec-item.is mine in
-    rw (take_more c.args.specs.now i c.spec-item.result (omega arith), c.in-Ok.ensures.items)
+    rw (take_more c.args.specs.now i c.spec-item.result (omega arith), c.in_ok-push.ensures.items)
     (all_zipped_more (λ (group : List DetectorView) (spec : DetectorGroup). DetectorsStand c.args.lives.now [] group spec.detectors) c.specs.groups.items (take i c.args.specs.now) c.in_ok-group.group next c.specs.invariant stands)

@@ -12,5 +12,5 @@ specs-preserved c =
     let next : DetectorSpec = get_or c.args.specs.now i c.spec-item.result in
     let stands : StandsFor c.in_ok-detector.detector c.args.lives.now next [] =
     subst (λ spec. StandsFor c.in_ok-detector.detector c.args.lives.now spec []) c.spec-item.is (c.in_ok-detector.ensures c.args.lives.now refl) in
-    rw (take_more c.args.specs.now i c.spec-item.result (omega arith), c.in-Ok.ensures.items)
+    rw (take_more c.args.specs.now i c.spec-item.result (omega arith), c.in_ok-push.ensures.items)
     (all_zipped_more (λ (detector : DetectorView) (spec : DetectorSpec). StandsFor detector c.args.lives.now spec []) c.specs.detectors.items (take i c.args.specs.now) c.in_ok-detector.detector next c.specs.invariant stands)

@@ -5,7 +5,7 @@ use Rattle.kill_spec.specs.declared.kill.Kill.{Kill}
 use Rattle.kill_spec.specs.Readings.{Reading}
 use Rattle.kill_spec.specs.Detectors.{ruleset_fires}
 use Rattle.kill_spec.specs.Kills.{chain, ends_chain, kills_at, kills_of, last_ending}
-use Rattle.kill_engine.specs.Rulesets.{GroupsStand, RulesetView, rest_after, rest_of}
+use Rattle.kill_engine.specs.Rulesets.{GroupsStand, RulesetView, match_tables, rest_after, rest_of}
 use Rattle.kill_engine.proofs.RestLaws as laws
 use Rattle.kill_engine.proofs.ruleset.RuleState.evaluate.Goals as goal
 use Rattle.kill_engine.proofs.ruleset.RuleState.evaluate.Goals.{then-not-fires-via-then-not-fires, then-not-fires-via-else-not-fires+then-is_resting, in-Some, in_default}
@@ -24,6 +24,7 @@ returns-then-not-fires-clause-take c = λ rule history stands is_past.
     record {
       groups = c.fires-fires.ensures.take rule.groups history stands.groups;
       actions = c.fires-fires.ensures.actions ∙ stands.actions;
+      tables = c.fires-fires.ensures.tables ∙ stands.tables;
       rests = c.fires-fires.ensures.rests ∙ stands.rests ∙ sym (laws.kept rule.actions _ earlier none);
     }
 
@@ -40,6 +41,7 @@ returns-clause-take c = λ rule history stands is_past.
     let fired : ruleset_fires lives rule now history ≡ true = sym (c.fires-fires.ensures.answer rule.groups history stands.groups) ∙ c.if-not-fires.false in
     let whole = laws.taken lives c.args.number rule now history earlier fired over in
     let inside : c.self.inside.actions ≡ rule.actions = subst (λ (state : RulesetView). state.actions ≡ rule.actions) (sym c.self.view_is) (c.fires-fires.ensures.actions ∙ stands.actions) in
+    let tables : c.self.inside.tables.items ≡ match_tables lives rule.actions = subst (λ (state : RulesetView). state.tables ≡ match_tables lives rule.actions) (sym c.self.view_is) (c.fires-fires.ensures.tables ∙ stands.tables) in
     let acts : c.items.result.now ≡ rule.actions = c.items.ensures.items ∙ inside in
     let groups : GroupsStand lives (now ∷ history) c.self.inside.groups.items rule.groups = subst (λ (state : RulesetView). GroupsStand lives (now ∷ history) state.groups rule.groups) (sym c.self.view_is) (c.fires-fires.ensures.take rule.groups history stands.groups) in
     let rest : c.take_chain-rest.result ≡ option_map (rest_of rule.actions) (find (ends_chain rule.actions) (kills_at lives c.args.number rule now history earlier)) =
@@ -48,11 +50,13 @@ returns-clause-take c = λ rule history stands is_past.
       | in-Some w ↦ rw w.self-inside-is (record {
         groups = groups;
         actions = inside;
+        tables = tables;
         rests = laws.renewed rule.actions _ earlier w.in-Some.until (sym w.in-Some.is ∙ rest);
       })
       | in_default w ↦ rw w.self-inside-is (record {
         groups = groups;
         actions = inside;
+        tables = tables;
         rests = subst (λ (state : RulesetView). state.rests_until ≡ rest_after rule.actions (last_ending rule.actions earlier)) (sym c.self.view_is) until ∙ sym (laws.kept_on rule.actions _ earlier (sym w.in_default.is ∙ rest));
       })
     ]

@@ -1,0 +1,48 @@
+//! Which groups an action matches.
+ghost use Rattle.std.specs.Prelude.{◌≡◌, IfOk};
+ghost use Rattle.detectors.specs.Tables.{match_table};
+ghost use Rattle.kill_spec.specs.Victims.{action_patterns};
+
+use crate::scope::patterns;
+use psi_base::NoMemory;
+use psi_spec::GroupLife;
+use ruleset_json::Action;
+use std::alloc::Global;
+use std::marker::Model;
+
+/// Which groups the patterns of an action match, of all that a trace ever makes. Patterns are matched once, and not at each
+/// evaluation.
+#[derive(Drop)]
+pub struct MatchTable {
+    /// By slot.
+    slots: Vec<bool>,
+}
+
+impl Model for MatchTable {
+    ghost use Rattle.std.specs.Prelude.{Bool, List};
+
+    ghost Value = { List Bool };
+
+    ghost view = { λ t. t.slots.items };
+}
+
+impl MatchTable {
+    /// The table of an action for groups with these lives, by slot.
+    pub fn of(alloc: Global, action: &Action, lives: &[GroupLife]) -> Result<MatchTable, NoMemory>
+        ensures { IfOk result (λ table. table ≡ match_table lives.now (action_patterns action.now)) }
+    {
+        let patterns = patterns(action);
+        let mut slots = Vec::with_capacity(alloc, lives.len())?;
+        'lives: for life in lives {
+            slots.push(patterns.matches(&life.path))?;
+        }
+        Ok(MatchTable { slots })
+    }
+
+    /// By slot.
+    pub(crate) fn slots(&self) -> &[bool]
+        ensures { result.now ≡ self.now }
+    {
+        &self.slots
+    }
+}
