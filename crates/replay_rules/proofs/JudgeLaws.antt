@@ -6,7 +6,7 @@ use Rattle.std.proofs.Math.Nat.{le-div_iff_mul-le}
 use Rattle.psi_base.specs.declared.event.Slot.{Slot}
 use Rattle.psi_spec.specs.Trace.{Trace, limits_of}
 use Rattle.psi_spec.specs.World.{after}
-use Rattle.psi_laws.proofs.PlanStates.{legal_after}
+use Rattle.plan_laws.proofs.PlanStates.{legal_after}
 use Rattle.pressure_spec.specs.Ticks.{is_evaluation, tick_moment}
 use Rattle.ruleset_json.specs.declared.types.Rule.{Rule}
 use Rattle.kill_spec.specs.declared.kill.Kill.{Kill}

@@ -14,8 +14,8 @@ use Rattle.psi_spec.specs.declared.machine.GroupLife.{GroupLife}
 use Rattle.psi_spec.specs.Groups.{IsPathOrder, live_groups}
 use Rattle.psi_spec.specs.Trace.{Trace, limits_of}
 use Rattle.psi_spec.specs.World.{after, up_to}
-use Rattle.psi_laws.specs.Moments.{is_live_slot, with_path}
-use Rattle.psi_laws.proofs.MomentsOrder.{order_tells_live}
+use Rattle.plan_laws.specs.Moments.{is_live_slot, with_path}
+use Rattle.plan_laws.proofs.MomentsOrder.{order_tells_live}
 use Rattle.pressure_spec.specs.Samples.{group_averages}
 use Rattle.pressure_spec.specs.Ticks.{is_evaluation, tick_moment, ticks_of}
 use Rattle.pressure_spec.proofs.SampleLaws.{group_averages_are}

@@ -22,8 +22,8 @@ use Rattle.psi_spec.specs.Refusal.{AreLegal}
 use Rattle.psi_spec.specs.Told.{slot_named, told_from}
 use Rattle.psi_spec.specs.Trace.{AllFit, IsAccepted, Trace, limits_of}
 use Rattle.psi_spec.specs.World.{Limits, World, after, after_event, first_world, is_live, up_to}
-use Rattle.psi_laws.specs.Moments.{AreFirstOf}
-use Rattle.psi_laws.proofs.MomentsLives.{groups_keep_slots}
+use Rattle.plan_laws.specs.Moments.{AreFirstOf}
+use Rattle.plan_laws.proofs.MomentsLives.{groups_keep_slots}
 use Rattle.pressure_spec.specs.Ticks.{is_evaluation, tick_moment, ticks_of}
 use Rattle.pressure_spec.proofs.SampleLaws.{group_averages_are}
 use Rattle.kill_spec.specs.declared.reading.GroupReading.{GroupReading}

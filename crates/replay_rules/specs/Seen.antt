@@ -3,7 +3,7 @@ use Rattle.std.specs.Prelude.{◌≡◌, ℕ, List, length, map, filter}
 use Rattle.psi_spec.specs.declared.machine.GroupLife.{GroupLife}
 use Rattle.psi_spec.specs.Groups.{path_at}
 use Rattle.pressure_spec.specs.Share.{pressure_places}
-use Rattle.psi_laws.specs.Moments.{is_live_slot}
+use Rattle.plan_laws.specs.Moments.{is_live_slot}
 use Rattle.kill_spec.specs.declared.reading.GroupReading.{GroupReading}
 use Rattle.kill_spec.specs.Readings.{Ascend, Reading}
 use Rattle.tick_engine.specs.Engine.{EngineView, averages_in}

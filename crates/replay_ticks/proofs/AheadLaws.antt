@@ -7,7 +7,7 @@ use Rattle.std.proofs.lemmas.Option.{slice_get-get_or}
 use Rattle.std.proofs.lemmas.List.{length-drop}
 use Rattle.std.proofs.lemmas.List.FromFn.{fill_by_all, get_or-map-range_with_len, length-map-range_with_len}
 use Rattle.psi_spec.specs.Trace.{Trace, last_moment, limits_of}
-use Rattle.psi_laws.proofs.PlanStates.{legal_after}
+use Rattle.plan_laws.proofs.PlanStates.{legal_after}
 use Rattle.pressure_spec.specs.Ticks.{tick_moment}
 use Rattle.run_spec.specs.Replay.{Pace, tick_count}
 use Rattle.run_spec.specs.Text.{end_of}
@@ -15,7 +15,7 @@ use Rattle.proc_plan.specs.Clocks.{OnPlan}
 use Rattle.proc_plan.specs.Plans.{PlansView, plan_at}
 use Rattle.replay_workers.specs.declared.ticks.Ticks.{Ticks}
 use Rattle.replay_workers.specs.Crew.{AreAt, AreBehind, CrewView, last_of, moment_in, moments_of}
-use Rattle.psi_laws.proofs.PlanTimes.{changes_more}
+use Rattle.plan_laws.proofs.PlanTimes.{changes_more}
 use Rattle.replay_rules.specs.Planned.{IsPlanned}
 use Rattle.replay_ticks.specs.declared.pacing.Pacing.{Pacing}
 use Rattle.replay_ticks.specs.Replays.{IsAhead, IsReady, IsToGo, moments_behind}

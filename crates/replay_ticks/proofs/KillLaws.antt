@@ -8,8 +8,8 @@ use Rattle.psi_spec.specs.declared.machine.GroupLife.{GroupLife}
 use Rattle.psi_spec.specs.Groups.{IsPathOrder, live_groups}
 use Rattle.psi_spec.specs.Trace.{Trace, limits_of}
 use Rattle.psi_spec.specs.World.{after, up_to}
-use Rattle.psi_laws.specs.Moments.{is_live_slot}
-use Rattle.psi_laws.proofs.MomentsOrder.{order_tells_slots}
+use Rattle.plan_laws.specs.Moments.{is_live_slot}
+use Rattle.plan_laws.proofs.MomentsOrder.{order_tells_slots}
 use Rattle.pressure_spec.specs.Ticks.{is_evaluation, tick_moment}
 use Rattle.ruleset_json.specs.declared.types.Action.{Action}
 use Rattle.ruleset_json.specs.declared.types.Rule.{Rule}
@@ -28,7 +28,7 @@ use Rattle.run_laws.proofs.OneMore.{kills_more}
 use Rattle.group_tree.specs.Tree.{numbers_of}
 use Rattle.replay_rules.specs.Planned.{IsPlanned}
 use Rattle.replay_ticks.proofs.PutLaws.{order_below}
-use Rattle.psi_laws.proofs.PlanStates.{legal_after}
+use Rattle.plan_laws.proofs.PlanStates.{legal_after}
 use Rattle.std.proofs.Math.Nat.{le-div_iff_mul-le}
 use Rattle.kill_spec.proofs.Foremost.{by_test}
 

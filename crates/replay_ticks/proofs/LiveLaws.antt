@@ -10,13 +10,13 @@ use Rattle.psi_spec.specs.Changes.{RiseWithin, changes_of, count_at, times_after
 use Rattle.psi_spec.specs.declared.machine.GroupLife.{GroupLife}
 use Rattle.psi_spec.specs.Stall.{number_of_slot}
 use Rattle.psi_spec.specs.Trace.{Trace, last_moment, limits_of}
-use Rattle.psi_laws.specs.declared.changes.Change.{Change}
-use Rattle.psi_laws.specs.Clock.{ClockView, IsInTime, opened}
-use Rattle.psi_laws.specs.Plan.{AreInOrder, IsClock, IsPlan, PlanView, changes_up_to, last_change, plan_of}
-use Rattle.psi_laws.proofs.PlanClocks.{clock_is_in_time, clock_tells_planned}
-use Rattle.psi_laws.proofs.PlanLaws.{changes_are_numbered}
-use Rattle.psi_laws.proofs.PlanPlanned.{planned_after}
-use Rattle.psi_laws.proofs.PlanUpTo.{counts_by_plan}
+use Rattle.psi_counts.specs.declared.changes.Change.{Change}
+use Rattle.psi_counts.specs.Clock.{ClockView, IsInTime, opened}
+use Rattle.plan_laws.specs.Plan.{AreInOrder, IsClock, IsPlan, PlanView, changes_up_to, last_change, plan_of}
+use Rattle.plan_laws.proofs.PlanClocks.{clock_is_in_time, clock_tells_planned}
+use Rattle.plan_laws.proofs.PlanLaws.{changes_are_numbered}
+use Rattle.plan_laws.proofs.PlanPlanned.{planned_after}
+use Rattle.plan_laws.proofs.PlanUpTo.{counts_by_plan}
 use Rattle.pressure_spec.specs.Ticks.{tick_moment}
 use Rattle.run_spec.specs.Lines.{live_line}
 use Rattle.run_spec.specs.Live.{AreCounts, IsLiveOf, IsLiveText, Watch, changes_until, live_lines, live_slot_at, sample_lines}

@@ -16,7 +16,7 @@ use Rattle.psi_spec.specs.Groups.{IsPathOrder}
 use Rattle.psi_spec.specs.Told.{triggers_of}
 use Rattle.psi_spec.specs.Trace.{Trace, last_moment, limits_of}
 use Rattle.psi_spec.specs.World.{after}
-use Rattle.psi_laws.proofs.PlanStates.{legal_after}
+use Rattle.plan_laws.proofs.PlanStates.{legal_after}
 use Rattle.pressure_spec.specs.Average.{AverageState}
 use Rattle.pressure_spec.specs.Ticks.{Tick, is_report, tick_moment, tick_of, ticks_of}
 use Rattle.pressure_spec.specs.Samples.{fired_at, fires_by_number}

@@ -7,10 +7,10 @@ use Rattle.psi_spec.specs.Groups.{IsPathOrder}
 use Rattle.psi_spec.specs.Told.{AreTriggersWithin, IsTriggerWithin, triggers_of}
 use Rattle.psi_spec.specs.Trace.{Trace, last_moment, limits_of, longest_tick}
 use Rattle.psi_spec.specs.World.{after}
-use Rattle.psi_laws.specs.Moments.{IsLife}
-use Rattle.psi_laws.proofs.PlanStates.{legal_after}
-use Rattle.psi_laws.proofs.MomentsLives.{lives_are_in_order}
-use Rattle.psi_laws.proofs.MomentsTriggers.{triggers_are_within}
+use Rattle.plan_laws.specs.Moments.{IsLife}
+use Rattle.plan_laws.proofs.PlanStates.{legal_after}
+use Rattle.plan_laws.proofs.MomentsLives.{lives_are_in_order}
+use Rattle.plan_laws.proofs.MomentsTriggers.{triggers_are_within}
 use Rattle.pressure_spec.specs.Ticks.{ticks_of}
 use Rattle.run_spec.specs.Replay.{Pace, lives_of}
 use Rattle.proc_plan.specs.Plans.{PlansView}

@@ -7,7 +7,7 @@ use Rattle.std.proofs.lemmas.List.FromFn.{length-range_with_len}
 use Rattle.std.proofs.lemmas.List.Sums.{length-filter, count_by-le-length}
 use Rattle.psi_spec.specs.Told.{triggers_of}
 use Rattle.psi_spec.specs.Trace.{Trace, last_moment, limits_of}
-use Rattle.psi_laws.proofs.MomentsTriggers.{triggers_are_within}
+use Rattle.plan_laws.proofs.MomentsTriggers.{triggers_are_within}
 use Rattle.pressure_spec.specs.Samples.{fired_at, fires_by_number}
 use Rattle.pressure_spec.specs.Ticks.{IsNextTick, table_until, tick_moment, tick_of, ticks_of}
 use Rattle.run_spec.specs.Replay.{Pace, fired_in, kills_in, lives_of, signals_until, tick_count, tick_text, with_rules}

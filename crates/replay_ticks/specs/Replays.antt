@@ -8,7 +8,7 @@ use Rattle.psi_spec.specs.Groups.{IsPathOrder}
 use Rattle.psi_spec.specs.Stall.{number_of_slot}
 use Rattle.psi_spec.specs.Trace.{Trace}
 use Rattle.psi_spec.specs.World.{root}
-use Rattle.psi_laws.specs.Clock.{IsInTime, opened}
+use Rattle.psi_counts.specs.Clock.{IsInTime, opened}
 use Rattle.pressure_spec.specs.Ticks.{is_report, tick_moment}
 use Rattle.run_spec.specs.Lines.{live_line}
 use Rattle.run_spec.specs.Live.{IsLiveText, Watch, changes_until, live_slot_at}

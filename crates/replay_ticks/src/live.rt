@@ -4,7 +4,7 @@ ghost use Rattle.std.specs.List.{All};
 ghost use Rattle.psi_base.specs.Outside.{HasCause, PutsAll, StaysOver};
 ghost use Rattle.psi_base.specs.declared.event.Slot.{Slot};
 ghost use Rattle.psi_spec.specs.Stall.{number_of_slot};
-ghost use Rattle.psi_laws.specs.Clock.{IsInTime};
+ghost use Rattle.psi_counts.specs.Clock.{IsInTime};
 ghost use Rattle.run_laws.specs.Live.{live_slot};
 ghost use Rattle.clock_row.specs.declared.reader.Sample.{Sample};
 ghost use Rattle.replay_ticks.specs.Replays.{AreInTime, samples_text, watches_text};

@@ -8,7 +8,7 @@ use Rattle.std.proofs.lemmas.Nat.{div-mul-add, mod-mul-add}
 use Rattle.std.proofs.lemmas.List.{get_or-drop, get_or_default, length-drop}
 use Rattle.std.proofs.lemmas.Option.{get_or_from_slice_get}
 use Rattle.std.proofs.lemmas.List.FromFn.{get_or-map-range_with_len, length-map-range_with_len}
-use Rattle.psi_laws.specs.Plan.{IsPlan, PlanView, changes_up_to, last_change, no_plan}
+use Rattle.plan_laws.specs.Plan.{IsPlan, PlanView, changes_up_to, last_change, no_plan}
 use Rattle.proc_plan.specs.Clocks.{OnPlan}
 use Rattle.proc_plan.specs.Plans.{PlansView, plan_at}
 use Rattle.replay_workers.specs.declared.ticks.Ticks.{Ticks}
@@ -264,7 +264,7 @@ room_is cpus slots moments =
     let bytes = 56 * (slots * cpus) in
     let fits = 64000000 / max bytes 1 in
     let room = room_of cpus slots moments in
-    let is : room ≡ max (min fits moments) 1 = refl in
+    let is : room ≡ max (min (min fits moments) 256) 1 = refl in
     let case : (room ≡ 1) ⊎ (room ≤ fits) = grind (arith, is) in (
       grind (arith, is),
       grind (arith, is),

@@ -3,9 +3,9 @@ use Rattle.std.proofs.Common.{◌≡◌, ℕ, ◌+◌, ◌*◌, ◌<◌, ◌≤�
 use Rattle.std.specs.Prelude.{◌≢◌}
 use Rattle.std.proofs.Math.Nat.{mul-le-mul_right}
 use Rattle.std.proofs.lemmas.List.{get_or_append_left, get_or_push, get_or-set_same, get_or-set_other, length-append, length-set}
-use Rattle.psi_laws.specs.Clock.{ClockView, opened}
-use Rattle.psi_laws.specs.Plan.{IsClock, PlanView, changes_up_to, last_change, planned}
-use Rattle.psi_laws.proofs.PlanClocks.{clock_tells_planned}
+use Rattle.psi_counts.specs.Clock.{ClockView, opened}
+use Rattle.plan_laws.specs.Plan.{IsClock, PlanView, changes_up_to, last_change, planned}
+use Rattle.plan_laws.proofs.PlanClocks.{clock_tells_planned}
 use Rattle.aggregate.specs.Table.{HasSizes, put_times, times_at}
 use Rattle.aggregate.proofs.TableLaws.{keeps_sizes, sets_one_place}
 use Rattle.replay_workers.specs.declared.ticks.Ticks.{Ticks}

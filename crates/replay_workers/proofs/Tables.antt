@@ -6,7 +6,7 @@ use Rattle.psi_base.specs.declared.event.Event.{Event}
 use Rattle.psi_spec.specs.Refusal.{AreLegal}
 use Rattle.psi_spec.specs.World.{Limits, after, first_world}
 use Rattle.pressure_spec.specs.Ticks.{row_until, table_until, times_until}
-use Rattle.psi_laws.proofs.PlanPlanned.{planned_until}
+use Rattle.plan_laws.proofs.PlanPlanned.{planned_until}
 use Rattle.proc_plan.specs.Plans.{PlansView, StandFor, plan_at}
 use Rattle.proc_plan.proofs.Finishing.{standing_plans}
 use Rattle.replay_workers.specs.Crew.{TableIsOfEvents, times_by}

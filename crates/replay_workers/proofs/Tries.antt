@@ -2,7 +2,7 @@
 use Rattle.std.proofs.Common.{◌≡◌, ℕ, ◌+◌, ◌-◌, ◌<◌, ◌≤◌, List, [], ◌∷◌, ◌++◌, length, get_or, refl, sym, ap, ◌∙◌, subst, inl, inr, ⊎_elim, arith, append_assoc}
 use Rattle.std.specs.List.{All}
 use Rattle.std.proofs.lemmas.List.{append-nil, map-append}
-use Rattle.psi_laws.specs.Plan.{IsClock, PlanView}
+use Rattle.plan_laws.specs.Plan.{IsClock, PlanView}
 use Rattle.psi_spec.specs.Changes.{RiseWithin}
 use Rattle.clock_row.specs.declared.reader.Sample.{Sample}
 use Rattle.clock_row.specs.declared.view.ReaderView.{ReaderView}

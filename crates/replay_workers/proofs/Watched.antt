@@ -6,7 +6,7 @@ use Rattle.std.proofs.Math.ListN.{get_or-eq_default, get_or-map}
 use Rattle.std.proofs.Math.Seq.{take-append_seam}
 use Rattle.atomic_table.specs.Seated.{TableId}
 use Rattle.psi_base.specs.declared.event.Slot.{Slot}
-use Rattle.psi_laws.specs.Plan.{IsClock, PlanView}
+use Rattle.plan_laws.specs.Plan.{IsClock, PlanView}
 use Rattle.psi_spec.specs.Changes.{RiseWithin}
 use Rattle.proc_plan.specs.Clocks.{OnPlan}
 use Rattle.proc_plan.specs.Plans.{PlansView, plan_at}
@@ -17,7 +17,7 @@ use Rattle.replay_workers.specs.Crew.{AreBehind, AreSampled, IsSampled, WatchVie
 use Rattle.replay_workers.specs.Lanes.{AreLanes, HaveAllGone, LaneView, clocks_of, lane_of, no_ticks}
 use Rattle.replay_workers.specs.Watches.{AreNewWatchers, AreSettled, AreWatchers, AreWatching, HasMet, HasSampled, HasWatched, HaveCleared, HaveMet, HaveSampled, HaveSlot, HaveWatched, IsCrew, IsLaneThere, IsSameWatcher, WatcherView, crew_of, no_watcher, watch_seen, watcher_at}
 use Rattle.replay_workers.proofs.Dealt.{clocks_are, clocks_many, gone_at, gone_there, lane_is, lane_there}
-use Rattle.psi_laws.proofs.PlanTimes.{changes_more}
+use Rattle.plan_laws.proofs.PlanTimes.{changes_more}
 use Rattle.replay_workers.proofs.Tries.{no_clocks, no_tries, rise_wider, tried_since}
 
 -- a slice of the whole that was written over is what was written

@@ -6,7 +6,7 @@ use Rattle.psi_base.specs.declared.event.Event.{Event}
 use Rattle.psi_spec.specs.Refusal.{AreLegal}
 use Rattle.psi_spec.specs.World.{Limits, first_world}
 use Rattle.psi_spec.specs.Changes.{RiseWithin}
-use Rattle.psi_laws.specs.Plan.{IsClock, IsPlan, PlanView, changes_up_to, last_change, no_plan, planned}
+use Rattle.plan_laws.specs.Plan.{IsClock, IsPlan, PlanView, changes_up_to, last_change, no_plan, planned}
 use Rattle.pressure_spec.specs.Ticks.{table_until}
 use Rattle.proc_plan.specs.Clocks.{OnPlan}
 use Rattle.proc_plan.specs.Plans.{PlansView, StandFor, plan_at}
@@ -53,10 +53,14 @@ pub record CrewView : Type 0 where
 abbrev pub most_kept : ℕ
 most_kept = 64000000
 
+-- the most ticks that a crew goes over at once: over more of them the start of its threads no longer shows
+abbrev pub most_ahead : ℕ
+most_ahead = 256
+
 -- Over how many ticks a crew of so many processors and groups goes at once, where a trace is taken to so many moments: over as
--- many as can be kept in 56 bytes a tick, group and processor, and no more than there are, but over one at least.
+-- many as can be kept in 56 bytes a tick, group and processor, and no more than 256 or than there are, but over one at least.
 abbrev pub room_of : ℕ → ℕ → ℕ → ℕ
-room_of cpus slots moments = max (min (most_kept / max (56 * (slots * cpus)) 1) moments) 1
+room_of cpus slots moments = max (min (min (most_kept / max (56 * (slots * cpus)) 1) moments) most_ahead) 1
 
 -- the clocks of a processor, by its number
 abbrev pub clocks_at : List OnPlan → ℕ → OnPlan

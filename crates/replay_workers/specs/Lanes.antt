@@ -1,7 +1,7 @@
 -- The lanes of a crew, one for each processor, and how they are dealt to batches, one for each worker that has a lane.
 use Rattle.std.specs.Prelude.{◌≡◌, ◌≢◌, ℕ, ◌+◌, ◌*◌, ◌/◌, ◌%◌, ◌^◌, ◌<◌, ◌≤◌, Bool, List, [], length, map, slice_index_or, Option, None, Some, is_some}
 use Rattle.std.specs.List.{range_with_len}
-use Rattle.psi_laws.specs.Plan.{IsPlan, PlanView, changes_up_to, last_change, no_plan}
+use Rattle.plan_laws.specs.Plan.{IsPlan, PlanView, changes_up_to, last_change, no_plan}
 use Rattle.atomic_table.specs.Seated.{TableId}
 use Rattle.proc_plan.specs.Clocks.{OnPlan}
 use Rattle.proc_plan.specs.Plans.{PlansView, plan_at}

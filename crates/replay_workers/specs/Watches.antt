@@ -2,8 +2,8 @@
 use Rattle.std.specs.Prelude.{◌≡◌, ℕ, ◌+◌, ◌*◌, ◌/◌, ◌%◌, ◌<◌, ◌≤◌, true, List, [], drop, length, map, slice_index_or, Option, Some, is_some}
 use Rattle.std.specs.List.{All}
 use Rattle.atomic_table.specs.Seated.{TableId}
-use Rattle.psi_laws.specs.Clock.{zero_clock}
-use Rattle.psi_laws.specs.Plan.{IsClock, PlanView, no_plan}
+use Rattle.psi_counts.specs.Clock.{zero_clock}
+use Rattle.plan_laws.specs.Plan.{IsClock, PlanView, no_plan}
 use Rattle.psi_spec.specs.Changes.{RiseWithin}
 use Rattle.proc_plan.specs.Clocks.{OnPlan}
 use Rattle.proc_plan.specs.Plans.{PlansView, plan_at}

@@ -40,27 +40,43 @@ impl<'a> Batch<'a> {
         }
     }
 
-    /// Whether a processor has a change left up to a moment (ns).
-    fn is_busy(&self, until: Ns) -> bool {
-        self.lanes.iter().any(|lane| lane.is_busy(until))
+    /// How many changes the processors have left up to a moment (ns).
+    fn changes_left(&self, until: Ns) -> u64 {
+        let mut left = 0u64;
+        'lanes: for lane in &self.lanes {
+            left = left.saturating_add(lane.changes_left(until));
+        }
+        left
     }
 }
 
-// In how many threads to work: in the caller's alone, where no more than one batch has a change up to a moment (ns).
-fn threads_for(batches: &[Batch<'_>], until: Ns) -> usize
+// In how many threads to work: in the caller's alone, where no more than one batch has a change up to a moment (ns), or where
+// they have fewer together than so many.
+fn threads_for(batches: &[Batch<'_>], until: Ns, fewest: u64) -> usize
     requires { 0 < length batches.now }
     ensures { 0 < result }
 {
-    let busy = batches.iter().filter(|batch| batch.is_busy(until)).count();
-    if busy > 1 { batches.len() } else { 1 }
+    let mut busy = 0u64;
+    let mut changes = 0u64;
+    'batches: for batch in batches {
+        let left = batch.changes_left(until);
+        busy = busy.saturating_add(left.min(1));
+        changes = changes.saturating_add(left);
+    }
+    if busy > 1 && changes >= fewest {
+        batches.len()
+    } else {
+        1
+    }
 }
 
 /// Makes the changes of all batches up to each tick, and keeps the times of all groups there, each batch in a thread of its own
-/// where one can be started: they tell nothing of one another.
+/// where one can be started and there are so many changes to make: they tell nothing of one another.
 pub(crate) fn go_all<R: Threads + Sync, G: Gate>(
     rt: &R,
     batches: &mut [Batch<'_>],
     ticks: Ticks,
+    fewest: u64,
     gate: &G,
 )
     requires any { 0 < length batches.old }
@@ -70,7 +86,7 @@ pub(crate) fn go_all<R: Threads + Sync, G: Gate>(
     ensures { HaveAllGone ticks batches.old batches.new }
 {
     let last = ticks.last();
-    let threads = threads_for(batches, last);
+    let threads = threads_for(batches, last, fewest);
     thread::for_each_mut(
         rt,
         batches,

@@ -32,6 +32,10 @@ fn watcher_of(
     batch.lanes[cpu.0 as usize / workers].watcher(alloc, asked)
 }
 
+/// For how many changes threads are started, where a crew goes interval by interval: it takes about as long to start them as to
+/// make so many changes.
+pub(crate) const WORTH_THREADS: u64 = 2_000;
+
 /// Watchers of the lanes of so many processors, whose clocks are in rows. Each is to take so many samples in an interval. They
 /// take all the memory that they need.
 pub(crate) fn watch(
@@ -128,7 +132,7 @@ fn gone<'a, R: Threads + Sync, G: Gate>(
     requires may { All (MayAllGo ticks) batches.items }
     ensures { HaveAllGone ticks batches.entry.items result.items }
 {
-    go_all(rt, &mut batches, ticks, gate);
+    go_all(rt, &mut batches, ticks, WORTH_THREADS, gate);
     batches
 }
 
@@ -143,9 +147,9 @@ fn sampled<G: Gate>(mut watchers: Vec<Watcher>, slot: Slot, gate: &G) -> Vec<Wat
     watchers
 }
 
-/// Makes the changes of all batches up to each tick, as [`go_all`] does, while in a thread beside them all watchers take their
-/// samples of a slot, each after it met its lane and before it settles with it. Where there is no watcher, no thread of theirs
-/// is started.
+/// Makes the changes of all batches up to each tick, as [`go_all`] does, in threads where they are worth them. In a thread beside
+/// them all watchers take their samples of a slot, each after it met its lane and before it settles with it. Where there is no
+/// watcher, no thread of theirs is started.
 pub(crate) fn go_beside<'a, R: Threads + Sync, G: Gate>(
     rt: &R,
     batches: Vec<Batch<'a>>,

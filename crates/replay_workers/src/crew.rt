@@ -1,13 +1,13 @@
 //! The clocks of all processors of a trace, which go over ticks in the threads of workers.
 ghost use Rattle.std.specs.Prelude.{◌≡◌, ◌<◌, ◌≤◌, ℕ, ◌∷◌, [], drop, length, slice_get, IfOk, IfSome, None, Some};
-ghost use Rattle.psi_laws.specs.Plan.{IsClock};
+ghost use Rattle.plan_laws.specs.Plan.{IsClock};
 ghost use Rattle.psi_spec.specs.Trace.{last_moment};
 ghost use Rattle.aggregate.specs.Table.{HasSizes};
 ghost use Rattle.proc_plan.specs.Plans.{plan_at};
 ghost use Rattle.replay_workers.specs.Crew.{AreAt, AreBehind, AreOnPlans, AreSampled, IsTableAt, clocks_at, last_of, moments_of, room_of, watch_at};
 
 use crate::batch::{Batch, go_all};
-use crate::beside::{clear, go_beside, watch};
+use crate::beside::{WORTH_THREADS, clear, go_beside, watch};
 use crate::deal::{deal, room_for};
 use crate::fill::{fill, lane_in};
 use crate::ticks::Ticks;
@@ -134,7 +134,9 @@ impl<'a> Crew<'a> {
         ensures ready { self.new.ready ≡ moments_of ticks }
         ensures live { AreSampled None self.old self.new }
     {
-        go_all(rt, &mut self.batches, ticks, gate);
+        // A crew that takes samples goes interval by interval, also where nothing is watched.
+        let fewest = if self.asked > 0 { WORTH_THREADS } else { 0 };
+        go_all(rt, &mut self.batches, ticks, fewest, gate);
         clear(&mut self.watchers);
         self.ticks = ticks;
         self.out = 0;

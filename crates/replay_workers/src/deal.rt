@@ -12,11 +12,14 @@ use std::alloc::Global;
 /// How many bytes the times take at most that are kept for ticks ahead.
 const MOST_KEPT: u64 = 64_000_000;
 
+/// Over how many ticks a crew goes at once at most.
+const MOST_AHEAD: u64 = 256;
+
 /// How many bytes the times of a group on a processor take.
 const TIMES_BYTES: u64 = 56;
 
-/// Over how many ticks a crew goes at once, where a trace is taken to so many moments: over as many as can be kept, and over one
-/// at least.
+/// Over how many ticks a crew goes at once, where a trace is taken to so many moments: over as many as can be kept, no more than
+/// 256, and over one at least.
 pub(crate) fn room_for(cpus: u32, slots: u32, moments: u64) -> u32
     requires { cpus ≤ 64 }
     ensures room { result ≡ room_of cpus slots moments }
@@ -24,7 +27,7 @@ pub(crate) fn room_for(cpus: u32, slots: u32, moments: u64) -> u32
 {
     let bytes = TIMES_BYTES * (u64::from(slots) * u64::from(cpus));
     let fits = MOST_KEPT / bytes.max(1);
-    fits.min(moments).max(1) as u32
+    fits.min(moments).min(MOST_AHEAD).max(1) as u32
 }
 
 // The lanes of a worker, before any change: each processor whose number over that of the workers leaves the worker's own. Their

@@ -1,6 +1,6 @@
 //! The times of all groups that are kept for a tick, into a table.
 ghost use Rattle.std.specs.Prelude.{◌≡◌, ◌+◌, ◌*◌, ◌<◌, ◌≤◌, ◌/◌, ◌%◌, ℕ, length};
-ghost use Rattle.psi_laws.specs.Plan.{PlanView};
+ghost use Rattle.plan_laws.specs.Plan.{PlanView};
 ghost use Rattle.aggregate.specs.Table.{HasSizes};
 ghost use Rattle.replay_workers.specs.Crew.{IsTableAt, times_by};
 ghost use Rattle.replay_workers.specs.Lanes.{AreKept, FillsProcessor, batch_at, kept_at, lane_of};

@@ -1,6 +1,6 @@
 //! One processor, which goes tick by tick and keeps the times at each.
 ghost use Rattle.std.specs.Prelude.{◌≡◌, ◌*◌, ◌<◌, ◌≤◌, ℕ, length, IfOk, Some, is_some};
-ghost use Rattle.psi_laws.specs.Plan.{IsClock, IsPlan};
+ghost use Rattle.plan_laws.specs.Plan.{IsClock, IsPlan};
 ghost use Rattle.psi_spec.specs.Trace.{last_moment};
 ghost use Rattle.proc_plan.specs.Plans.{plan_at};
 ghost use Rattle.replay_workers.specs.Crew.{last_of};
@@ -47,10 +47,7 @@ impl<'a> Model for Lane<'a> {
 fn places(alloc: Global, count: usize) -> Result<Vec<[u64; 7]>, NoMemory>
     ensures { IfOk result (λ times. length times.items ≡ count) }
 {
-    match vec![in alloc; [0u64; 7]; count] {
-        Ok(times) => Ok(times),
-        Err(_) => Err(NoMemory),
-    }
+    Ok(vec![in alloc; [0u64; 7]; count]?)
 }
 
 impl<'a> Lane<'a> {
@@ -91,9 +88,9 @@ impl<'a> Lane<'a> {
         self.clocks.count()
     }
 
-    /// Whether a change is left up to a moment (ns).
-    pub(crate) fn is_busy(&self, until: Ns) -> bool {
-        self.clocks.count() < self.plan.until(until)
+    /// How many changes are left up to a moment (ns).
+    pub(crate) fn changes_left(&self, until: Ns) -> u64 {
+        self.plan.until(until).saturating_sub(self.clocks.count())
     }
 
     /// The clock of a slot, after the changes that were made.

@@ -1,7 +1,7 @@
 //! A watcher, which takes live samples of one processor.
 ghost use Rattle.std.specs.Prelude.{◌≡◌, ◌+◌, ◌*◌, ◌<◌, ◌≤◌, [], length, vec_capacity, vec_len, IfOk, Some};
 ghost use Rattle.std.specs.List.{All};
-ghost use Rattle.psi_laws.specs.Plan.{IsClock};
+ghost use Rattle.plan_laws.specs.Plan.{IsClock};
 ghost use Rattle.psi_spec.specs.Changes.{RiseWithin};
 ghost use Rattle.clock_row.specs.declared.reader.Sample.{Sample};
 ghost use Rattle.clock_row.specs.Tries.{IsTried, tries_of};

@@ -2,7 +2,7 @@ use Rattle.std.proofs.Common.{◌≡◌, ◌<◌, length, arith, sym, ap, ◌∙
 use Rattle.std.proofs.lemmas.List.{length-append, length-map}
 use Rattle.psi_spec.specs.declared.machine.GroupLife.{GroupLife}
 use Rattle.psi_spec.specs.Stall.{number_of_slot}
-use Rattle.psi_laws.specs.Plan.{IsPlan, no_plan}
+use Rattle.plan_laws.specs.Plan.{IsPlan, no_plan}
 use Rattle.proc_plan.specs.Clocks.{OnPlan}
 use Rattle.proc_plan.specs.Plans.{plan_at}
 use Rattle.replay_workers.specs.Crew.{clocks_at}

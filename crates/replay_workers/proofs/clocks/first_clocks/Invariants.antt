@@ -1,5 +1,5 @@
 use Rattle.std.proofs.Common.{◌≡◌, ◌<◌, ℕ, length}
-use Rattle.psi_laws.specs.Plan.{IsPlan}
+use Rattle.plan_laws.specs.Plan.{IsPlan}
 use Rattle.proc_plan.specs.Plans.{plan_at}
 use Rattle.replay_workers.specs.Crew.{clocks_at}
 use Rattle.replay_workers.proofs.clocks.first_clocks.Given as goal

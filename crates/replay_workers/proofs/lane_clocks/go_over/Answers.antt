@@ -1,8 +1,8 @@
 use Rattle.std.proofs.Common.{◌≡◌, ◌≤◌, ◌+◌, ◌-◌, ap, arith, subst, ◌∙◌}
-use Rattle.psi_laws.specs.Plan.{changes_up_to, last_change}
+use Rattle.plan_laws.specs.Plan.{changes_up_to, last_change}
 use Rattle.replay_workers.specs.Crew.{moment_in}
 use Rattle.replay_workers.specs.Lanes.{KeepsTick}
-use Rattle.psi_laws.proofs.PlanTimes.{changes_more}
+use Rattle.plan_laws.proofs.PlanTimes.{changes_more}
 use Rattle.replay_workers.proofs.Steps.{keeps_more, moments_rise}
 use Rattle.replay_workers.proofs.lane_clocks.go_over.Goals as goal
 

@@ -1,5 +1,5 @@
 use Rattle.std.proofs.Common.{◌≡◌, ◌≤◌, ◌<◌, ◌-◌, length}
-use Rattle.psi_laws.specs.Plan.{changes_up_to, last_change}
+use Rattle.plan_laws.specs.Plan.{changes_up_to, last_change}
 use Rattle.replay_workers.specs.Crew.{moment_in}
 use Rattle.replay_workers.specs.Lanes.{KeepsTicks}
 use Rattle.replay_workers.proofs.lane_clocks.go_over.Given as goal

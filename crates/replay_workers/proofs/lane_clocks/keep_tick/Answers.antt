@@ -1,6 +1,6 @@
 use Rattle.std.proofs.Common.{◌≤◌, ◌+◌, ◌*◌, arith, refl, subst, sym, ◌∙◌}
-use Rattle.psi_laws.specs.Plan.{IsClock, IsPlan, last_change}
-use Rattle.psi_laws.proofs.PlanClocks.{clock_is_in_time}
+use Rattle.plan_laws.specs.Plan.{IsClock, IsPlan, last_change}
+use Rattle.plan_laws.proofs.PlanClocks.{clock_is_in_time}
 use Rattle.replay_workers.proofs.Steps.{kept_more, times_by_clock}
 use Rattle.replay_workers.proofs.lane_clocks.keep_tick.Goals as goal
 

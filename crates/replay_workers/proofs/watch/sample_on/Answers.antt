@@ -1,6 +1,6 @@
 use Rattle.std.proofs.Common.{rules, ◌≤◌, ℕ, [], ◌∷◌, sym, subst, ◌∙◌, arith}
 use Rattle.std.proofs.lemmas.Grind.{common_steps}
-use Rattle.psi_laws.specs.Plan.{IsClock}
+use Rattle.plan_laws.specs.Plan.{IsClock}
 use Rattle.clock_row.specs.Tries.{IsTried}
 use Rattle.replay_workers.proofs.Tries.{clocks_grown, no_clocks, no_rise, no_tries, rises_grown, rises_within, tried_grown}
 use Rattle.replay_workers.proofs.watch.sample_on.Goals as goal

@@ -1,7 +1,7 @@
 use Rattle.std.proofs.Common.{◌≡◌, ◌+◌, ◌*◌, ◌≤◌}
 use Rattle.std.specs.Prelude.{vec_capacity, vec_len}
 use Rattle.std.specs.List.{All}
-use Rattle.psi_laws.specs.Plan.{IsClock}
+use Rattle.plan_laws.specs.Plan.{IsClock}
 use Rattle.clock_row.specs.declared.reader.Sample.{Sample}
 use Rattle.clock_row.specs.Tries.{IsTried, tries_of}
 use Rattle.replay_workers.specs.Crew.{counts_sampled}

@@ -9,7 +9,8 @@ use Rattle.detectors.specs.Views.{IsAfter, ReadingView}
 use Rattle.side_watch.specs.Watch.{Advances}
 use Rattle.group_tree.specs.Tree.{numbers_of}
 use Rattle.replay_rules.specs.Seen.{slots_live_at}
-use Rattle.replay_rules.specs.Judged.{IsToEvaluate}
+use Rattle.kill_engine.specs.Killers.{StandsFor}
+use Rattle.replay_rules.specs.Judged.{IsToEvaluate, readings_of}
 use Rattle.replay_rules.proofs.SeenLaws.{live_ascend}
 use Rattle.replay_rules.proofs.ReadLaws.{behind, has_rows, order_made, read_next}
 use Rattle.replay_rules.proofs.evaluator.Evaluator.evaluate.Goals as goal
@@ -52,6 +53,21 @@ evaluate-requires-clause-later c =
     let last = subst (λ t. IsAfter t (tick_moment pace.length (c.requires.3 + 1)))
     (sym is.read.killer.last) (behind c.args.plans.now trace pace c.requires.3 is.planned) in
     subst (IsAfter c.self.inside.killer.last) (sym at) last
+
+pub evaluate-requires-clause-stands : goal.evaluate-requires-clause-stands
+evaluate-requires-clause-stands c =
+    let trace = c.requires.0 in
+    let pace = c.requires.1 in
+    let rules = c.requires.2 in
+    let readings = readings_of trace pace c.requires.3 in
+    let is = subst (λ e. IsToEvaluate e c.args.plans.now c.args.engine.now c.args.order.now trace
+    pace rules c.requires.3 c.args.at) (sym c.self.view_is) c.requires.4 in
+    let lives = ap (λ (r : ReadingView). r.lives) c.fill_reading.ensures ∙ is.read.lives in (
+      rules,
+      readings,
+      subst (λ lives. StandsFor c.self.inside.killer lives rules readings)
+          (sym lives) is.read.killer,
+    )
 
 pub returns : goal.returns
 returns c = λ trace pace rules i given.

@@ -1,5 +1,5 @@
 use Rattle.std.proofs.Common.{◌≡◌, ◌<◌, ◌/◌, ◌%◌, ap, arith, length, rules, subst, sym, ◌∙◌}
-use Rattle.psi_laws.specs.Plan.{IsClock, PlanView}
+use Rattle.plan_laws.specs.Plan.{IsClock, PlanView}
 use Rattle.proc_plan.specs.Clocks.{OnPlan}
 use Rattle.proc_plan.specs.Plans.{plan_at}
 use Rattle.replay_workers.specs.Crew.{CrewView, clocks_at}
