@@ -1,0 +1,147 @@
+-- What loops over bytes find.
+use Rattle.std.proofs.Common.{◌≡◌, ◌≢◌, ℕ, suc, ◌+◌, ◌*◌, ◌-◌, ◌^◌, ◌≤◌, ◌<◌, List, [], ◌∷◌, refl, ap, ◌∙◌, sym, arith, cond, Bool, true, false, Option, None, Some, ◌==◌, length, drop, get_or}
+use Rattle.std.proofs.Math.Nat.{mul_assoc, mul_comm, pow-suc, pow-le-pow_right}
+use Rattle.std.specs.Prelude.{◌&&◌, IfSome, nat_eq, nat_lt}
+use Rattle.std.specs.List.{prefix_len}
+use Rattle.std.specs.Str.{all_ascii_digits}
+use Rattle.std.proofs.Math.ListN.{drop_of_length-le}
+use Rattle.std.proofs.lemmas.List.{drop-drop, drop_more, get_or-drop, length-drop}
+use Rattle.std.proofs.lemmas.Bool.Decides.{nat_tests}
+use Rattle.psi_base.specs.Number.{digits_after, digits_of, value_after}
+use Rattle.import_spec.specs.Places.{NonePasses, begins, first_place, last_place}
+use Rattle.import_spec.specs.Tails.{digit_count, is_bracketed}
+use Rattle.ftrace_import.specs.Bytes.{IsLastBracket}
+use Rattle.import_spec.proofs.PlaceLaws.{first_is, first_none, last_is, last_none}
+
+-- ---- texts
+
+-- bytes don't begin with a text whose first byte is another
+pub begins_other : (text rest : List ℕ) → 0 < length text → (get_or text 0 0 == get_or rest 0 0) ≡ false → begins text rest ≡ false
+begins_other [] rest some other = absurd (omega (arith, some))
+begins_other (c ∷ cs) [] some other = refl
+begins_other (c ∷ cs) (x ∷ xs) some other = rw other refl
+
+-- the first byte of the rest
+pub front : (bytes : List ℕ) (at : ℕ) → get_or (drop at bytes) 0 0 ≡ get_or bytes at 0
+front bytes at = let same : at + 0 ≡ at = omega arith in get_or-drop at bytes 0 0 ∙ ap (λ n. get_or bytes n 0) same
+
+other_byte : (x y : ℕ) → y ≢ x → (x == y) ≡ false
+other_byte x y other = grind (arith, nat_tests)
+
+off_byte : (x y : ℕ) → x ≢ y → nat_eq x y ≡ false
+off_byte x y other = grind (arith, nat_tests)
+
+pub other_first : (text bytes : List ℕ) (at : ℕ) → 0 < length text → get_or bytes at 0 ≢ get_or text 0 0 → nat_eq (get_or bytes at 0) (get_or text 0 0) ≡ begins text (drop at bytes)
+other_first text bytes at some other =
+    off_byte (get_or bytes at 0) (get_or text 0 0) other
+    ∙ sym (begins_other text (drop at bytes) some (other_byte (get_or text 0 0) (get_or (drop at bytes) 0 0) (λ same. other (sym (front bytes at) ∙ same))))
+
+-- ---- places
+
+-- one place more at which a test fails
+pub none_down : (test : List ℕ → Bool) (bytes : List ℕ) (at below high : ℕ) → at ≡ below + 1 → NonePasses test bytes at high → test (drop below bytes) ≡ false → NonePasses test bytes below high
+none_down test bytes at below high next none here k low under =
+    elim (k == below) as (λ b. (k == below) ≡ b → test (drop k bytes) ≡ false) [
+      | true ↦ λ same. let it : k ≡ below = grind (arith, nat_tests) in rw it here
+      | false ↦ λ other. let more : k ≢ below = grind (arith, nat_tests) in none k (omega (arith, next, low, more)) under
+    ] refl
+
+pub none_up : (test : List ℕ → Bool) (bytes : List ℕ) (at : ℕ) → NonePasses test bytes 0 at → test (drop at bytes) ≡ false → NonePasses test bytes 0 (at + 1)
+none_up test bytes at none here k low under =
+    elim (k == at) as (λ b. (k == at) ≡ b → test (drop k bytes) ≡ false) [
+      | true ↦ λ same. let it : k ≡ at = grind (arith, nat_tests) in rw it here
+      | false ↦ λ other. let more : k ≢ at = grind (arith, nat_tests) in none k low (omega (arith, under, more))
+    ] refl
+
+-- no place is behind the last byte
+pub none_at_end : (test : List ℕ → Bool) (bytes : List ℕ) (at : ℕ) → length bytes ≤ at → NonePasses test bytes at (length bytes)
+none_at_end test bytes at end k low under = absurd (omega (arith, end, low, under))
+
+pub last_found : (test : List ℕ → Bool) (bytes : List ℕ) (at below : ℕ) → at ≡ below + 1 → at ≤ length bytes → NonePasses test bytes at (length bytes) → test (drop below bytes) ≡ true → last_place test bytes ≡ Some below
+last_found test bytes at below next inside none here =
+    last_is test bytes below (record { inside = omega (arith, next, inside); passes = here; none = λ k low under. none k (omega (arith, next, low)) under })
+
+pub last_missing : (test : List ℕ → Bool) (bytes : List ℕ) (at : ℕ) → at ≡ 0 → NonePasses test bytes at (length bytes) → last_place test bytes ≡ None
+last_missing test bytes at first none = last_none test bytes (λ k low under. none k (omega (arith, first)) under)
+
+pub first_found : (test : List ℕ → Bool) (bytes : List ℕ) (at : ℕ) → at < length bytes → NonePasses test bytes 0 at → test (drop at bytes) ≡ true → first_place test bytes ≡ Some at
+first_found test bytes at inside none here = first_is test bytes at (record { inside = inside; passes = here; none = none })
+
+pub first_missing : (test : List ℕ → Bool) (bytes : List ℕ) (at : ℕ) → length bytes ≤ at → NonePasses test bytes 0 at → first_place test bytes ≡ None
+first_missing test bytes at end none = first_none test bytes (λ k low under. none k low (omega (arith, under, end)))
+
+-- a text that stands in bytes fits there
+begins_fits : (text rest : List ℕ) → begins text rest ≡ true → length text ≤ length rest
+begins_fits [] rest is = omega arith
+begins_fits (c ∷ cs) [] is = absurd (cc is)
+begins_fits (c ∷ cs) (x ∷ xs) is =
+    elim (nat_eq c x) as (λ b. (b && begins cs xs) ≡ true → suc (length cs) ≤ suc (length xs)) [
+      | true ↦ λ more. let fits = begins_fits cs xs more in omega (arith, fits)
+      | false ↦ λ more. absurd (cc more)
+    ] is
+
+pub text_fits : (text bytes : List ℕ) (at : ℕ) → at < length bytes → begins text (drop at bytes) ≡ true → at + length text ≤ length bytes
+text_fits text bytes at inside is = let fits = begins_fits text (drop at bytes) is in let left = length-drop at bytes in omega (arith, inside, fits, left)
+
+-- ---- runs
+
+-- one byte more of a run
+pub run_more : (p : ℕ → Bool) (bytes : List ℕ) (count : ℕ) → count < length bytes → p (get_or bytes count 0) ≡ true → prefix_len p (drop count bytes) ≡ 1 + prefix_len p (drop (count + 1) bytes)
+run_more p bytes count inside passes = rw (drop_more bytes count 0 inside, passes) refl
+
+-- the end of a run
+pub run_stops : (p : ℕ → Bool) (bytes : List ℕ) (count : ℕ) → count < length bytes → p (get_or bytes count 0) ≡ false → prefix_len p (drop count bytes) ≡ 0
+run_stops p bytes count inside fails = rw (drop_more bytes count 0 inside, fails) refl
+
+pub run_ends : (p : ℕ → Bool) (bytes : List ℕ) (count : ℕ) → length bytes ≤ count → prefix_len p (drop count bytes) ≡ 0
+run_ends p bytes count end = rw (drop_of_length-le bytes end) refl
+
+pub ruleset runs = (run_more, run_stops, run_ends)
+
+-- ---- numbers
+
+-- digits behind a number below a bound
+value_low : (ds : List ℕ) (n m : ℕ) → all_ascii_digits ds ≡ true → n < m → value_after n ds < m * 10 ^ length ds
+value_low [] n m digits low = omega (arith, low)
+value_low (d ∷ ds) n m digits low =
+    let here : d ≤ 57 = grind arith in
+    let rest : all_ascii_digits ds ≡ true = grind arith in
+    let more = value_low ds (n * 10 + (d - 48)) (m * 10) rest (omega (arith, low, here)) in
+    let same : m * 10 * 10 ^ length ds ≡ m * 10 ^ suc (length ds) = mul_assoc m 10 (10 ^ length ds) ∙ ap (λ x. m * x) (mul_comm 10 (10 ^ length ds) ∙ sym (pow-suc 10 (length ds))) in
+    omega (arith, more, same)
+
+pub low_digits : (digits : List ℕ) (most : ℕ) (o : Option ℕ) → o ≡ digits_of digits → length digits ≤ most → IfSome o (λ number. number < 10 ^ most)
+unfolding digits_after
+low_digits digits most None is few = tt
+low_digits digits most (Some n) is few =
+    elim (all_ascii_digits digits) as (λ b. all_ascii_digits digits ≡ b → Some n ≡ cond (b && nat_lt (value_after 0 digits) (2 ^ 64)) (Some (value_after 0 digits)) None → n < 10 ^ most) [
+      | false ↦ λ _ found. absurd (cc found)
+      | true ↦ λ all found.
+          elim (nat_lt (value_after 0 digits) (2 ^ 64)) as (λ b. Some n ≡ cond b (Some (value_after 0 digits)) None → n < 10 ^ most) [
+            | false ↦ λ found. absurd (cc found)
+            | true ↦ λ found.
+                let same : n ≡ value_after 0 digits = cc found in
+                let low = value_low digits 0 1 all (omega arith) in
+                let more = pow-le-pow_right {n = 10} (omega arith) {i = length digits} {j = most} few in
+                omega (arith, same, low, more)
+          ] found
+    ] refl is
+
+-- ---- numbers in brackets
+
+if_some : (b : Bool) (n m : ℕ) → Some n ≡ cond b (Some m) None → (b ≡ true) × (n ≡ m)
+if_some true n m is = (refl, cc is)
+if_some false n m is = absurd (cc is)
+
+pub bracket_found : (bytes rest : List ℕ) (at below count : ℕ) → rest ≡ drop below bytes → at ≡ below + 1 → at ≤ length bytes → NonePasses is_bracketed bytes at (length bytes)
+    → Some count ≡ cond (is_bracketed rest) (Some (digit_count (drop 1 rest))) None → count + 1 ≤ length rest → IsLastBracket bytes (below + 1) count
+bracket_found bytes rest at below count is next inside none found fits =
+    let both = if_some (is_bracketed rest) count (digit_count (drop 1 rest)) found in
+    let left = ap length is ∙ length-drop below bytes in
+    record {
+      at = below;
+      behind = refl;
+      last = last_found is_bracketed bytes at below next inside none (ap is_bracketed (sym is) ∙ both.0);
+      digits = both.1 ∙ ap (λ bs. digit_count (drop 1 bs)) is ∙ ap digit_count (drop-drop 1 below bytes);
+      inside = omega (arith, fits, left, inside, next);
+    }

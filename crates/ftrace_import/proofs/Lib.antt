@@ -1,0 +1,13 @@
+pub mod Arrivals
+pub mod Bytes
+pub mod Gathered
+pub mod Keeping
+pub mod Lent
+pub mod Lines
+pub mod Marks
+pub mod Runs
+pub mod Sights
+pub mod Steps
+pub mod Texts
+pub mod Turns
+pub mod Whole

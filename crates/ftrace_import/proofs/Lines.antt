@@ -1,0 +1,207 @@
+-- What a line gives: its events may be spelled and are legal, and the import goes on behind them.
+use Rattle.std.proofs.Common.{◌≡◌, ℕ, ◌+◌, ◌≤◌, ◌<◌, List, [], ◌∷◌, refl, ap, subst, arith, cond, Bool, true, false, Option, None, Some, ◌==◌, length}
+use Rattle.std.specs.Prelude.{◌&&◌, IfSome, nat_le, nat_lt, not, Result, Ok, Err}
+use Rattle.std.specs.FinMap as tasks_by
+use Rattle.std.proofs.lemmas.Bool.Decides.{nat_tests}
+use Rattle.psi_base.specs.declared.event.Act.{Act}
+use Rattle.psi_base.specs.declared.event.Act.TheVariants as act
+use Rattle.psi_base.specs.declared.event.Cpu.{Cpu}
+use Rattle.psi_base.specs.declared.event.How.{How}
+use Rattle.psi_base.specs.declared.event.Pid.{Pid}
+use Rattle.psi_spec.specs.declared.machine.Task.{Task}
+use Rattle.psi_spec.specs.Fields.{IsPid}
+use Rattle.psi_spec.specs.Grammar.{One, verbs_of}
+use Rattle.psi_spec.specs.Refusal.{AreLegal}
+use Rattle.psi_spec.specs.Trace.{AllFit, AreKnown}
+use Rattle.psi_spec.specs.World.{World, after_from, is_active, is_ready, is_ready_on, task_of, test_task}
+use Rattle.psi_spec.proofs.RefusalLaws.{first_true, second_true}
+use Rattle.import_spec.specs.declared.cause.ImportCause.{ImportCause}
+use Rattle.import_spec.specs.declared.cause.ImportCause.TheVariants as cause
+use Rattle.import_spec.specs.declared.seen.Seen.{Seen}
+use Rattle.import_spec.specs.declared.seen.Seen.TheVariants as seen
+use Rattle.import_spec.specs.declared.seen.Sighting.{Sighting}
+use Rattle.import_spec.specs.Marked.{read_line}
+use Rattle.import_spec.specs.Events.{Given, Reached, acts_cause, acts_of, events_at, first_time, given_at, given_by, given_of, given_or, make_task, migration_acts, moment_of, needed_cpu, switch_acts, wakeup_acts}
+use Rattle.ftrace_import.specs.Laws.{runner}
+use Rattle.ftrace_import.specs.Stands.{IsSeen, IsUnderWay, Leaves, Stands, limits}
+use Rattle.ftrace_import.proofs.Steps.{Goes, goes_none, goes_one, stands_later, step_migrate}
+use Rattle.ftrace_import.proofs.Arrivals.{Comes, comes_made, comes_woken, less_room}
+use Rattle.ftrace_import.proofs.Turns.{Turned, turns}
+use Rattle.ftrace_import.proofs.Sights.{line_seen}
+
+-- ---- no cause
+
+-- acts against which no cause stands at a moment (ns)
+record Pass (cpus : ℕ) (w : World) (moment : ℕ) (cpu : Cpu) (acts : List Act) : Type 0 where
+  there : cpu.0 < cpus
+  early : moment ≤ 2000000000000000
+  space : make_task acts ≡ true → tasks_by.len w.tasks < 65536
+  few : w.lines + length acts ≤ 3999999
+
+past : (b : Bool) (why : ImportCause) (rest : Option ImportCause) → (cond b (Some why) rest) ≡ None → (b ≡ false) × (rest ≡ None)
+past true why rest is = absurd (cc is)
+past false why rest is = (refl, is)
+
+space_for : (b : Bool) (live : ℕ) → (b && nat_le 65536 live) ≡ false → b ≡ true → live < 65536
+space_for true live is some = grind (arith, nat_tests)
+space_for false live is some = absurd (cc some)
+
+pass : (cpus : ℕ) (w : World) (moment : ℕ) (cpu : Cpu) (acts : List Act) → acts_cause cpus w moment cpu acts ≡ None → Pass cpus w moment cpu acts
+pass cpus w moment cpu acts is =
+    let first = past _ cause.BadCpu _ is in
+    let second = past _ cause.TooLate _ first.1 in
+    let third = past _ cause.TooManyTasks _ second.1 in
+    let fourth = past _ cause.TooManyEvents _ third.1 in
+    let one : nat_le cpus cpu.0 ≡ false = first.0 in
+    let two : nat_lt 2000000000000000 moment ≡ false = second.0 in
+    let four : nat_lt 3999999 (w.lines + length acts) ≡ false = fourth.0 in
+    record {
+      there = grind (arith, nat_tests);
+      early = grind (arith, nat_tests);
+      space = space_for (make_task acts) (tasks_by.len w.tasks) third.0;
+      few = grind (arith, nat_tests);
+    }
+
+-- what was given is one thing
+ok_same : (x y : Given) → (let r : Result Given ImportCause = Ok x in r) ≡ Ok y → x ≡ y
+ok_same x y is = cc is
+
+-- ---- a wakeup
+
+-- acts go, and then the task doesn't sleep
+pub record Wakes (cpus at : ℕ) (pid : Pid) (w : World) (acts : List Act) : Type 0 where
+  pub goes : Goes cpus at 0 w acts
+  pub awake : test_task (task_of (after_from w (events_at at acts)).tasks pid.0) (λ task. is_active task.mode) ≡ true
+
+ready_awake : (o : Option Task) (cpu : ℕ) → test_task o (is_ready_on cpu) ≡ true → test_task o (λ task. is_active task.mode) ≡ true
+ready_awake None cpu ready = absurd (cc ready)
+ready_awake (Some task) cpu ready = let up : is_ready task.mode ≡ true = second_true (task.cpu.0 == cpu) (is_ready task.mode) ready in rw up refl
+
+come_awake : (cpus at : ℕ) (cpu : Cpu) (pid : Pid) (w : World) (acts : List Act) → Comes cpus at 0 cpu pid w acts → Wakes cpus at pid w acts
+come_awake cpus at cpu pid w acts comes = record { goes = comes.goes; awake = ready_awake _ cpu.0 comes.ready }
+
+wakes : (cpus at have : ℕ) (cpu : Cpu) (pid : Pid) (w : World) (o : Option Task) → Stands cpus at have w → length (wakeup_acts pid cpu o) ≤ have → IsPid pid → cpu.0 < cpus → task_of w.tasks pid.0 ≡ o → (make_task (wakeup_acts pid cpu o) ≡ true → tasks_by.len w.tasks < 65536) → Wakes cpus at pid w (wakeup_acts pid cpu o)
+wakes cpus at have cpu pid w None so few is there live space = come_awake cpus at cpu pid w _ (comes_made cpus at 0 cpu pid w (less_room cpus at have (0 + 1) w so (omega (arith, few))) is there live (space refl))
+wakes cpus at have cpu pid w (Some task) so few is there live space =
+    elim (is_active task.mode) as (λ b. is_active task.mode ≡ b → length (cond b [] (act.Wake pid cpu ∷ [])) ≤ have → Wakes cpus at pid w (cond b [] (act.Wake pid cpu ∷ []))) [
+      | true ↦ λ up fits. record { goes = goes_none cpus at 0 w (less_room cpus at have 0 w so (omega arith)); awake = rw (live, up) refl }
+      | false ↦ λ sleeps fits. come_awake cpus at cpu pid w _ (comes_woken cpus at 0 cpu pid w task (less_room cpus at have (0 + 1) w so (omega (arith, fits))) is there live sleeps)
+    ] refl few
+
+-- ---- a migration
+
+moves : (cpus at have : ℕ) (cpu : Cpu) (pid : Pid) (w : World) (o : Option Task) → Stands cpus at have w → length (migration_acts pid cpu o) ≤ have → IsPid pid → cpu.0 < cpus → task_of w.tasks pid.0 ≡ o → Goes cpus at 0 w (migration_acts pid cpu o)
+moves cpus at have cpu pid w None so few is there live = goes_none cpus at 0 w (less_room cpus at have 0 w so (omega arith))
+moves cpus at have cpu pid w (Some task) so few is there live =
+    elim (is_ready task.mode && not (task.cpu.0 == cpu.0)) as (λ b. (is_ready task.mode && not (task.cpu.0 == cpu.0)) ≡ b → length (cond b (act.Migrate pid cpu ∷ []) []) ≤ have → Goes cpus at 0 w (cond b (act.Migrate pid cpu ∷ []) [])) [
+      | true ↦ λ both fits. goes_one cpus at 0 w (act.Migrate pid cpu) (step_migrate cpus at 0 w pid cpu task (less_room cpus at have (0 + 1) w so (omega (arith, fits))) is there live (first_true (is_ready task.mode) (not (task.cpu.0 == cpu.0)) both))
+      | false ↦ λ _ fits. goes_none cpus at 0 w (less_room cpus at have 0 w so (omega arith))
+    ] refl few
+
+-- ---- a switch
+
+-- a task that is to run and isn't live is made
+makes_next : (w : World) (cpu : Cpu) (previous next : Option Pid) (how : How) → (make_task (switch_acts w.tasks cpu previous next how) ≡ true → tasks_by.len w.tasks < 65536) → IfSome next (λ pid. task_of w.tasks pid.0 ≡ None → tasks_by.len w.tasks < 65536)
+makes_next w cpu previous None how space = tt
+makes_next w cpu previous (Some pid) how space = λ none. space (rw none refl)
+
+switches : (cpus at have : ℕ) (w : World) (cpu : Cpu) (previous next : Option Pid) (how : How) → Stands cpus at have w → length (switch_acts w.tasks cpu previous next how) ≤ have → cpu.0 < cpus → IfSome next IsPid × Leaves how
+    → (make_task (switch_acts w.tasks cpu previous next how) ≡ true → tasks_by.len w.tasks < 65536) → Turned cpus at 0 cpu next w (switch_acts w.tasks cpu previous next how)
+switches cpus at have w cpu previous next how so few there is space =
+    turns cpus at have 0 w cpu previous next how so (omega (arith, few)) there is.0 is.1 (λ _. makes_next w cpu previous next how space)
+
+-- ---- whatever it tells
+
+goes : (cpus at : ℕ) (w : World) (what : Seen) → Stands cpus at (length (acts_of w.tasks what)) w → IsSeen what → Pass cpus w at (needed_cpu what) (acts_of w.tasks what) → Goes cpus at 0 w (acts_of w.tasks what)
+goes cpus at w (seen.Switch cpu previous next how) so is pass = (switches cpus at _ w cpu previous next how so (omega arith) pass.there is pass.space).goes
+goes cpus at w (seen.Wakeup pid cpu) so is pass = (wakes cpus at _ cpu pid w (task_of w.tasks pid.0) so (omega arith) is pass.there refl pass.space).goes
+goes cpus at w (seen.Migration pid cpu) so is pass = moves cpus at _ cpu pid w (task_of w.tasks pid.0) so (omega arith) is pass.there refl
+
+-- it stands at the moment of a line with room for its events
+stands_at : (cpus : ℕ) (reached : Reached) (at : ℕ) (cpu : Cpu) (acts : List Act) → IsUnderWay cpus reached → Pass cpus reached.world (moment_of reached at) cpu acts → Stands cpus (moment_of reached at) (length acts) reached.world
+stands_at cpus reached at cpu acts so pass = stands_later cpus reached.moment 0 (moment_of reached at) (length acts) reached.world so (omega arith) pass.early pass.few
+
+-- what a line gives may be spelled and is legal, and the import stands behind it
+pub record Gives (cpus : ℕ) (reached : Reached) (given : Given) : Type 0 where
+  pub fit : AllFit given.events
+  pub known : AreKnown (verbs_of One) given.events
+  pub legal : AreLegal (limits cpus) reached.world given.events
+  pub world : given.reached.world ≡ after_from reached.world given.events
+  pub later : IsUnderWay cpus given.reached
+
+gives_or : (cpus : ℕ) (reached : Reached) (at : ℕ) (what : Seen) (given : Given) → IsUnderWay cpus reached → IsSeen what → (o : Option ImportCause)
+    → acts_cause cpus reached.world (moment_of reached at) (needed_cpu what) (acts_of reached.world.tasks what) ≡ o → given_or reached at (moment_of reached at) (acts_of reached.world.tasks what) o ≡ Ok given → Gives cpus reached given
+gives_or cpus reached at what given so is (Some why) none found = absurd (cc found)
+gives_or cpus reached at what given so is None none found =
+    let passes = pass cpus reached.world (moment_of reached at) (needed_cpu what) (acts_of reached.world.tasks what) none in
+    let all = goes cpus (moment_of reached at) reached.world what (stands_at cpus reached at (needed_cpu what) (acts_of reached.world.tasks what) so passes) is passes in
+    subst (λ (g : Given). Gives cpus reached g) (ok_same _ given found) (record { fit = all.fit; known = all.known; legal = all.legal; world = refl; later = all.later })
+
+pub gives_at : (cpus : ℕ) (reached : Reached) (at : ℕ) (what : Seen) (given : Given) → IsUnderWay cpus reached → IsSeen what → given_at cpus reached at what ≡ Ok given → Gives cpus reached given
+unfolding given_at
+gives_at cpus reached at what given so is found = gives_or cpus reached at what given so is _ refl found
+
+gives_by : (cpus : ℕ) (reached : Reached) (line : List ℕ) (given : Given) → IsUnderWay cpus reached → (r : Result (Option Sighting) ImportCause) → read_line line ≡ r → given_by cpus reached r ≡ Ok given → Gives cpus reached given
+gives_by cpus reached line given so (Err why) read found = absurd (cc found)
+gives_by cpus reached line given so (Ok None) read found = subst (λ (g : Given). Gives cpus reached g) (ok_same _ given found) (record { fit = tt; known = tt; legal = tt; world = refl; later = so })
+gives_by cpus reached line given so (Ok (Some sighting)) read found = gives_at cpus reached sighting.at sighting.seen given so (line_seen line sighting read) found
+
+pub gives : (cpus : ℕ) (reached : Reached) (line : List ℕ) (given : Given) → IsUnderWay cpus reached → given_of cpus reached line ≡ Ok given → Gives cpus reached given
+unfolding given_of
+gives cpus reached line given so found = gives_by cpus reached line given so (read_line line) refl found
+
+-- ---- laws of one line
+
+-- after a switch its next task runs
+switch_or : (cpus : ℕ) (reached : Reached) (at : ℕ) (cpu : Cpu) (previous next : Option Pid) (how : How) (given : Given) → IsUnderWay cpus reached → IfSome next IsPid × Leaves how → (o : Option ImportCause)
+    → acts_cause cpus reached.world (moment_of reached at) cpu (switch_acts reached.world.tasks cpu previous next how) ≡ o → given_or reached at (moment_of reached at) (switch_acts reached.world.tasks cpu previous next how) o ≡ Ok given → runner given.reached.world.tasks cpu.0 ≡ next
+switch_or cpus reached at cpu previous next how given so is (Some why) none found = absurd (cc found)
+switch_or cpus reached at cpu previous next how given so is None none found =
+    let acts = switch_acts reached.world.tasks cpu previous next how in
+    let passes = pass cpus reached.world (moment_of reached at) cpu acts none in
+    let turned = switches cpus (moment_of reached at) (length acts) reached.world cpu previous next how (stands_at cpus reached at cpu acts so passes) (omega arith) passes.there is passes.space in
+    subst (λ (g : Given). runner g.reached.world.tasks cpu.0 ≡ next) (ok_same _ given found) turned.runs
+
+pub switch_runs : (cpus : ℕ) (reached : Reached) (at : ℕ) (cpu : Cpu) (previous next : Option Pid) (how : How) (given : Given) → IsUnderWay cpus reached → IfSome next IsPid × Leaves how → given_at cpus reached at (seen.Switch cpu previous next how) ≡ Ok given → runner given.reached.world.tasks cpu.0 ≡ next
+unfolding given_at
+switch_runs cpus reached at cpu previous next how given so is found = switch_or cpus reached at cpu previous next how given so is _ refl found
+
+-- after a wakeup its task doesn't sleep
+wakeup_or : (cpus : ℕ) (reached : Reached) (at : ℕ) (pid : Pid) (cpu : Cpu) (given : Given) → IsUnderWay cpus reached → IsPid pid → (o : Option ImportCause)
+    → acts_cause cpus reached.world (moment_of reached at) cpu (wakeup_acts pid cpu (task_of reached.world.tasks pid.0)) ≡ o → given_or reached at (moment_of reached at) (wakeup_acts pid cpu (task_of reached.world.tasks pid.0)) o ≡ Ok given
+    → test_task (task_of given.reached.world.tasks pid.0) (λ task. is_active task.mode) ≡ true
+wakeup_or cpus reached at pid cpu given so is (Some why) none found = absurd (cc found)
+wakeup_or cpus reached at pid cpu given so is None none found =
+    let acts = wakeup_acts pid cpu (task_of reached.world.tasks pid.0) in
+    let passes = pass cpus reached.world (moment_of reached at) cpu acts none in
+    let woken = wakes cpus (moment_of reached at) (length acts) cpu pid reached.world (task_of reached.world.tasks pid.0) (stands_at cpus reached at cpu acts so passes) (omega arith) is passes.there refl passes.space in
+    subst (λ (g : Given). test_task (task_of g.reached.world.tasks pid.0) (λ task. is_active task.mode) ≡ true) (ok_same _ given found) woken.awake
+
+pub wakeup_wakes : (cpus : ℕ) (reached : Reached) (at : ℕ) (pid : Pid) (cpu : Cpu) (given : Given) → IsUnderWay cpus reached → IsPid pid → given_at cpus reached at (seen.Wakeup pid cpu) ≡ Ok given → test_task (task_of given.reached.world.tasks pid.0) (λ task. is_active task.mode) ≡ true
+unfolding given_at
+wakeup_wakes cpus reached at pid cpu given so is found = wakeup_or cpus reached at pid cpu given so is _ refl found
+
+-- ---- what a line gives, by the cause against it
+
+-- what is given where no cause stands
+abbrev pub given_behind : Reached → ℕ → Seen → Given
+given_behind reached at what = record {
+  events = events_at (moment_of reached at) (acts_of reached.world.tasks what);
+  reached = record {
+    first = Some (first_time reached at);
+    moment = moment_of reached at;
+    world = after_from reached.world (events_at (moment_of reached at) (acts_of reached.world.tasks what));
+  };
+}
+
+-- the cause against a line that tells this at a time
+abbrev pub cause_at : ℕ → Reached → ℕ → Seen → Option ImportCause
+cause_at cpus reached at what = acts_cause cpus reached.world (moment_of reached at) (needed_cpu what) (acts_of reached.world.tasks what)
+
+pub given_free : (cpus : ℕ) (reached : Reached) (at : ℕ) (what : Seen) → cause_at cpus reached at what ≡ None → given_at cpus reached at what ≡ Ok (given_behind reached at what)
+unfolding given_at
+given_free cpus reached at what none = ap (given_or reached at (moment_of reached at) (acts_of reached.world.tasks what)) none
+
+pub given_refused : (cpus : ℕ) (reached : Reached) (at : ℕ) (what : Seen) (why : ImportCause) → cause_at cpus reached at what ≡ Some why → given_at cpus reached at what ≡ Err why
+unfolding given_at
+given_refused cpus reached at what why some = ap (given_or reached at (moment_of reached at) (acts_of reached.world.tasks what)) some

@@ -1,0 +1,20 @@
+use Rattle.std.proofs.Common.{◌≡◌, ◌∙◌, ◌<◌, arith, refl}
+use Rattle.ftrace_import.specs.Gathers.{reached_in}
+use Rattle.ftrace_import.proofs.Texts.{rest_many, rest_none}
+use Rattle.ftrace_import.proofs.text.look_behind.Goals as goal
+
+pub returns-in-Ok-true-clause-content : goal.returns-in-Ok-true-clause-content
+returns-in-Ok-true-clause-content g c = (
+  refl,
+  λ bytes tells.
+      let found = rw (c.in-Ok-true.is, c.in-Ok-true.field-0-test) at c.is_at_end.ensures.left bytes tells in
+      rest_none c.args.g.now.cpus (reached_in c.args.g.now) c.args.lines.now.number _ (found.1.0 refl),
+)
+
+pub returns-in-Ok-false-clause-content : goal.returns-in-Ok-false-clause-content
+returns-in-Ok-false-clause-content g c =
+    λ bytes tells.
+    let found = rw (c.in-Ok-false.is, c.in-Ok-false.field-0-test) at c.is_at_end.ensures.left bytes tells in
+    let many : 16000000 < c.args.lines.now.number = omega (arith, c.requires.number) in
+    let same : c.number.result ≡ c.args.lines.now.number = c.number.ensures ∙ c.is_at_end.ensures.same.1 in
+    rw same (rest_many c.args.g.now.cpus (reached_in c.args.g.now) c.args.lines.now.number _ many (λ none. let no = found.1.1 none in absurd (cc no)))

@@ -1,0 +1,20 @@
+use Rattle.std.proofs.Common.{◌≡◌, ◌+◌, ◌-◌, ◌≤◌, []}
+use Rattle.psi_base.specs.Outside.{Lacks, told}
+use Rattle.psi_lines.specs.Lines.{left}
+use Rattle.ftrace_import.proofs.Texts.{SoFar}
+use Rattle.ftrace_import.proofs.text.take_lines.Given as goal
+
+abbrev pub invariant-lines : goal.invariant-lines
+invariant-lines g l = record {
+  kept : g.S.Shelf.holds l.shelf ≡ g.S.Shelf.holds l.fn.shelf;
+  faults : g.S.Shelf.faults l.shelf ≡ g.S.Shelf.faults l.fn.shelf;
+  absent : g.S.Shelf.absent l.shelf ≡ g.S.Shelf.absent l.fn.shelf;
+  given : g.S.Shelf.given l.shelf + l.fn.lines.at ≡ g.S.Shelf.given l.fn.shelf + l.lines.at;
+  name : l.lines.name ≡ l.fn.lines.name;
+  few : l.lines.number ≤ 16000001;
+  missing : Lacks (g.S.Shelf.holds l.fn.shelf) l.fn.lines.name → l.lines.held ≡ [];
+  so_far : SoFar l.fn.g.cpus l.lines.number l.g (left l.fn.lines) (left l.lines) (told (g.S.Shelf.holds l.fn.shelf) l.fn.lines.name);
+}
+
+abbrev pub decreases-lines : goal.decreases-lines
+decreases-lines g l = 16000002 - l.lines.number

@@ -1,0 +1,37 @@
+-- What the code finds in bytes.
+use Rattle.std.specs.Prelude.{◌≡◌, ℕ, ◌+◌, ◌≤◌, List, Bool, ◌==◌, Option, Some, option_map, length, take, drop}
+use Rattle.std.specs.Borrow.{Bor}
+use Rattle.ftrace_import.specs.declared.marked.ShortMark.{ShortMark}
+use Rattle.import_spec.specs.Marked.{Mark, Marked, begins_marked, mark_of}
+use Rattle.import_spec.specs.Places.{first_place, last_place}
+use Rattle.import_spec.specs.Tails.{digit_count, is_bracketed}
+
+-- a byte is this one
+abbrev pub is_at : ℕ → ℕ → Bool
+is_at byte other = other == byte
+
+-- bytes that are lent, if there are some
+abbrev pub shown : Option (Bor (List ℕ)) → Option (List ℕ)
+shown part = option_map (λ (bytes : Bor (List ℕ)). bytes.now) part
+
+-- a mark by its kind and how many bytes it has
+abbrev pub mark_parts : Mark → ShortMark
+mark_parts mark = record { kind = mark.kind; size = length mark.text }
+
+-- the last number in brackets begins here, and has so many digits
+pub record IsLastBracket (bytes : List ℕ) (start count : ℕ) : Type 0 where
+  pub at : ℕ
+  pub behind : start ≡ at + 1
+  pub last : last_place is_bracketed bytes ≡ Some at
+  pub digits : count ≡ digit_count (drop start bytes)
+  pub inside : start + count ≤ length bytes
+
+-- the leftmost mark of a line begins here, and is this
+pub record IsFirstMark (line : List ℕ) (at : ℕ) (short : ShortMark) : Type 0 where
+  pub first : first_place begins_marked line ≡ Some at
+  pub mark : option_map mark_parts (mark_of (drop at line)) ≡ Some short
+  pub inside : at + short.size ≤ length line
+
+-- the parts of a line that a mark stands in
+abbrev pub parted : List ℕ → ℕ → ShortMark → Marked
+parted line at short = record { kind = short.kind; head = take at line; tail = drop (at + short.size) line }

@@ -1,0 +1,138 @@
+-- What gathering the events of a text gives.
+use Rattle.std.specs.Prelude.{◌≡◌, ℕ, ◌+◌, ◌≤◌, List, [], ◌∷◌, ◌++◌, Bool, true, false, Option, None, Some, OnOk, IsErrOf, Result, Ok, Err, ⊤}
+use Rattle.psi_base.specs.Outside.{HasCauses, ShelfCounts}
+use Rattle.psi_base.specs.Path.{parts_at}
+use Rattle.psi_base.specs.declared.event.Event.{Event}
+use Rattle.psi_base.specs.declared.event.Fault.{Fault}
+use Rattle.psi_base.specs.declared.event.Fault.TheVariants as fault
+use Rattle.psi_spec.specs.World.{after_from, first_world}
+use Rattle.psi_lines.specs.Lines.{Reader}
+use Rattle.psi_lines.specs.Next.{furthest}
+use Rattle.psi_lines.specs.declared.lines.LineFault.{LineFault}
+use Rattle.psi_lines.specs.declared.lines.LineFault.TheVariants as lines
+use Rattle.import_spec.specs.declared.cause.ImportCause.{ImportCause}
+use Rattle.import_spec.specs.declared.cause.ImportCause.TheVariants as cause
+use Rattle.import_spec.specs.Events.{Given, Reached, unreached}
+use Rattle.import_spec.specs.Import.{Refused, end_at, followed, import_from, import_of, refused}
+use Rattle.ftrace_import.specs.declared.taking.Gathering.{Gathering}
+use Rattle.ftrace_import.specs.declared.text.ImportFault.{ImportFault}
+use Rattle.ftrace_import.specs.declared.text.ImportFault.TheVariants as import
+use Rattle.ftrace_import.specs.Deeds.{events_by}
+use Rattle.ftrace_import.specs.Stands.{Ends, IsUnderWay, Run, limits}
+
+-- ---- line by line
+
+-- how far an import has come
+abbrev pub reached_in : Gathering → Reached
+reached_in g = record { first = g.first; moment = g.moment; world = g.table.world }
+
+-- What holds behind each line: the table has the limits of the import, and its world is the one that the events made which were
+-- kept. They may be spelled and are legal.
+pub record IsGathered (g : Gathering) : Type 0 where
+  pub limits_are : g.table.limits ≡ limits g.cpus
+  pub under : IsUnderWay g.cpus (reached_in g)
+  pub run : Run g.cpus first_world (events_by g.kept.items)
+  pub after_them : g.table.world ≡ after_from first_world (events_by g.kept.items)
+
+-- what a line gives was kept behind the events before it
+pub record HasTaken (given : Result Given ImportCause) (old new : Gathering) : Type 0 where
+  pub behind : Given
+  pub is : given ≡ Ok behind
+  pub kept : events_by new.kept.items ≡ events_by old.kept.items ++ behind.events
+  pub reached : reached_in new ≡ behind.reached
+  pub cpus : new.cpus ≡ old.cpus
+  pub so : IsGathered new
+
+-- what taking a line gives: what the line gives was kept, or the cause against the line
+abbrev pub TakesLine : Result Given ImportCause → Gathering → Gathering → Result (Unit {0}) (Fault ImportCause) → Type 0
+TakesLine given old new (Ok done) = HasTaken given old new
+TakesLine given old new (Err (fault.Refused why)) = given ≡ Err why
+TakesLine given old new (Err (fault.NoMemory _)) = ⊤
+
+-- ---- the lines of a file
+
+-- the events of what is left of the text, from the line with a number on
+abbrev pub rest_from : ℕ → Reached → ℕ → List ℕ → Result (List Event) Refused
+rest_from cpus reached number bytes = import_from cpus reached number (parts_at 10 bytes)
+
+-- a refusal is the definition's; the other faults have clauses of their own
+abbrev pub RefusalOf : ImportFault → Result (List Event) Refused → Type 0
+RefusalOf (import.Refused number why) read = read ≡ Err (refused number why)
+RefusalOf import.NoFile read = ⊤
+RefusalOf import.ReadFault read = ⊤
+RefusalOf (import.NoMemory _) read = ⊤
+
+-- the fault of a line with this number
+abbrev pub IsLineFault : ℕ → Fault ImportCause → ImportFault → Type 0
+IsLineFault number (fault.Refused why) result = result ≡ import.Refused number why
+IsLineFault number (fault.NoMemory none) result = result ≡ import.NoMemory none
+
+-- why a text isn't imported of which a line isn't read
+abbrev pub import_fault : LineFault → ImportFault
+import_fault (lines.TooLong number) = import.Refused number cause.LineTooLong
+import_fault (lines.Cut number) = import.Refused number cause.Cut
+import_fault lines.NoFile = import.NoFile
+import_fault lines.ReadFault = import.ReadFault
+import_fault (lines.NoMemory none) = import.NoMemory none
+
+-- a line was taken: its events stand in front of those of the rest
+pub record LineTaken (number : ℕ) (old new : Gathering) (before behind : List ℕ → List ℕ) (known : Option (List ℕ)) : Type 0 where
+  pub so : IsGathered new
+  pub cpus : new.cpus ≡ old.cpus
+  pub events : List Event
+  pub kept : events_by new.kept.items ≡ events_by old.kept.items ++ events
+  pub read : (bytes : List ℕ) → known ≡ Some bytes → rest_from old.cpus (reached_in old) number (before bytes) ≡ followed events (rest_from old.cpus (reached_in new) (number + 1) (behind bytes))
+
+-- what the next line gives: it was taken, or there is none, or a fault
+abbrev pub NextGives : ℕ → Gathering → Gathering → (List ℕ → List ℕ) → (List ℕ → List ℕ) → Option (List ℕ) → Result Bool ImportFault → Type 0
+NextGives number old new before behind known (Ok true) = LineTaken number old new before behind known
+NextGives number old new before behind known (Ok false) = (new ≡ old) × ((bytes : List ℕ) → known ≡ Some bytes → rest_from old.cpus (reached_in old) number (before bytes) ≡ Ok (end_at (reached_in old) ∷ []))
+NextGives number old new before behind known (Err fault) = (bytes : List ℕ) → known ≡ Some bytes → RefusalOf fault (rest_from old.cpus (reached_in old) number (before bytes))
+
+-- a shelf counted this fault of an import and nothing else: a failed read, or a name that it hasn't
+abbrev pub CausesImportFault : {A : Type 0} → ShelfCounts → ShelfCounts → Result A ImportFault → Type 0
+CausesImportFault before now result = HasCauses before now (IsErrOf result import.ReadFault) (IsErrOf result import.NoFile)
+
+-- what reading the next line does to the reader and to the shelf, whatever stands on the line
+pub record ReadsLine {A : Type 0} (known : Option (List ℕ)) (old new : Reader) (counts counts_now : ShelfCounts) (given given_now : ℕ) (result : Result A ImportFault) : Type 0 where
+  pub name : new.name ≡ old.name
+  pub number : OnOk result (new.number ≤ old.number + 1)
+  pub missed : IsErrOf result import.NoFile → known ≡ None
+  pub cause : CausesImportFault counts counts_now result
+  pub counted : given_now + old.at ≡ given + new.at
+  pub place : new.at ≤ furthest old.number
+
+-- nothing is said of any bytes
+abbrev pub TellsNothing : {A : Type 0} → Result A ImportFault → Type 0
+TellsNothing (Ok x) = ⊥
+TellsNothing (Err (import.Refused number why)) = ⊥
+TellsNothing (Err import.NoFile) = ⊤
+TellsNothing (Err import.ReadFault) = ⊤
+TellsNothing (Err (import.NoMemory _)) = ⊤
+
+-- ---- a whole text
+
+-- the events of an import, with the end
+abbrev pub whole_events : Gathering → List Event
+whole_events g = events_by g.kept.items ++ end_at (reached_in g) ∷ []
+
+-- what taking all lines gives
+abbrev pub LinesGive : ℕ → Gathering → (List ℕ → List ℕ) → Option (List ℕ) → Result (Unit {0}) ImportFault → Type 0
+LinesGive cpus new before known (Ok done) = IsGathered new × (new.cpus ≡ cpus) × ((bytes : List ℕ) → known ≡ Some bytes → rest_from cpus unreached 1 (before bytes) ≡ Ok (whole_events new))
+LinesGive cpus new before known (Err fault) = (bytes : List ℕ) → known ≡ Some bytes → RefusalOf fault (rest_from cpus unreached 1 (before bytes))
+
+-- the most bytes that are read: no further than what is held behind the most lines
+abbrev pub most_of_text : ℕ
+most_of_text = furthest 16000001
+
+-- all lines of a file were taken: their events and the end are accepted, and are those of its bytes, where they are told
+pub record AllTaken (cpus : ℕ) (g : Gathering) (known : Option (List ℕ)) : Type 0 where
+  pub so : IsGathered g
+  pub cpus_are : g.cpus ≡ cpus
+  pub ends : Ends cpus first_world (whole_events g)
+  pub read : (bytes : List ℕ) → known ≡ Some bytes → import_of cpus bytes ≡ Ok (whole_events g)
+
+-- what importing a text gives
+abbrev pub Gathers : ℕ → Option (List ℕ) → Result Gathering ImportFault → Type 0
+Gathers cpus known (Ok g) = AllTaken cpus g known
+Gathers cpus known (Err fault) = (bytes : List ℕ) → known ≡ Some bytes → RefusalOf fault (import_of cpus bytes)

@@ -1,0 +1,6 @@
+pub mod Bytes
+pub mod Deeds
+pub mod Gathers
+pub mod Laws
+pub mod Lending
+pub mod Stands

@@ -1,0 +1,61 @@
+-- What holds while a text is imported.
+use Rattle.std.specs.Prelude.{◌≡◌, ℕ, ◌+◌, ◌≤◌, List, [], ◌∷◌, true, false, Option, IfSome, is_some}
+use Rattle.psi_base.specs.declared.event.Event.{Event}
+use Rattle.psi_base.specs.declared.event.How.{How}
+use Rattle.psi_spec.specs.declared.machine.Task.{Task}
+use Rattle.psi_spec.specs.Fields.{IsPid}
+use Rattle.psi_spec.specs.Grammar.{One, verbs_of}
+use Rattle.psi_spec.specs.Refusal.{AreLegal, is_wrong}
+use Rattle.psi_spec.specs.Trace.{AllFit, AreKnown, EndsLast, IsCpuCount, limits_of}
+use Rattle.psi_spec.specs.World.{Limits, Tasks, World, root, task_of, test_task}
+use Rattle.psi_counts.specs.Legal.{IsLegalWorld}
+use Rattle.import_spec.specs.declared.seen.Seen.{Seen}
+use Rattle.import_spec.specs.declared.seen.Seen.TheVariants as seen
+use Rattle.import_spec.specs.Events.{Reached, default_tick, latest_moment, most_imported}
+
+-- what a trace of an import can name
+abbrev pub limits : ℕ → Limits
+limits cpus = limits_of default_tick cpus
+
+-- no task is in a stall
+abbrev pub IsCalm : Tasks → Type 0
+IsCalm tasks = (q : ℕ) → test_task (task_of tasks q) (λ t. t.stalled) ≡ false
+
+-- The world of an import, in which so many events may still be written at a moment (ns): it is legal, no task is in a stall, the
+-- root is the only group, and the trace goes on.
+pub record Stands (cpus at room : ℕ) (w : World) : Type 0 where
+  pub counted : IsCpuCount cpus
+  pub legal : IsLegalWorld (limits cpus) w
+  pub calm : IsCalm w.tasks
+  pub groups : w.groups ≡ root ∷ []
+  pub going : w.ended ≡ false
+  pub forward : w.last ≤ at
+  pub early : at ≤ latest_moment
+  pub few : w.lines + room ≤ most_imported
+
+-- an import that has come so far
+abbrev pub IsUnderWay : ℕ → Reached → Type 0
+IsUnderWay cpus reached = Stands cpus reached.moment 0 reached.world
+
+-- events may be spelled, by verbs of the first version, and are legal in their turn
+pub record Run (cpus : ℕ) (w : World) (events : List Event) : Type 0 where
+  pub fit : AllFit events
+  pub known : AreKnown (verbs_of One) events
+  pub legal : AreLegal (limits cpus) w events
+
+-- events that go on from a world to the end
+pub record Ends (cpus : ℕ) (w : World) (events : List Event) : Type 0 where
+  pub run : Run cpus w events
+  pub ends : EndsLast events
+
+-- ---- what lines tell
+
+-- a way in which a task that runs makes way
+abbrev pub Leaves : How → Type 0
+Leaves how = (o : Option (ℕ × Task)) → is_some o ≡ true → is_wrong how o ≡ false
+
+-- what a line tells is in range
+abbrev pub IsSeen : Seen → Type 0
+IsSeen (seen.Switch cpu previous next how) = IfSome next IsPid × Leaves how
+IsSeen (seen.Wakeup pid cpu) = IsPid pid
+IsSeen (seen.Migration pid cpu) = IsPid pid

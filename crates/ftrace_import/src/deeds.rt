@@ -1,0 +1,272 @@
+//! What a line does, as it is kept until all lines are read.
+ghost use Rattle.std.specs.Prelude.{◌≡◌, ◌++◌, ◌∷◌, [], IfOk, if◌then◌else◌};
+ghost use Rattle.psi_spec.specs.World.{running_on, task_of};
+ghost use Rattle.import_spec.specs.Events.{acts_of, arrival_acts, migration_acts, next_acts, runs_there, switch_acts, turn_acts, wakeup_acts};
+ghost use Rattle.std.specs.Prelude.{None};
+ghost use Rattle.ftrace_import.specs.Deeds.{Adds, act_by, event_by};
+
+use import_spec::Seen;
+use psi_base::{Act, Cpu, Event, How, NoMemory, Ns, Path, Pid};
+use psi_spec::{Mode, Task};
+use std::alloc::Global;
+use task_table::Table;
+
+/// An act of an import. All tasks are in the root group, so that no path need be kept.
+#[derive(Clone, Copy)]
+pub(crate) enum Deed {
+    /// A task is made.
+    Fork {
+        pid: Pid,
+        cpu: Cpu,
+    },
+    /// A task wakes.
+    Wake {
+        pid: Pid,
+        cpu: Cpu,
+    },
+    /// The next task runs.
+    Switch {
+        cpu: Cpu,
+        next: Option<Pid>,
+        how: How,
+    },
+    /// A task goes to a processor.
+    Migrate {
+        pid: Pid,
+        cpu: Cpu,
+    },
+}
+
+/// An event of an import, in a third of the room of an [`Event`].
+#[derive(Clone, Copy)]
+pub(crate) struct Kept {
+    /// Its moment (ns).
+    pub(crate) at: Ns,
+    pub(crate) deed: Deed,
+}
+
+/// The event that was kept.
+pub(crate) fn event_of(alloc: Global, kept: Kept) -> Result<Event, NoMemory>
+    ensures { IfOk result (λ event. event ≡ event_by kept) }
+{
+    let act = match kept.deed {
+        Deed::Fork { pid, cpu } => {
+            let path = Path::root(alloc)?;
+            Act::Fork { pid, path, cpu }
+        }
+        Deed::Wake { pid, cpu } => Act::Wake { pid, cpu },
+        Deed::Switch { cpu, next, how } => Act::Switch { cpu, next, how },
+        Deed::Migrate { pid, cpu } => Act::Migrate { pid, cpu },
+    };
+    Ok(Event { at: kept.at, act })
+}
+
+/// Keeps one deed more.
+#[tactic(auto, using(crate::proofs::Keeping::one_kept))]
+fn keep(kept: &mut Vec<Kept>, at: Ns, deed: Deed) -> Result<(), NoMemory>
+    ensures { Adds kept.old.items kept.new.items result at (act_by deed ∷ []) }
+{
+    kept.push(Kept { at, deed })?;
+    Ok(())
+}
+
+/// Keeps no deed.
+#[tactic(auto, using(crate::proofs::Keeping::none_kept))]
+fn keep_none(kept: &mut Vec<Kept>, at: Ns) -> Result<(), NoMemory>
+    ensures { Adds kept.old.items kept.new.items result at [] }
+{
+    let _ = kept;
+    let _ = at;
+    Ok(())
+}
+
+/// What a wakeup does.
+fn keep_wakeup(
+    kept: &mut Vec<Kept>,
+    at: Ns,
+    pid: Pid,
+    cpu: Cpu,
+    task: Option<Task>,
+) -> Result<(), NoMemory>
+    ensures { Adds kept.old.items kept.new.items result at (wakeup_acts pid cpu task) }
+{
+    let Some(task) = task else {
+        return keep(kept, at, Deed::Fork { pid, cpu });
+    };
+    match task.mode {
+        Mode::Blocked | Mode::Waiting => keep(kept, at, Deed::Wake { pid, cpu }),
+        Mode::Ready | Mode::Running => keep_none(kept, at),
+    }
+}
+
+/// What a migration does.
+fn keep_migration(
+    kept: &mut Vec<Kept>,
+    at: Ns,
+    pid: Pid,
+    cpu: Cpu,
+    task: Option<Task>,
+) -> Result<(), NoMemory>
+    ensures { Adds kept.old.items kept.new.items result at (migration_acts pid cpu task) }
+{
+    match task {
+        Some(task) if task.mode == Mode::Ready && task.cpu.0 != cpu.0 => {
+            keep(kept, at, Deed::Migrate { pid, cpu })
+        }
+        _ => keep_none(kept, at),
+    }
+}
+
+/// A task that runs on a processor is preempted, and goes to another.
+#[tactic(auto, using(crate::proofs::Keeping::two_kept))]
+fn keep_pulled(kept: &mut Vec<Kept>, at: Ns, pid: Pid, cpu: Cpu, from: Cpu) -> Result<(), NoMemory>
+    ensures { Adds kept.old.items kept.new.items result at
+        (act_by (Deed.Switch from None How.Preempt) ∷ act_by (Deed.Migrate pid cpu) ∷ []) }
+{
+    keep(
+        kept,
+        at,
+        Deed::Switch {
+            cpu: from,
+            next: None,
+            how: How::Preempt,
+        },
+    )?;
+    keep(kept, at, Deed::Migrate { pid, cpu })
+}
+
+/// What brings a task to a processor, where it is to run.
+fn keep_arrival(
+    kept: &mut Vec<Kept>,
+    at: Ns,
+    pid: Pid,
+    cpu: Cpu,
+    task: Option<Task>,
+) -> Result<(), NoMemory>
+    ensures { Adds kept.old.items kept.new.items result at (arrival_acts pid cpu task) }
+{
+    let Some(task) = task else {
+        return keep(kept, at, Deed::Fork { pid, cpu });
+    };
+    match task.mode {
+        Mode::Blocked | Mode::Waiting => keep(kept, at, Deed::Wake { pid, cpu }),
+        Mode::Ready if task.cpu.0 == cpu.0 => keep_none(kept, at),
+        Mode::Ready => keep(kept, at, Deed::Migrate { pid, cpu }),
+        Mode::Running => keep_pulled(kept, at, pid, cpu, task.cpu),
+    }
+}
+
+/// What brings the next task, if there is one.
+fn keep_next(
+    table: &Table,
+    kept: &mut Vec<Kept>,
+    at: Ns,
+    cpu: Cpu,
+    next: Option<Pid>,
+) -> Result<(), NoMemory>
+    ensures { Adds kept.old.items kept.new.items result at
+        (next_acts table.now.world.tasks cpu next) }
+{
+    match next {
+        Some(pid) => keep_arrival(kept, at, pid, cpu, table.task(pid)),
+        None => keep_none(kept, at),
+    }
+}
+
+/// A task, if one is named, runs on a processor.
+fn runs_there(table: &Table, cpu: Cpu, pid: Option<Pid>) -> bool
+    ensures { result ≡ runs_there table.now.world.tasks cpu pid }
+{
+    let Some(pid) = pid else {
+        return false;
+    };
+    match table.task(pid) {
+        Some(task) => task.cpu.0 == cpu.0 && task.mode == Mode::Running,
+        None => false,
+    }
+}
+
+/// The task that runs on a processor makes way for the next.
+#[tactic(auto, using(crate::proofs::Keeping::some_part))]
+fn keep_turn(
+    table: &Table,
+    kept: &mut Vec<Kept>,
+    at: Ns,
+    cpu: Cpu,
+    previous: Option<Pid>,
+    next: Option<Pid>,
+    how: How,
+) -> Result<(), NoMemory>
+    ensures { Adds kept.old.items kept.new.items result at
+        (turn_acts table.now.world.tasks cpu previous next how) }
+{
+    let leaves = if runs_there(table, cpu, previous) {
+        how
+    } else {
+        How::Preempt
+    };
+    match (table.running(cpu), next) {
+        (Some(_), _) => keep(
+            kept,
+            at,
+            Deed::Switch {
+                cpu,
+                next,
+                how: leaves,
+            },
+        ),
+        (None, Some(_)) => keep(
+            kept,
+            at,
+            Deed::Switch {
+                cpu,
+                next,
+                how: How::Idle,
+            },
+        ),
+        (None, None) => keep_none(kept, at),
+    }
+}
+
+/// What a switch does.
+#[tactic(auto, using(crate::proofs::Keeping::both_kept))]
+fn keep_switch(
+    table: &Table,
+    kept: &mut Vec<Kept>,
+    at: Ns,
+    cpu: Cpu,
+    previous: Option<Pid>,
+    next: Option<Pid>,
+    how: How,
+) -> Result<(), NoMemory>
+    ensures { Adds kept.old.items kept.new.items result at
+        (switch_acts table.now.world.tasks cpu previous next how) }
+{
+    if runs_there(table, cpu, next) {
+        return keep_none(kept, at);
+    }
+    keep_next(table, kept, at, cpu, next)?;
+    keep_turn(table, kept, at, cpu, previous, next, how)
+}
+
+/// Keeps what a line does at a moment (ns), in the world of the table.
+pub(crate) fn keep_seen(
+    table: &Table,
+    kept: &mut Vec<Kept>,
+    at: Ns,
+    seen: Seen,
+) -> Result<(), NoMemory>
+    ensures { Adds kept.old.items kept.new.items result at
+        (acts_of table.now.world.tasks seen) }
+{
+    match seen {
+        Seen::Switch {
+            cpu,
+            previous,
+            next,
+            how,
+        } => keep_switch(table, kept, at, cpu, previous, next, how),
+        Seen::Wakeup { pid, cpu } => keep_wakeup(kept, at, pid, cpu, table.task(pid)),
+        Seen::Migration { pid, cpu } => keep_migration(kept, at, pid, cpu, table.task(pid)),
+    }
+}

@@ -1,0 +1,170 @@
+//! The parts of a marked line: numbers, the time and the processor of its head, and the fields of its tail.
+ghost use Rattle.std.specs.Prelude.{◌≡◌, ◌+◌, ◌-◌, ◌^◌, ◌<◌, ◌≤◌, IfSome, IsNone, Some, None, length, drop, if◌then◌else◌};
+ghost use Rattle.import_spec.specs.Places.{last_place};
+ghost use Rattle.import_spec.specs.Tails.{cpu_in, digit_count, field_in, how_in, is_bracketed, number_in, pid_in, time_in, time_of};
+ghost use Rattle.ftrace_import.specs.Bytes.{IsLastBracket};
+
+use crate::places::{behind_last, count_before, count_digits};
+use psi_base::{How, Ns, Pid, read_digits};
+
+/// How many ns a second has.
+const SECOND: Ns = 1_000_000_000;
+
+/// The number that at most so many digits write.
+fn number_in(digits: &[u8], most: usize) -> Option<u64>
+    ensures value { result ≡ number_in most digits.now }
+    ensures below { IfSome result (λ number. number < 10 ^ most) }
+    ensures length { IfSome result (λ _. (0 < length digits.now) × (length digits.now ≤ most)) }
+{
+    if digits.is_empty() || digits.len() > most {
+        return None;
+    }
+    read_digits(digits)
+}
+
+/// The unit (ns) of a fraction of a second of which so many digits are missing of nine.
+fn unit(missing: usize) -> Ns
+    requires { missing ≤ 8 }
+    ensures unit { result ≡ 10 ^ missing }
+    ensures small { result ≤ 100000000 }
+{
+    match missing {
+        0 => 1,
+        1 => 10,
+        2 => 100,
+        3 => 1_000,
+        4 => 10_000,
+        5 => 100_000,
+        6 => 1_000_000,
+        7 => 10_000_000,
+        8 => 100_000_000,
+        _ => unreachable!(),
+    }
+}
+
+/// The time (ns) of a word: seconds, a point and a fraction of at most nine digits.
+#[tactic(auto, unfolding(import_spec::specs::Tails::time_of))]
+fn time_of(word: &[u8]) -> Option<Ns>
+    ensures { result ≡ time_of word.now }
+{
+    let point = count_before(word, b'.');
+    let seconds = number_in(&word[..point], 10)?;
+    let digits = behind(word, point);
+    let fraction = number_in(digits, 9)?;
+    Some(seconds * SECOND + fraction * unit(9 - digits.len()))
+}
+
+/// What stands behind the byte at a place, and nothing where the bytes end there.
+fn behind(bytes: &[u8], at: usize) -> &[u8]
+    requires { at ≤ length bytes.now }
+    ensures { result.now ≡ drop (at + 1) bytes.now }
+{
+    if at < bytes.len() {
+        &bytes[at + 1..]
+    } else {
+        &[]
+    }
+}
+
+/// The time (ns) of a head.
+#[tactic(auto, unfolding(import_spec::specs::Tails::time_in))]
+pub(crate) fn time_in(head: &[u8]) -> Option<Ns>
+    ensures { result ≡ time_in head.now }
+{
+    let word = behind_last(head, b" ")?;
+    time_of(word)
+}
+
+/// How many digits stand in brackets at the start of these bytes, of which there is one at least.
+#[inline(always)]
+#[tactic(auto, unfolding(import_spec::specs::Tails::is_bracketed))]
+fn digits_in_brackets(bytes: &[u8]) -> Option<usize>
+    requires { 0 < length bytes.now }
+    ensures digits { result ≡ (if is_bracketed bytes.now then Some (digit_count (drop 1 bytes.now)) else None) }
+    ensures inside { IfSome result (λ count. count + 1 ≤ length bytes.now) }
+{
+    if !bytes.starts_with(b"[") {
+        return None;
+    }
+    let rest = &bytes[1..];
+    let count = count_digits(rest);
+    if count > 0 && rest[count..].starts_with(b"]") {
+        Some(count)
+    } else {
+        None
+    }
+}
+
+/// Digits in brackets.
+#[derive(Clone, Copy)]
+struct Bracketed {
+    /// Where the first of them stands.
+    start: usize,
+    count: usize,
+}
+
+/// The last number in brackets.
+fn last_in_brackets(bytes: &[u8]) -> Option<Bracketed>
+    ensures none { IsNone result → last_place is_bracketed bytes.now ≡ None }
+    ensures some { IfSome result (λ found. IsLastBracket bytes.now found.start found.count) }
+{
+    let mut at = bytes.len();
+    'places: while at > 0 {
+        at -= 1;
+        if let Some(count) = digits_in_brackets(&bytes[at..]) {
+            return Some(Bracketed {
+                start: at + 1,
+                count,
+            });
+        }
+    }
+    None
+}
+
+/// The processor of a head.
+#[tactic(auto, unfolding(import_spec::specs::Tails::cpu_in))]
+pub(crate) fn cpu_in(head: &[u8]) -> Option<u32>
+    ensures { result ≡ cpu_in head.now }
+{
+    let digits = last_in_brackets(head)?;
+    let cpu = number_in(&head[digits.start..digits.start + digits.count], 3)?;
+    Some(cpu as u32)
+}
+
+/// The number of a field.
+#[tactic(auto, unfolding(import_spec::specs::Tails::field_in))]
+pub(crate) fn field_in(part: &[u8], key: &[u8]) -> Option<u32>
+    requires some { 0 < length key.now }
+    ensures { result ≡ field_in key.now part.now }
+{
+    let rest = behind_last(part, key)?;
+    let number = number_in(&rest[..count_before(rest, b' ')], 10)?;
+    if number <= u32::MAX as u64 {
+        Some(number as u32)
+    } else {
+        None
+    }
+}
+
+/// The task with a number, where that isn't 0.
+pub(crate) fn pid_in(number: u32) -> Option<Pid>
+    ensures { result ≡ pid_in number }
+{
+    if number == 0 { None } else { Some(Pid(number)) }
+}
+
+/// How a task leaves, by its state.
+#[tactic(auto, unfolding(import_spec::specs::Tails::how_in))]
+pub(crate) fn how_in(state: &[u8]) -> Option<How>
+    ensures { result ≡ how_in state.now }
+{
+    if state.is_empty() {
+        return None;
+    }
+    Some(match state[0] {
+        b'R' => How::Preempt,
+        b'D' => How::IoWait,
+        b'X' | b'Z' => How::Exit,
+        _ => How::Sleep,
+    })
+}

@@ -1,0 +1,174 @@
+//! The events of an import, one by one.
+ghost use Rattle.std.specs.Prelude.{◌≡◌, ◌+◌, ◌≤◌, ℕ, List, false, IfOk, IsErrOf, MatchResult, Some, None, Ok};
+ghost use Rattle.psi_base.specs.Outside.{told, Lacks, counts_of};
+ghost use Rattle.psi_spec.specs.Trace.{IsCpuCount};
+ghost use Rattle.psi_spec.specs.World.{first_world};
+ghost use Rattle.import_spec.specs.Events.{made};
+ghost use Rattle.import_spec.specs.Import.{import_of};
+ghost use Rattle.ftrace_import.specs.Deeds.{event_by};
+ghost use Rattle.ftrace_import.specs.Gathers.{CausesImportFault, RefusalOf, TellsNothing, most_of_text, whole_events};
+ghost use Rattle.ftrace_import.specs.Lending.{GoesOn, IsMade, shown};
+ghost use Rattle.ftrace_import.specs.Stands.{Ends};
+
+use crate::deeds::{Deed, Kept};
+use crate::taking::Gathering;
+use crate::text::{ImportFault, gather};
+use psi_base::{Act, Cpu, Event, NoMemory, Ns, Path, Pid, Shelf};
+use std::alloc::Global;
+use std::marker::Model;
+
+/// The events of an import, with the end, one by one: contracts see the one that it stands at and the list of those that are left.
+/// Each is lent until it goes on, so that none takes memory.
+#[derive(Drop)]
+pub struct Imported {
+    gathering: Gathering,
+    /// How many events were lent.
+    at: usize,
+    /// Whether `making` is lent, or `other`.
+    makes: bool,
+    /// What is lent where a task is made: its path stays the root.
+    making: Event,
+    /// What is lent of any other event.
+    other: Event,
+}
+
+impl Model for Imported {
+    ghost use Rattle.ftrace_import.specs.Lending.{IsLending, Lending, lending};
+
+    ghost Value = { Lending };
+
+    ghost view = { λ i. lending i.gathering i.at i.makes i.making i.other };
+
+    ghost invariant = { λ i. IsLending i.gathering i.at i.making };
+}
+
+/// Has an event that makes a task in the root group make another, at another moment (ns).
+fn make_anew(making: &mut Event, at: Ns, pid: Pid, cpu: Cpu)
+    requires { IsMade making.old.act }
+    ensures moment { making.new.at ≡ at }
+    ensures act { making.new.act ≡ made pid cpu }
+{
+    making.at = at;
+    match &mut making.act {
+        Act::Fork {
+            pid: task,
+            cpu: place,
+            ..
+        } => {
+            *task = pid;
+            *place = cpu;
+        }
+        _ => unreachable!(),
+    }
+}
+
+/// Makes another event anew.
+fn tell_other(other: &mut Event, at: Ns, act: Act) -> bool
+    ensures event { other.new ≡ record { at = at; act = act } }
+    ensures result { result ≡ false }
+{
+    *other = Event { at, act };
+    false
+}
+
+/// Makes one of two events the one that was kept: the first where a task is made, and else the other.
+fn tell(kept: Kept, making: &mut Event, other: &mut Event) -> bool
+    requires { IsMade making.old.act }
+    ensures told { shown result making.new other.new ≡ event_by kept }
+    ensures makes { IsMade making.new.act }
+{
+    match kept.deed {
+        Deed::Fork { pid, cpu } => {
+            make_anew(making, kept.at, pid, cpu);
+            true
+        }
+        Deed::Wake { pid, cpu } => tell_other(other, kept.at, Act::Wake { pid, cpu }),
+        Deed::Switch { cpu, next, how } => {
+            tell_other(other, kept.at, Act::Switch { cpu, next, how })
+        }
+        Deed::Migrate { pid, cpu } => tell_other(other, kept.at, Act::Migrate { pid, cpu }),
+    }
+}
+
+impl Imported {
+    /// The events of what was gathered, with the end.
+    fn make(alloc: Global, gathering: Gathering) -> Result<Imported, NoMemory>
+        ensures { IfOk result (λ events. events.left ≡ whole_events gathering) }
+    {
+        let making = Event {
+            at: 0,
+            act: Act::Fork {
+                pid: Pid(1),
+                path: Path::root(alloc)?,
+                cpu: Cpu(0),
+            },
+        };
+        let other = Event {
+            at: 0,
+            act: Act::End,
+        };
+        Ok(Imported {
+            gathering,
+            at: 0,
+            makes: true,
+            making,
+            other,
+        })
+    }
+
+    /// Goes on to the next event. False behind the end. It takes no memory.
+    pub fn advance(&mut self) -> bool
+        ensures { GoesOn self.old self.new result }
+    {
+        let at = self.at;
+        let count = self.gathering.kept.len();
+        if at > count {
+            return false;
+        }
+        self.at += 1;
+        if at == count {
+            self.makes = tell_other(&mut self.other, self.gathering.moment, Act::End);
+            return true;
+        }
+        let kept = self.gathering.kept[at];
+        self.makes = tell(kept, &mut self.making, &mut self.other);
+        true
+    }
+
+    /// The event that it stands at.
+    pub fn event(&self) -> &Event
+        ensures { result.now ≡ self.now.event }
+    {
+        if self.makes {
+            &self.making
+        } else {
+            &self.other
+        }
+    }
+}
+
+/// Imports a file's text of ftrace, whose events are then lent one by one. `Refused` with the first refused line and its first
+/// cause. It takes all memory that the events need, about 24 bytes for each.
+pub fn read_import<S: Shelf>(
+    alloc: Global,
+    shelf: &mut S,
+    name: &str,
+    cpus: u32,
+) -> Result<Imported, ImportFault>
+    requires { IsCpuCount cpus }
+    ensures kept { S.holds shelf.new ≡ S.holds shelf.old }
+    ensures accepted { IfOk result (λ events. Ends cpus first_world events.left) }
+    ensures content { (bytes : List ℕ) → told (S.holds shelf.old) name.now ≡ Some bytes →
+        MatchResult result (λ events. import_of cpus bytes ≡ Ok events.left)
+        (λ fault. RefusalOf fault (import_of cpus bytes)) }
+    ensures missed { IsErrOf result ImportFault.NoFile →
+        told (S.holds shelf.old) name.now ≡ None }
+    ensures missing { Lacks (S.holds shelf.old) name.now → TellsNothing result }
+    ensures cause { CausesImportFault (counts_of (S.faults shelf.old) (S.absent shelf.old))
+        (counts_of (S.faults shelf.new) (S.absent shelf.new)) result }
+    ensures given { S.given shelf.new ≤ S.given shelf.old + most_of_text }
+{
+    let gathering = gather(alloc, shelf, name, cpus)?;
+    let events = Imported::make(alloc, gathering)?;
+    Ok(events)
+}

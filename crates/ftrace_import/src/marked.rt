@@ -1,0 +1,174 @@
+//! Which lines are marked, and what each of these tells.
+ghost use Rattle.std.specs.Prelude.{◌≡◌, ◌<◌, ◌+◌, ◌≤◌, IfSome, IsNone, Some, None, length, drop, option_map};
+ghost use Rattle.import_spec.specs.Places.{first_place};
+ghost use Rattle.import_spec.specs.Marked.{begins_marked, if_formed, mark_of, migration_in, read_line, seen_in, sighting_of, switch_in, wakeup_in};
+ghost use Rattle.ftrace_import.specs.Bytes.{IsFirstMark, mark_parts, parted};
+
+use crate::fields::{cpu_in, field_in, how_in, pid_in, time_in};
+use crate::places::{behind_last, last_text};
+use import_spec::{ImportCause, LineKind, Seen, Sighting};
+use psi_base::Cpu;
+
+/// A mark, of which only its kind and its size are known.
+#[derive(Clone, Copy)]
+struct ShortMark {
+    /// Which lines it marks.
+    kind: LineKind,
+    /// How many bytes it has.
+    size: usize,
+}
+
+fn mark(kind: LineKind, size: usize) -> ShortMark
+    ensures { result ≡ record { kind = kind; size = size } }
+{
+    ShortMark { kind, size }
+}
+
+/// The mark with which bytes begin.
+#[tactic(auto, unfolding(import_spec::specs::Marked::mark_of))]
+fn mark_of(bytes: &[u8]) -> Option<ShortMark>
+    ensures mark { result ≡ option_map mark_parts (mark_of bytes.now) }
+    ensures inside { IfSome result (λ mark. mark.size ≤ length bytes.now) }
+{
+    if bytes.starts_with(b": sched_switch: ") {
+        Some(mark(LineKind::Switch, 16))
+    } else if bytes.starts_with(b": sched_wakeup: ") {
+        Some(mark(LineKind::Wakeup, 16))
+    } else if bytes.starts_with(b": sched_wakeup_new: ") {
+        Some(mark(LineKind::Wakeup, 20))
+    } else if bytes.starts_with(b": sched_migrate_task: ") {
+        Some(mark(LineKind::Migration, 22))
+    } else {
+        None
+    }
+}
+
+/// The mark at a place. Each begins with a colon.
+#[inline(always)]
+fn mark_at(line: &[u8], at: usize) -> Option<ShortMark>
+    requires { at < length line.now }
+    ensures mark { result ≡ option_map mark_parts (mark_of (drop at line.now)) }
+    ensures inside { IfSome result (λ mark. at + mark.size ≤ length line.now) }
+{
+    if line[at] == b':' {
+        mark_of(&line[at..])
+    } else {
+        None
+    }
+}
+
+/// The mark of a line, and where it begins.
+#[derive(Clone, Copy)]
+struct Found {
+    at: usize,
+    mark: ShortMark,
+}
+
+/// The leftmost mark of a line.
+fn first_mark(line: &[u8]) -> Option<Found>
+    ensures none { IsNone result → first_place begins_marked line.now ≡ None }
+    ensures some { IfSome result (λ found. IsFirstMark line.now found.at found.mark) }
+{
+    let mut at = 0;
+    'places: while at < line.len() {
+        if let Some(mark) = mark_at(line, at) {
+            return Some(Found { at, mark });
+        }
+        at += 1;
+    }
+    None
+}
+
+/// A switch on a processor, by its tail.
+#[tactic(auto, unfolding(import_spec::specs::Marked::switch_in))]
+fn switch_in(cpu: u32, tail: &[u8]) -> Option<Seen>
+    ensures { result ≡ switch_in cpu tail.now }
+{
+    let arrow = last_text(tail, b" ==> ")?;
+    let left = &tail[..arrow];
+    let previous = field_in(left, b" prev_pid=")?;
+    let state = behind_last(left, b" prev_state=")?;
+    let how = how_in(state)?;
+    let next = field_in(&tail[arrow + 5..], b" next_pid=")?;
+    Some(Seen::Switch {
+        cpu: Cpu(cpu),
+        previous: pid_in(previous),
+        next: pid_in(next),
+        how,
+    })
+}
+
+/// A wakeup, by its tail.
+#[tactic(auto, unfolding(import_spec::specs::Marked::wakeup_in))]
+fn wakeup_in(tail: &[u8]) -> Option<Seen>
+    ensures { result ≡ wakeup_in tail.now }
+{
+    let number = field_in(tail, b" pid=")?;
+    let pid = pid_in(number)?;
+    let target = field_in(tail, b" target_cpu=")?;
+    Some(Seen::Wakeup {
+        pid,
+        cpu: Cpu(target),
+    })
+}
+
+/// A migration, by its tail.
+#[tactic(auto, unfolding(import_spec::specs::Marked::migration_in))]
+fn migration_in(tail: &[u8]) -> Option<Seen>
+    ensures { result ≡ migration_in tail.now }
+{
+    let number = field_in(tail, b" pid=")?;
+    let pid = pid_in(number)?;
+    let target = field_in(tail, b" dest_cpu=")?;
+    Some(Seen::Migration {
+        pid,
+        cpu: Cpu(target),
+    })
+}
+
+/// What a tail tells, of a line of this kind on this processor.
+fn seen_in(kind: LineKind, cpu: u32, tail: &[u8]) -> Option<Seen>
+    ensures { result ≡ seen_in kind cpu tail.now }
+{
+    match kind {
+        LineKind::Switch => switch_in(cpu, tail),
+        LineKind::Wakeup => wakeup_in(tail),
+        LineKind::Migration => migration_in(tail),
+    }
+}
+
+/// What a marked line tells and when.
+#[tactic(auto, unfolding(import_spec::specs::Marked::sighting_of))]
+fn sighting_of(kind: LineKind, head: &[u8], tail: &[u8]) -> Option<Sighting>
+    ensures { result ≡ sighting_of (record { kind = kind; head = head.now; tail = tail.now }) }
+{
+    let at = time_in(head)?;
+    let cpu = cpu_in(head)?;
+    let seen = seen_in(kind, cpu, tail)?;
+    Some(Sighting { at, seen })
+}
+
+/// What a line tells and when that has a mark.
+fn read_marked(line: &[u8], found: Found) -> Result<Option<Sighting>, ImportCause>
+    requires { IsFirstMark line.now found.at found.mark }
+    ensures { result ≡ if_formed (sighting_of (parted line.now found.at found.mark)) }
+{
+    let tail = &line[found.at + found.mark.size..];
+    match sighting_of(found.mark.kind, &line[..found.at], tail) {
+        Some(sighting) => Ok(Some(sighting)),
+        None => Err(ImportCause::BadLine),
+    }
+}
+
+/// What a line tells and when, if it is marked. `BadLine` where it is and isn't of the form.
+pub(crate) fn read_line(line: &[u8]) -> Result<Option<Sighting>, ImportCause>
+    ensures { result ≡ read_line line.now }
+{
+    if line.starts_with(b"#") {
+        return Ok(None);
+    }
+    match first_mark(line) {
+        Some(found) => read_marked(line, found),
+        None => Ok(None),
+    }
+}

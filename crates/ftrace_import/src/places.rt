@@ -1,0 +1,79 @@
+//! Where something stands in bytes.
+ghost use Rattle.std.specs.Prelude.{◌≡◌, ◌+◌, ◌<◌, ◌≤◌, IfSome, length, drop};
+ghost use Rattle.std.specs.List.{position_or_len, prefix_len};
+ghost use Rattle.std.specs.Char.{is_ascii_digit};
+ghost use Rattle.import_spec.specs.Places.{begins, behind_last, last_place};
+ghost use Rattle.ftrace_import.specs.Bytes.{is_at, shown};
+
+/// A text of one byte or more stands at this place.
+#[inline(always)]
+fn stands_at(bytes: &[u8], at: usize, text: &[u8]) -> bool
+    requires some { 0 < length text.now }
+    requires inside { at < length bytes.now }
+    ensures stands { result ≡ begins text.now (drop at bytes.now) }
+{
+    bytes[at] == text[0] && bytes[at..].starts_with(text)
+}
+
+/// The last place of a text of one byte or more.
+#[inline(always)]
+pub(crate) fn last_text(bytes: &[u8], text: &[u8]) -> Option<usize>
+    requires some { 0 < length text.now }
+    ensures last { result ≡ last_place (begins text.now) bytes.now }
+    ensures inside { IfSome result (λ at. at + length text.now ≤ length bytes.now) }
+{
+    let mut at = bytes.len();
+    'places: while at > 0 {
+        at -= 1;
+        if stands_at(bytes, at, text) {
+            return Some(at);
+        }
+    }
+    None
+}
+
+/// What stands behind the last place of a text.
+#[inline(always)]
+pub(crate) fn behind_last<'a>(bytes: &'a [u8], text: &[u8]) -> Option<&'a [u8]>
+    requires some { 0 < length text.now }
+    ensures { shown result ≡ behind_last text.now bytes.now }
+{
+    match last_text(bytes, text) {
+        Some(at) => Some(&bytes[at + text.len()..]),
+        None => None,
+    }
+}
+
+/// How many bytes stand before the first of this value; all, where there is none.
+#[inline(always)]
+#[tactic(auto, using(crate::proofs::Bytes::runs))]
+pub(crate) fn count_before(bytes: &[u8], byte: u8) -> usize
+    ensures count { result ≡ position_or_len (is_at byte) bytes.now }
+    ensures inside { result ≤ length bytes.now }
+{
+    let mut count = 0;
+    'bytes: while count < bytes.len() {
+        if bytes[count] == byte {
+            return count;
+        }
+        count += 1;
+    }
+    count
+}
+
+/// How many digits the bytes begin with.
+#[inline(always)]
+#[tactic(auto, using(crate::proofs::Bytes::runs))]
+pub(crate) fn count_digits(bytes: &[u8]) -> usize
+    ensures count { result ≡ prefix_len is_ascii_digit bytes.now }
+    ensures inside { result ≤ length bytes.now }
+{
+    let mut count = 0;
+    'digits: while count < bytes.len() {
+        if !bytes[count].is_ascii_digit() {
+            return count;
+        }
+        count += 1;
+    }
+    count
+}

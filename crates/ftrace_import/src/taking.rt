@@ -1,0 +1,195 @@
+//! The events of a text, gathered line by line.
+ghost use Rattle.std.specs.Prelude.{◌≡◌, ◌-◌, ◌≤◌, [], IfOk, OnOk, None, drop, is_some, length, max, unwrap_or};
+ghost use Rattle.psi_spec.specs.Names.{names};
+ghost use Rattle.psi_spec.specs.Refusal.{AreLegal, cause_of};
+ghost use Rattle.psi_spec.specs.Trace.{IsCpuCount};
+ghost use Rattle.psi_spec.specs.World.{after_event, after_from};
+ghost use Rattle.import_spec.specs.Events.{acts_cause, given_at, given_of, make_task, needed_cpu, unreached};
+ghost use Rattle.ftrace_import.specs.Deeds.{act_by, acts_in, event_by, events_by};
+ghost use Rattle.ftrace_import.specs.Gathers.{IsGathered, TakesLine, reached_in};
+ghost use Rattle.ftrace_import.specs.Stands.{IsSeen};
+
+use crate::deeds::{Deed, Kept, event_of, keep_seen};
+use crate::marked::read_line;
+use import_spec::{ImportCause, Seen, Sighting};
+use psi_base::{Cpu, Fault, NoMemory, Ns};
+use std::alloc::Global;
+use task_table::Table;
+
+/// The last moment (ns) that a trace may reach at the default tick.
+const LATEST: Ns = 2_000_000_000_000_000;
+
+/// How many events may stand before the end.
+const MOST_EVENTS: usize = 3_999_999;
+
+/// An import that has come so far.
+#[derive(Drop)]
+pub struct Gathering {
+    alloc: Global,
+    /// How many processors the machine has.
+    pub(crate) cpus: u32,
+    /// The world after all events that are kept.
+    table: Table,
+    /// The events, without the end.
+    pub(crate) kept: Vec<Kept>,
+    /// The time (ns) of the first marked line, if there was one.
+    first: Option<Ns>,
+    /// The moment (ns) of the last marked line.
+    pub(crate) moment: Ns,
+}
+
+/// An import before the first line.
+pub(crate) fn start(alloc: Global, cpus: u32) -> Result<Gathering, NoMemory>
+    requires { IsCpuCount cpus }
+    ensures so { IfOk result (λ g. IsGathered g) }
+    ensures cpus { IfOk result (λ g. g.cpus ≡ cpus) }
+    ensures none { IfOk result (λ g. (g.kept.items ≡ []) × (reached_in g ≡ unreached)) }
+{
+    Ok(Gathering {
+        alloc,
+        cpus,
+        table: Table::new(alloc, cpus, LATEST)?,
+        kept: Vec::new(alloc),
+        first: None,
+        moment: 0,
+    })
+}
+
+/// A deed makes a task.
+fn makes(deed: Deed) -> bool
+    ensures { result ≡ is_some (names (act_by deed)).new_task }
+{
+    match deed {
+        Deed::Fork { .. } => true,
+        Deed::Wake { .. } | Deed::Switch { .. } | Deed::Migrate { .. } => false,
+    }
+}
+
+/// One of these deeds makes a task.
+fn make_task(kept: &[Kept]) -> bool
+    ensures { result ≡ make_task (acts_in kept.now) }
+{
+    let mut at = 0;
+    'kept: while at < kept.len() {
+        if makes(kept[at].deed) {
+            return true;
+        }
+        at += 1;
+    }
+    false
+}
+
+/// The first cause against a line that does this at a moment (ns), in the world of the table.
+fn acts_cause(table: &Table, cpus: u32, moment: Ns, cpu: Cpu, kept: &[Kept]) -> Option<ImportCause>
+    ensures { result ≡ acts_cause cpus table.now.world moment cpu (acts_in kept.now) }
+{
+    if cpu.0 >= cpus {
+        Some(ImportCause::BadCpu)
+    } else if moment > LATEST {
+        Some(ImportCause::TooLate)
+    } else if make_task(kept) && table.is_full() {
+        Some(ImportCause::TooManyTasks)
+    } else if table.lines() as usize + kept.len() > MOST_EVENTS {
+        Some(ImportCause::TooManyEvents)
+    } else {
+        None
+    }
+}
+
+/// Plays a legal event.
+fn play_one(alloc: Global, table: &mut Table, kept: Kept) -> Result<(), NoMemory>
+    requires { cause_of table.old.limits table.old.world (event_by kept) ≡ None }
+    ensures limits { OnOk result (table.new.limits ≡ table.old.limits) }
+    ensures world { OnOk result (table.new.world
+        ≡ after_event table.old.world (event_by kept)) }
+{
+    let event = event_of(alloc, kept)?;
+    match table.play(&event) {
+        Ok(()) => Ok(()),
+        Err(Fault::NoMemory(none)) => Err(none),
+        Err(Fault::Refused(_)) => unreachable!(),
+    }
+}
+
+/// Plays events that are legal in their turn.
+fn play_all(alloc: Global, table: &mut Table, kept: &[Kept]) -> Result<(), NoMemory>
+    requires { AreLegal table.old.limits table.old.world (events_by kept.now) }
+    ensures limits { OnOk result (table.new.limits ≡ table.old.limits) }
+    ensures world { OnOk result (table.new.world
+        ≡ after_from table.old.world (events_by kept.now)) }
+{
+    let mut at = 0;
+    'kept: while at < kept.len() {
+        play_one(alloc, table, kept[at])?;
+        at += 1;
+    }
+    Ok(())
+}
+
+/// The processor that has to be there.
+fn needed_cpu(seen: Seen) -> Cpu
+    ensures { result ≡ needed_cpu seen }
+{
+    match seen {
+        Seen::Switch { cpu, .. } | Seen::Wakeup { cpu, .. } | Seen::Migration { cpu, .. } => cpu,
+    }
+}
+
+/// A time, where there is one, or else another (ns).
+fn time_or(first: Option<Ns>, at: Ns) -> Ns
+    ensures { result ≡ unwrap_or first at }
+{
+    match first {
+        Some(time) => time,
+        None => at,
+    }
+}
+
+/// The moment (ns) of a line at this time, where the first marked line was at another, and the last had this moment.
+fn moment_of(first: Ns, moment: Ns, at: Ns) -> Ns
+    ensures { result ≡ max moment (at - first) }
+{
+    moment.max(at.saturating_sub(first))
+}
+
+/// What was kept from a place on.
+fn kept_from(kept: &Vec<Kept>, before: usize) -> &[Kept]
+    requires { before ≤ length kept.now.items }
+    ensures { result.now ≡ drop before kept.now.items }
+{
+    &kept[before..]
+}
+
+/// Takes what a line tells: keeps its events, and plays them.
+fn take_sighting(g: &mut Gathering, sighting: Sighting) -> Result<(), Fault<ImportCause>>
+    requires so { IsGathered g.old }
+    requires seen { IsSeen sighting.seen }
+    ensures { TakesLine (given_at g.old.cpus (reached_in g.old) sighting.at sighting.seen)
+        g.old g.new result }
+{
+    let first = time_or(g.first, sighting.at);
+    let moment = moment_of(first, g.moment, sighting.at);
+    let before = g.kept.len();
+    keep_seen(&g.table, &mut g.kept, moment, sighting.seen)?;
+    let new = kept_from(&g.kept, before);
+    let cpu = needed_cpu(sighting.seen);
+    if let Some(cause) = acts_cause(&g.table, g.cpus, moment, cpu, new) {
+        return Err(Fault::Refused(cause));
+    }
+    play_all(g.alloc, &mut g.table, new)?;
+    g.first = Some(first);
+    g.moment = moment;
+    Ok(())
+}
+
+/// Takes a line: keeps its events, if it is marked. Where it is refused, the import isn't used again.
+pub(crate) fn take_line(g: &mut Gathering, line: &[u8]) -> Result<(), Fault<ImportCause>>
+    requires { IsGathered g.old }
+    ensures { TakesLine (given_of g.old.cpus (reached_in g.old) line.now) g.old g.new result }
+{
+    match read_line(line) {
+        Ok(Some(sighting)) => take_sighting(g, sighting),
+        Ok(None) => Ok(()),
+        Err(cause) => Err(Fault::Refused(cause)),
+    }
+}

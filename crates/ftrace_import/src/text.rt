@@ -1,0 +1,261 @@
+//! The import of a file's text.
+ghost use Rattle.std.specs.Prelude.{◌≡◌, ◌+◌, ◌≤◌, ℕ, List, [], IfOk, IsErrOf, MatchResult, Some, None, Ok, true, false};
+ghost use Rattle.psi_base.specs.Outside.{told, Lacks, counts_of};
+ghost use Rattle.psi_lines.specs.Lines.{left};
+ghost use Rattle.psi_spec.specs.Trace.{IsCpuCount};
+ghost use Rattle.psi_spec.specs.World.{first_world};
+ghost use Rattle.import_spec.specs.Events.{unreached};
+ghost use Rattle.import_spec.specs.Import.{import_of};
+ghost use Rattle.ftrace_import.specs.Gathers.{CausesImportFault, Gathers, IsGathered, IsLineFault, LinesGive, NextGives, ReadsLine, RefusalOf, TellsNothing, import_fault, most_of_text, reached_in, whole_events};
+ghost use Rattle.ftrace_import.specs.Stands.{Ends};
+
+use crate::deeds::event_of;
+use crate::taking::{Gathering, start, take_line};
+use import_spec::ImportCause;
+use psi_base::{Act, Event, Fault, NoMemory, Shelf};
+use psi_lines::{LineFault, Lines};
+use std::alloc::Global;
+
+/// How many lines are read at most, and none may stand behind them.
+const MOST_LINES: u32 = 16_000_000;
+
+/// Why there is no import.
+#[derive(Clone, Copy, Debug, PartialEq, Eq)]
+pub enum ImportFault {
+    /// A line is refused: its number, from 1, and the first cause against it.
+    Refused { line: u32, cause: ImportCause },
+    /// The shelf has no such name.
+    NoFile,
+    /// A read failed.
+    ReadFault,
+    /// There was no memory.
+    NoMemory(NoMemory),
+}
+
+impl From<NoMemory> for ImportFault {
+    ghost use Rattle.std.specs.Prelude.{◌≡◌};
+    ghost use Rattle.ftrace_import.specs.declared.text.ImportFault.TheVariants as fault;
+
+    ghost from_gives = { λ none e. e ≡ fault.NoMemory none };
+
+    fn from(none: NoMemory) -> Self {
+        ImportFault::NoMemory(none)
+    }
+}
+
+/// The fault of a line.
+fn fault_at(line: u32, fault: Fault<ImportCause>) -> ImportFault
+    ensures { IsLineFault line fault result }
+{
+    match fault {
+        Fault::Refused(cause) => ImportFault::Refused { line, cause },
+        Fault::NoMemory(none) => ImportFault::NoMemory(none),
+    }
+}
+
+/// Why there is no import where a line isn't read.
+fn import_fault(fault: LineFault) -> ImportFault
+    ensures { result ≡ import_fault fault }
+{
+    match fault {
+        LineFault::TooLong(line) => ImportFault::Refused {
+            line,
+            cause: ImportCause::LineTooLong,
+        },
+        LineFault::Cut(line) => ImportFault::Refused {
+            line,
+            cause: ImportCause::Cut,
+        },
+        LineFault::NoFile => ImportFault::NoFile,
+        LineFault::ReadFault => ImportFault::ReadFault,
+        LineFault::NoMemory(none) => ImportFault::NoMemory(none),
+    }
+}
+
+/// Looks behind the most lines, where nothing may stand.
+fn look_behind<S: Shelf>(
+    g: &Gathering,
+    lines: &mut Lines,
+    shelf: &mut S,
+) -> Result<bool, ImportFault>
+    requires so { IsGathered g.now }
+    requires number { lines.old.number ≡ 16000001 }
+    ensures kept { S.holds shelf.new ≡ S.holds shelf.old }
+    ensures content { NextGives lines.old.number g.now g.now (left lines.old) (left lines.new)
+        (told (S.holds shelf.old) lines.old.name) result }
+    ensures over { IfOk result (λ more. more ≡ false) }
+    ensures reads { ReadsLine (told (S.holds shelf.old) lines.old.name) lines.old lines.new
+        (counts_of (S.faults shelf.old) (S.absent shelf.old))
+        (counts_of (S.faults shelf.new) (S.absent shelf.new))
+        (S.given shelf.old) (S.given shelf.new) result }
+    ensures missing { lines.old.held ≡ [] → Lacks (S.holds shelf.old) lines.old.name →
+        TellsNothing result }
+{
+    match lines.is_at_end(shelf) {
+        Ok(true) => Ok(false),
+        Ok(false) => Err(ImportFault::Refused {
+            line: lines.number(),
+            cause: ImportCause::TooManyLines,
+        }),
+        Err(fault) => Err(import_fault(fault)),
+    }
+}
+
+/// Takes the next line. False where there is none.
+fn take_next<S: Shelf>(
+    g: &mut Gathering,
+    lines: &mut Lines,
+    shelf: &mut S,
+) -> Result<bool, ImportFault>
+    requires so { IsGathered g.old }
+    requires number { lines.old.number ≤ 16000000 }
+    ensures kept { S.holds shelf.new ≡ S.holds shelf.old }
+    ensures content { NextGives lines.old.number g.old g.new (left lines.old) (left lines.new)
+        (told (S.holds shelf.old) lines.old.name) result }
+    ensures number { result ≡ Ok true → lines.new.number ≡ lines.old.number + 1 }
+    ensures reads { ReadsLine (told (S.holds shelf.old) lines.old.name) lines.old lines.new
+        (counts_of (S.faults shelf.old) (S.absent shelf.old))
+        (counts_of (S.faults shelf.new) (S.absent shelf.new))
+        (S.given shelf.old) (S.given shelf.new) result }
+    ensures missing { lines.old.held ≡ [] → Lacks (S.holds shelf.old) lines.old.name →
+        TellsNothing result }
+{
+    let number = lines.number();
+    match lines.next_bytes(shelf) {
+        Ok(Some(line)) => match take_line(g, line) {
+            Ok(()) => Ok(true),
+            Err(fault) => Err(fault_at(number, fault)),
+        },
+        Ok(None) => Ok(false),
+        Err(fault) => Err(import_fault(fault)),
+    }
+}
+
+/// Takes the next line, or looks behind the most lines.
+fn next_step<S: Shelf>(
+    g: &mut Gathering,
+    lines: &mut Lines,
+    shelf: &mut S,
+) -> Result<bool, ImportFault>
+    requires so { IsGathered g.old }
+    requires number { lines.old.number ≤ 16000001 }
+    ensures kept { S.holds shelf.new ≡ S.holds shelf.old }
+    ensures content { NextGives lines.old.number g.old g.new (left lines.old) (left lines.new)
+        (told (S.holds shelf.old) lines.old.name) result }
+    ensures number { result ≡ Ok true → (lines.new.number ≡ lines.old.number + 1)
+        × (lines.new.number ≤ 16000001) }
+    ensures reads { ReadsLine (told (S.holds shelf.old) lines.old.name) lines.old lines.new
+        (counts_of (S.faults shelf.old) (S.absent shelf.old))
+        (counts_of (S.faults shelf.new) (S.absent shelf.new))
+        (S.given shelf.old) (S.given shelf.new) result }
+    ensures missing { lines.old.held ≡ [] → Lacks (S.holds shelf.old) lines.old.name →
+        TellsNothing result }
+{
+    if lines.number() > MOST_LINES {
+        look_behind(g, lines, shelf)
+    } else {
+        take_next(g, lines, shelf)
+    }
+}
+
+/// Takes all lines of a file. There are at most 16,000,001 steps, so this ends.
+fn take_lines<S: Shelf>(
+    g: &mut Gathering,
+    lines: &mut Lines,
+    shelf: &mut S,
+) -> Result<(), ImportFault>
+    requires so { IsGathered g.old }
+    requires fresh { reached_in g.old ≡ unreached }
+    requires none { g.old.kept.items ≡ [] }
+    requires number { lines.old.number ≡ 1 }
+    requires held { lines.old.held ≡ [] }
+    requires place { lines.old.at ≡ 0 }
+    ensures kept { S.holds shelf.new ≡ S.holds shelf.old }
+    ensures content { LinesGive g.old.cpus g.new (left lines.old)
+        (told (S.holds shelf.old) lines.old.name) result }
+    ensures missed { IsErrOf result ImportFault.NoFile →
+        told (S.holds shelf.old) lines.old.name ≡ None }
+    ensures missing { Lacks (S.holds shelf.old) lines.old.name → TellsNothing result }
+    ensures cause { CausesImportFault (counts_of (S.faults shelf.old) (S.absent shelf.old))
+        (counts_of (S.faults shelf.new) (S.absent shelf.new)) result }
+    ensures given { S.given shelf.new ≤ S.given shelf.old + most_of_text }
+{
+    'lines: loop {
+        match next_step(g, lines, shelf) {
+            Ok(true) => {}
+            Ok(false) => return Ok(()),
+            Err(fault) => return Err(fault),
+        }
+    }
+}
+
+/// Reads a file's text of ftrace, and keeps its events, on a machine with 1 to 64 processors. It reads 16,000,001 lines at most.
+///
+/// `NoFile` and `ReadFault` only where the shelf counted an absent name or a fault in this call.
+pub fn gather<S: Shelf>(
+    alloc: Global,
+    shelf: &mut S,
+    name: &str,
+    cpus: u32,
+) -> Result<Gathering, ImportFault>
+    requires { IsCpuCount cpus }
+    ensures kept { S.holds shelf.new ≡ S.holds shelf.old }
+    ensures content { Gathers cpus (told (S.holds shelf.old) name.now) result }
+    ensures missed { IsErrOf result ImportFault.NoFile →
+        told (S.holds shelf.old) name.now ≡ None }
+    ensures missing { Lacks (S.holds shelf.old) name.now → TellsNothing result }
+    ensures cause { CausesImportFault (counts_of (S.faults shelf.old) (S.absent shelf.old))
+        (counts_of (S.faults shelf.new) (S.absent shelf.new)) result }
+    ensures given { S.given shelf.new ≤ S.given shelf.old + most_of_text }
+{
+    let mut lines = Lines::new(alloc, name)?;
+    let mut g = start(alloc, cpus)?;
+    match take_lines(&mut g, &mut lines, shelf) {
+        Ok(()) => Ok(g),
+        Err(fault) => Err(fault),
+    }
+}
+
+/// Imports a file's text of ftrace: its events, and the end. `Refused` with the first refused line and its first cause.
+///
+/// The program writes its output from what [`gather`] keeps, which takes a third of the memory.
+pub fn import<S: Shelf>(
+    alloc: Global,
+    shelf: &mut S,
+    name: &str,
+    cpus: u32,
+) -> Result<Vec<Event>, ImportFault>
+    requires { IsCpuCount cpus }
+    ensures kept { S.holds shelf.new ≡ S.holds shelf.old }
+    ensures accepted { IfOk result (λ events. Ends cpus first_world events.items) }
+    ensures content { (bytes : List ℕ) → told (S.holds shelf.old) name.now ≡ Some bytes →
+        MatchResult result (λ events. import_of cpus bytes ≡ Ok events.items)
+        (λ fault. RefusalOf fault (import_of cpus bytes)) }
+    ensures missed { IsErrOf result ImportFault.NoFile →
+        told (S.holds shelf.old) name.now ≡ None }
+    ensures missing { Lacks (S.holds shelf.old) name.now → TellsNothing result }
+    ensures cause { CausesImportFault (counts_of (S.faults shelf.old) (S.absent shelf.old))
+        (counts_of (S.faults shelf.new) (S.absent shelf.new)) result }
+    ensures given { S.given shelf.new ≤ S.given shelf.old + most_of_text }
+{
+    let g = gather(alloc, shelf, name, cpus)?;
+    let events = all_events(alloc, &g)?;
+    Ok(events)
+}
+
+/// All events of an import, with the end.
+fn all_events(alloc: Global, g: &Gathering) -> Result<Vec<Event>, NoMemory>
+    ensures { IfOk result (λ events. events.items ≡ whole_events g.now) }
+{
+    let mut events: Vec<Event> = Vec::new(alloc);
+    let mut at = 0;
+    'kept: while at < g.kept.len() {
+        events.push(event_of(alloc, g.kept[at])?)?;
+        at += 1;
+    }
+    events.push(Event {
+        at: g.moment,
+        act: Act::End,
+    })?;
+    Ok(events)
+}

@@ -1,0 +1,180 @@
+-- The events of a line, in the world after those that were written so far.
+use Rattle.std.specs.Prelude.{ℕ, ◌+◌, ◌-◌, ◌*◌, max, List, [], ◌∷◌, ◌++◌, map, length, nat_lt, nat_le, ◌==◌, ◌&&◌, not, Bool, false, if◌then◌else◌, codes, Option, None, Some, is_some, unwrap_or, Result, Ok, Err}
+use Rattle.std.specs.List.{list_any}
+use Rattle.std.specs.FinMap as tasks_by
+use Rattle.psi_base.specs.declared.event.Pid.{Pid}
+use Rattle.psi_base.specs.declared.event.Cpu.{Cpu}
+use Rattle.psi_base.specs.declared.event.How.{How}
+use Rattle.psi_base.specs.declared.event.How.TheVariants.{Idle, Preempt}
+use Rattle.psi_base.specs.declared.event.Act.{Act}
+use Rattle.psi_base.specs.declared.event.Act.TheVariants as act
+use Rattle.psi_base.specs.declared.event.Event.{Event}
+use Rattle.psi_spec.specs.declared.machine.Mode.{Mode}
+use Rattle.psi_spec.specs.declared.machine.Mode.TheVariants.{Blocked, Ready, Running, Waiting}
+use Rattle.psi_spec.specs.declared.machine.Task.{Task}
+use Rattle.psi_spec.specs.Names.{names}
+use Rattle.psi_spec.specs.World.{Tasks, World, after_from, first_world, is_active, is_ready, is_running_on, most_tasks, running_on, task_of, test_task}
+use Rattle.import_spec.specs.declared.cause.ImportCause.{ImportCause}
+use Rattle.import_spec.specs.declared.cause.ImportCause.TheVariants as cause
+use Rattle.import_spec.specs.declared.seen.Seen.{Seen}
+use Rattle.import_spec.specs.declared.seen.Seen.TheVariants as seen
+use Rattle.import_spec.specs.declared.seen.Sighting.{Sighting}
+use Rattle.import_spec.specs.Marked.{read_line}
+
+-- ---- what a line does
+
+-- a task is made, in the root group
+abbrev pub made : Pid → Cpu → Act
+made pid cpu = act.Fork pid (codes "/") cpu
+
+-- a wakeup makes a task that isn't live, and wakes one that sleeps
+abbrev pub wakeup_acts : Pid → Cpu → Option Task → List Act
+wakeup_acts pid cpu None = made pid cpu ∷ []
+wakeup_acts pid cpu (Some task) = if is_active task.mode then [] else act.Wake pid cpu ∷ []
+
+-- a migration takes a task that is ready to another processor
+abbrev pub migration_acts : Pid → Cpu → Option Task → List Act
+migration_acts pid cpu None = []
+migration_acts pid cpu (Some task) =
+    if is_ready task.mode && not (task.cpu.0 == cpu.0) then act.Migrate pid cpu ∷ [] else []
+
+-- What brings a live task to a processor, where it is to run, by where it is and what it does: it is woken where it sleeps, goes
+-- there where it is ready elsewhere, and where it runs elsewhere it is preempted first.
+abbrev pub coming_acts : Pid → Cpu → Cpu → Mode → List Act
+coming_acts pid cpu from Blocked = act.Wake pid cpu ∷ []
+coming_acts pid cpu from Waiting = act.Wake pid cpu ∷ []
+coming_acts pid cpu from Ready = if from.0 == cpu.0 then [] else act.Migrate pid cpu ∷ []
+coming_acts pid cpu from Running = act.Switch from None Preempt ∷ act.Migrate pid cpu ∷ []
+
+-- what brings a task to a processor, which is made where it isn't live
+abbrev pub arrival_acts : Pid → Cpu → Option Task → List Act
+arrival_acts pid cpu None = made pid cpu ∷ []
+arrival_acts pid cpu (Some task) = coming_acts pid cpu task.cpu task.mode
+
+-- what brings the next task, if there is one
+abbrev pub next_acts : Tasks → Cpu → Option Pid → List Act
+next_acts tasks cpu None = []
+next_acts tasks cpu (Some pid) = arrival_acts pid cpu (task_of tasks pid.0)
+
+-- a task, if one is named, runs on a processor
+abbrev pub runs_there : Tasks → Cpu → Option Pid → Bool
+runs_there tasks cpu None = false
+runs_there tasks cpu (Some pid) = test_task (task_of tasks pid.0) (is_running_on cpu.0)
+
+-- how the task that runs on a processor makes way: as the line says, where the line names it, and else it is preempted
+abbrev pub leaving : Tasks → Cpu → Option Pid → How → How
+leaving tasks cpu previous how = if runs_there tasks cpu previous then how else Preempt
+
+-- the next task starts where none ran, if there is one
+abbrev pub start_acts : Cpu → Option Pid → List Act
+start_acts cpu None = []
+start_acts cpu (Some pid) = act.Switch cpu (Some pid) Idle ∷ []
+
+-- the task that runs on a processor makes way for the next
+abbrev pub turn_acts : Tasks → Cpu → Option Pid → Option Pid → How → List Act
+turn_acts tasks cpu previous next how =
+    if is_some (running_on tasks cpu.0) then act.Switch cpu next (leaving tasks cpu previous how) ∷ []
+    else start_acts cpu next
+
+-- A switch does nothing where its next task runs there already. Else that is brought there, and the one that runs makes way;
+-- what brings the next changes nothing of who runs there.
+abbrev pub switch_acts : Tasks → Cpu → Option Pid → Option Pid → How → List Act
+switch_acts tasks cpu previous next how =
+    if runs_there tasks cpu next then [] else next_acts tasks cpu next ++ turn_acts tasks cpu previous next how
+
+-- what a line does
+abbrev pub acts_of : Tasks → Seen → List Act
+acts_of tasks (seen.Switch cpu previous next how) = switch_acts tasks cpu previous next how
+acts_of tasks (seen.Wakeup pid cpu) = wakeup_acts pid cpu (task_of tasks pid.0)
+acts_of tasks (seen.Migration pid cpu) = migration_acts pid cpu (task_of tasks pid.0)
+
+-- ---- moments and causes
+
+-- How far an import has come: the time (ns) of the first marked line, if there was one, the moment (ns) of the last, 0 where
+-- there was none, and the world after the events so far.
+pub record Reached : Type 0 where
+  pub first : Option ℕ
+  pub moment : ℕ
+  pub world : World
+
+-- before the first line
+abbrev pub unreached : Reached
+unreached = record { first = None; moment = 0; world = first_world }
+
+-- the time (ns) of the first marked line, where the next is at this time
+abbrev pub first_time : Reached → ℕ → ℕ
+first_time reached at = unwrap_or reached.first at
+
+-- the moment (ns) of a line at this time: since the first marked line, and no less than that of the marked line before it
+abbrev pub moment_of : Reached → ℕ → ℕ
+moment_of reached at = max reached.moment (at - first_time reached at)
+
+-- the default length of a tick (ns), 2 s
+abbrev pub default_tick : ℕ
+default_tick = 2000000000
+
+-- the last moment (ns) that a trace may reach at the default tick, a million of them
+abbrev pub latest_moment : ℕ
+latest_moment = 1000000 * default_tick
+
+-- how many events may stand before the end
+abbrev pub most_imported : ℕ
+most_imported = 3999999
+
+-- the processor that has to be there: of a switch its own, and else the target
+abbrev pub needed_cpu : Seen → Cpu
+needed_cpu (seen.Switch cpu previous next how) = cpu
+needed_cpu (seen.Wakeup pid cpu) = cpu
+needed_cpu (seen.Migration pid cpu) = cpu
+
+-- one of these acts makes a task
+abbrev pub make_task : List Act → Bool
+make_task acts = list_any (λ (what : Act). is_some (names what).new_task) acts
+
+-- the first cause against a line that does this at a moment (ns), in a world
+abbrev pub acts_cause : ℕ → World → ℕ → Cpu → List Act → Option ImportCause
+acts_cause cpus w moment cpu acts =
+    if nat_le cpus cpu.0 then Some cause.BadCpu
+    else if nat_lt latest_moment moment then Some cause.TooLate
+    else if make_task acts && nat_le most_tasks (tasks_by.len w.tasks) then Some cause.TooManyTasks
+    else if nat_lt most_imported (w.lines + length acts) then Some cause.TooManyEvents
+    else None
+
+-- ---- one line
+
+-- what a line gives: its events, and how far the import has come behind it
+pub record Given : Type 0 where
+  pub events : List Event
+  pub reached : Reached
+
+-- acts, all at one moment (ns)
+abbrev pub events_at : ℕ → List Act → List Event
+events_at moment acts = map (λ what. let event : Event = record { at = moment; act = what } in event) acts
+
+-- what a line gives at this time that does this at a moment (ns), or the cause against it
+abbrev pub given_or : Reached → ℕ → ℕ → List Act → Option ImportCause → Result Given ImportCause
+given_or reached at moment acts (Some why) = Err why
+given_or reached at moment acts None = Ok (record {
+  events = events_at moment acts;
+  reached = record {
+    first = Some (first_time reached at);
+    moment = moment;
+    world = after_from reached.world (events_at moment acts);
+  };
+})
+
+-- what a line gives that tells this at a time (ns), with so many processors
+unfoldable pub given_at : ℕ → Reached → ℕ → Seen → Result Given ImportCause
+given_at cpus reached at what =
+    given_or reached at (moment_of reached at) (acts_of reached.world.tasks what)
+    (acts_cause cpus reached.world (moment_of reached at) (needed_cpu what) (acts_of reached.world.tasks what))
+
+-- the same of what was read of a line: one that isn't marked gives nothing
+abbrev pub given_by : ℕ → Reached → Result (Option Sighting) ImportCause → Result Given ImportCause
+given_by cpus reached (Err why) = Err why
+given_by cpus reached (Ok None) = Ok (record { events = []; reached = reached })
+given_by cpus reached (Ok (Some sighting)) = given_at cpus reached sighting.at sighting.seen
+
+-- what a line gives, or the cause against it
+unfoldable pub given_of : ℕ → Reached → List ℕ → Result Given ImportCause
+given_of cpus reached line = given_by cpus reached (read_line line)

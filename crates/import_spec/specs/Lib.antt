@@ -1,0 +1,5 @@
+pub mod Places
+pub mod Tails
+pub mod Marked
+pub mod Events
+pub mod Import

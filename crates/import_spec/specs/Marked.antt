@@ -1,0 +1,108 @@
+-- Which lines of a text of ftrace are marked, and what each of these tells.
+use Rattle.std.specs.Prelude.{ℕ, ◌+◌, List, [], ◌∷◌, take, drop, length, find, Bool, if◌then◌else◌, codes, Option, None, Some, is_some, Result, Ok, Err}
+use Rattle.psi_base.specs.declared.event.Pid.{Pid}
+use Rattle.psi_base.specs.declared.event.Cpu.{Cpu}
+use Rattle.psi_base.specs.declared.event.How.{How}
+use Rattle.import_spec.specs.declared.cause.ImportCause.{ImportCause}
+use Rattle.import_spec.specs.declared.cause.ImportCause.TheVariants as cause
+use Rattle.import_spec.specs.declared.seen.LineKind.{LineKind}
+use Rattle.import_spec.specs.declared.seen.LineKind.TheVariants as kind
+use Rattle.import_spec.specs.declared.seen.Seen.{Seen}
+use Rattle.import_spec.specs.declared.seen.Seen.TheVariants as seen
+use Rattle.import_spec.specs.declared.seen.Sighting.{Sighting}
+use Rattle.import_spec.specs.Places.{◌>>=◌, begins, behind_last, first_place, last_place}
+use Rattle.import_spec.specs.Tails.{cpu_in, field_in, how_in, pid_in, time_in}
+
+-- ---- marks
+
+-- a mark, and the kind of line that it marks
+pub record Mark : Type 0 where
+  pub text : List ℕ
+  pub kind : LineKind
+
+-- the mark of this text and kind
+abbrev pub mark : List ℕ → LineKind → Mark
+mark text which = record { text = text; kind = which }
+
+-- all marks
+abbrev pub marks : List Mark
+marks =
+    mark (codes ": sched_switch: ") kind.Switch
+    ∷ mark (codes ": sched_wakeup: ") kind.Wakeup
+    ∷ mark (codes ": sched_wakeup_new: ") kind.Wakeup
+    ∷ mark (codes ": sched_migrate_task: ") kind.Migration ∷ []
+
+-- the mark with which bytes begin, if they begin with one
+unfoldable pub mark_of : List ℕ → Option Mark
+mark_of bytes = find (λ (each : Mark). begins each.text bytes) marks
+
+-- bytes begin with a mark
+abbrev pub begins_marked : List ℕ → Bool
+begins_marked bytes = is_some (mark_of bytes)
+
+-- a marked line: its kind, the head before its mark and the tail behind it
+pub record Marked : Type 0 where
+  pub kind : LineKind
+  pub head : List ℕ
+  pub tail : List ℕ
+
+-- A line as it is marked, by its leftmost mark; no line is that begins with `#`.
+unfoldable pub marked_of : List ℕ → Option Marked
+marked_of line = if begins (codes "#") line then None else do
+  at ← first_place begins_marked line
+  found ← mark_of (drop at line)
+  Some (record { kind = found.kind; head = take at line; tail = drop (at + length found.text) line })
+
+-- ---- what a marked line tells
+
+-- a switch on a processor, by its tail: its parts stand on both sides of the last arrow
+unfoldable pub switch_in : ℕ → List ℕ → Option Seen
+switch_in cpu tail = do
+  arrow ← last_place (begins (codes " ==> ")) tail
+  previous ← field_in (codes " prev_pid=") (take arrow tail)
+  state ← behind_last (codes " prev_state=") (take arrow tail)
+  how ← how_in state
+  next ← field_in (codes " next_pid=") (drop (arrow + length (codes " ==> ")) tail)
+  Some (seen.Switch (record { 0 = cpu }) (pid_in previous) (pid_in next) how)
+
+-- a wakeup, by its tail
+unfoldable pub wakeup_in : List ℕ → Option Seen
+wakeup_in tail = do
+  number ← field_in (codes " pid=") tail
+  pid ← pid_in number
+  target ← field_in (codes " target_cpu=") tail
+  Some (seen.Wakeup pid (record { 0 = target }))
+
+-- a migration, by its tail
+unfoldable pub migration_in : List ℕ → Option Seen
+migration_in tail = do
+  number ← field_in (codes " pid=") tail
+  pid ← pid_in number
+  target ← field_in (codes " dest_cpu=") tail
+  Some (seen.Migration pid (record { 0 = target }))
+
+-- what a tail tells, of a line of this kind on this processor
+abbrev pub seen_in : LineKind → ℕ → List ℕ → Option Seen
+seen_in kind.Switch cpu tail = switch_in cpu tail
+seen_in kind.Wakeup cpu tail = wakeup_in tail
+seen_in kind.Migration cpu tail = migration_in tail
+
+-- what a marked line tells and when, or nothing where it isn't of the form
+unfoldable pub sighting_of : Marked → Option Sighting
+sighting_of line = do
+  time ← time_in line.head
+  cpu ← cpu_in line.head
+  what ← seen_in line.kind cpu line.tail
+  Some (record { at = time; seen = what })
+
+-- what a line tells and when, if it is marked and of the form; nothing where it isn't marked; or that it isn't of the form
+abbrev pub if_formed : Option Sighting → Result (Option Sighting) ImportCause
+if_formed None = Err cause.BadLine
+if_formed (Some sighting) = Ok (Some sighting)
+
+abbrev pub read_marked : Option Marked → Result (Option Sighting) ImportCause
+read_marked None = Ok None
+read_marked (Some line) = if_formed (sighting_of line)
+
+unfoldable pub read_line : List ℕ → Result (Option Sighting) ImportCause
+read_line line = read_marked (marked_of line)
