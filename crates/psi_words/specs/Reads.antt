@@ -5,7 +5,7 @@ use Rattle.std.specs.Borrow.{Bor}
 use Rattle.psi_base.specs.declared.event.Fault.{Fault}
 use Rattle.psi_base.specs.declared.event.Fault.TheVariants.{Refused, NoMemory}
 use Rattle.run_spec.specs.declared.command.Command.{Command}
-use Rattle.run_spec.specs.declared.command.Command.TheVariants.{Stall, Check, Replay, Gen, Stress}
+use Rattle.run_spec.specs.declared.command.Command.TheVariants.{Stall, Check, Replay, Gen, Stress, Import}
 
 -- the call returned what is read, or an error where nothing is
 abbrev pub Finds : {A E : Type 0} → Result A E → Option A → Type 0
@@ -16,7 +16,7 @@ Finds (Err why) read = read ≡ None
 abbrev pub ReadsWord : {A E : Type 0} → Result A (Fault E) → Option A → Type 0
 ReadsWord (Ok x) read = read ≡ Some x
 ReadsWord (Err (Refused why)) read = read ≡ None
-ReadsWord (Err NoMemory) read = ⊤
+ReadsWord (Err (NoMemory _)) read = ⊤
 
 -- the names that a list of texts has
 abbrev pub names_in : List (Bor (List ℕ)) → List (List ℕ)
@@ -29,3 +29,4 @@ HasTextNames (Check trace tick_ms) = IsUtf8 trace
 HasTextNames (Replay trace options) = IsUtf8 trace × IfSome options.rules IsUtf8
 HasTextNames (Gen shape) = ⊤
 HasTextNames (Stress shape workers) = ⊤
+HasTextNames (Import file cpus) = IsUtf8 file

@@ -82,15 +82,12 @@ impl<'a> Parsed<'a> {
         ensures { let texts = map string_bytes words.entry.now in
             ReadsWord result (parted (names_in names.now) None texts) }
     {
-        let command = match command(alloc, names) {
-            Ok(command) => command,
-            Err(_) => return Err(Fault::NoMemory),
-        };
+        let command = command(alloc, names)?;
         match command.try_get_matches_from(words) {
             Ok(found) => Ok(Parsed { found }),
             Err(error) => {
                 if error.kind() == ErrorKind::OutOfMemory {
-                    Err(Fault::NoMemory)
+                    Err(AllocError.into())
                 } else {
                     Err(Fault::Refused(BadWords))
                 }

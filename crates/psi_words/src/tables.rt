@@ -10,7 +10,7 @@ use psi_base::{Fault, Text};
 use run_spec::{Command, Options, Shape};
 use std::alloc::Global;
 
-// The name of the trace's file.
+// The name of the file that the trace is taken from.
 fn trace(alloc: Global, given: &Parsed) -> Result<Text, Fault<BadWords>>
     ensures exact { ReadsWord result (spec.trace_given given.now) }
     ensures text { IfOk result IsUtf8 }
@@ -145,4 +145,16 @@ pub(crate) fn read_stress(alloc: Global, words: &[String]) -> Result<Command, Fa
     let shape = shape(&given)?;
     let workers = workers(&given)?;
     Ok(Command::Stress { shape, workers })
+}
+
+/// The words behind `import`.
+#[tactic(auto, unfolding(run_spec::specs::Words::import_of))]
+pub(crate) fn read_import(alloc: Global, words: &[String]) -> Result<Command, Fault<BadWords>>
+    ensures exact { ReadsWord result (spec.spelled spec.import_form (map string_bytes words.now)) }
+    ensures texts { IfOk result HasTextNames }
+{
+    let given = Parsed::read(alloc, &["cpus"], words)?;
+    let file = trace(alloc, &given)?;
+    let cpus = needed(1, 64, given.value("cpus"))? as u32;
+    Ok(Command::Import { file, cpus })
 }

@@ -3,7 +3,7 @@ ghost use Rattle.std.specs.Prelude.{IfOk, map, string_bytes};
 ghost use Rattle.psi_words.specs.Reads.{HasTextNames, ReadsWord};
 ghost use Rattle.run_spec.specs.Words.{command_of, IsCommand};
 
-use crate::tables::{read_check, read_gen, read_replay, read_stall, read_stress};
+use crate::tables::{read_check, read_gen, read_import, read_replay, read_stall, read_stress};
 use psi_base::Fault;
 use run_spec::Command;
 use std::alloc::Global;
@@ -44,6 +44,8 @@ pub fn read_words(alloc: Global, words: &[String]) -> Result<Command, Fault<BadW
         read_gen(alloc, words)
     } else if first == "stress" {
         read_stress(alloc, words)
+    } else if first == "import" {
+        read_import(alloc, words)
     } else {
         Err(Fault::Refused(BadWords))
     }

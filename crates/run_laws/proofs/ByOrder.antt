@@ -5,8 +5,8 @@ use Rattle.std.specs.List.{flat_map}
 use Rattle.psi_spec.specs.Groups.{is_live_at}
 use Rattle.pressure_spec.specs.Samples.{life_of}
 use Rattle.pressure_spec.specs.Ticks.{tick_moment}
-use Rattle.psi_laws.specs.Moments.{is_live_slot, with_path}
-use Rattle.psi_laws.proofs.MomentsOrder.{order_tells_live}
+use Rattle.plan_laws.specs.Moments.{is_live_slot, with_path}
+use Rattle.plan_laws.proofs.MomentsOrder.{order_tells_live}
 use Rattle.run_spec.specs.Replay.{group_report, lives_of}
 use Rattle.run_laws.specs.Reports.{ReportsByOrder, average_state_at, slot_report, totals_at}
 

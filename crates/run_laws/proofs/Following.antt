@@ -11,7 +11,7 @@ use Rattle.psi_spec.specs.Stall.{stall, states}
 use Rattle.psi_spec.specs.World.{Limits, after, first_world, up_to}
 use Rattle.psi_spec.specs.Trace.{last_moment, longest_tick}
 use Rattle.pressure_spec.specs.Ticks.{IsNextTick, Tick, last_tick, no_row, row_until, table_until, tick_moment, tick_of, ticks_of, time_in, times_until}
-use Rattle.psi_laws.proofs.MomentsStall.{stall_grows, stall_is_within}
+use Rattle.plan_laws.proofs.MomentsStall.{stall_grows, stall_is_within}
 use Rattle.run_laws.specs.Ticking.{TicksFollow, before_ticks}
 use Rattle.run_laws.proofs.OneMore.{ticks_more}
 

@@ -5,7 +5,7 @@ use Rattle.std.specs.Str.{bytes_eq}
 use Rattle.psi_spec.specs.declared.machine.GroupLife.{GroupLife}
 use Rattle.psi_spec.specs.World.{after, is_live, slot_from, up_to}
 use Rattle.psi_spec.specs.Groups.{is_live_at, test_life}
-use Rattle.psi_laws.proofs.MomentsLives.{groups_keep_slots, lives_tell_live}
+use Rattle.plan_laws.proofs.MomentsLives.{groups_keep_slots, lives_tell_live}
 use Rattle.run_laws.specs.Live.{SlotByLives, live_slot}
 
 -- which groups are live in the slots of some is told by the lives of all at a moment

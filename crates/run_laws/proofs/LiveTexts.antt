@@ -9,9 +9,9 @@ use Rattle.psi_spec.specs.Refusal.{AreLegal}
 use Rattle.psi_spec.specs.Trace.{Trace}
 use Rattle.psi_spec.specs.Changes.{RiseWithin, count_at}
 use Rattle.pressure_spec.specs.Ticks.{tick_moment}
-use Rattle.psi_laws.specs.Plan.{plan_of}
-use Rattle.psi_laws.proofs.PlanTimes.{changes_more}
-use Rattle.psi_laws.proofs.PlanUpTo.{counts_by_plan}
+use Rattle.plan_laws.specs.Plan.{plan_of}
+use Rattle.plan_laws.proofs.PlanTimes.{changes_more}
+use Rattle.plan_laws.proofs.PlanUpTo.{counts_by_plan}
 use Rattle.ruleset_json.specs.declared.types.Rule.{Rule}
 use Rattle.run_spec.specs.Live.{AreCounts, IsLiveOf, IsLiveText, Watch, changes_until, live_lines, live_slot_at}
 use Rattle.run_spec.specs.Replay.{Beside, IsReplayText, Pace, last_line, replay_text, tick_count, tick_text, ticks_text, with_rules}

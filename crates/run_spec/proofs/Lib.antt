@@ -1,2 +1,3 @@
+pub mod Missing
 pub mod RangeLaws
 pub mod WordLaws

@@ -10,12 +10,12 @@ use Rattle.psi_base.specs.Path.{is_path}
 use Rattle.run_spec.specs.declared.command.Command.{Command}
 use Rattle.run_spec.specs.declared.command.Options.{Options}
 use Rattle.run_spec.specs.declared.command.Shape.{Shape}
-use Rattle.run_spec.specs.declared.command.Command.TheVariants.{Stall, Check, Replay, Gen, Stress}
+use Rattle.run_spec.specs.declared.command.Command.TheVariants.{Stall, Check, Replay, Gen, Stress, Import}
 use Rattle.std.proofs.Common.{lit≤}
 use Rattle.run_spec.specs.Words.{◌>>=◌, Given, parted, value_given, is_name, number_within, number_or}
 use Rattle.run_spec.specs.Words.{needed, trace_given, rules_given, live_given, tick_given, workers_given}
 use Rattle.run_spec.specs.Words.{options_of, shape_of, stall_of, check_of, replay_of, gen_of}
-use Rattle.run_spec.specs.Words.{stress_of, CommandForm, forms, command_of, IsWithin, AreOptions, IsShape}
+use Rattle.run_spec.specs.Words.{stress_of, import_of, CommandForm, forms, command_of, IsWithin, AreOptions, IsShape}
 use Rattle.run_spec.specs.Words.{IsCommand, SpelledInRange}
 
 -- a step that found something had something before it
@@ -202,6 +202,18 @@ stress_ranges given command is =
           workers.1,
     )
 
+pub import_ranges : (given : Given) (command : Command) → import_of given ≡ Some command
+    → IsCommand command
+unfolding import_of
+import_ranges given command is =
+    let file = bind_some (trace_given given) _ command is in
+    let cpus = bind_some (needed 1 64 (value_given (codes "cpus") given)) _ command file.2 in
+    let same : Import file.0 cpus.0 ≡ command = cc cpus.2 in
+    subst IsCommand same (
+      trace_ranges given file.0 file.1,
+      needed_ranges 1 64 (value_given (codes "cpus") given) cpus.0 cpus.1,
+    )
+
 -- ---- all commands
 
 -- a fact holds of each command's table
@@ -229,7 +241,7 @@ GivesCommands read =
     (given : Given) (command : Command) → read given ≡ Some command → IsCommand command
 
 all_ranges : OfEach GivesCommands forms
-all_ranges = (stall_ranges, (check_ranges, (replay_ranges, (gen_ranges, (stress_ranges, tt)))))
+all_ranges = (stall_ranges, (check_ranges, (replay_ranges, (gen_ranges, (stress_ranges, (import_ranges, tt))))))
 
 pub command_ranges : SpelledInRange
 unfolding command_of

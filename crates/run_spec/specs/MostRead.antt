@@ -1,7 +1,7 @@
 -- How many bytes a command reads at most.
 use Rattle.std.specs.Prelude.{ℕ, ◌+◌, ◌*◌, List, Option, None, Some}
 use Rattle.run_spec.specs.declared.command.Command.{Command}
-use Rattle.run_spec.specs.Outputs.{rules_name, trace_name}
+use Rattle.run_spec.specs.Outputs.{import_name, rules_name, trace_name}
 
 -- the most lines of a trace: the header, and 4,000,000 events
 abbrev pub most_lines : ℕ
@@ -11,13 +11,18 @@ most_lines = 4000001
 abbrev pub longest_line : ℕ
 longest_line = 513
 
--- the most bytes that are held behind the lines of a trace that were taken: as many as the reader has room for
+-- the most bytes that are held behind the lines that were taken: as many as the reader has room for
 abbrev pub most_held : ℕ
 most_held = 66048
 
 -- the most bytes that are read of a trace: no further than what is held behind the most lines that it can have
 abbrev pub most_of_trace : ℕ
 most_of_trace = most_lines * longest_line + most_held
+
+-- the most bytes that are read of a text of ftrace: no further than what is held behind the most lines that it can have, and one
+-- more, which is refused
+abbrev pub most_of_import : ℕ
+most_of_import = 16000001 * longest_line + most_held
 
 -- the most bytes that are read of a rules file: one more than it may have, so that a longer one is refused
 abbrev pub most_of_rules : ℕ
@@ -28,7 +33,8 @@ abbrev pub most_if_named : ℕ → Option (List ℕ) → ℕ
 most_if_named most None = 0
 most_if_named most (Some name) = most
 
--- the most bytes that a command reads, of its rules file and of its trace
+-- the most bytes that a command reads, of its rules file and of its trace, or of a text of ftrace
 abbrev pub most_read : Command → ℕ
 most_read command =
     most_if_named most_of_rules (rules_name command) + most_if_named most_of_trace (trace_name command)
+    + most_if_named most_of_import (import_name command)

@@ -1,13 +1,19 @@
--- Which files a command reads, how long its ticks are, and what it prints of an accepted trace.
-use Rattle.std.specs.Prelude.{◌≡◌, ℕ, ◌*◌, List, Option, None, Some}
-use Rattle.psi_spec.specs.Trace.{Accepts, Trace, accepts_all, text_of}
+-- Which files a command reads, how long its ticks are, which trace it takes from a file, and what it prints of that.
+use Rattle.std.specs.Prelude.{◌≡◌, ℕ, ◌*◌, List, [], ◌∷◌, Option, None, Some, Result, Ok, Err}
+use Rattle.psi_base.specs.declared.event.Event.{Event}
+use Rattle.psi_base.specs.declared.event.Refusal.{Refusal}
+use Rattle.psi_spec.specs.Grammar.{One, Version, versions}
+use Rattle.psi_spec.specs.Trace.{Accepts, Trace, accepts_with, text_of, trace_of}
+use Rattle.import_spec.specs.Import.{Refused, import_of, import_trace}
 use Rattle.ruleset_json.specs.declared.types.Rule.{Rule}
 use Rattle.kill_spec.specs.Detectors.{of_seconds}
 use Rattle.run_spec.specs.declared.command.Command.{Command}
-use Rattle.run_spec.specs.declared.command.Command.TheVariants.{Stall, Check, Replay, Gen, Stress}
+use Rattle.run_spec.specs.declared.command.Command.TheVariants.{Stall, Check, Replay, Gen, Stress, Import}
 use Rattle.run_spec.specs.declared.command.Options.{Options}
+use Rattle.run_spec.specs.declared.status.Status.{Status}
+use Rattle.run_spec.specs.declared.status.Status.TheVariants as status
 use Rattle.run_spec.specs.declared.status.Which.{Which}
-use Rattle.run_spec.specs.declared.status.Which.TheVariants.{RulesFile, TraceFile}
+use Rattle.run_spec.specs.declared.status.Which.TheVariants.{ImportFile, RulesFile, TraceFile}
 use Rattle.run_spec.specs.Text.{check_text, stall_text}
 use Rattle.run_spec.specs.Generated.{generated}
 use Rattle.run_spec.specs.Live.{Watch}
@@ -20,16 +26,32 @@ trace_name (Check trace tick_ms) = Some trace
 trace_name (Replay trace options) = Some trace
 trace_name (Gen shape) = None
 trace_name (Stress shape workers) = None
+trace_name (Import file cpus) = None
 
 -- the name of the rules file that a command reads, if it reads one
 abbrev pub rules_name : Command → Option (List ℕ)
 rules_name (Replay trace options) = options.rules
 rules_name _ = None
 
+-- the name of the text of ftrace that a command imports, if it imports one
+abbrev pub import_name : Command → Option (List ℕ)
+import_name (Import file cpus) = Some file
+import_name _ = None
+
 -- the name of a command's file of this kind, if it reads one
 abbrev pub file_of : Command → Which → Option (List ℕ)
 file_of command RulesFile = rules_name command
 file_of command TraceFile = trace_name command
+file_of command ImportFile = import_name command
+
+-- what kind of file a command takes its trace from
+abbrev pub source_of : Command → Which
+source_of (Import file cpus) = ImportFile
+source_of _ = TraceFile
+
+-- the name of this file, if it reads one
+abbrev pub source_name : Command → Option (List ℕ)
+source_name command = file_of command (source_of command)
 
 -- a number of ms in ns
 abbrev pub of_ms : ℕ → ℕ
@@ -41,9 +63,30 @@ tick_length (Check trace tick_ms) = of_ms tick_ms
 tick_length (Replay trace options) = of_ms options.tick_ms
 tick_length _ = of_seconds 2
 
--- what a command accepts of a trace: all that there is, at the length of its ticks
+-- the versions of traces that a command takes: `check` any, and each other the first alone
+abbrev pub versions_of : Command → List Version
+versions_of (Check trace tick_ms) = versions
+versions_of _ = One ∷ []
+
+-- what a command accepts of a trace: one of a version that it takes, with all the verbs of that, at the length of its ticks
 abbrev pub accepts_of : Command → Accepts
-accepts_of command = accepts_all (tick_length command)
+accepts_of command = accepts_with (versions_of command) (tick_length command)
+
+-- a trace that was read, or the status that tells of its first refused line
+abbrev pub or_refused : Result Trace Refusal → Result Trace Status
+or_refused (Ok trace) = Ok trace
+or_refused (Err refusal) = Err (status.Trace refusal.line refusal.cause)
+
+-- the trace of imported events, on so many processors, or the status that tells of the first refused line of their text
+abbrev pub or_not_imported : ℕ → Result (List Event) Refused → Result Trace Status
+or_not_imported cpus (Ok events) = Ok (import_trace cpus events)
+or_not_imported cpus (Err refusal) = Err (status.Import refusal.line refusal.cause)
+
+-- The trace that a command takes from the bytes of its file, or the status that tells of the first refused line: `import` makes
+-- it of a text of ftrace, and each other command reads it.
+abbrev pub taken_of : Command → List ℕ → Result Trace Status
+taken_of (Import file cpus) bytes = or_not_imported cpus (import_of cpus bytes)
+taken_of command bytes = or_refused (trace_of (accepts_of command) bytes)
 
 -- what is watched, if there is a path
 abbrev pub watch_of_path : ℕ → Option (List ℕ) → Option Watch
@@ -78,7 +121,7 @@ stress_options workers = record {
 
 -- A text is the whole output of a command for an accepted trace and rulesets. Of `replay` there may be more than one where a
 -- group is watched, since each live sample may be of any change in its interval. `gen` and `stress` read no file: theirs is
--- the trace that their shape gives.
+-- the trace that their shape gives. `import` prints its trace, which has as many processors as it was told.
 abbrev pub IsOutput : Command → Trace → List Rule → List ℕ → Type 0
 IsOutput (Stall name) trace rules text = text ≡ stall_text trace
 IsOutput (Check name tick_ms) trace rules text = text ≡ check_text trace
@@ -87,3 +130,4 @@ IsOutput (Replay name options) trace rules text =
 IsOutput (Gen shape) trace rules text = (trace ≡ generated shape) × (text ≡ text_of trace)
 IsOutput (Stress shape workers) trace rules text =
     (trace ≡ generated shape) × (text ≡ stress_text trace (pace_of (stress_options workers)))
+IsOutput (Import file cpus) trace rules text = (trace.cpus ≡ cpus) × (text ≡ text_of trace)

@@ -1,18 +1,20 @@
 -- What a run of a command promises: what each status says of the files and of the output, and which counts of failures rose.
-use Rattle.std.specs.Prelude.{◌≡◌, ℕ, List, [], Option, None, Some, IsSome, MatchOption, Ok, Err, ⊤}
+use Rattle.std.specs.Prelude.{◌≡◌, ◌⊎◌, ℕ, List, [], Option, None, Some, IsSome, MatchOption, Ok, Err, ⊤}
 use Rattle.std.specs.Io.KnownBytes.{Appends, Keeps}
+use Rattle.psi_base.specs.Gives.{no_memory}
 use Rattle.psi_base.specs.Outside.{Files, told, Lacks, Rose, AppendsFront, ShelfCounts, counts_of}
 use Rattle.psi_spec.specs.Fields.{IsAmong}
-use Rattle.psi_spec.specs.Trace.{AreKnown, IsAccepted, IsCpuCount, Trace, limits_of, refused, trace_of}
+use Rattle.psi_spec.specs.Trace.{AreKnown, IsAccepted, IsCpuCount, Trace, limits_of}
 use Rattle.run_spec.specs.declared.command.Command.{Command}
 use Rattle.run_spec.specs.declared.status.Status.{Status}
 use Rattle.run_spec.specs.declared.status.Status.TheVariants as status
 use Rattle.run_spec.specs.declared.status.Which.{Which}
-use Rattle.run_spec.specs.declared.status.Which.TheVariants.{RulesFile, TraceFile}
+use Rattle.run_spec.specs.declared.status.Which.TheVariants.{ImportFile, RulesFile, TraceFile}
+use Rattle.ruleset_json.specs.declared.fault.RulesFault.{RulesFault}
 use Rattle.ruleset_json.specs.declared.types.Rule.{Rule}
 use Rattle.ruleset_json.specs.RuleRanges.{FitsRules}
 use Rattle.ruleset_json.specs.Rules.{rules_of}
-use Rattle.run_spec.specs.Outputs.{IsOutput, accepts_of, file_of, rules_name, trace_name}
+use Rattle.run_spec.specs.Outputs.{IsOutput, accepts_of, file_of, rules_name, source_name, source_of, taken_of}
 
 -- ---- counts
 
@@ -46,14 +48,14 @@ pub record FailuresAreCounted (before now : RunCounts) (result : Status) : Type 
 abbrev pub IsTold : Command → Which → Option Files → List ℕ → Type 0
 IsTold command which files bytes = (name : List ℕ) × (file_of command which ≡ Some name) × (told files name ≡ Some bytes)
 
--- A command takes a trace: its version and the verbs of its events are accepted, the events make up a trace, and it is that of
--- the file's bytes, where these are told.
+-- A command takes a trace: its version and the verbs of its events are accepted, the events make up a trace, and it is the one
+-- that the command takes from its file's bytes, where these are told.
 pub record TakesTrace (command : Command) (files : Option Files) (trace : Trace) : Type 0 where
   pub version : IsAmong trace.version (accepts_of command).versions
   pub cpus : IsCpuCount trace.cpus
   pub known : AreKnown ((accepts_of command).verbs trace.version) trace.events
   pub accepted : IsAccepted (limits_of (accepts_of command).tick trace.cpus) trace.events
-  pub read : (bytes : List ℕ) → IsTold command TraceFile files bytes → trace_of (accepts_of command) bytes ≡ Ok trace
+  pub read : (bytes : List ℕ) → IsTold command (source_of command) files bytes → taken_of command bytes ≡ Ok trace
 
 -- A command takes rulesets: each in its ranges, those of its rules file's bytes, where these are told, and none where it reads
 -- no rules file.
@@ -69,51 +71,66 @@ RulesTold command files rules = MatchOption (rules_name command) (rules ≡ [])
 
 -- ---- statuses
 
--- a command's whole output for an accepted trace and rulesets has some property
+-- no file of a command of this kind is told to be missing
+abbrev pub IsThere : Command → Option Files → Which → Type 0
+IsThere command files which = (name : List ℕ) → file_of command which ≡ Some name → Lacks files name → ⊥
+
+-- a command's whole output for an accepted trace and rulesets has some property, and no file of it is missing
 abbrev pub HasOutput : Command → Option Files → (List ℕ → Type 0) → Type 0
 HasOutput command files IsSo =
     (trace : Trace) × (rules : List Rule) × TakesTrace command files trace × TakesRules command files rules
+    × IsThere command files RulesFile × IsThere command files (source_of command)
     × ((text : List ℕ) × IsOutput command trace rules text × IsSo text)
 
--- what comes before a command reads its file of this kind is in order: rules come before the trace
+-- what comes before a command reads its file of this kind is in order: rules come before any other, and their file is there
 abbrev pub IsPassed : Command → Option Files → Which → Type 0
 IsPassed command files RulesFile = ⊤
-IsPassed command files TraceFile = (rules : List Rule) × TakesRules command files rules
+IsPassed command files _ = (rules : List Rule) × TakesRules command files rules × IsThere command files RulesFile
 
--- a command reads files, of which its trace is one
-abbrev pub ReadsTrace : Command → Type 0
-ReadsTrace command = IsSome (trace_name command)
+-- a command reads files, among them the one that it takes its trace from
+abbrev pub ReadsFiles : Command → Type 0
+ReadsFiles command = IsSome (source_name command)
+
+-- Nothing was written, and a status tells of the first refused line of a command's file of this kind, behind what comes before it.
+abbrev pub Refuses : Command → Option Files → Option (List ℕ) → Option (List ℕ) → Which → Status → Type 0
+Refuses command files old new which result =
+    Keeps old new × IsSome (file_of command which) × IsPassed command files which × IsThere command files which
+    × ((bytes : List ℕ) → IsTold command which files bytes → taken_of command bytes ≡ Err result)
 
 -- What a status says of a command, whose files the shelf may tell, and of what the sink held before and holds now: the whole
 -- output or a front of it, for an accepted trace and rulesets; the first fault of the rules file; behind the rules the first
--- refused line of the trace; or a name that isn't there. Where it isn't Done or WriteFault, the sink is as it was.
+-- refused line of the trace, or of a text of ftrace; or a name that isn't there. Where it isn't Done or WriteFault, the sink is as it was.
 abbrev pub Ends : Command → Option Files → Option (List ℕ) → Option (List ℕ) → Status → Type 0
 Ends command files old new status.Done = HasOutput command files (λ text. Appends old new text)
 Ends command files old new status.WriteFault = HasOutput command files (λ text. AppendsFront old new text)
 Ends command files old new (status.Rules fault) =
-    Keeps old new × ((name : List ℕ) × (rules_name command ≡ Some name)
+    Keeps old new × IsThere command files RulesFile × ((name : List ℕ) × (rules_name command ≡ Some name)
     × ((bytes : List ℕ) → told files name ≡ Some bytes → rules_of bytes ≡ Err fault))
-Ends command files old new (status.Trace line why) =
-    Keeps old new × ReadsTrace command × IsPassed command files TraceFile
-    × ((bytes : List ℕ) → IsTold command TraceFile files bytes → trace_of (accepts_of command) bytes ≡ Err (refused line why))
+Ends command files old new (status.Trace line why) = Refuses command files old new TraceFile (status.Trace line why)
+Ends command files old new (status.Import line why) = Refuses command files old new ImportFile (status.Import line why)
 Ends command files old new (status.NoFile which) =
     Keeps old new × IsPassed command files which × ((name : List ℕ) × (file_of command which ≡ Some name) × (told files name ≡ None))
-Ends command files old new status.ReadFault = Keeps old new × ReadsTrace command
-Ends command files old new status.NoMemory = Keeps old new
+Ends command files old new status.ReadFault = Keeps old new × ReadsFiles command
+Ends command files old new (status.NoMemory _) = Keeps old new
 Ends command files old new status.Usage = ⊥
 
--- the statuses that may come of a file of this kind that isn't held: that it isn't, a failure, and of a trace also a fault
--- of the rules, which come before it
-abbrev pub IsOfMissing : Which → Status → Type 0
-IsOfMissing which (status.NoFile other) = ⊤
-IsOfMissing which status.ReadFault = ⊤
-IsOfMissing which status.NoMemory = ⊤
-IsOfMissing TraceFile (status.Rules fault) = ⊤
-IsOfMissing _ _ = ⊥
-
--- A run of a command: what its status says, that a file that isn't held has no other answer than that or a failure, and the
--- counts.
+-- A run of a command: what its status says, and the counts.
 pub record Runs (command : Command) (files : Option Files) (before now : RunCounts) (old new : Option (List ℕ)) (result : Status) : Type 0 where
   pub ends : Ends command files old new result
-  pub missing : (which : Which) (name : List ℕ) → file_of command which ≡ Some name → Lacks files name → IsOfMissing which result
   pub counts : FailuresAreCounted before now result
+
+-- ---- laws
+
+-- where the rules file of a command is told to be missing, a run says that it is, or tells of a failure
+abbrev pub MissingRulesTell : Type 0
+MissingRulesTell = (command : Command) (files : Option Files) (old new : Option (List ℕ)) (result : Status) (name : List ℕ)
+    → Ends command files old new result → rules_name command ≡ Some name → Lacks files name
+    → (result ≡ status.NoFile RulesFile) ⊎ (result ≡ status.ReadFault) ⊎ (result ≡ status.NoMemory no_memory)
+
+-- where the file is that it takes its trace from, a run says that a file is, or tells of a failure, or of a fault of the rules,
+-- which come first
+abbrev pub MissingSourceTells : Type 0
+MissingSourceTells = (command : Command) (files : Option Files) (old new : Option (List ℕ)) (result : Status) (name : List ℕ)
+    → Ends command files old new result → source_name command ≡ Some name → Lacks files name
+    → IsNoFile result ⊎ (result ≡ status.ReadFault) ⊎ (result ≡ status.NoMemory no_memory)
+    ⊎ ((fault : RulesFault) × (result ≡ status.Rules fault))

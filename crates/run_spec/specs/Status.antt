@@ -1,13 +1,14 @@
 -- The codes of statuses, and the text that tells of each.
 use Rattle.std.specs.Prelude.{ℕ, List, [], ◌++◌, codes, decimal, Option, None, Some}
 use Rattle.psi_base.specs.declared.event.Cause.{Cause}
+use Rattle.import_spec.specs.declared.cause.ImportCause.{ImportCause}
 use Rattle.run_spec.specs.declared.command.Command.{Command}
 use Rattle.run_spec.specs.declared.status.Status.{Status}
 use Rattle.run_spec.specs.declared.status.Status.TheVariants as status
 use Rattle.run_spec.specs.declared.status.Which.{Which}
 use Rattle.ruleset_json.specs.FaultText.{fault_text}
 use Rattle.run_spec.specs.Outputs.{file_of}
-use Rattle.run_spec.specs.Text.{cause_text}
+use Rattle.run_spec.specs.Text.{cause_text, import_cause_text}
 
 -- the exit status
 abbrev pub code_of : Status → ℕ
@@ -18,7 +19,8 @@ code_of (status.Rules fault) = 3
 code_of (status.NoFile which) = 4
 code_of status.ReadFault = 5
 code_of status.WriteFault = 6
-code_of status.NoMemory = 7
+code_of (status.NoMemory _) = 7
+code_of (status.Import line why) = 8
 
 -- a name, if there is one
 abbrev pub name_or_none : Option (List ℕ) → List ℕ
@@ -34,13 +36,18 @@ name_text (Some command) which = name_or_none (file_of command which)
 abbrev pub refusal_text : ℕ → Cause → List ℕ
 refusal_text line why = codes "trace line " ++ (decimal line ++ (codes ": " ++ (cause_text why ++ codes "\n")))
 
+-- the line that tells of a refused line of a text of ftrace
+abbrev pub import_refusal_text : ℕ → ImportCause → List ℕ
+import_refusal_text line why = codes "import line " ++ (decimal line ++ (codes ": " ++ (import_cause_text why ++ codes "\n")))
+
 -- the line that tells of a status, with its newline; of Done nothing is told
 abbrev pub status_text : Option Command → Status → List ℕ
 status_text command status.Done = []
-status_text command status.Usage = codes "usage: psi_oomd stall or check or replay or gen or stress\n"
+status_text command status.Usage = codes "usage: psi_oomd stall or check or replay or gen or stress or import\n"
 status_text command (status.Trace line why) = refusal_text line why
 status_text command (status.Rules fault) = fault_text fault ++ codes "\n"
 status_text command (status.NoFile which) = codes "no file: " ++ (name_text command which ++ codes "\n")
 status_text command status.ReadFault = codes "read fault\n"
 status_text command status.WriteFault = codes "write fault\n"
-status_text command status.NoMemory = codes "out of memory\n"
+status_text command (status.NoMemory _) = codes "out of memory\n"
+status_text command (status.Import line why) = import_refusal_text line why

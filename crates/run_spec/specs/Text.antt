@@ -1,4 +1,4 @@
--- What `stall` and `check` print as a whole, byte for byte, and the names of causes.
+-- What `stall` and `check` print as a whole, byte for byte, and how causes are told.
 use Rattle.std.specs.Prelude.{ℕ, List, [], ◌++◌, length, map, Option, None, Some, codes, decimal}
 use Rattle.std.specs.List.{flat_map, range_with_len}
 use Rattle.psi_base.specs.declared.event.Event.{Event}
@@ -8,6 +8,8 @@ use Rattle.psi_spec.specs.World.{after}
 use Rattle.psi_spec.specs.Groups.{live_groups}
 use Rattle.psi_spec.specs.Stall.{stall, states}
 use Rattle.psi_spec.specs.Trace.{Trace}
+use Rattle.import_spec.specs.declared.cause.ImportCause.{ImportCause}
+use Rattle.import_spec.specs.declared.cause.ImportCause.TheVariants as import_cause
 use Rattle.run_spec.specs.Lines.{check_line, stall_line}
 
 -- ---- stall sums
@@ -65,6 +67,7 @@ cause_name cause.TooManyTriggers = codes "TooManyTriggers"
 cause_name cause.BadWindow = codes "BadWindow"
 cause_name cause.AfterEnd = codes "AfterEnd"
 cause_name cause.NoEnd = codes "NoEnd"
+cause_name cause.IrqTooLong = codes "IrqTooLong"
 
 -- the number, from 1, of the field that a cause speaks of, if it speaks of one
 abbrev pub field_number : Cause → Option ℕ
@@ -79,3 +82,14 @@ field_text (Some field) = codes " " ++ decimal field
 -- a cause as it is told: its name, and the number of the field that it speaks of
 abbrev pub cause_text : Cause → List ℕ
 cause_text why = cause_name why ++ field_text (field_number why)
+
+-- a cause against a line of a text of ftrace, as it is told: its name
+abbrev pub import_cause_text : ImportCause → List ℕ
+import_cause_text import_cause.LineTooLong = codes "LineTooLong"
+import_cause_text import_cause.Cut = codes "Cut"
+import_cause_text import_cause.BadLine = codes "BadLine"
+import_cause_text import_cause.BadCpu = codes "BadCpu"
+import_cause_text import_cause.TooLate = codes "TooLate"
+import_cause_text import_cause.TooManyTasks = codes "TooManyTasks"
+import_cause_text import_cause.TooManyEvents = codes "TooManyEvents"
+import_cause_text import_cause.TooManyLines = codes "TooManyLines"

@@ -9,7 +9,7 @@ use Rattle.std.specs.Str.{bytes_eq}
 use Rattle.psi_base.specs.Number.{number_of}
 use Rattle.psi_base.specs.Path.{is_path}
 use Rattle.run_spec.specs.declared.command.Command.{Command}
-use Rattle.run_spec.specs.declared.command.Command.TheVariants.{Stall, Check, Replay, Gen, Stress}
+use Rattle.run_spec.specs.declared.command.Command.TheVariants.{Stall, Check, Replay, Gen, Stress, Import}
 use Rattle.run_spec.specs.declared.command.Options.{Options}
 use Rattle.run_spec.specs.declared.command.Shape.{Shape}
 
@@ -139,7 +139,7 @@ needed least most (Some text) = number_within least most text
 abbrev pub is_name : List ℕ → Bool
 is_name name = nat_lt 0 (length name)
 
--- the name of the trace's file, which may be `-`, the standard input
+-- the name of the file that the trace is taken from, which may be `-`, the standard input
 abbrev pub trace_given : Given → Option (List ℕ)
 trace_given given = do
   name ← given.positional
@@ -229,6 +229,13 @@ stress_of given = do
   workers ← workers_given given
   Some (Stress shape workers)
 
+-- `import` needs a file, and how many processors the machine has
+unfoldable pub import_of : Given → Option Command
+import_of given = do
+  file ← trace_given given
+  cpus ← needed 1 64 (value_given (codes "cpus") given)
+  Some (Import file cpus)
+
 -- how a command is spelled: its own word, the names of its options, and its table, which gives the
 -- command by what the words behind its own say
 pub record CommandForm : Type 0 where
@@ -270,9 +277,13 @@ stress_names = codes "workers" ∷ shape_names
 abbrev pub stress_form : CommandForm
 stress_form = record { word = codes "stress"; options = stress_names; command = stress_of }
 
+-- `import FILE`, with one option
+abbrev pub import_form : CommandForm
+import_form = record { word = codes "import"; options = codes "cpus" ∷ []; command = import_of }
+
 -- all commands
 abbrev pub forms : List CommandForm
-forms = stall_form ∷ check_form ∷ replay_form ∷ gen_form ∷ stress_form ∷ []
+forms = stall_form ∷ check_form ∷ replay_form ∷ gen_form ∷ stress_form ∷ import_form ∷ []
 
 -- the command of this form that the words behind its own spell
 abbrev pub spelled : CommandForm → List (List ℕ) → Option Command
@@ -310,13 +321,14 @@ pub record IsShape (shape : Shape) : Type 0 where
   pub groups : shape.groups ≤ 1000
   pub events : shape.events ≤ 3900000
 
--- all that a command says is in range, and the trace's name isn't empty
+-- all that a command says is in range, and no name of a file is empty
 abbrev pub IsCommand : Command → Type 0
 IsCommand (Stall trace) = trace ≢ []
 IsCommand (Check trace tick_ms) = (trace ≢ []) × IsWithin 1 60000 tick_ms
 IsCommand (Replay trace options) = (trace ≢ []) × AreOptions options
 IsCommand (Gen shape) = IsShape shape
 IsCommand (Stress shape workers) = IsShape shape × IsWithin 1 64 workers
+IsCommand (Import file cpus) = (file ≢ []) × IsWithin 1 64 cpus
 
 -- ---- laws
 

@@ -38,6 +38,13 @@ pub enum Command {
         /// How many threads replay at most: 1 to 64, by default 64.
         workers: u32,
     },
+    /// Print the trace that a text of the kernel's ftrace is.
+    Import {
+        /// The name of the text's file, or `-` for standard input.
+        file: Text,
+        /// How many processors the machine has: 1 to 64.
+        cpus: u32,
+    },
 }
 
 /// What the options of `replay` say.

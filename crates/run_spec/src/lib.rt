@@ -9,4 +9,4 @@ mod command;
 mod status;
 
 pub use command::{Command, Options, Shape, law_option_order, law_option_value, law_ranges};
-pub use status::{Status, Which};
+pub use status::{Status, Which, law_missing_files};

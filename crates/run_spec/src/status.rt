@@ -1,8 +1,10 @@
 //! How a run ends.
 ghost use Rattle.std.specs.Prelude.{◌≡◌};
+ghost use Rattle.run_spec.specs.Run.{MissingRulesTell, MissingSourceTells};
 ghost use Rattle.run_spec.specs.Status.{code_of};
 
-use psi_base::Cause;
+use import_spec::ImportCause;
+use psi_base::{Cause, NoMemory};
 use ruleset_json::RulesFault;
 
 /// Which file of a command a name stood for.
@@ -12,6 +14,8 @@ pub enum Which {
     RulesFile,
     /// The trace.
     TraceFile,
+    /// The text of ftrace that is imported.
+    ImportFile,
 }
 
 /// How a run ended.
@@ -32,7 +36,9 @@ pub enum Status {
     /// A write failed, after a front of the output.
     WriteFault,
     /// There was no memory.
-    NoMemory,
+    NoMemory(NoMemory),
+    /// The text of ftrace is refused at this line, counted from 1, for this cause.
+    Import { line: u32, cause: ImportCause },
 }
 
 impl Status {
@@ -48,7 +54,15 @@ impl Status {
             Status::NoFile { .. } => 4,
             Status::ReadFault => 5,
             Status::WriteFault => 6,
-            Status::NoMemory => 7,
+            Status::NoMemory(_) => 7,
+            Status::Import { .. } => 8,
         }
     }
 }
+
+/// Where a file of a command is told to be missing, a run says so, or tells of a failure. Where it is the one that the trace is
+/// taken from, a run may also tell of a fault of the rules, which come first.
+pub fn law_missing_files()
+    ensures rules { MissingRulesTell }
+    ensures source { MissingSourceTells }
+{}

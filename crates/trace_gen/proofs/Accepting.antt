@@ -4,7 +4,6 @@ use Rattle.std.specs.List.{range_with_len}
 use Rattle.std.proofs.lemmas.List.{length-append}
 use Rattle.std.proofs.lemmas.List.FromFn.{length-map-range_with_len}
 use Rattle.psi_spec.specs.World.{after, first_world}
-use Rattle.psi_spec.proofs.Reading.{events_known}
 use Rattle.run_spec.specs.declared.command.Shape.{Shape}
 use Rattle.run_spec.specs.Generated.{at_start, drawn_events, first_events, generated, made_group, made_task, task_count}
 use Rattle.run_spec.specs.Words.{IsShape}
@@ -26,7 +25,7 @@ generated_is_trace shape shaped =
       text = refl;
       version = inl refl;
       cpus = shaped.cpus;
-      known = events_known (generated shape).events;
+      known = go.known;
       accepted = record {
         fit = go.fit;
         legal = go.legal;

@@ -11,7 +11,7 @@ use Rattle.psi_base.specs.declared.event.Fault.TheVariants as fault
 use Rattle.psi_spec.specs.declared.machine.Task.{Task}
 use Rattle.psi_spec.specs.Refusal.{cause_of}
 use Rattle.psi_spec.specs.World.{World, after, after_event, first_world, task_part}
-use Rattle.psi_spec.proofs.Accepting.{after_from-append}
+use Rattle.psi_spec.proofs.Following.{after_from-append}
 use Rattle.run_spec.specs.declared.command.Shape.{Shape}
 use Rattle.run_spec.specs.Generated.{drawn_events, first_events, next_drawn, next_event}
 use Rattle.run_spec.specs.Words.{IsShape}
@@ -65,7 +65,7 @@ not_late shape table left so =
 -- no fault comes of an event that is legal and takes no memory
 no_fault : (why : Option Cause) (event : Event) → why ≡ None → takes_memory event.act ≡ false → (f : Fault Cause) → IsFault why event.act f → ⊥
 no_fault why event legal light (fault.Refused cause) is = cc (legal, is)
-no_fault why event legal light fault.NoMemory is = let heavy = is.1 in cc (light, heavy)
+no_fault why event legal light (fault.NoMemory _) is = let heavy = is.1 in cc (light, heavy)
 
 -- no fault comes of the next one
 pub never_refused : (shape : Shape) (table : TableView) (left : ℕ) → 0 < left → IsGenerator shape table left → (state : ℕ) (event : Event) → event ≡ next_event shape table.world state → (f : Fault Cause) → IsFault (cause_of table.limits table.world event) event.act f → ⊥

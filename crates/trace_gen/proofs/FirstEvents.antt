@@ -13,17 +13,20 @@ use Rattle.psi_base.specs.Path.{is_path}
 use Rattle.psi_base.specs.declared.event.Event.{Event}
 use Rattle.psi_spec.specs.declared.machine.GroupLife.{GroupLife}
 use Rattle.psi_spec.specs.declared.machine.Task.{Task}
-use Rattle.psi_spec.specs.Grammar.{Fits}
+use Rattle.psi_spec.specs.Grammar as verb
+use Rattle.psi_spec.specs.Grammar.{Fits, IsKnown, first_verbs}
 use Rattle.psi_spec.specs.Refusal.{cause_of}
-use Rattle.psi_spec.specs.World.{Limits, Tasks, World, after_event, after_from, first_world, new_group, new_task, no_tasks, parent_path, put, slot_of, task_of}
-use Rattle.psi_spec.proofs.Accepting.{after_from-append}
+use Rattle.psi_spec.specs.World.{Limits, Tasks, World, after, after_event, after_from, first_world, new_group, new_task, no_tasks, parent_path, put, slot_of, task_of}
+use Rattle.psi_spec.proofs.Following.{after_from-append}
+use Rattle.trace_laws.proofs.GrammarReads.{found_first}
 use Rattle.psi_spec.proofs.GroupLaws.{bytes_itself, found_behind, first_of_two}
 use Rattle.psi_spec.proofs.TaskLaws.{get_put}
 use Rattle.run_spec.specs.declared.command.Shape.{Shape}
 use Rattle.run_spec.specs.Generated.{at_start, first_events, home_of, made_group, made_task, numbered_path, task_count}
 use Rattle.run_spec.specs.Words.{IsShape}
 use Rattle.task_table.proofs.CauseLaws.{first_of_act}
-use Rattle.trace_gen.specs.Generating.{IsGenerating, limits_in}
+use Rattle.task_table.specs.Stands.{TableView}
+use Rattle.trace_gen.specs.Generating.{IsGenerating, limits_in, made_groups}
 use Rattle.trace_gen.proofs.Following.{Go, go_on, go_then}
 use Rattle.trace_gen.proofs.Naming.{numbered_apart, numbered_is_path, numbered_parent}
 
@@ -32,6 +35,7 @@ use Rattle.trace_gen.proofs.Naming.{numbered_apart, numbered_is_path, numbered_p
 -- an event may be spelled and is legal, and what holds of its number in the world before it holds of the next one after
 record IsGood (limits : Limits) (Holds : ℕ → World → Type 0) (number : ℕ) (w : World) (event : Event) : Type 0 where
   fits : Fits event
+  known : IsKnown first_verbs event
   legal : cause_of limits w event ≡ None
   later : Holds (number + 1) (after_event w event)
 
@@ -43,11 +47,11 @@ record InRow (limits : Limits) (Holds : ℕ → World → Type 0) (end : ℕ) (w
 in_row : (limits : Limits) (Holds : ℕ → World → Type 0) (end : ℕ) (make : ℕ → Event) → ((number : ℕ) (w : World) → number < end → Holds number w → IsGood limits Holds number w (make number))
     → (count from : ℕ) → from + count ≡ end → (w : World) → Holds from w → InRow limits Holds end w (map make (range_with_len from count))
 in_row limits Holds end make good zero from all w so =
-    let same : from ≡ end = omega (arith, all) in record { go = record { fit = tt; legal = tt }; later = subst (λ n. Holds n w) same so }
+    let same : from ≡ end = omega (arith, all) in record { go = record { fit = tt; known = tt; legal = tt }; later = subst (λ n. Holds n w) same so }
 in_row limits Holds end make good (suc count) from all w so =
     let one = good from w (omega (arith, all)) so in
     let rest = in_row limits Holds end make good count (from + 1) (omega (arith, all)) (after_event w (make from)) one.later in
-    record { go = go_then limits w (make from) (map make (range_with_len (from + 1) count)) one.fits one.legal rest.go; later = rest.later }
+    record { go = go_then limits w (make from) (map make (range_with_len (from + 1) count)) one.fits one.known one.legal rest.go; later = rest.later }
 
 -- ---- groups
 
@@ -102,6 +106,7 @@ group_good shape shaped number w room so =
     let group = new_group w.groups path 0 in
     record {
       fits = record { at = omega arith; act = (numbered_is_path number fits, tt) };
+      known = found_first verb.Group refl;
       legal = first_of_act (limits_in shape) w (at_start (made_group number)) so.going (omega (arith, last)) (omega arith) (omega (arith, lines, few, room)) ∙ rw (free, fresh, parent) refl;
       later = record {
         root = still_found w.groups group (codes "/") so.root;
@@ -214,6 +219,7 @@ task_good shape shaped pid w room so =
     let more = one_more w.tasks pid task in
     record {
       fits = record { at = omega arith; act = ((omega (arith, low), omega (arith, room, processors)), (home_is_path shape groups pid, (omega (arith, place, processors), tt))) };
+      known = found_first verb.Fork refl;
       legal = first_of_act (limits_in shape) w (at_start (made_task shape pid)) so.going (omega (arith, last)) (omega arith) (omega (arith, lines, room, processors, groups)) ∙ rw (free, found, fresh, there) refl;
       later = record {
         low = omega arith;
@@ -279,6 +285,29 @@ tasks_made shape w so =
       last = omega (arith, last);
       going = so.going;
     }
+
+-- the event that makes the next group is legal behind those that made the groups before it
+group_turn : (shape : Shape) → IsShape shape → (number : ℕ) → number < shape.groups → cause_of (limits_in shape) (after_from first_world (made_groups shape number)) (at_start (made_group number)) ≡ None
+group_turn shape shaped number room =
+    let so = in_row (limits_in shape) (HasGroups shape) number (λ i. at_start (made_group i)) (λ i w below. group_good shape shaped i w (omega (arith, below, room))) number 0 (omega arith) first_world (no_groups shape shaped) in
+    (group_good shape shaped number (after_from first_world (made_groups shape number)) room so.later).legal
+
+-- the event that makes the next task is legal behind those that made all groups and the tasks before it
+task_turn : (shape : Shape) → IsShape shape → (pid : ℕ) → pid < task_count shape → cause_of (limits_in shape) (after_from first_world (made_groups shape shape.groups ++ map (λ i. at_start (made_task shape i)) (range_with_len 1 pid))) (at_start (made_task shape (pid + 1))) ≡ None
+task_turn shape shaped pid room =
+    let groups = made_groups shape shape.groups in
+    let first = in_row (limits_in shape) (HasGroups shape) shape.groups (λ i. at_start (made_group i)) (group_good shape shaped) shape.groups 0 (omega arith) first_world (no_groups shape shaped) in
+    let second = in_row (limits_in shape) (HasTasks shape) (pid + 1) (λ i. at_start (made_task shape i))
+    (λ i w below. task_good shape shaped i w (omega (arith, below, room))) pid 1 (omega arith) (after_from first_world groups) (groups_made shape (after_from first_world groups) first.later) in
+    let tasks = map (λ i. at_start (made_task shape i)) (range_with_len 1 pid) in
+    rw (after_from-append first_world groups tasks) (task_good shape shaped (pid + 1) (after_from (after_from first_world groups) tasks) (omega (arith, room)) second.later).legal
+
+-- the same of a table after these events
+pub group_legal : (shape : Shape) → IsShape shape → (number : ℕ) → number < shape.groups → (table : TableView) (events : List Event) (event : Event) → table.limits ≡ limits_in shape → table.world ≡ after events → events ≡ made_groups shape number → event ≡ at_start (made_group number) → cause_of table.limits table.world event ≡ None
+group_legal shape shaped number room table events event limits world are is = rw (limits, world, are, is) (group_turn shape shaped number room)
+
+pub task_legal : (shape : Shape) → IsShape shape → (pid : ℕ) → pid < task_count shape → (table : TableView) (events : List Event) (event : Event) → table.limits ≡ limits_in shape → table.world ≡ after events → events ≡ made_groups shape shape.groups ++ map (λ i. at_start (made_task shape i)) (range_with_len 1 pid) → event ≡ at_start (made_task shape (pid + 1)) → cause_of table.limits table.world event ≡ None
+task_legal shape shaped pid room table events event limits world are is = rw (limits, world, are, is) (task_turn shape shaped pid room)
 
 -- the events that make all groups and tasks go on from the first world, and then the world is as it should be
 pub record AreFounded (shape : Shape) : Type 0 where

@@ -4,10 +4,12 @@ use Rattle.std.proofs.Common.{◌≡◌, ℕ, zero, suc, ◌+◌, ◌<◌, ◌�
 use Rattle.std.proofs.Math.Nat.{mod-lt}
 use Rattle.psi_base.specs.declared.event.Act.TheVariants as act
 use Rattle.psi_base.specs.declared.event.Event.{Event}
-use Rattle.psi_spec.specs.Grammar.{Fits}
+use Rattle.psi_spec.specs.Grammar as verb
+use Rattle.psi_spec.specs.Grammar.{Fits, IsKnown, first_verbs}
 use Rattle.psi_spec.specs.Refusal.{AreLegal, cause_of}
-use Rattle.psi_spec.specs.Trace.{AllFit, EndsLast}
+use Rattle.psi_spec.specs.Trace.{AllFit, AreKnown, EndsLast}
 use Rattle.psi_spec.specs.World.{Limits, World, after_event, after_from}
+use Rattle.trace_laws.proofs.GrammarReads.{found_first}
 use Rattle.run_spec.specs.declared.command.Shape.{Shape}
 use Rattle.run_spec.specs.Generated.{drawn, drawn_events, next_drawn, next_event, next_state}
 use Rattle.run_spec.specs.Words.{IsShape}
@@ -18,15 +20,17 @@ use Rattle.trace_gen.proofs.Stepping.{next_step}
 
 -- ---- events that go on from a world
 
--- events may be spelled, and are legal in their turn
+-- events may be spelled, by verbs of every version, and are legal in their turn
 pub record Go (limits : Limits) (w : World) (events : List Event) : Type 0 where
   pub fit : AllFit events
+  pub known : AreKnown first_verbs events
   pub legal : AreLegal limits w events
 
 -- one event, and those behind it
-pub go_then : (limits : Limits) (w : World) (event : Event) (events : List Event) → Fits event → cause_of limits w event ≡ None → Go limits (after_event w event) events → Go limits w (event ∷ events)
-go_then limits w event events fits legal rest = record {
+pub go_then : (limits : Limits) (w : World) (event : Event) (events : List Event) → Fits event → IsKnown first_verbs event → cause_of limits w event ≡ None → Go limits (after_event w event) events → Go limits w (event ∷ events)
+go_then limits w event events fits known legal rest = record {
   fit = (fits, rest.fit);
+  known = (known, rest.known);
   legal = (legal, rest.legal);
 }
 
@@ -34,8 +38,8 @@ go_then limits w event events fits legal rest = record {
 pub go_on : (limits : Limits) (w : World) (xs ys : List Event) → Go limits w xs → Go limits (after_from w xs) ys → Go limits w (xs ++ ys)
 go_on limits w [] ys front rest = rest
 go_on limits w (x ∷ xs) ys front rest =
-    let inner : Go limits (after_event w x) xs = record { fit = front.fit.1; legal = front.legal.1 } in
-    go_then limits w x (xs ++ ys) front.fit.0 front.legal.0 (go_on limits (after_event w x) xs ys inner rest)
+    let inner : Go limits (after_event w x) xs = record { fit = front.fit.1; known = front.known.1; legal = front.legal.1 } in
+    go_then limits w x (xs ++ ys) front.fit.0 front.known.0 front.legal.0 (go_on limits (after_event w x) xs ys inner rest)
 
 -- the end stays last behind other events
 pub ends_behind : (xs ys : List Event) → EndsLast ys → EndsLast (xs ++ ys)
@@ -46,6 +50,7 @@ ends_behind xs ys ends = (xs ++ ends.0, ends.1, ap (λ zs. xs ++ zs) ends.2 ∙ 
 -- the event that comes next may be spelled and is legal, and all goes on behind it
 pub record IsNext (shape : Shape) (count : ℕ) (w : World) (event : Event) : Type 0 where
   pub fits : Fits event
+  pub known : IsKnown first_verbs event
   pub legal : cause_of (limits_in shape) w event ≡ None
   pub light : takes_memory event.act ≡ false
   pub later : IsGenerating shape (count + 1) (after_event w event)
@@ -64,7 +69,8 @@ next_is shape shaped count more w so state =
     let room : w.lines < 4000000 = omega (arith, lines, few, more, processors, groups) in
     record {
       fits = record { at = omega (arith, last, wait, few, more); act = step.fits };
-      legal = first_of_act (limits_in shape) w (next_event shape w state) so.going forward early room ∙ step.legal w.groups w.triggers;
+      known = step.known;
+      legal = first_of_act (limits_in shape) w (next_event shape w state) so.going forward early room ∙ step.legal w.groups w.irqs w.triggers (next_event shape w state).at;
       light = step.light;
       later = record {
         tasks = step.live w.groups;
@@ -86,6 +92,7 @@ end_goes shape shaped count all w so =
     let room : w.lines < 4000000 = omega (arith, lines, few, all, processors, groups) in
     record {
       fit = (record { at = omega (arith, last, few, all); act = tt }, tt);
+      known = (found_first verb.End refl, tt);
       legal = (first_of_act (limits_in shape) w (record { at = w.last; act = act.End }) so.going (omega arith) early room, tt);
     }
 
@@ -97,7 +104,7 @@ unfolding drawn_events
 events_go shape shaped zero count all w so state = end_goes shape shaped count (omega (arith, all)) w so
 events_go shape shaped (suc left) count all w so state =
     let next = next_is shape shaped count (omega (arith, all)) w so state in
-    go_then (limits_in shape) w (next_event shape w state) _ next.fits next.legal
+    go_then (limits_in shape) w (next_event shape w state) _ next.fits next.known next.legal
     (events_go shape shaped left (count + 1) (omega (arith, all)) (after_event w (next_event shape w state)) next.later (next_drawn shape w.tasks state).state)
 
 -- the end is the last of them

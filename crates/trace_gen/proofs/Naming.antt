@@ -9,7 +9,7 @@ use Rattle.psi_base.specs.Path.{is_path, is_path_byte, parts_at}
 use Rattle.psi_base.proofs.NumberLaws.{numerals}
 use Rattle.psi_base.proofs.PartLaws.{HasNone, parts_at-all}
 use Rattle.psi_spec.specs.World.{parent_path}
-use Rattle.psi_spec.proofs.GrammarWords.{decimal_short}
+use Rattle.trace_laws.proofs.GrammarWords.{decimal_short}
 use Rattle.psi_spec.proofs.GroupLaws.{same_bytes}
 use Rattle.group_tree.proofs.Slashes.{HasNoSlash, above_cut}
 use Rattle.run_spec.specs.Generated.{numbered_path}

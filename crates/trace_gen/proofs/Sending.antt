@@ -6,7 +6,7 @@ use Rattle.std.proofs.lemmas.List.{append-nil}
 use Rattle.psi_base.specs.declared.event.Event.{Event}
 use Rattle.psi_base.specs.Outside.{AppendsFront, PutsAll}
 use Rattle.psi_base.proofs.Grows.{Appends-none, Appends-then, AppendsFront-last, AppendsFront-then}
-use Rattle.psi_spec.proofs.GrammarReads.{spelled_in_line}
+use Rattle.trace_laws.proofs.GrammarReads.{spelled_in_line}
 use Rattle.psi_spec.specs.Grammar.{Fits, spelling}
 use Rattle.psi_spec.specs.Trace.{AllFit, lines_of}
 use Rattle.run_spec.specs.declared.command.Shape.{Shape}

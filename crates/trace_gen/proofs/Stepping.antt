@@ -15,36 +15,22 @@ use Rattle.psi_spec.specs.declared.machine.GroupLife.{GroupLife}
 use Rattle.psi_spec.specs.declared.machine.Mode.{Mode}
 use Rattle.psi_spec.specs.declared.machine.Mode.TheVariants.{Blocked, Ready, Running, Waiting}
 use Rattle.psi_spec.specs.declared.machine.Task.{Task}
-use Rattle.psi_spec.specs.Grammar.{ActFits}
+use Rattle.psi_spec.specs.Fields.{IsAmong}
+use Rattle.psi_spec.specs.Grammar as verb
+use Rattle.psi_spec.specs.Grammar.{ActFits, first_verbs, phrase_of}
 use Rattle.psi_spec.specs.Refusal.{is_exit, is_wrong}
 use Rattle.psi_spec.specs.World.{Tasks, change, change_to, ends, is_active, is_ready, is_ready_on, is_running, is_running_on, leave, left_by, placed, put, readied, running_on, start, task_of, tasks_after}
+use Rattle.trace_laws.proofs.GrammarReads.{found_first}
 use Rattle.psi_spec.proofs.RefusalLaws.{first_true}
 use Rattle.psi_spec.proofs.TaskLaws.{get_put}
 use Rattle.run_spec.specs.declared.command.Shape.{Shape}
 use Rattle.run_spec.specs.Generated.{Drawn, chosen, drawn, next_drawn, next_if, next_of, next_state, running_act, stall_turn, started, task_count, way_of, woken}
 use Rattle.run_spec.specs.Words.{IsShape}
 use Rattle.task_table.specs.Causes.{act_cause, takes_memory}
+use Rattle.task_table.proofs.Runners.{runs_there}
 use Rattle.trace_gen.specs.Generating.{AreLive}
 
 -- ---- who runs on a processor
-
--- a task that passes a test and has a number is found by the test, or another is
-found_if : (test : Task → Bool) (es : List (ℕ × Task)) (pid : ℕ) (task : Task) → tasks_by.find nat_cmp pid es ≡ Some task → test task ≡ true → is_some (find (λ e. test e.1) es) ≡ true
-found_if test [] pid task is passes = absurd (cc is)
-found_if test (e ∷ es) pid task is passes =
-    let here : cond (pid == e.0) (Some e.1) (tasks_by.find nat_cmp pid es) ≡ Some task = ap (λ b. cond b (Some e.1) (tasks_by.find nat_cmp pid es)) (sym (unsigned_tied pid e.0)) ∙ is in
-    elim (test e.1) as (λ b. test e.1 ≡ b → is_some (cond b (Some e) (find (λ e. test e.1) es)) ≡ true) [
-      | true ↦ λ _. refl
-      | false ↦ λ off.
-          elim (pid == e.0) as (λ b. cond b (Some e.1) (tasks_by.find nat_cmp pid es) ≡ Some task → is_some (find (λ e. test e.1) es) ≡ true) [
-            | true ↦ λ i. let same : e.1 ≡ task = cc i in absurd (cc (off, ap test same, passes))
-            | false ↦ λ i. found_if test es pid task i passes
-          ] here
-    ] refl
-
--- where a task runs on a processor, some task does
-runs_there : (tasks : Tasks) (pid : ℕ) (task : Task) (cpu : ℕ) → task_of tasks pid ≡ Some task → is_running_on cpu task ≡ true → is_some (running_on tasks cpu) ≡ true
-runs_there tasks pid task cpu is runs = found_if (is_running_on cpu) (tasks_by.entries tasks) pid task (sym (tasks_by.get-entries tasks pid) ∙ is) runs
 
 -- the processor of a task that runs there
 processor_of : (cpu : ℕ) (task : Task) → is_running_on cpu task ≡ true → task.cpu.0 ≡ cpu
@@ -103,11 +89,12 @@ switch_live shape tasks are cpu room next how stays =
 
 -- ---- what a task does next
 
--- an act may be spelled, and no cause of its own is against it, whatever groups and triggers there are; all tasks live
--- on after it, and it isn't the end and takes no memory
+-- an act may be spelled, its verb is one of every version, and no cause of its own is against it, whatever groups, `irq` lines
+-- and triggers there are and whenever it is; all tasks live on after it, and it isn't the end and takes no memory
 pub record IsStep (shape : Shape) (tasks : Tasks) (a : Act) : Type 0 where
-  pub legal : (groups : List GroupLife) (triggers : ℕ) → act_cause shape.cpus groups tasks triggers a ≡ None
+  pub legal : (groups : List GroupLife) (irqs : List ℕ) (triggers at : ℕ) → act_cause shape.cpus groups tasks irqs triggers at a ≡ None
   pub fits : ActFits a
+  pub known : IsAmong (phrase_of a).verb first_verbs
   pub live : (groups : List GroupLife) → AreLive shape (tasks_after groups tasks a)
   pub goes : ends a ≡ false
   pub light : takes_memory a ≡ false
@@ -147,8 +134,9 @@ wake_step shape tasks pid task it sleeps state =
     let room : drawn (next_state state) shape.cpus < shape.cpus = mod-lt _ (omega (arith, some)) in
     let there = there_is shape.cpus (drawn (next_state state) shape.cpus) room in
     record {
-      legal = λ groups triggers. rw (it.is, there, sleeps) refl;
+      legal = λ groups irqs triggers at. rw (it.is, there, sleeps) refl;
       fits = (number_fits shape tasks pid task it, (processor_fits shape it.shaped _ room, tt));
+      known = found_first verb.Wake refl;
       live = λ groups. change_live shape tasks it.are pid (readied (drawn (next_state state) shape.cpus)) (λ _ _. room);
       goes = refl;
       light = refl;
@@ -179,8 +167,9 @@ start_step shape tasks pid task it ready how stays right =
     let room = place_of shape tasks pid task it in
     let there = there_is shape.cpus task.cpu.0 room in
     record {
-      legal = λ groups triggers. rw (it.is, there, ready_on task ready, right, stays) refl;
+      legal = λ groups irqs triggers at. rw (it.is, there, ready_on task ready, right, stays) refl;
       fits = (processor_fits shape it.shaped _ room, (number_fits shape tasks pid task it, (tt, tt)));
+      known = found_first verb.Switch refl;
       live = λ groups. switch_live shape tasks it.are task.cpu.0 room (Some (record { 0 = pid })) how stays;
       goes = refl;
       light = refl;
@@ -203,8 +192,9 @@ leave_step shape tasks pid task it runs how stays right =
     let room = place_of shape tasks pid task it in
     let there = there_is shape.cpus task.cpu.0 room in
     record {
-      legal = λ groups triggers. rw (there, right, stays) refl;
+      legal = λ groups irqs triggers at. rw (there, right, stays) refl;
       fits = (processor_fits shape it.shaped _ room, (tt, (tt, tt)));
+      known = found_first verb.Switch refl;
       live = λ groups. switch_live shape tasks it.are task.cpu.0 room None how stays;
       goes = refl;
       light = refl;
@@ -213,8 +203,9 @@ leave_step shape tasks pid task it runs how stays right =
 -- a stall of the running task begins or ends
 stall_step : (shape : Shape) (tasks : Tasks) (pid : ℕ) (task : Task) → IsTask shape tasks pid task → is_running task.mode ≡ true → task.stalled ≡ false → IsStep shape tasks (act.Stall (record { 0 = pid }))
 stall_step shape tasks pid task it runs calm = record {
-  legal = λ groups triggers. rw (it.is, runs, calm) refl;
+  legal = λ groups irqs triggers at. rw (it.is, runs, calm) refl;
   fits = (number_fits shape tasks pid task it, tt);
+  known = found_first verb.Stall refl;
   live = λ groups. change_live shape tasks it.are pid (λ task. record task { stalled = true }) (λ _ room. room);
   goes = refl;
   light = refl;
@@ -222,8 +213,9 @@ stall_step shape tasks pid task it runs calm = record {
 
 unstall_step : (shape : Shape) (tasks : Tasks) (pid : ℕ) (task : Task) → IsTask shape tasks pid task → is_running task.mode ≡ true → task.stalled ≡ true → IsStep shape tasks (act.Unstall (record { 0 = pid }))
 unstall_step shape tasks pid task it runs stalled = record {
-  legal = λ groups triggers. rw (it.is, runs, stalled) refl;
+  legal = λ groups irqs triggers at. rw (it.is, runs, stalled) refl;
   fits = (number_fits shape tasks pid task it, tt);
+  known = found_first verb.Unstall refl;
   live = λ groups. change_live shape tasks it.are pid (λ task. record task { stalled = false }) (λ _ room. room);
   goes = refl;
   light = refl;

@@ -1,10 +1,13 @@
 -- What holds while a trace is generated, and the law of generated traces.
-use Rattle.std.specs.Prelude.{◌≡◌, ℕ, ◌+◌, ◌*◌, ◌≤◌, ◌<◌, length}
+use Rattle.std.specs.Prelude.{◌≡◌, ℕ, ◌+◌, ◌*◌, ◌≤◌, ◌<◌, List, [], ◌∷◌, length, map}
+use Rattle.std.specs.List.{range_with_len}
+use Rattle.psi_base.specs.declared.event.Event.{Event}
 use Rattle.std.specs.Prelude.{false, IfSome, IsSome}
-use Rattle.psi_spec.specs.Trace.{IsTrace, accepts_all, limits_of}
+use Rattle.psi_spec.specs.Grammar.{One}
+use Rattle.psi_spec.specs.Trace.{IsTrace, accepts_with, limits_of}
 use Rattle.psi_spec.specs.World.{Limits, Tasks, World, task_of}
 use Rattle.run_spec.specs.declared.command.Shape.{Shape}
-use Rattle.run_spec.specs.Generated.{gen_text, generated, task_count}
+use Rattle.run_spec.specs.Generated.{at_start, gen_text, generated, made_group, task_count}
 use Rattle.kill_spec.specs.Detectors.{of_seconds}
 use Rattle.run_spec.specs.Words.{IsShape}
 
@@ -19,6 +22,10 @@ event_count shape = first_count shape + shape.events + 1
 -- what a generated trace can name: its processors, and the moments that the default tick of 2 s allows
 abbrev pub limits_in : Shape → Limits
 limits_in shape = limits_of (of_seconds 2) shape.cpus
+
+-- the events that make the groups of a shape with the numbers below this one
+abbrev pub made_groups : Shape → ℕ → List Event
+made_groups shape number = map (λ i. at_start (made_group i)) (range_with_len 0 number)
 
 -- ---- while a trace is generated
 
@@ -37,10 +44,10 @@ pub record IsGenerating (shape : Shape) (count : ℕ) (w : World) : Type 0 where
 
 -- ---- laws
 
--- Each generated text is one of the generated trace, which is accepted at the default tick.
+-- Each generated text is one of the generated trace, which is of the first version, and accepted at the default tick.
 abbrev pub GeneratedIsTrace : Type 0
 GeneratedIsTrace = (shape : Shape) → IsShape shape
-    → IsTrace (accepts_all (of_seconds 2)) (gen_text shape) (generated shape)
+    → IsTrace (accepts_with (One ∷ []) (of_seconds 2)) (gen_text shape) (generated shape)
 
 -- A generated trace has an event for each group and each task, as many more as were asked for, and the end.
 abbrev pub GeneratedCount : Type 0

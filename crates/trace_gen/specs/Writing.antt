@@ -16,7 +16,7 @@ shape_by seed cpus groups events =
 abbrev pub Misses : {E : Type 0} → List ℕ → ℕ → ℕ → Option (List ℕ) → Option (List ℕ) → Fault E
     → Type 0
 Misses text before now had has (Refused failed) = AppendsFront had has text × Rose before now
-Misses text before now had has NoMemory = Keeps had has × (now ≡ before)
+Misses text before now had has (NoMemory _) = Keeps had has × (now ≡ before)
 
 -- what writing a text gave: all of it, with the count of failed writes as before; or what Misses says of a fault
 abbrev pub WritesWhole :

@@ -1,12 +1,14 @@
 //! The events that make groups and tasks.
-ghost use Rattle.std.specs.Prelude.{◌≡◌, ◌≤◌, ◌<◌, ◌++◌, ◌∷◌, [], IfOk, OnOk, map};
+ghost use Rattle.std.specs.Prelude.{◌≡◌, ◌≤◌, ◌<◌, ◌++◌, ◌∷◌, [], None, IfOk, OnOk, map};
 ghost use Rattle.std.specs.List.{range_with_len};
+ghost use Rattle.psi_spec.specs.Refusal.{cause_of};
 ghost use Rattle.psi_spec.specs.World.{after, after_event};
 ghost use Rattle.run_spec.specs.Generated.{at_start, first_events, home_of, made_group, made_task};
 ghost use Rattle.run_spec.specs.Generated.{numbered_path, task_count};
 ghost use Rattle.run_spec.specs.Words.{IsShape};
+ghost use Rattle.trace_gen.specs.Generating.{limits_in, made_groups};
 
-use psi_base::{Act, Cpu, Event, NoMemory, Path, Pid};
+use psi_base::{Act, Cpu, Event, Fault, NoMemory, Path, Pid};
 use run_spec::Shape;
 use std::alloc::Global;
 use std::collections::VecDeque;
@@ -68,42 +70,46 @@ fn made_task(alloc: Global, shape: Shape, pid: u32) -> Result<Event, NoMemory>
     })
 }
 
-/// Plays an event in a table whose world is that after others, and keeps it behind these. Where it fails there was no
-/// memory, since the events of a generated trace are legal.
+/// Plays a legal event in a table whose world is that after others, and keeps it behind these.
 #[tactic(auto, using(crate::proofs::Drawing::one_after))]
 fn play(events: &mut VecDeque<Event>, table: &mut Table, event: Event) -> Result<(), NoMemory>
-    requires { table.old.world ≡ after events.old.items }
+    requires world { table.old.world ≡ after events.old.items }
+    requires legal { cause_of table.old.limits table.old.world event ≡ None }
     ensures items { OnOk result (events.new.items ≡ events.old.items ++ event ∷ []) }
     ensures world { OnOk result (table.new.world ≡ after events.new.items) }
     ensures limits { OnOk result (table.new.limits ≡ table.old.limits) }
 {
-    if table.play(&event).is_err() {
-        return Err(NoMemory);
+    match table.play(&event) {
+        Ok(()) => {}
+        Err(Fault::NoMemory(none)) => return Err(none),
+        Err(Fault::Refused(_)) => unreachable!(),
     }
     events.push_back(event)?;
     Ok(())
 }
 
-/// Makes so many groups.
+/// Makes all groups of a shape, before any other event.
 fn make_groups(
     alloc: Global,
-    count: u32,
+    shape: Shape,
     events: &mut VecDeque<Event>,
     table: &mut Table,
 ) -> Result<(), NoMemory>
+    requires shaped { IsShape shape }
+    requires limits { table.old.limits ≡ limits_in shape }
+    requires first { events.old.items ≡ [] }
     requires world { table.old.world ≡ after events.old.items }
-    ensures items { OnOk result (events.new.items ≡ events.old.items
-        ++ map (λ number. at_start (made_group number)) (range_with_len 0 count)) }
+    ensures items { OnOk result (events.new.items ≡ made_groups shape shape.groups) }
     ensures world { OnOk result (table.new.world ≡ after events.new.items) }
     ensures limits { OnOk result (table.new.limits ≡ table.old.limits) }
 {
-    'groups: for number in 0..count {
+    'groups: for number in 0..shape.groups {
         play(events, table, made_group(alloc, number)?)?;
     }
     Ok(())
 }
 
-/// Makes all tasks of a shape.
+/// Makes all tasks of a shape, behind its groups.
 fn make_tasks(
     alloc: Global,
     shape: Shape,
@@ -111,6 +117,8 @@ fn make_tasks(
     table: &mut Table,
 ) -> Result<(), NoMemory>
     requires shaped { IsShape shape }
+    requires limits { table.old.limits ≡ limits_in shape }
+    requires groups { events.old.items ≡ made_groups shape shape.groups }
     requires world { table.old.world ≡ after events.old.items }
     ensures items { OnOk result (events.new.items ≡ events.old.items
         ++ map (λ pid. at_start (made_task shape pid)) (range_with_len 1 (task_count shape))) }
@@ -130,13 +138,14 @@ pub(crate) fn found(
     table: &mut Table,
 ) -> Result<VecDeque<Event>, NoMemory>
     requires shaped { IsShape shape }
+    requires limits { table.old.limits ≡ limits_in shape }
     requires first { table.old.world ≡ after [] }
     ensures items { IfOk result (λ events. events.items ≡ first_events shape) }
     ensures world { OnOk result (table.new.world ≡ after (first_events shape)) }
     ensures limits { OnOk result (table.new.limits ≡ table.old.limits) }
 {
     let mut events = VecDeque::new(alloc);
-    make_groups(alloc, shape.groups, &mut events, table)?;
+    make_groups(alloc, shape, &mut events, table)?;
     make_tasks(alloc, shape, &mut events, table)?;
     Ok(events)
 }

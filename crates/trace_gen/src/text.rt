@@ -45,8 +45,34 @@ fn make_line(event: &Event, line: &mut Vec<u8>)
     }
 }
 
-/// Writes the line of an event.
-fn put_event<K: Sink>(event: Event, line: &mut Vec<u8>, out: &mut K) -> Result<(), WriteFailed>
+/// Writes the line of the header for so many processors. It takes no memory, since there is room for it.
+pub fn put_header<K: Sink>(cpus: u32, line: &mut Vec<u8>, out: &mut K) -> Result<(), WriteFailed>
+    requires room { 513 ≤ vec_capacity line.old }
+    ensures room { 513 ≤ vec_capacity line.new }
+    ensures bytes { PutsAll (K.has out.old) (K.has out.new) result (header 1 cpus ++ 10 ∷ []) }
+    ensures cause { HasCause (K.faults out.old) (K.faults out.new) result }
+    ensures below { StaysOver (K.below out.old) (K.below out.new) }
+{
+    make_header(cpus, line);
+    put_all(out, line)
+}
+
+/// Writes the line of an event. It takes no memory, since there is room for it.
+pub fn put_event<K: Sink>(event: &Event, line: &mut Vec<u8>, out: &mut K) -> Result<(), WriteFailed>
+    requires fits { Fits event.now }
+    requires room { 513 ≤ vec_capacity line.old }
+    ensures room { 513 ≤ vec_capacity line.new }
+    ensures bytes { PutsAll (K.has out.old) (K.has out.new) result
+        (spelling event.now ++ 10 ∷ []) }
+    ensures cause { HasCause (K.faults out.old) (K.faults out.new) result }
+    ensures below { StaysOver (K.below out.old) (K.below out.new) }
+{
+    make_line(event, line);
+    put_all(out, line)
+}
+
+/// Writes the line of an event, which is dropped then.
+fn put_owned<K: Sink>(event: Event, line: &mut Vec<u8>, out: &mut K) -> Result<(), WriteFailed>
     requires fits { Fits event }
     requires room { 513 ≤ vec_capacity line.old }
     ensures room { 513 ≤ vec_capacity line.new }
@@ -54,8 +80,7 @@ fn put_event<K: Sink>(event: Event, line: &mut Vec<u8>, out: &mut K) -> Result<(
     ensures cause { HasCause (K.faults out.old) (K.faults out.new) result }
     ensures below { StaysOver (K.below out.old) (K.below out.new) }
 {
-    make_line(&event, line);
-    put_all(out, line)
+    put_event(&event, line, out)
 }
 
 /// Writes the lines of the events that a generator has left.
@@ -71,7 +96,7 @@ fn put_events<K: Sink>(
     ensures below { StaysOver (K.below out.old) (K.below out.new) }
 {
     'events: while let Some(event) = generator.next() {
-        put_event(event, line, out)?;
+        put_owned(event, line, out)?;
     }
     Ok(())
 }
@@ -91,8 +116,7 @@ fn put_trace<K: Sink>(
     ensures cause { HasCause (K.faults out.old) (K.faults out.new) result }
     ensures below { StaysOver (K.below out.old) (K.below out.new) }
 {
-    make_header(cpus, line);
-    put_all(out, line)?;
+    put_header(cpus, line, out)?;
     put_events(generator, line, out)
 }
 
@@ -119,14 +143,8 @@ pub fn generate<K: Sink>(
         groups,
         events,
     };
-    let mut line = match Vec::with_capacity(alloc, ROOM) {
-        Ok(line) => line,
-        Err(_) => return Err(Fault::NoMemory),
-    };
-    let mut generator = match Generator::make(alloc, shape) {
-        Ok(generator) => generator,
-        Err(_) => return Err(Fault::NoMemory),
-    };
+    let mut line = Vec::with_capacity(alloc, ROOM)?;
+    let mut generator = Generator::make(alloc, shape)?;
     match put_trace(cpus, &mut generator, &mut line, out) {
         Ok(()) => Ok(()),
         Err(failed) => Err(Fault::Refused(failed)),

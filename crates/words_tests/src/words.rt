@@ -8,7 +8,7 @@ use std::test::Fail;
 // Words, and behind `=>` the command: its trace, and of `replay` the rules, the numbers of
 // `--tick-ms`, `--interval-s`, `--report-s` and `--workers`, the path and the number of
 // `--live-count`; of `gen` and `stress` the numbers of `--seed`, `--cpus`, `--groups` and `--events`,
-// and of `stress` that of `--workers`.
+// and of `stress` that of `--workers`; of `import` its file and the number of `--cpus`.
 const ACCEPTED: &str = "stall|X => stall X
 stall|- => stall -
 stall|help => stall help
@@ -62,7 +62,11 @@ gen|--events=0|--groups=0|--cpus=1|--seed=0 => gen 0 1 0 0
 gen|--seed=18446744073709551615|--cpus=64|--groups=1000|--events=3900000|-- => gen 18446744073709551615 64 1000 3900000
 stress|--seed=0|--cpus=1|--groups=1|--events=1 => stress 0 1 1 1 64
 stress|--seed=0|--cpus=1|--groups=1|--events=1|--workers=2 => stress 0 1 1 1 2
-stress|--workers|1|--seed|7|--cpus|8|--groups|12|--events|9 => stress 7 8 12 9 1";
+stress|--workers|1|--seed|7|--cpus|8|--groups|12|--events|9 => stress 7 8 12 9 1
+import|X|--cpus=1 => import X 1
+import|--cpus|64|X => import X 64
+import|-|--cpus|4 => import - 4
+import|--cpus=2|--|--cpus => import --cpus 2";
 
 // The first row has no word.
 const REFUSED: &str = "(none)
@@ -232,7 +236,21 @@ stress|--seed=0|--cpus=1|--groups=1|--events=1|--report-s=5
 stress|--seed=0|--cpus=1|--groups=1|--events=1|--live|/
 stress|--seed=0|--cpus=1|--groups=1|--events=1|--live-count=1
 stress|--seed=0|--cpus=1|--groups=1|--events=1|--|X
+import
 import|X
+import|--cpus=1
+import||--cpus=1
+import|X|Y|--cpus=1
+import|X|--cpus
+import|X|--cpus=
+import|X|--cpus=0
+import|X|--cpus=65
+import|X|--cpus=01
+import|X|--cpus=+1
+import|X|--cpus=1|--cpus=1
+import|X|--cpus=1|--tick-ms=5
+import|X|--cpus=1|--workers=2
+Import|X|--cpus=1
 rules|X
 whatif|X";
 
@@ -290,6 +308,9 @@ fn command_shown(alloc: Global, command: &Command) -> Result<String, AllocError>
             let shape = shape_shown(alloc, shape)?;
             format!(in alloc; "stress {shape} {workers}")
         }
+        Command::Import { file, cpus } => {
+            format!(in alloc; "import {} {cpus}", shown(file.bytes()))
+        }
     }
 }
 
@@ -310,7 +331,7 @@ fn answer(alloc: Global, line: &str) -> Result<String, Fail> {
     match read_words(alloc, words.as_slice()) {
         Ok(command) => Ok(command_shown(alloc, &command)?),
         Err(Fault::Refused(_)) => Ok(String::from_str(alloc, "refused")?),
-        Err(Fault::NoMemory) => Ok(String::from_str(alloc, "no memory")?),
+        Err(Fault::NoMemory(_)) => Ok(String::from_str(alloc, "no memory")?),
     }
 }
 

@@ -3,16 +3,16 @@ use Rattle.psi_base.proofs.Grows.{PutsAll-failed}
 use Rattle.trace_gen.proofs.Sending.{front_sent, one_sent, rest_fit}
 use Rattle.trace_gen.proofs.text.put_events.Goals as goal
 
-pub returns-in_err-put_event-clause-bytes : goal.returns-in_err-put_event-clause-bytes
-returns-in_err-put_event-clause-bytes g c =
+pub returns-in_err-put_owned-clause-bytes : goal.returns-in_err-put_owned-clause-bytes
+returns-in_err-put_owned-clause-bytes g c =
     PutsAll-failed _ _ _ _ c.from_residual.ensures.0
-    (front_sent (g.K.Sink.has c.args.out.now) (g.K.Sink.has c.events.out) (g.K.Sink.has c.put_event.new.out) c.in-Some.event c.events.generator c.next.new.self c.args.generator.now c.events.invariant.sent c.in-Some.ensures c.in_err-put_event.ensures.bytes)
+    (front_sent (g.K.Sink.has c.args.out.now) (g.K.Sink.has c.events.out) (g.K.Sink.has c.put_owned.new.out) c.in-Some.event c.events.generator c.next.new.self c.args.generator.now c.events.invariant.sent c.in-Some.ensures c.in_err-put_owned.ensures.bytes)
 
 pub events-preserved : goal.events-preserved
 events-preserved g c = record {
   fit = rest_fit c.events.generator c.in-Some.event c.next.new.self c.events.invariant.fit c.in-Some.ensures;
   room = search rules;
-  sent = one_sent (g.K.Sink.has c.args.out.now) (g.K.Sink.has c.events.out) (g.K.Sink.has c.put_event.new.out) c.in-Some.event c.events.generator c.next.new.self c.args.generator.now c.events.invariant.sent c.in-Some.ensures c.in_ok-put_event.ensures.bytes;
+  sent = one_sent (g.K.Sink.has c.args.out.now) (g.K.Sink.has c.events.out) (g.K.Sink.has c.put_owned.new.out) c.in-Some.event c.events.generator c.next.new.self c.args.generator.now c.events.invariant.sent c.in-Some.ensures c.in_ok-put_owned.ensures.bytes;
   cause = search rules;
   below = search rules;
 }

@@ -7,6 +7,6 @@ use Rattle.trace_gen.proofs.text.put_trace.Goals as goal
 
 pub returns-clause-bytes : goal.returns-clause-bytes
 returns-clause-bytes g c =
-    let sent : Appends (g.K.Sink.has c.args.out.now) (g.K.Sink.has c.put_all.new.out) (header 1 c.args.cpus ++ 10 ∷ []) =
-    rw (c.deref.ensures.value, c.make_header.ensures.bytes) at c.in_ok-put_all.ensures.bytes in
+    let sent : Appends (g.K.Sink.has c.args.out.now) (g.K.Sink.has c.put_header.new.out) (header 1 c.args.cpus ++ 10 ∷ []) =
+    c.in_ok-put_header.ensures.bytes in
     rw (append_assoc (header 1 c.args.cpus) (10 ∷ []) (lines_of c.args.generator.now)) at (PutsAll-behind _ _ _ _ _ _ sent c.put_events.ensures.bytes)

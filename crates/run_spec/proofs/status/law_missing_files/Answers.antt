@@ -1,0 +1,8 @@
+use Rattle.run_spec.proofs.Missing.{missing_rules, missing_source}
+use Rattle.run_spec.proofs.status.law_missing_files.Goals as goal
+
+pub returns-clause-rules : goal.returns-clause-rules
+returns-clause-rules c = missing_rules
+
+pub returns-clause-source : goal.returns-clause-source
+returns-clause-source c = missing_source
