@@ -7,9 +7,12 @@ mod words;
 
 ghost use Rattle.std.specs.Prelude.{◌≡◌, IfOk, None, OnErr, map, string_bytes};
 ghost use Rattle.std.specs.Process.{exit_status};
+ghost use Rattle.psi_base.specs.Gives.{no_memory};
+ghost use Rattle.run_spec.specs.Run.{run_counts};
+ghost use Rattle.run_spec.specs.declared.status.Status.{Status};
 ghost use Rattle.run_spec.specs.Words.{command_of};
 ghost use Rattle.run_spec.specs.Status.{code_of};
-ghost use Rattle.psi_oomd_main.specs.End.{EndsAs, EndsAsSome};
+ghost use Rattle.psi_oomd_main.specs.End.{EndsAs, RanAs};
 
 use host::{HostShelf, HostSink};
 use psi_base::{NoMemory, OpenGate, Shelf, Sink, put_all};
@@ -28,15 +31,16 @@ fn exit_code(status: Status) -> ExitCode
 }
 
 // Ends where there was no memory for the words.
-fn end_without_words<N: Sink>(note: &mut N) -> ExitCode
-    ensures { EndsAs None Status.NoMemory (exit_status result)
+fn end_without_words<N: Sink>(none: NoMemory, note: &mut N) -> ExitCode
+    ensures { EndsAs None (Status.NoMemory no_memory) (exit_status result)
         (N.faults note.old) (N.faults note.new) (N.has note.old) (N.has note.new) }
 {
     let _ = put_all(note, b"out of memory\n");
-    exit_code(Status::NoMemory)
+    exit_code(Status::NoMemory(none))
 }
 
-// Runs the words and ends as the run did. The note tells of its status.
+// Runs the words and ends as the run did: what a run promises of a status, of files, output and counts, holds of the status that
+// the exit and the note tell of.
 fn end_of<R: Threads + Sync, S: Shelf, K: Sink, N: Sink>(
     rt: &R,
     alloc: Global,
@@ -45,15 +49,19 @@ fn end_of<R: Threads + Sync, S: Shelf, K: Sink, N: Sink>(
     out: &mut K,
     note: &mut N,
 ) -> ExitCode
-    ensures words { IfOk words (λ given.
-        EndsAsSome (command_of (map string_bytes given.items)) (exit_status result)
-        (N.faults note.old) (N.faults note.new) (N.has note.old) (N.has note.new)) }
-    ensures none { OnErr words (EndsAs None Status.NoMemory (exit_status result)
+    ensures words { IfOk words (λ given. (status : Status)
+        × EndsAs (command_of (map string_bytes given.items)) status (exit_status result)
+        (N.faults note.old) (N.faults note.new) (N.has note.old) (N.has note.new)
+        × RanAs (command_of (map string_bytes given.items)) status (S.holds shelf.old)
+        (run_counts (S.faults shelf.old) (S.absent shelf.old) (K.faults out.old))
+        (run_counts (S.faults shelf.new) (S.absent shelf.new) (K.faults out.new))
+        (K.has out.old) (K.has out.new)) }
+    ensures none { OnErr words (EndsAs None (Status.NoMemory no_memory) (exit_status result)
         (N.faults note.old) (N.faults note.new) (N.has note.old) (N.has note.new)) }
 {
     match words {
         Ok(words) => exit_code(run(rt, alloc, &words, shelf, out, note, &OpenGate)),
-        Err(NoMemory) => end_without_words(note),
+        Err(none) => end_without_words(none, note),
     }
 }
 

@@ -29,7 +29,7 @@ pub fn words_of(alloc: Global, given: io::Result<Args>) -> Result<Vec<String>, N
 {
     match given {
         Ok(words) => Ok(behind_the_name(alloc, words)?),
-        Err(error) if error.kind() == ErrorKind::OutOfMemory => Err(NoMemory),
+        Err(error) if error.kind() == ErrorKind::OutOfMemory => Err(AllocError.into()),
         Err(_) => Ok(Vec::new(alloc)),
     }
 }

@@ -1,9 +1,11 @@
 -- What the commands over generated traces come to as a run.
 use Rattle.std.proofs.Common.{◌≡◌, ◌⊎◌, inl, inr, ℕ, ◌<◌, ◌-◌, List, [], ◌∷◌, ◌++◌, refl, sym, ap, ◌∙◌, subst, arith, true≢false}
 use Rattle.std.proofs.Common.{append_assoc, Option, None, Some, is_some, Bool, true, false, ◌==◌, if◌then◌else◌}
+use Rattle.psi_base.specs.Gives.{no_memory}
 use Rattle.psi_base.specs.Outside.{Files, Rose}
 use Rattle.psi_base.specs.declared.event.Event.{Event}
-use Rattle.psi_spec.specs.Grammar.{Fits}
+use Rattle.psi_spec.specs.Fields.{IsAmong}
+use Rattle.psi_spec.specs.Grammar.{Fits, One}
 use Rattle.psi_spec.specs.Refusal.{AreLegal, cause_of}
 use Rattle.psi_spec.specs.Trace.{AllFit, IsAccepted, Trace, limits_of}
 use Rattle.psi_spec.specs.World.{Limits, World, after, after_event, after_from, first_world}
@@ -14,11 +16,12 @@ use Rattle.run_spec.specs.declared.command.Shape.{Shape}
 use Rattle.run_spec.specs.declared.status.Status.{Status}
 use Rattle.run_spec.specs.declared.status.Status.TheVariants as status
 use Rattle.run_spec.specs.declared.status.Which.{Which}
-use Rattle.run_spec.specs.declared.status.Which.TheVariants.{RulesFile, TraceFile}
+use Rattle.run_spec.specs.declared.status.Which.TheVariants.{ImportFile, RulesFile, TraceFile}
 use Rattle.run_spec.specs.Generated.{generated}
 use Rattle.kill_spec.specs.Detectors.{of_seconds}
-use Rattle.run_spec.specs.Outputs.{IsOutput, file_of, pace_of, rules_name, stress_options, tick_length, trace_name}
-use Rattle.run_spec.specs.Run.{ReadsTrace, RunCounts, Runs, TakesTrace}
+use Rattle.run_spec.specs.Outputs.{IsOutput, file_of, pace_of, rules_name, source_name, source_of, stress_options, tick_length, versions_of}
+use Rattle.run_spec.specs.Run.{IsThere, ReadsFiles, RunCounts, Runs, TakesTrace}
+use Rattle.run_spec.proofs.Missing.{from_import, from_trace}
 use Rattle.run_spec.specs.Words.{IsShape, IsWithin}
 use Rattle.replay_rules.specs.Planned.{IsPlanned}
 use Rattle.trace_gen.proofs.Accepting.{generated_is_trace}
@@ -207,77 +210,113 @@ planned_generated planner plans shape workers is within taken stand =
 -- ---- a command that reads no file
 
 -- it has no file of any kind
-no_file : (command : Command) (which : Which) (name : List ℕ) → trace_name command ≡ None
+no_source : (command : Command) (which : Which) (name : List ℕ) → source_name command ≡ None
+    → source_of command ≡ which → file_of command which ≡ Some name → ⊥
+no_source command which name unnamed from is =
+    let none = sym (ap (file_of command) from) ∙ unnamed in cc (none, is)
+
+no_file : (command : Command) (which : Which) (name : List ℕ) → source_name command ≡ None
     → rules_name command ≡ None → file_of command which ≡ Some name → ⊥
 no_file command RulesFile name unnamed unruled is = cc (unruled, is)
-no_file command TraceFile name unnamed unruled is = cc (unnamed, is)
+no_file command TraceFile name unnamed unruled is =
+    no_source command TraceFile name unnamed (from_trace command (ap is_some is)) is
+no_file command ImportFile name unnamed unruled is =
+    no_source command ImportFile name unnamed (from_import command (ap is_some is)) is
 
 -- nor has it rules, since a command that reads rules reads a trace
-pub without_rules : (command : Command) → trace_name command ≡ None → rules_name command ≡ None
+pub without_rules : (command : Command) → source_name command ≡ None → rules_name command ≡ None
 without_rules (words.Stall trace) unnamed = refl
 without_rules (words.Check trace tick_ms) unnamed = refl
 without_rules (words.Replay trace options) unnamed = absurd (let no : ⊥ = cc unnamed in no)
 without_rules (words.Gen shape) unnamed = refl
 without_rules (words.Stress shape workers) unnamed = refl
+without_rules (words.Import file cpus) unnamed = refl
+
+-- a name that is there
+named_some : (named : Option (List ℕ)) → is_some named ≡ true → (name : List ℕ) × (named ≡ Some name)
+named_some None is = absurd (true≢false (sym is))
+named_some (Some name) is = (name, refl)
 
 -- it takes the trace that is generated
 pub takes_generated : (command : Command) (shape : Shape) (files : Option Files)
-    → trace_name command ≡ None → tick_length command ≡ of_seconds 2 → IsShape shape
+    → source_name command ≡ None → versions_of command ≡ One ∷ [] → tick_length command ≡ of_seconds 2 → IsShape shape
     → TakesTrace command files (generated shape)
-takes_generated command shape files unnamed tick is =
+takes_generated command shape files unnamed first tick is =
     let traced = generated_is_trace shape is in record {
-      version = traced.version;
+      version = subst (IsAmong One) (sym first) (inl refl);
       cpus = traced.cpus;
       known = traced.known;
       accepted = subst (λ n. IsAccepted (limits_of n shape.cpus) (generated shape).events) (sym tick) traced.accepted;
       read = λ bytes known. absurd (let no : ⊥ = cc (unnamed, known.1) in no);
     }
 
+-- no file of a command that reads none is told to be missing
+none_there : (command : Command) (files : Option Files) (which : Which)
+    → source_name command ≡ None → rules_name command ≡ None → IsThere command files which
+none_there command files which unnamed unruled = λ name is lacks. no_file command which name unnamed unruled is
+
 -- a text that was written of a generated trace
 pub runs_generated : (command : Command) (files : Option Files) (before now : RunCounts)
     (had has : Option (List ℕ)) (trace : Trace) (text : List ℕ) (result : Status)
-    → trace_name command ≡ None → rules_name command ≡ None → TakesTrace command files trace
+    → source_name command ≡ None → rules_name command ≡ None → TakesTrace command files trace
     → IsOutput command trace [] text → now.shelf ≡ before.shelf
     → WritesText text before.writes now.writes had has result
     → Runs command files before now had has result
 runs_generated command files before now had has trace text status.Done unnamed unruled takes output shelf wrote = record {
-  ends = (trace, [], takes, takes_given command None files [] unruled (none_given files), (text, output, wrote.0));
-  missing = λ which name is lacks. absurd (no_file command which name unnamed unruled is);
+  ends = (
+    trace,
+    [],
+    takes,
+    takes_given command None files [] unruled (none_given files),
+    none_there command files RulesFile unnamed unruled,
+    none_there command files (source_of command) unnamed unruled,
+    (text, output, wrote.0),
+  );
   counts = counts_written before now status.Done (ap (λ s. s.faults) shelf) (ap (λ s. s.absent) shelf)
       (λ is. cc is) (λ is. cc is.1) (stays _ before.writes now.writes (λ is. cc is) wrote.1);
 }
 runs_generated command files before now had has trace text status.WriteFault unnamed unruled takes output shelf wrote = record {
-  ends = (trace, [], takes, takes_given command None files [] unruled (none_given files), (text, output, wrote.0));
-  missing = λ which name is lacks. absurd (no_file command which name unnamed unruled is);
+  ends = (
+    trace,
+    [],
+    takes,
+    takes_given command None files [] unruled (none_given files),
+    none_there command files RulesFile unnamed unruled,
+    none_there command files (source_of command) unnamed unruled,
+    (text, output, wrote.0),
+  );
   counts = counts_written before now status.WriteFault (ap (λ s. s.faults) shelf) (ap (λ s. s.absent) shelf)
       (λ is. cc is) (λ is. cc is.1) (record { rose = λ _. wrote.1; same = λ not. absurd (not refl) });
 }
-runs_generated command files before now had has trace text status.NoMemory unnamed unruled takes output shelf wrote = record {
+runs_generated command files before now had has trace text (status.NoMemory _) unnamed unruled takes output shelf wrote = record {
   ends = wrote.0;
-  missing = λ which name is lacks. absurd (no_file command which name unnamed unruled is);
-  counts = counts_written before now status.NoMemory (ap (λ s. s.faults) shelf) (ap (λ s. s.absent) shelf)
+  counts = counts_written before now (status.NoMemory no_memory) (ap (λ s. s.faults) shelf) (ap (λ s. s.absent) shelf)
       (λ is. cc is) (λ is. cc is.1) (stays _ before.writes now.writes (λ is. cc is) wrote.1);
 }
 runs_generated command files before now had has trace text _ unnamed unruled takes output shelf wrote = absurd wrote
 
-no_trace : (command : Command) → trace_name command ≡ None → ReadsTrace command → ⊥
-no_trace command unnamed reads = true≢false (sym reads ∙ ap is_some unnamed)
+no_reads : (command : Command) → source_name command ≡ None → ReadsFiles command → ⊥
+no_reads command unnamed reads = true≢false (sym reads ∙ ap is_some unnamed)
 
 -- such a run is done, where no write failed and memory was there
 pub makes : (command : Command) (files : Option Files) (before now : RunCounts)
     (had has : Option (List ℕ)) (result : Status) → Runs command files before now had has result
-    → trace_name command ≡ None → rules_name command ≡ None
-    → (Rose before.writes now.writes → ⊥) → (result ≡ status.Done) ⊎ (result ≡ status.NoMemory)
+    → source_name command ≡ None → rules_name command ≡ None
+    → (Rose before.writes now.writes → ⊥) → (result ≡ status.Done) ⊎ (result ≡ status.NoMemory no_memory)
 makes command files before now had has status.Done runs unnamed unruled writes = inl refl
-makes command files before now had has status.NoMemory runs unnamed unruled writes = inr refl
+makes command files before now had has (status.NoMemory _) runs unnamed unruled writes = inr refl
 makes command files before now had has status.WriteFault runs unnamed unruled writes =
     absurd (writes (runs.counts.writes.rose refl))
 makes command files before now had has status.ReadFault runs unnamed unruled writes =
-    absurd (no_trace command unnamed runs.ends.1)
+    absurd (no_reads command unnamed runs.ends.1)
 makes command files before now had has status.Usage runs unnamed unruled writes = absurd runs.ends
 makes command files before now had has (status.Rules fault) runs unnamed unruled writes =
-    let named = runs.ends.1.1 in absurd (let no : ⊥ = cc (unruled, named) in no)
+    let named = runs.ends.2.1 in absurd (let no : ⊥ = cc (unruled, named) in no)
 makes command files before now had has (status.Trace line why) runs unnamed unruled writes =
-    absurd (no_trace command unnamed runs.ends.1)
+    let named = named_some (file_of command TraceFile) runs.ends.1 in
+    absurd (no_source command TraceFile named.0 unnamed (from_trace command runs.ends.1) named.1)
+makes command files before now had has (status.Import line why) runs unnamed unruled writes =
+    let named = named_some (file_of command ImportFile) runs.ends.1 in
+    absurd (no_source command ImportFile named.0 unnamed (from_import command runs.ends.1) named.1)
 makes command files before now had has (status.NoFile which) runs unnamed unruled writes =
     let named = runs.ends.2.1 in absurd (no_file command which runs.ends.2.0 unnamed unruled named)

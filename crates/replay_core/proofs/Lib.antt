@@ -1,4 +1,6 @@
 pub mod GeneratedLaws
+pub mod HeadLaws
+pub mod ImportLaws
 pub mod LineLaws
 pub mod LineTexts
 pub mod Pieces

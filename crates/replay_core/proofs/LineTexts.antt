@@ -1,5 +1,5 @@
 -- The lines of all processors by their plans are the text of a trace.
-use Rattle.std.proofs.Common.{◌≡◌, ℕ, zero, suc, ◌+◌, ◌≤◌, ◌<◌, List, [], ◌∷◌, ◌++◌, length, map, take, get_or, refl, sym, ap, ◌∙◌, arith, append_assoc, Bool, true, false, is_eq, ◌-◌}
+use Rattle.std.proofs.Common.{◌≡◌, ℕ, zero, suc, ◌+◌, ◌≤◌, ◌<◌, List, [], ◌∷◌, ◌++◌, length, map, refl, sym, ap, ◌∙◌, arith, append_assoc, Bool, true, false, is_eq}
 use Rattle.std.specs.Prelude.{if◌then◌else◌}
 use Rattle.std.specs.List.{All, flat_map, range_with_len}
 use Rattle.std.specs.Ordering.{nat_cmp}
@@ -7,8 +7,7 @@ use Rattle.std.specs.Cmp.Lexicographic.{slice_cmp}
 use Rattle.std.specs.FinMap as entries
 use Rattle.std.specs.declared.cmp.Ordering.{Ordering}
 use Rattle.std.specs.declared.cmp.Ordering.TheVariants.{Less, Equal, Greater}
-use Rattle.std.proofs.lemmas.List.{append-nil, length-append, take_more}
-use Rattle.std.proofs.lemmas.Grind.{flat_map-append}
+use Rattle.std.proofs.lemmas.List.{length-append}
 use Rattle.std.proofs.lemmas.List.Concat.{flat_map-cons}
 use Rattle.std.proofs.lemmas.List.Elements.{All-cons}
 use Rattle.std.proofs.lemmas.List.Folds.{flat_map-map}
@@ -21,18 +20,18 @@ use Rattle.psi_spec.specs.World.{Limits, after, first_world, is_live}
 use Rattle.psi_spec.specs.Refusal.{AreLegal}
 use Rattle.psi_spec.specs.Stall.{stall}
 use Rattle.psi_spec.specs.Groups.{path_at}
-use Rattle.psi_laws.specs.Clock.{ClockView, opened}
-use Rattle.psi_laws.specs.Plan.{IsClock, PlanView, last_change, plan_of, planned, planned_time}
+use Rattle.psi_counts.specs.Clock.{ClockView, opened}
+use Rattle.plan_laws.specs.Plan.{IsClock, PlanView, last_change, plan_of, planned, planned_time}
 use Rattle.psi_spec.specs.Changes.{until_change}
 use Rattle.run_spec.specs.Text.{end_of, stall_lines, stall_text, stall_times}
 use Rattle.run_spec.specs.Lines.{stall_line}
 use Rattle.psi_spec.specs.Groups.{in_order, live_from, live_groups}
-use Rattle.psi_laws.proofs.ClockLaws.{map_states}
-use Rattle.psi_laws.proofs.PlanClocks.{clock_tells_planned}
+use Rattle.psi_counts.proofs.ClockLaws.{map_states}
+use Rattle.plan_laws.proofs.PlanClocks.{clock_tells_planned}
 use Rattle.psi_spec.proofs.GroupLaws.{same_bytes}
-use Rattle.psi_laws.proofs.PlanLaws.{as_many}
-use Rattle.psi_laws.proofs.PlanStalls as stalls
-use Rattle.psi_laws.proofs.PlanStalls.{planned_is_stall, stall_by_own_changes}
+use Rattle.plan_laws.proofs.PlanLaws.{as_many}
+use Rattle.plan_laws.proofs.PlanStalls as stalls
+use Rattle.plan_laws.proofs.PlanStalls.{planned_is_stall, stall_by_own_changes}
 use Rattle.group_tree.specs.Tree.{live_slots, slot_at}
 use Rattle.proc_plan.specs.Plans.{PlansView, StandFor, plan_at}
 use Rattle.proc_plan.proofs.Finishing.{standing_plans}

@@ -12,7 +12,7 @@ use Rattle.proc_plan.specs.Plans as plans
 use Rattle.proc_plan.specs.Plans.{HasTaken, PlannerView}
 use Rattle.proc_plan.proofs.Taking.{lines_of}
 use Rattle.replay_core.specs.Reads.{IsPlayed, PlayerTakes}
-use Rattle.psi_laws.proofs.PlanLaws.{after-push}
+use Rattle.plan_laws.proofs.PlanLaws.{after-push}
 
 -- ---- the table as a player
 
@@ -30,7 +30,7 @@ table_takes old new event (Ok x) plays = λ limits events played.
 table_takes old new event (Err (fault.Refused why)) plays = λ limits events played.
     let is : cause_of limits old.world event ≡ Some why = subst (λ l. cause_of l old.world event ≡ Some why) played.limits_are plays.fault in
     subst (λ w. cause_of limits w event ≡ Some why) played.world is
-table_takes old new event (Err fault.NoMemory) plays = tt
+table_takes old new event (Err (fault.NoMemory _)) plays = tt
 
 -- ---- the planner as a player
 
@@ -38,4 +38,4 @@ table_takes old new event (Err fault.NoMemory) plays = tt
 pub planner_takes : (old new : PlannerView) (event : Event) (result : Result (Unit {0}) (Fault Cause)) → plans.PlannerTakes old new event result → PlayerTakes (HasTaken old) (HasTaken new) event result
 planner_takes old new event (Ok x) takes = takes
 planner_takes old new event (Err (fault.Refused why)) takes = takes
-planner_takes old new event (Err fault.NoMemory) takes = tt
+planner_takes old new event (Err (fault.NoMemory _)) takes = tt

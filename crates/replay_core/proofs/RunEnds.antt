@@ -1,24 +1,27 @@
 -- What a run over a buffered sink comes to, and what its status tells of its files.
 use Rattle.std.proofs.Common.{◌≡◌, ◌≢◌, ◌⊎◌, inl, inr, ℕ, ◌≤◌, List, [], ◌++◌, length, refl, sym, ap, ◌∙◌, subst, arith, Option, None, Some}
-use Rattle.std.specs.Prelude.{MatchOption, Result, Ok, Err}
+use Rattle.std.specs.Prelude.{MatchOption, Result, Ok, Err, is_some}
 use Rattle.std.specs.Io.KnownBytes.{Appends, Keeps, append_known}
 use Rattle.std.proofs.lemmas.List.{append-nil, length-append, nil_from_length}
+use Rattle.psi_base.specs.Gives.{no_memory}
 use Rattle.psi_base.specs.Outside.{Files, Rose, known_count, told}
-use Rattle.psi_base.specs.declared.event.Cause.{Cause}
 use Rattle.psi_base.specs.declared.event.Refusal.{Refusal}
+use Rattle.psi_base.specs.declared.event.Event.{Event}
 use Rattle.psi_base.proofs.Buffered.{flush_failed, flushed, put_failed}
-use Rattle.psi_spec.specs.Trace.{Trace, refused, trace_of}
+use Rattle.psi_spec.specs.Trace.{Trace, text_of, trace_of}
+use Rattle.import_spec.specs.Import.{Refused, import_of, import_trace}
+use Rattle.run_spec.proofs.Missing.{from_import, from_trace}
 use Rattle.run_spec.specs.declared.command.Command.{Command}
 use Rattle.run_spec.specs.declared.status.Status.{Status}
 use Rattle.run_spec.specs.declared.status.Status.TheVariants as status
-use Rattle.run_spec.specs.declared.command.Command.TheVariants.{Replay}
+use Rattle.run_spec.specs.declared.command.Command.TheVariants.{Import, Replay}
 use Rattle.run_spec.specs.declared.command.Options.{Options}
 use Rattle.run_spec.specs.declared.status.Which.{Which}
-use Rattle.run_spec.specs.declared.status.Which.TheVariants.{RulesFile, TraceFile}
-use Rattle.run_spec.specs.Outputs.{accepts_of, pace_of, rules_name, trace_name, watch_of_path}
+use Rattle.run_spec.specs.declared.status.Which.TheVariants.{ImportFile, RulesFile, TraceFile}
+use Rattle.run_spec.specs.Outputs.{accepts_of, file_of, or_not_imported, or_refused, pace_of, rules_name, source_of, taken_of, watch_of_path}
 use Rattle.run_spec.specs.Replay.{IsReplayText, replay_text, with_rules}
 use Rattle.run_laws.proofs.LiveTexts.{one_text_unwatched}
-use Rattle.run_spec.specs.Run.{Ends, FailuresAreCounted, IsOfMissing, IsTold, RulesTold, RunCounts, Runs, TakesRules}
+use Rattle.run_spec.specs.Run.{Ends, FailuresAreCounted, IsTold, Refuses, RulesTold, RunCounts, Runs, TakesRules}
 use Rattle.ruleset_json.specs.Rules.{rules_of}
 use Rattle.ruleset_json.specs.declared.fault.RulesFault.{RulesFault}
 use Rattle.ruleset_json.specs.declared.types.Rule.{Rule}
@@ -37,12 +40,13 @@ kept_below (Some had) (Some below) pending kept more =
 
 ends_below : (command : Command) (files : Option Files) (had below : Option (List ℕ)) (pending : List ℕ) (result : Status) → result ≢ status.Done → Ends command files (append_known had []) (append_known below pending) result → known_count had ≤ known_count below → Ends command files had below result
 ends_below command files had below pending status.Done not ends more = absurd (not refl)
-ends_below command files had below pending status.WriteFault not ends more = (ends.0, ends.1, ends.2, ends.3, (ends.4.0, ends.4.1, put_failed had below pending ends.4.0 ends.4.2 more))
-ends_below command files had below pending (status.Rules fault) not ends more = (kept_below had below pending ends.0 more, ends.1)
-ends_below command files had below pending (status.Trace line why) not ends more = (kept_below had below pending ends.0 more, ends.1, ends.2, ends.3)
+ends_below command files had below pending status.WriteFault not ends more = (ends.0, ends.1, ends.2, ends.3, ends.4, ends.5, (ends.6.0, ends.6.1, put_failed had below pending ends.6.0 ends.6.2 more))
+ends_below command files had below pending (status.Rules fault) not ends more = (kept_below had below pending ends.0 more, ends.1, ends.2)
+ends_below command files had below pending (status.Trace line why) not ends more = (kept_below had below pending ends.0 more, ends.1, ends.2, ends.3, ends.4)
+ends_below command files had below pending (status.Import line why) not ends more = (kept_below had below pending ends.0 more, ends.1, ends.2, ends.3, ends.4)
 ends_below command files had below pending (status.NoFile which) not ends more = (kept_below had below pending ends.0 more, ends.1, ends.2)
 ends_below command files had below pending status.ReadFault not ends more = (kept_below had below pending ends.0 more, ends.1)
-ends_below command files had below pending status.NoMemory not ends more = kept_below had below pending ends more
+ends_below command files had below pending (status.NoMemory _) not ends more = kept_below had below pending ends more
 ends_below command files had below pending status.Usage not ends more = ends
 
 -- a run that isn't done left behind below what it was to write at most
@@ -50,7 +54,6 @@ pub runs_below : (command : Command) (files : Option Files) (before now : RunCou
     → Runs command files before now (append_known had []) (append_known below pending) result → known_count had ≤ known_count below → Runs command files before now had below result
 runs_below command files before now had below pending result not runs more = record {
   ends = ends_below command files had below pending result not runs.ends more;
-  missing = runs.missing;
   counts = runs.counts;
 }
 
@@ -58,23 +61,16 @@ runs_below command files before now had below pending result not runs more = rec
 pub runs_sent : (command : Command) (files : Option Files) (before mid now : RunCounts) (had sent below : Option (List ℕ)) (pending left : List ℕ)
     → Runs command files before mid (append_known had []) (append_known sent pending) status.Done → Keeps (append_known sent pending) (append_known below left) → left ≡ [] → now ≡ mid → Runs command files before now had below status.Done
 runs_sent command files before mid now had sent below pending left runs kept none same = record {
-  ends = (runs.ends.0, runs.ends.1, runs.ends.2, runs.ends.3, (runs.ends.4.0, runs.ends.4.1, flushed had sent below pending left runs.ends.4.0 runs.ends.4.2 kept none));
-  missing = runs.missing;
+  ends = (runs.ends.0, runs.ends.1, runs.ends.2, runs.ends.3, runs.ends.4, runs.ends.5, (runs.ends.6.0, runs.ends.6.1, flushed had sent below pending left runs.ends.6.0 runs.ends.6.2 kept none));
   counts = subst (λ n. FailuresAreCounted before n status.Done) (sym same) runs.counts;
 }
-
--- a run isn't done where a file isn't held
-none_done : (which : Which) → IsOfMissing which status.Done → ⊥
-none_done RulesFile is = is
-none_done TraceFile is = is
 
 -- a run whose output wasn't sent on in whole ends in a write fault
 pub runs_unsent : (command : Command) (files : Option Files) (before mid now : RunCounts) (had sent below : Option (List ℕ)) (pending left : List ℕ)
     → Runs command files before mid (append_known had []) (append_known sent pending) status.Done → Keeps (append_known sent pending) (append_known below left) → known_count had ≤ known_count below
     → now.shelf ≡ mid.shelf → Rose mid.writes now.writes → Runs command files before now had below status.WriteFault
 runs_unsent command files before mid now had sent below pending left runs kept more same rose = record {
-  ends = (runs.ends.0, runs.ends.1, runs.ends.2, runs.ends.3, (runs.ends.4.0, runs.ends.4.1, flush_failed had sent below pending left runs.ends.4.0 runs.ends.4.2 kept more));
-  missing = λ which name is lacks. absurd (none_done which (runs.missing which name is lacks));
+  ends = (runs.ends.0, runs.ends.1, runs.ends.2, runs.ends.3, runs.ends.4, runs.ends.5, (runs.ends.6.0, runs.ends.6.1, flush_failed had sent below pending left runs.ends.6.0 runs.ends.6.2 kept more));
   counts = record {
     faults = stays _ before.shelf.faults now.shelf.faults (λ is. cc is) (ap (λ s. s.faults) same ∙ runs.counts.faults.same (λ is. cc is));
     absent = stays _ before.shelf.absent now.shelf.absent (λ is. cc is.1) (ap (λ s. s.absent) same ∙ runs.counts.absent.same (λ is. cc is.1));
@@ -115,8 +111,8 @@ same_rules command files taken rules takes tells = by_name command files taken r
 -- a run never finds a fault in rules that are told
 no_fault : (command : Command) (files : Option Files) (rules : List Rule) (fault : RulesFault) (had has : Option (List ℕ)) → RulesTold command files rules → Ends command files had has (status.Rules fault) → ⊥
 no_fault command files rules fault had has tells ends =
-    let found = told_bytes command files rules ends.1.0 ends.1.1 tells in
-    let other = ends.1.2 found.0 found.1 in
+    let found = told_bytes command files rules ends.2.0 ends.2.1 tells in
+    let other = ends.2.2 found.0 found.1 in
     cc (found.2, other)
 
 -- nor misses their file
@@ -126,9 +122,36 @@ no_missed command files rules had has tells ends =
     let none = ends.2.2 in
     cc (found.1, none)
 
--- nor a trace that is told
-none_told : (command : Command) (files : Option Files) (bytes : List ℕ) (had has : Option (List ℕ)) → IsTold command TraceFile files bytes → Ends command files had has (status.NoFile TraceFile) → ⊥
-none_told command files bytes had has tells ends = one_told files tells.0 ends.2.0 bytes (trace_name command) tells.1 ends.2.1 tells.2 ends.2.2
+-- nor the file that its trace is taken from, where that is told
+none_told : (command : Command) (files : Option Files) (bytes : List ℕ) (which : Which) (had has : Option (List ℕ)) → source_of command ≡ which → IsTold command (source_of command) files bytes → Ends command files had has (status.NoFile which) → ⊥
+none_told command files bytes which had has from tells ends =
+    one_told files tells.0 ends.2.0 bytes (file_of command (source_of command)) tells.1 (ap (file_of command) from ∙ ends.2.1) tells.2 ends.2.2
+
+-- so it is with a trace
+no_trace : (command : Command) (files : Option Files) (bytes : List ℕ) (had has : Option (List ℕ)) → IsTold command (source_of command) files bytes → Ends command files had has (status.NoFile TraceFile) → ⊥
+no_trace command files bytes had has tells ends = none_told command files bytes TraceFile had has (from_trace command (ap is_some ends.2.1)) tells ends
+
+-- and with a text of ftrace
+no_import : (command : Command) (files : Option Files) (bytes : List ℕ) (had has : Option (List ℕ)) → IsTold command (source_of command) files bytes → Ends command files had has (status.NoFile ImportFile) → ⊥
+no_import command files bytes had has tells ends = none_told command files bytes ImportFile had has (from_import command (ap is_some ends.2.1)) tells ends
+
+-- what a command takes from bytes that are told, where a status tells of a refused line of a file of a kind
+taken_told : (command : Command) (files : Option Files) (bytes : List ℕ) (which : Which) (had has : Option (List ℕ)) (result : Status) → source_of command ≡ which → IsTold command (source_of command) files bytes → Refuses command files had has which result
+    → taken_of command bytes ≡ Err result
+taken_told command files bytes which had has result from tells refuses = refuses.4 bytes (subst (λ w. IsTold command w files bytes) from tells)
+
+-- so it is with a refused line of a trace
+trace_told : (command : Command) (files : Option Files) (bytes : List ℕ) (had has : Option (List ℕ)) (result : Status) → IsTold command (source_of command) files bytes → Refuses command files had has TraceFile result → taken_of command bytes ≡ Err result
+trace_told command files bytes had has result tells refuses = taken_told command files bytes TraceFile had has result (from_trace command refuses.1) tells refuses
+
+-- and of a text of ftrace
+import_told : (command : Command) (files : Option Files) (bytes : List ℕ) (had has : Option (List ℕ)) (result : Status) → IsTold command (source_of command) files bytes → Refuses command files had has ImportFile result → taken_of command bytes ≡ Err result
+import_told command files bytes had has result tells refuses = taken_told command files bytes ImportFile had has result (from_import command refuses.1) tells refuses
+
+-- a trace that was taken is the one that was read
+of_read : (read : Result Trace Refusal) (trace : Trace) → or_refused read ≡ Ok trace → read ≡ Ok trace
+of_read (Ok other) trace is = let same : other ≡ trace = cc is in ap (λ (t : Trace). let read : Result Trace Refusal = Ok t in read) same
+of_read (Err refusal) trace is = absurd (let no : ⊥ = cc is in no)
 
 -- where a replay is done, its output is one of its trace and its rules
 pub headlined : (name : List ℕ) (options : Options) (files : Option Files) (before now : RunCounts) (had has : Option (List ℕ)) → Runs (Replay name options) files before now had has status.Done
@@ -138,7 +161,21 @@ pub headlined : (name : List ℕ) (options : Options) (files : Option Files) (be
 headlined name options files before now had has runs bytes rules tells rules_told =
     let ends = runs.ends in
     let same = same_rules (Replay name options) files ends.1 rules ends.3 rules_told in
-    (ends.0, ends.2.read bytes tells, (ends.4.0, subst (λ r. IsReplayText ends.0 (pace_of options) r ends.4.0) same ends.4.1, ends.4.2))
+    (ends.0, of_read (trace_of (accepts_of (Replay name options)) bytes) ends.0 (ends.2.read bytes tells), (ends.6.0, subst (λ r. IsReplayText ends.0 (pace_of options) r ends.6.0) same ends.6.1, ends.6.2))
+
+-- events that were imported are those of a trace that was taken
+of_import : (cpus : ℕ) (read : Result (List Event) Refused) (trace : Trace) → or_not_imported cpus read ≡ Ok trace → (events : List Event) × (read ≡ Ok events) × (trace ≡ import_trace cpus events)
+of_import cpus (Ok events) trace is = (events, refl, let same : import_trace cpus events ≡ trace = cc is in sym same)
+of_import cpus (Err refusal) trace is = absurd (let no : ⊥ = cc is in no)
+
+-- where an import is done, its output is the text of its trace
+pub imports : (name : List ℕ) (cpus : ℕ) (files : Option Files) (before now : RunCounts) (had has : Option (List ℕ)) → Runs (Import name cpus) files before now had has status.Done
+    → (bytes : List ℕ) → IsTold (Import name cpus) ImportFile files bytes
+    → (events : List Event) × (import_of cpus bytes ≡ Ok events) × Appends had has (text_of (import_trace cpus events))
+imports name cpus files before now had has runs bytes tells =
+    let ends = runs.ends in
+    let found = of_import cpus (import_of cpus bytes) ends.0 (ends.2.read bytes tells) in
+    (found.0, found.1, subst (λ trace. Appends had has (text_of trace)) found.2 (subst (Appends had has) ends.6.1.1 ends.6.2))
 
 -- and where no group is watched there is one
 pub headlined_alone : (name : List ℕ) (options : Options) (files : Option Files) (before now : RunCounts) (had has : Option (List ℕ)) → Runs (Replay name options) files before now had has status.Done
@@ -151,34 +188,39 @@ headlined_alone name options files before now had has runs bytes rules none tell
 
 -- an accepted trace is done, where its rules are accepted, nothing failed and memory was there
 pub completes : (command : Command) (files : Option Files) (before now : RunCounts) (had has : Option (List ℕ)) (result : Status) → Runs command files before now had has result
-    → (rules : List Rule) (bytes : List ℕ) (trace : Trace) → RulesTold command files rules → IsTold command TraceFile files bytes → trace_of (accepts_of command) bytes ≡ Ok trace
-    → (Rose before.shelf.faults now.shelf.faults → ⊥) → (Rose before.writes now.writes → ⊥) → (result ≡ status.Done) ⊎ (result ≡ status.NoMemory)
+    → (rules : List Rule) (bytes : List ℕ) (trace : Trace) → RulesTold command files rules → IsTold command (source_of command) files bytes → taken_of command bytes ≡ Ok trace
+    → (Rose before.shelf.faults now.shelf.faults → ⊥) → (Rose before.writes now.writes → ⊥) → (result ≡ status.Done) ⊎ (result ≡ status.NoMemory no_memory)
 completes command files before now had has status.Done runs rules bytes trace given tells is reads writes = inl refl
-completes command files before now had has status.NoMemory runs rules bytes trace given tells is reads writes = inr refl
+completes command files before now had has (status.NoMemory _) runs rules bytes trace given tells is reads writes = inr refl
 completes command files before now had has status.WriteFault runs rules bytes trace given tells is reads writes = absurd (writes (runs.counts.writes.rose refl))
 completes command files before now had has status.ReadFault runs rules bytes trace given tells is reads writes = absurd (reads (runs.counts.faults.rose refl))
 completes command files before now had has status.Usage runs rules bytes trace given tells is reads writes = absurd runs.ends
 completes command files before now had has (status.Rules fault) runs rules bytes trace given tells is reads writes = absurd (no_fault command files rules fault had has given runs.ends)
-completes command files before now had has (status.Trace line why) runs rules bytes trace given tells is reads writes = let other = runs.ends.3 bytes tells in absurd (let no : ⊥ = cc (is, other) in no)
+completes command files before now had has (status.Trace line why) runs rules bytes trace given tells is reads writes = let other = trace_told command files bytes had has (status.Trace line why) tells runs.ends in absurd (let no : ⊥ = cc (is, other) in no)
+completes command files before now had has (status.Import line why) runs rules bytes trace given tells is reads writes = let other = import_told command files bytes had has (status.Import line why) tells runs.ends in absurd (let no : ⊥ = cc (is, other) in no)
 completes command files before now had has (status.NoFile RulesFile) runs rules bytes trace given tells is reads writes = absurd (no_missed command files rules had has given runs.ends)
-completes command files before now had has (status.NoFile TraceFile) runs rules bytes trace given tells is reads writes = absurd (none_told command files bytes had has tells runs.ends)
+completes command files before now had has (status.NoFile TraceFile) runs rules bytes trace given tells is reads writes = absurd (no_trace command files bytes had has tells runs.ends)
+completes command files before now had has (status.NoFile ImportFile) runs rules bytes trace given tells is reads writes = absurd (no_import command files bytes had has tells runs.ends)
 
--- a refused trace tells of its refusal, where its rules are accepted, no read failed and memory was there
+-- a refused file tells of its refusal, where the rules are accepted, no read failed and memory was there
 pub refuses : (command : Command) (files : Option Files) (before now : RunCounts) (had has : Option (List ℕ)) (result : Status) → Runs command files before now had has result
-    → (rules : List Rule) (bytes : List ℕ) (line : ℕ) (why : Cause) → RulesTold command files rules → IsTold command TraceFile files bytes → trace_of (accepts_of command) bytes ≡ Err (refused line why)
-    → (Rose before.shelf.faults now.shelf.faults → ⊥) → (result ≡ status.Trace line why) ⊎ (result ≡ status.NoMemory)
-refuses command files before now had has status.Done runs rules bytes line why given tells is reads = let other = runs.ends.2.read bytes tells in absurd (let no : ⊥ = cc (is, other) in no)
-refuses command files before now had has status.NoMemory runs rules bytes line why given tells is reads = inr refl
-refuses command files before now had has status.WriteFault runs rules bytes line why given tells is reads = let other = runs.ends.2.read bytes tells in absurd (let no : ⊥ = cc (is, other) in no)
-refuses command files before now had has status.ReadFault runs rules bytes line why given tells is reads = absurd (reads (runs.counts.faults.rose refl))
-refuses command files before now had has status.Usage runs rules bytes line why given tells is reads = absurd runs.ends
-refuses command files before now had has (status.Rules fault) runs rules bytes line why given tells is reads = absurd (no_fault command files rules fault had has given runs.ends)
-refuses command files before now had has (status.Trace at cause) runs rules bytes line why given tells is reads =
-    let other = runs.ends.3 bytes tells in
-    let same : refused at cause ≡ refused line why = cc (is, other) in
-    inl (ap (λ (r : Refusal). status.Trace r.line r.cause) same)
-refuses command files before now had has (status.NoFile RulesFile) runs rules bytes line why given tells is reads = absurd (no_missed command files rules had has given runs.ends)
-refuses command files before now had has (status.NoFile TraceFile) runs rules bytes line why given tells is reads = absurd (none_told command files bytes had has tells runs.ends)
+    → (rules : List Rule) (bytes : List ℕ) (why : Status) → RulesTold command files rules → IsTold command (source_of command) files bytes → taken_of command bytes ≡ Err why
+    → (Rose before.shelf.faults now.shelf.faults → ⊥) → (result ≡ why) ⊎ (result ≡ status.NoMemory no_memory)
+refuses command files before now had has status.Done runs rules bytes why given tells is reads = let other = runs.ends.2.read bytes tells in absurd (let no : ⊥ = cc (is, other) in no)
+refuses command files before now had has (status.NoMemory _) runs rules bytes why given tells is reads = inr refl
+refuses command files before now had has status.WriteFault runs rules bytes why given tells is reads = let other = runs.ends.2.read bytes tells in absurd (let no : ⊥ = cc (is, other) in no)
+refuses command files before now had has status.ReadFault runs rules bytes why given tells is reads = absurd (reads (runs.counts.faults.rose refl))
+refuses command files before now had has status.Usage runs rules bytes why given tells is reads = absurd runs.ends
+refuses command files before now had has (status.Rules fault) runs rules bytes why given tells is reads = absurd (no_fault command files rules fault had has given runs.ends)
+refuses command files before now had has (status.Trace at cause) runs rules bytes why given tells is reads =
+    let other = trace_told command files bytes had has (status.Trace at cause) tells runs.ends in
+    inl (cc (is, other))
+refuses command files before now had has (status.Import at cause) runs rules bytes why given tells is reads =
+    let other = import_told command files bytes had has (status.Import at cause) tells runs.ends in
+    inl (cc (is, other))
+refuses command files before now had has (status.NoFile RulesFile) runs rules bytes why given tells is reads = absurd (no_missed command files rules had has given runs.ends)
+refuses command files before now had has (status.NoFile TraceFile) runs rules bytes why given tells is reads = absurd (no_trace command files bytes had has tells runs.ends)
+refuses command files before now had has (status.NoFile ImportFile) runs rules bytes why given tells is reads = absurd (no_import command files bytes had has tells runs.ends)
 
 -- a command never takes rulesets from bytes that have a fault
 none_taken : (command : Command) (files : Option Files) (taken : List Rule) (name bytes : List ℕ) (fault : RulesFault) → TakesRules command files taken → rules_name command ≡ Some name → told files name ≡ Some bytes → rules_of bytes ≡ Err fault → ⊥
@@ -187,20 +229,22 @@ none_taken command files taken name bytes fault takes named tells is = let other
 found_fault : (command : Command) (files : Option Files) (had has : Option (List ℕ)) (name bytes : List ℕ) (found fault : RulesFault) → Ends command files had has (status.Rules found) → rules_name command ≡ Some name → told files name ≡ Some bytes
     → rules_of bytes ≡ Err fault → found ≡ fault
 found_fault command files had has name bytes found fault ends named tells is =
-    let same : ends.1.0 ≡ name = let other = ends.1.1 in cc (named, other) in
-    let other = ends.1.2 bytes (subst (λ n. told files n ≡ Some bytes) (sym same) tells) in
+    let same : ends.2.0 ≡ name = let other = ends.2.1 in cc (named, other) in
+    let other = ends.2.2 bytes (subst (λ n. told files n ≡ Some bytes) (sym same) tells) in
     cc (is, other)
 
 -- refused rules tell of their first fault, where no read failed and memory was there
 pub faults : (command : Command) (files : Option Files) (before now : RunCounts) (had has : Option (List ℕ)) (result : Status) → Runs command files before now had has result
     → (name bytes : List ℕ) (fault : RulesFault) → rules_name command ≡ Some name → told files name ≡ Some bytes → rules_of bytes ≡ Err fault
-    → (Rose before.shelf.faults now.shelf.faults → ⊥) → (result ≡ status.Rules fault) ⊎ (result ≡ status.NoMemory)
+    → (Rose before.shelf.faults now.shelf.faults → ⊥) → (result ≡ status.Rules fault) ⊎ (result ≡ status.NoMemory no_memory)
 faults command files before now had has status.Done runs name bytes fault named tells is reads = absurd (none_taken command files runs.ends.1 name bytes fault runs.ends.3 named tells is)
-faults command files before now had has status.NoMemory runs name bytes fault named tells is reads = inr refl
+faults command files before now had has (status.NoMemory _) runs name bytes fault named tells is reads = inr refl
 faults command files before now had has status.WriteFault runs name bytes fault named tells is reads = absurd (none_taken command files runs.ends.1 name bytes fault runs.ends.3 named tells is)
 faults command files before now had has status.ReadFault runs name bytes fault named tells is reads = absurd (reads (runs.counts.faults.rose refl))
 faults command files before now had has status.Usage runs name bytes fault named tells is reads = absurd runs.ends
 faults command files before now had has (status.Rules found) runs name bytes fault named tells is reads = inl (ap status.Rules (found_fault command files had has name bytes found fault runs.ends named tells is))
 faults command files before now had has (status.Trace line why) runs name bytes fault named tells is reads = absurd (none_taken command files runs.ends.2.0 name bytes fault runs.ends.2.1 named tells is)
+faults command files before now had has (status.Import line why) runs name bytes fault named tells is reads = absurd (none_taken command files runs.ends.2.0 name bytes fault runs.ends.2.1 named tells is)
 faults command files before now had has (status.NoFile RulesFile) runs name bytes fault named tells is reads = absurd (one_told files name runs.ends.2.0 bytes (rules_name command) named runs.ends.2.1 tells runs.ends.2.2)
 faults command files before now had has (status.NoFile TraceFile) runs name bytes fault named tells is reads = absurd (none_taken command files runs.ends.1.0 name bytes fault runs.ends.1.1 named tells is)
+faults command files before now had has (status.NoFile ImportFile) runs name bytes fault named tells is reads = absurd (none_taken command files runs.ends.1.0 name bytes fault runs.ends.1.1 named tells is)

@@ -1,27 +1,29 @@
 -- What reading a trace and writing a text come to as a run.
-use Rattle.std.proofs.Common.{◌≡◌, ℕ, List, [], arith, refl, sym, ◌∙◌, subst, Option, None, Some, Ok, Err, inl}
+use Rattle.std.proofs.Common.{◌≡◌, ℕ, List, [], ◌∷◌, arith, refl, sym, ap, ◌∙◌, subst, Option, None, Some, Ok, Err, ⊎_elim}
 use Rattle.std.specs.Prelude.{IsErrOf, IsSome}
 use Rattle.std.specs.Io.KnownBytes.{Keeps}
+use Rattle.psi_base.specs.Gives.{no_memory}
 use Rattle.psi_base.specs.Outside.{Files, Lacks, Rose, told}
 use Rattle.psi_base.specs.declared.event.Event.{Event}
-use Rattle.psi_spec.specs.Trace.{IsAccepted, IsCpuCount, Trace, limits_of, trace_of}
-use Rattle.psi_spec.proofs.Reading.{events_known}
+use Rattle.psi_spec.specs.Fields.{IsAmong}
+use Rattle.psi_spec.specs.Grammar.{One, Version, verbs_of}
+use Rattle.psi_spec.specs.Trace.{AreKnown, IsAccepted, IsCpuCount, Trace, limits_of, trace_of}
+use Rattle.run_spec.proofs.Missing.{from_trace}
 use Rattle.run_spec.specs.declared.command.Command.{Command}
 use Rattle.run_spec.specs.declared.command.Command.TheVariants as words
 use Rattle.run_spec.specs.declared.status.Status.{Status}
 use Rattle.run_spec.specs.declared.status.Status.TheVariants as status
 use Rattle.run_spec.specs.declared.status.Which.{Which}
 use Rattle.run_spec.specs.declared.status.Which.TheVariants.{RulesFile, TraceFile}
-use Rattle.run_spec.specs.Outputs.{IsOutput, accepts_of, file_of, rules_name, tick_length, trace_name}
-use Rattle.run_spec.specs.Run.{FailuresAreCounted, IsOfMissing, ReadsTrace, RisesWhere, RunCounts, Runs, TakesRules, TakesTrace}
+use Rattle.run_spec.specs.Outputs.{IsOutput, accepts_of, file_of, or_refused, rules_name, source_name, source_of, taken_of, tick_length, trace_name, versions_of}
+use Rattle.run_spec.specs.Run.{FailuresAreCounted, IsThere, ReadsFiles, RisesWhere, RunCounts, Runs, TakesRules, TakesTrace}
 use Rattle.std.proofs.lemmas.List.Elements.{All-nil}
 use Rattle.ruleset_json.specs.RuleRanges.{FitsRule}
 use Rattle.ruleset_json.specs.declared.types.Rule.{Rule}
-use Rattle.ruleset_json.specs.declared.fault.RulesFault.{RulesFault}
 use Rattle.replay_core.specs.Rules.{CausesRulesError, IsStatusOfRules, RulesFailed, RulesGiven}
 use Rattle.replay_core.specs.declared.rules.RulesError.{RulesError}
 use Rattle.replay_core.specs.declared.rules.RulesError.TheVariants as error
-use Rattle.replay_core.specs.Reads.{CausesTraceFault, TellsNothing, TraceRefused, plain_trace}
+use Rattle.replay_core.specs.Reads.{CausesTraceFault, TellsNothing, TraceRefused, plain_trace, trace_with}
 use Rattle.replay_core.specs.Writes.{IsStatusOf, WritesText}
 use Rattle.replay_core.specs.declared.trace.TraceFault.{TraceFault}
 use Rattle.replay_core.specs.declared.trace.TraceFault.TheVariants as fault
@@ -38,25 +40,36 @@ stays Happened before now not same = record { rose = λ happened. absurd (not ha
 
 -- ---- a text that was written
 
--- the name of a command's trace is one
-same_name : (command : Command) (name other : List ℕ) → trace_name command ≡ Some name → trace_name command ≡ Some other → other ≡ name
-same_name command name other is also = cc
+-- the name of a command's file of a kind is one
+pub same_name : (command : Command) (which : Which) (name other : List ℕ) → file_of command which ≡ Some name → file_of command which ≡ Some other → other ≡ name
+same_name command which name other is also = cc
 
--- the name of a command's rules file is one
-same_rules : (command : Command) (name other : List ℕ) → rules_name command ≡ Some name → rules_name command ≡ Some other → other ≡ name
-same_rules command name other is also = cc
+-- a command reads its trace from its file
+abbrev pub Reads : Command → Type 0
+Reads command = (bytes : List ℕ) → taken_of command bytes ≡ or_refused (trace_of (accepts_of command) bytes)
 
 -- a command takes the trace that was played
-pub takes_trace : (command : Command) (name : List ℕ) (files : Option Files) (cpus : ℕ) (events : List Event) → trace_name command ≡ Some name → IsCpuCount cpus → IsAccepted (limits_of (tick_length command) cpus) events
-    → ((bytes : List ℕ) → told files name ≡ Some bytes → trace_of (accepts_of command) bytes ≡ Ok (plain_trace cpus events))
-    → TakesTrace command files (plain_trace cpus events)
-takes_trace command name files cpus events named counted accepted read = record {
-  version = inl refl;
+pub takes_trace : (command : Command) (name : List ℕ) (files : Option Files) (version : Version) (cpus : ℕ) (events : List Event) → Reads command → source_name command ≡ Some name → IsAmong version (versions_of command) → IsCpuCount cpus
+    → AreKnown (verbs_of version) events → IsAccepted (limits_of (tick_length command) cpus) events
+    → ((bytes : List ℕ) → told files name ≡ Some bytes → trace_of (accepts_of command) bytes ≡ Ok (trace_with version cpus events))
+    → TakesTrace command files (trace_with version cpus events)
+takes_trace command name files version cpus events reads named among counted known accepted read = record {
+  version = among;
   cpus = counted;
-  known = events_known events;
+  known = known;
   accepted = accepted;
-  read = λ bytes known. read bytes (subst (λ n. told files n ≡ Some bytes) (same_name command name known.0 named known.1) known.2);
+  read = λ bytes known. reads bytes ∙ ap or_refused (read bytes (subst (λ n. told files n ≡ Some bytes) (same_name command (source_of command) name known.0 named known.1) known.2));
 }
+
+-- one of the first version, where it takes no other
+pub takes_plain : (command : Command) (name : List ℕ) (files : Option Files) (version : Version) (cpus : ℕ) (events : List Event) → Reads command → source_name command ≡ Some name → versions_of command ≡ One ∷ [] → IsAmong version (One ∷ []) → IsCpuCount cpus
+    → AreKnown (verbs_of version) events → IsAccepted (limits_of (tick_length command) cpus) events
+    → ((bytes : List ℕ) → told files name ≡ Some bytes → trace_of (accepts_of command) bytes ≡ Ok (trace_with version cpus events))
+    → TakesTrace command files (plain_trace cpus events)
+takes_plain command name files version cpus events reads named first among counted known accepted read =
+    let one : version ≡ One = ⊎_elim (λ same. same) (λ none. absurd none) among in
+    subst (λ v. TakesTrace command files (trace_with v cpus events)) one
+    (takes_trace command name files version cpus events reads named (subst (IsAmong version) (sym first) among) counted known accepted read)
 
 -- counts of a shelf stay where nothing failed, and the count of writes rose where one did
 pub counts_written : (before now : RunCounts) (result : Status) → now.shelf.faults ≡ before.shelf.faults → now.shelf.absent ≡ before.shelf.absent
@@ -86,68 +99,60 @@ none_given files = record {
   held = λ name is. absurd (let no : ⊥ = cc is in no);
 }
 
--- no file of a command is known to be missing, where its rules were given and its trace was read
-none_missing : (command : Command) (name : List ℕ) (files : Option Files) (rules : List Rule) → trace_name command ≡ Some name → RulesGiven (rules_name command) files rules → (Lacks files name → ⊥)
-    → (which : Which) (other : List ℕ) → file_of command which ≡ Some other → Lacks files other → ⊥
-none_missing command name files rules named given held RulesFile other is lacks = given.held other is lacks
-none_missing command name files rules named given held TraceFile other is lacks = held (subst (Lacks files) (same_name command name other named is) lacks)
+-- the rules file of a command isn't told to be missing, where its rules were given
+pub rules_there : (command : Command) (files : Option Files) (rules : List Rule) → RulesGiven (rules_name command) files rules → IsThere command files RulesFile
+rules_there command files rules given = λ other is lacks. given.held other is lacks
 
--- want of memory may come of a file that isn't held
-missing_memory : (which : Which) → IsOfMissing which status.NoMemory
-missing_memory RulesFile = tt
-missing_memory TraceFile = tt
+-- nor where the file of its name isn't
+named_there : (command : Command) (name : List ℕ) (files : Option Files) → rules_name command ≡ Some name → (Lacks files name → ⊥) → IsThere command files RulesFile
+named_there command name files named held = λ other is lacks. held (subst (Lacks files) (same_name command RulesFile name other named is) lacks)
 
--- so may a failed read
-missing_read : (which : Which) → IsOfMissing which status.ReadFault
-missing_read RulesFile = tt
-missing_read TraceFile = tt
-
--- so may that some file isn't there
-missing_none : (which other : Which) → IsOfMissing which (status.NoFile other)
-missing_none RulesFile other = tt
-missing_none TraceFile other = tt
+-- nor is one of another kind, where the file of its name isn't
+pub file_there : (command : Command) (which : Which) (name : List ℕ) (files : Option Files) → file_of command which ≡ Some name → (Lacks files name → ⊥) → IsThere command files which
+file_there command which name files named held = λ other is lacks. held (subst (Lacks files) (same_name command which name other named is) lacks)
 
 pub runs_written : (command : Command) (name : List ℕ) (files : Option Files) (before now : RunCounts) (had has : Option (List ℕ)) (trace : Trace) (rules : List Rule) (text : List ℕ) (result : Status)
-    → trace_name command ≡ Some name → TakesTrace command files trace → RulesGiven (rules_name command) files rules → (Lacks files name → ⊥) → IsOutput command trace rules text
+    → source_name command ≡ Some name → TakesTrace command files trace → RulesGiven (rules_name command) files rules → (Lacks files name → ⊥) → IsOutput command trace rules text
     → now.shelf.faults ≡ before.shelf.faults → now.shelf.absent ≡ before.shelf.absent
     → WritesText text before.writes now.writes had has result → Runs command files before now had has result
 runs_written command name files before now had has trace rules text status.Done named takes given held output faults absent wrote = record {
-  ends = (trace, rules, takes, takes_given command _ files rules refl given, (text, output, wrote.0));
-  missing = λ which other is lacks. absurd (none_missing command name files rules named given held which other is lacks);
+  ends = (trace, rules, takes, takes_given command _ files rules refl given, rules_there command files rules given, file_there command (source_of command) name files named held, (text, output, wrote.0));
   counts = counts_written before now status.Done faults absent (λ is. cc is) (λ is. cc is.1) (stays _ before.writes now.writes (λ is. cc is) wrote.1);
 }
 runs_written command name files before now had has trace rules text status.WriteFault named takes given held output faults absent wrote = record {
-  ends = (trace, rules, takes, takes_given command _ files rules refl given, (text, output, wrote.0));
-  missing = λ which other is lacks. absurd (none_missing command name files rules named given held which other is lacks);
+  ends = (trace, rules, takes, takes_given command _ files rules refl given, rules_there command files rules given, file_there command (source_of command) name files named held, (text, output, wrote.0));
   counts = counts_written before now status.WriteFault faults absent (λ is. cc is) (λ is. cc is.1) (record { rose = λ _. wrote.1; same = λ not. absurd (not refl) });
 }
-runs_written command name files before now had has trace rules text status.NoMemory named takes given held output faults absent wrote = record {
+runs_written command name files before now had has trace rules text (status.NoMemory _) named takes given held output faults absent wrote = record {
   ends = wrote.0;
-  missing = λ which other is lacks. missing_memory which;
-  counts = counts_written before now status.NoMemory faults absent (λ is. cc is) (λ is. cc is.1) (stays _ before.writes now.writes (λ is. cc is) wrote.1);
+  counts = counts_written before now (status.NoMemory no_memory) faults absent (λ is. cc is) (λ is. cc is.1) (stays _ before.writes now.writes (λ is. cc is) wrote.1);
 }
 runs_written command name files before now had has trace rules text _ named takes given held output faults absent wrote = absurd wrote
 
 -- ---- a file that couldn't be read
 
 -- nothing was done
-pub runs_lacking : (command : Command) (files : Option Files) (counts : RunCounts) (had : Option (List ℕ)) → Runs command files counts counts had had status.NoMemory
+pub runs_lacking : (command : Command) (files : Option Files) (counts : RunCounts) (had : Option (List ℕ)) → Runs command files counts counts had had (status.NoMemory no_memory)
 runs_lacking command files counts had = record {
   ends = keeps_same had;
-  missing = λ which name is lacks. missing_memory which;
-  counts = counts_written counts counts status.NoMemory refl refl (λ is. cc is) (λ is. cc is.1) (stays _ counts.writes counts.writes (λ is. cc is) refl);
+  counts = counts_written counts counts (status.NoMemory no_memory) refl refl (λ is. cc is) (λ is. cc is.1) (stays _ counts.writes counts.writes (λ is. cc is) refl);
 }
 
+-- a file of a kind has a name
+pub is_named : (command : Command) (which : Which) (name : List ℕ) → file_of command which ≡ Some name → IsSome (file_of command which)
+is_named command which name named = subst IsSome (sym named) refl
+
 -- a command with a name of its trace reads files
-reads_trace : (command : Command) (name : List ℕ) → trace_name command ≡ Some name → ReadsTrace command
-reads_trace command name named = subst IsSome (sym named) refl
+reads_files : (command : Command) (name : List ℕ) → trace_name command ≡ Some name → ReadsFiles command
+reads_files command name named =
+    let some : IsSome (file_of command TraceFile) = is_named command TraceFile name named in
+    subst (λ which. IsSome (file_of command which)) (sym (from_trace command some)) some
 
 -- a read failed
-read_failed : (command : Command) (files : Option Files) (before now : RunCounts) (had : Option (List ℕ)) → ReadsTrace command → Rose before.shelf.faults now.shelf.faults → now.shelf.absent ≡ before.shelf.absent → now.writes ≡ before.writes
+pub read_failed : (command : Command) (files : Option Files) (before now : RunCounts) (had : Option (List ℕ)) → ReadsFiles command → Rose before.shelf.faults now.shelf.faults → now.shelf.absent ≡ before.shelf.absent → now.writes ≡ before.writes
     → Runs command files before now had had status.ReadFault
 read_failed command files before now had reads rose absent writes = record {
   ends = (keeps_same had, reads);
-  missing = λ which other also lacks. missing_read which;
   counts = record {
     faults = record { rose = λ _. rose; same = λ not. absurd (not refl) };
     absent = stays _ before.shelf.absent now.shelf.absent (λ is. cc is.1) absent;
@@ -156,16 +161,15 @@ read_failed command files before now had reads rose absent writes = record {
 }
 
 -- memory was wanting
-memory_wanting : (command : Command) (files : Option Files) (before now : RunCounts) (had : Option (List ℕ)) → now.shelf.faults ≡ before.shelf.faults → now.shelf.absent ≡ before.shelf.absent → now.writes ≡ before.writes
-    → Runs command files before now had had status.NoMemory
+pub memory_wanting : (command : Command) (files : Option Files) (before now : RunCounts) (had : Option (List ℕ)) → now.shelf.faults ≡ before.shelf.faults → now.shelf.absent ≡ before.shelf.absent → now.writes ≡ before.writes
+    → Runs command files before now had had (status.NoMemory no_memory)
 memory_wanting command files before now had faults absent writes = record {
   ends = keeps_same had;
-  missing = λ which other also lacks. missing_memory which;
-  counts = counts_written before now status.NoMemory faults absent (λ is. cc is) (λ is. cc is.1) (stays _ before.writes now.writes (λ is. cc is) writes);
+  counts = counts_written before now (status.NoMemory no_memory) faults absent (λ is. cc is) (λ is. cc is.1) (stays _ before.writes now.writes (λ is. cc is) writes);
 }
 
 -- counts where a name was missed
-missed_counts : (which : Which) (before now : RunCounts) → now.shelf.faults ≡ before.shelf.faults → Rose before.shelf.absent now.shelf.absent → now.writes ≡ before.writes → FailuresAreCounted before now (status.NoFile which)
+pub missed_counts : (which : Which) (before now : RunCounts) → now.shelf.faults ≡ before.shelf.faults → Rose before.shelf.absent now.shelf.absent → now.writes ≡ before.writes → FailuresAreCounted before now (status.NoFile which)
 missed_counts which before now faults rose writes = record {
   faults = stays _ before.shelf.faults now.shelf.faults (λ is. cc is) faults;
   absent = record { rose = λ _. rose; same = λ not. absurd (not (which, refl)) };
@@ -174,40 +178,33 @@ missed_counts which before now faults rose writes = record {
 
 -- a trace that can't be read, behind rules that were
 pub runs_refused : {T : Type 0} → (command : Command) (name : List ℕ) (files : Option Files) (before now : RunCounts) (had : Option (List ℕ)) (rules : List Rule) (found : TraceFault) (result : Status)
-    → trace_name command ≡ Some name → RulesGiven (rules_name command) files rules → TraceRefused found (tick_length command) (told files name) → (Lacks files name → TellsNothing {A = Unit {0}} (Err found))
+    → Reads command → trace_name command ≡ Some name → RulesGiven (rules_name command) files rules → TraceRefused found (versions_of command) (tick_length command) (told files name) → (Lacks files name → TellsNothing {A = Unit {0}} (Err found))
     → (IsErrOf {T = T} (Err found) fault.NoFile → told files name ≡ None)
     → CausesTraceFault {A = T} before.shelf now.shelf (Err found) → now.writes ≡ before.writes
     → IsStatusOf found result → Runs command files before now had had result
-runs_refused command name files before now had rules (fault.Refused refusal) result named given refused lacking missed causes writes is =
+runs_refused command name files before now had rules (fault.Refused refusal) result reads named given refused lacking missed causes writes is =
     subst (Runs command files before now had had) (sym is) (record {
-      ends = (keeps_same had, reads_trace command name named, (rules, takes_given command _ files rules refl given), λ bytes known. refused bytes (subst (λ n. told files n ≡ Some bytes) (same_name command name known.0 named known.1) known.2));
-      missing = λ which other also lacks. absurd (none_missing command name files rules named given lacking which other also lacks);
+      ends = (keeps_same had, is_named command TraceFile name named, (rules, takes_given command _ files rules refl given, rules_there command files rules given), file_there command TraceFile name files named lacking, λ bytes known. reads bytes ∙ ap or_refused (refused bytes (subst (λ n. told files n ≡ Some bytes) (same_name command TraceFile name known.0 named known.1) known.2)));
       counts = counts_written before now (status.Trace refusal.line refusal.cause) (causes.faults_same (λ is. cc is)) (causes.absent_same (λ is. cc is)) (λ is. cc is) (λ is. cc is.1) (stays _ before.writes now.writes (λ is. cc is) writes);
     })
-runs_refused command name files before now had rules fault.NoFile result named given refused lacking missed causes writes is =
+runs_refused command name files before now had rules fault.NoFile result reads named given refused lacking missed causes writes is =
     subst (Runs command files before now had had) (sym is) (record {
-      ends = (keeps_same had, (rules, takes_given command _ files rules refl given), (name, named, missed refl));
-      missing = λ which other also lacks. missing_none which TraceFile;
+      ends = (keeps_same had, (rules, takes_given command _ files rules refl given, rules_there command files rules given), (name, named, missed refl));
       counts = missed_counts TraceFile before now (causes.faults_same (λ is. cc is)) (causes.missed refl) writes;
     })
-runs_refused command name files before now had rules fault.ReadFault result named given refused lacking missed causes writes is =
-    subst (Runs command files before now had had) (sym is) (read_failed command files before now had (reads_trace command name named) (causes.failed refl) (causes.absent_same (λ is. cc is)) writes)
-runs_refused command name files before now had rules fault.NoMemory result named given refused lacking missed causes writes is =
+runs_refused command name files before now had rules fault.ReadFault result reads named given refused lacking missed causes writes is =
+    subst (Runs command files before now had had) (sym is) (read_failed command files before now had (reads_files command name named) (causes.failed refl) (causes.absent_same (λ is. cc is)) writes)
+runs_refused command name files before now had rules (fault.NoMemory _) result reads named given refused lacking missed causes writes is =
     subst (Runs command files before now had had) (sym is) (memory_wanting command files before now had (causes.faults_same (λ is. cc is)) (causes.absent_same (λ is. cc is)) writes)
 
--- a fault of a rules file may come of a trace that isn't held, and of a rules file only where it is
-missing_fault : (command : Command) (name : List ℕ) (files : Option Files) → rules_name command ≡ Some name → (Lacks files name → ⊥) → (fault_is : RulesFault) (which : Which) (other : List ℕ)
-    → file_of command which ≡ Some other → Lacks files other → IsOfMissing which (status.Rules fault_is)
-missing_fault command name files named held fault_is TraceFile other is lacks = tt
-missing_fault command name files named held fault_is RulesFile other is lacks = absurd (held (subst (Lacks files) (same_rules command name other named is) lacks))
-
 -- a command that names a rules file reads a trace too
-rules_read : (command : Command) (name : List ℕ) → rules_name command ≡ Some name → ReadsTrace command
+rules_read : (command : Command) (name : List ℕ) → rules_name command ≡ Some name → ReadsFiles command
 rules_read (words.Stall trace) name named = refl
 rules_read (words.Check trace tick_ms) name named = refl
 rules_read (words.Replay trace options) name named = refl
 rules_read (words.Gen shape) name named = absurd (let no : ⊥ = cc named in no)
 rules_read (words.Stress shape workers) name named = absurd (let no : ⊥ = cc named in no)
+rules_read (words.Import file cpus) name named = absurd (let no : ⊥ = cc named in no)
 
 -- rules that can't be read
 pub rules_refused : {T : Type 0} → (command : Command) (name : List ℕ) (files : Option Files) (before now : RunCounts) (had : Option (List ℕ)) (found : RulesError) (result : Status)
@@ -216,17 +213,15 @@ pub rules_refused : {T : Type 0} → (command : Command) (name : List ℕ) (file
     → IsStatusOfRules found result → Runs command files before now had had result
 rules_refused command name files before now had (error.Refused refusal) result named failed causes writes is =
     subst (Runs command files before now had had) (sym is) (record {
-      ends = (keeps_same had, (name, named, failed.refused));
-      missing = λ which other also lacks. missing_fault command name files named failed.lacking refusal which other also lacks;
+      ends = (keeps_same had, named_there command name files named failed.lacking, (name, named, failed.refused));
       counts = counts_written before now (status.Rules refusal) (causes.faults_same (λ is. cc is)) (causes.absent_same (λ is. cc is)) (λ is. cc is) (λ is. cc is.1) (stays _ before.writes now.writes (λ is. cc is) writes);
     })
 rules_refused command name files before now had error.NoFile result named failed causes writes is =
     subst (Runs command files before now had had) (sym is) (record {
       ends = (keeps_same had, tt, (name, named, failed.missed refl));
-      missing = λ which other also lacks. missing_none which RulesFile;
       counts = missed_counts RulesFile before now (causes.faults_same (λ is. cc is)) (causes.missed refl) writes;
     })
 rules_refused command name files before now had error.ReadFault result named failed causes writes is =
     subst (Runs command files before now had had) (sym is) (read_failed command files before now had (rules_read command name named) (causes.failed refl) (causes.absent_same (λ is. cc is)) writes)
-rules_refused command name files before now had error.NoMemory result named failed causes writes is =
+rules_refused command name files before now had (error.NoMemory _) result named failed causes writes is =
     subst (Runs command files before now had had) (sym is) (memory_wanting command files before now had (causes.faults_same (λ is. cc is)) (causes.absent_same (λ is. cc is)) writes)

@@ -2,3 +2,4 @@ pub mod Lines
 pub mod Reads
 pub mod Writes
 pub mod Rules
+pub mod Import

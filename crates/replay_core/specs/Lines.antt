@@ -4,7 +4,7 @@ use Rattle.std.specs.List.{flat_map, range_with_len}
 use Rattle.psi_base.specs.declared.event.Slot.{Slot}
 use Rattle.psi_spec.specs.declared.machine.GroupLife.{GroupLife}
 use Rattle.psi_spec.specs.Groups.{path_at}
-use Rattle.psi_laws.specs.Plan.{IsPlan, PlanView, no_plan, planned}
+use Rattle.plan_laws.specs.Plan.{IsPlan, PlanView, no_plan, planned}
 use Rattle.run_spec.specs.Lines.{stall_line}
 use Rattle.proc_plan.specs.Clocks.{OnPlan}
 

@@ -1,5 +1,5 @@
 -- What reading a trace gives, where its bytes are told.
-use Rattle.std.specs.Prelude.{◌≡◌, ◌≢◌, ℕ, ◌+◌, ◌<◌, ◌≤◌, List, [], ◌∷◌, ◌++◌, length, Option, None, Some, Result, Ok, Err, IsErrOf, OnOk, ⊤, true, false}
+use Rattle.std.specs.Prelude.{◌≡◌, ◌≢◌, ℕ, ◌+◌, ◌<◌, ◌≤◌, List, [], ◌∷◌, ◌++◌, length, Option, None, Some, Result, Ok, Err, IsErrOf, OnOk, ⊤, Bool, true, false, ◌==◌}
 use Rattle.psi_base.specs.Outside.{HasCauses, ShelfCounts}
 use Rattle.psi_base.specs.Path.{parts_at}
 use Rattle.psi_base.specs.declared.event.Event.{Event}
@@ -10,12 +10,16 @@ use Rattle.psi_base.specs.declared.event.Fault.{Fault}
 use Rattle.psi_base.specs.declared.event.Fault.TheVariants as fault
 use Rattle.psi_spec.specs.World.{World, Limits, after, first_world, most_events}
 use Rattle.psi_spec.specs.Refusal.{AreLegal, cause_of}
-use Rattle.psi_spec.specs.Grammar.{One, plain_header, verbs_of}
-use Rattle.psi_spec.specs.Trace.{AllFit, IsAccepted, IsCpuCount, Trace, accepts_all, events_from, followed, limits_of, line_event, refused, trace_of, with_events}
+use Rattle.psi_spec.specs.Fields.{IsAmong}
+use Rattle.psi_spec.specs.Grammar.{IsVersion, One, Verb, Version, header_with, verbs_of, version_of, versions as all_versions}
+use Rattle.psi_spec.specs.Trace.{AllFit, AreKnown, IsAccepted, IsCpuCount, Trace, accepts_with, events_from, followed, limits_of, line_event, refused, trace_of, with_events}
 use Rattle.psi_lines.specs.Lines.{Reader}
 use Rattle.psi_lines.specs.Next.{furthest}
 use Rattle.psi_lines.specs.declared.lines.LineFault.{LineFault}
 use Rattle.psi_lines.specs.declared.lines.LineFault.TheVariants as lines
+use Rattle.psi_trace.specs.declared.header.Header.{Header}
+use Rattle.replay_core.specs.declared.trace.Taken.{Taken}
+use Rattle.replay_core.specs.declared.trace.Taken.TheVariants.{EveryVersion, FirstVersion}
 use Rattle.replay_core.specs.declared.trace.TraceFault.{TraceFault}
 use Rattle.replay_core.specs.declared.trace.TraceFault.TheVariants.{Refused, NoFile, ReadFault, NoMemory}
 
@@ -30,16 +34,16 @@ pub record IsPlayed (limits_now : Limits) (w : World) (limits : Limits) (events 
   pub limits_are : limits_now ≡ limits
   pub world : w ≡ after events
 
--- a player has played events that can each be spelled and are legal in their turn
-abbrev pub Legally : Plays → Plays
-Legally Played limits events = Played limits events × AllFit events × AreLegal limits first_world events
+-- a player has played events that can each be spelled, by one of these verbs, and are legal in their turn
+abbrev pub Legally : List Verb → Plays → Plays
+Legally verbs Played limits events = Played limits events × AllFit events × AreKnown verbs events × AreLegal limits first_world events
 
 -- What an event does to a player that has played any events: it is legal and played behind them, and there were fewer
 -- than 4,000,000; or it is refused with the first cause. Of want of memory nothing is said.
 abbrev pub PlayerTakes : Plays → Plays → Event → Result (Unit {0}) (Fault Cause) → Type 0
 PlayerTakes Before After event (Ok x) = (limits : Limits) (events : List Event) → Before limits events → (cause_of limits (after events) event ≡ None) × After limits (events ++ event ∷ []) × (length events < most_events)
 PlayerTakes Before After event (Err (fault.Refused why)) = (limits : Limits) (events : List Event) → Before limits events → cause_of limits (after events) event ≡ Some why
-PlayerTakes Before After event (Err fault.NoMemory) = ⊤
+PlayerTakes Before After event (Err (fault.NoMemory _)) = ⊤
 
 -- what was read of a line does to a player: an event is taken, and a fault is handed on
 abbrev pub TakesRead : Plays → Plays → Result Event (Fault Cause) → Result (Unit {0}) (Fault Cause) → Type 0
@@ -48,28 +52,28 @@ TakesRead Before After (Err why) result = result ≡ Err why
 
 -- ---- one line
 
--- What a line does to a player that has played any events and whose trace hasn't ended: its event is played behind them,
--- and there were fewer than 4,000,000 before it; or the line is refused.
-abbrev pub TakesLine : Plays → Plays → List ℕ → Result (Unit {0}) (Fault Cause) → Type 0
-TakesLine Before After line (Ok x) = (limits : Limits) (events : List Event) → Before limits events → (after events).ended ≡ false → (event : Event) × (line_event (verbs_of One) limits (after events) line ≡ Ok event) × After limits (events ++ event ∷ []) × (length events < most_events)
-TakesLine Before After line (Err (fault.Refused why)) = (limits : Limits) (events : List Event) → Before limits events → (after events).ended ≡ false → line_event (verbs_of One) limits (after events) line ≡ Err why
-TakesLine Before After line (Err fault.NoMemory) = ⊤
+-- What a line, read by these verbs, does to a player that has played any events and whose trace hasn't ended: its event is
+-- played behind them, and there were fewer than 4,000,000 before it; or the line is refused.
+abbrev pub TakesLine : List Verb → Plays → Plays → List ℕ → Result (Unit {0}) (Fault Cause) → Type 0
+TakesLine verbs Before After line (Ok x) = (limits : Limits) (events : List Event) → Before limits events → (after events).ended ≡ false → (event : Event) × (line_event verbs limits (after events) line ≡ Ok event) × After limits (events ++ event ∷ []) × (length events < most_events)
+TakesLine verbs Before After line (Err (fault.Refused why)) = (limits : Limits) (events : List Event) → Before limits events → (after events).ended ≡ false → line_event verbs limits (after events) line ≡ Err why
+TakesLine verbs Before After line (Err (fault.NoMemory _)) = ⊤
 
--- the events of what is left of the input, in a world, from the line with a number on
-abbrev pub rest_from : Limits → World → ℕ → List ℕ → Result (List Event) Refusal
-rest_from limits w line bytes = events_from (verbs_of One) limits w line (parts_at 10 bytes)
+-- the events of what is left of the input, read by these verbs, in a world, from the line with a number on
+abbrev pub rest_from : List Verb → Limits → World → ℕ → List ℕ → Result (List Event) Refusal
+rest_from verbs limits w line bytes = events_from verbs limits w line (parts_at 10 bytes)
 
 -- a refusal is the definition's; the other faults have clauses of their own
 abbrev pub RefusalOf : {A : Type 0} → TraceFault → Result A Refusal → Type 0
 RefusalOf (Refused refusal) read = read ≡ Err refusal
 RefusalOf NoFile read = ⊤
 RefusalOf ReadFault read = ⊤
-RefusalOf NoMemory read = ⊤
+RefusalOf (NoMemory _) read = ⊤
 
 -- the fault of a line, with its number
 abbrev pub IsTraceFault : ℕ → Fault Cause → TraceFault → Type 0
 IsTraceFault line (fault.Refused why) result = result ≡ Refused (refused line why)
-IsTraceFault line fault.NoMemory result = result ≡ NoMemory
+IsTraceFault line (fault.NoMemory none) result = result ≡ NoMemory none
 
 -- why there is no trace where a line isn't read: one that the input cuts short is refused with this cause
 abbrev pub trace_fault : Cause → LineFault → TraceFault
@@ -77,19 +81,19 @@ trace_fault cut (lines.TooLong line) = Refused (refused line cause.LineTooLong)
 trace_fault cut (lines.Cut line) = Refused (refused line cut)
 trace_fault cut lines.NoFile = NoFile
 trace_fault cut lines.ReadFault = ReadFault
-trace_fault cut lines.NoMemory = NoMemory
+trace_fault cut (lines.NoMemory none) = NoMemory none
 
 -- an event was played behind those before; where the bytes that were left are told, it is theirs, and others are left
-pub record NextPlayed (After : Plays) (limits : Limits) (events : List Event) (line : ℕ) (before after_bytes : List ℕ → List ℕ) (known : Option (List ℕ)) : Type 0 where
+pub record NextPlayed (verbs : List Verb) (After : Plays) (limits : Limits) (events : List Event) (line : ℕ) (before after_bytes : List ℕ → List ℕ) (known : Option (List ℕ)) : Type 0 where
   pub event : Event
   pub played : After limits (events ++ event ∷ [])
   pub few : length events < most_events
-  pub read : (bytes : List ℕ) → known ≡ Some bytes → rest_from limits (after events) line (before bytes) ≡ followed (event ∷ []) (rest_from limits (after (events ++ event ∷ [])) (line + 1) (after_bytes bytes))
+  pub read : (bytes : List ℕ) → known ≡ Some bytes → rest_from verbs limits (after events) line (before bytes) ≡ followed (event ∷ []) (rest_from verbs limits (after (events ++ event ∷ [])) (line + 1) (after_bytes bytes))
 
 -- what the next line gives
-abbrev pub NextGives : Plays → Plays → ℕ → (List ℕ → List ℕ) → (List ℕ → List ℕ) → Option (List ℕ) → Result (Unit {0}) TraceFault → Type 0
-NextGives Before After line before after_bytes known (Ok x) = (limits : Limits) (events : List Event) → Before limits events → (after events).ended ≡ false → NextPlayed After limits events line before after_bytes known
-NextGives Before After line before after_bytes known (Err fault) = (limits : Limits) (events : List Event) → Before limits events → (after events).ended ≡ false → (bytes : List ℕ) → known ≡ Some bytes → RefusalOf fault (rest_from limits (after events) line (before bytes))
+abbrev pub NextGives : List Verb → Plays → Plays → ℕ → (List ℕ → List ℕ) → (List ℕ → List ℕ) → Option (List ℕ) → Result (Unit {0}) TraceFault → Type 0
+NextGives verbs Before After line before after_bytes known (Ok x) = (limits : Limits) (events : List Event) → Before limits events → (after events).ended ≡ false → NextPlayed verbs After limits events line before after_bytes known
+NextGives verbs Before After line before after_bytes known (Err fault) = (limits : Limits) (events : List Event) → Before limits events → (after events).ended ≡ false → (bytes : List ℕ) → known ≡ Some bytes → RefusalOf fault (rest_from verbs limits (after events) line (before bytes))
 
 -- nothing stands behind the end, or its line is refused
 abbrev pub TailGives : {A : Type 0} → ℕ → List ℕ → Result A TraceFault → Type 0
@@ -97,43 +101,71 @@ TailGives line bytes (Ok x) = bytes ≡ []
 TailGives line bytes (Err (Refused refusal)) = (bytes ≢ []) × (refusal ≡ refused line cause.AfterEnd)
 TailGives line bytes (Err NoFile) = ⊤
 TailGives line bytes (Err ReadFault) = ⊤
-TailGives line bytes (Err NoMemory) = ⊤
+TailGives line bytes (Err (NoMemory _)) = ⊤
 
 -- ---- all lines
 
 -- a player has played all events of what was left of the input behind the header, to the end of the trace
-pub record RestPlayed (Played : Plays) (limits : Limits) (before : List ℕ → List ℕ) (known : Option (List ℕ)) : Type 0 where
+pub record RestPlayed (verbs : List Verb) (Played : Plays) (limits : Limits) (before : List ℕ → List ℕ) (known : Option (List ℕ)) : Type 0 where
   pub events : List Event
   pub played : Played limits events
   pub ended : (after events).ended ≡ true
-  pub read : (bytes : List ℕ) → known ≡ Some bytes → rest_from limits first_world 2 (before bytes) ≡ Ok events
+  pub read : (bytes : List ℕ) → known ≡ Some bytes → rest_from verbs limits first_world 2 (before bytes) ≡ Ok events
 
 -- what the lines behind the header give
-abbrev pub RestGives : Plays → Limits → (List ℕ → List ℕ) → Option (List ℕ) → Result (Unit {0}) TraceFault → Type 0
-RestGives Played limits before known (Ok x) = RestPlayed Played limits before known
-RestGives Played limits before known (Err fault) = (bytes : List ℕ) → known ≡ Some bytes → RefusalOf fault (rest_from limits first_world 2 (before bytes))
+abbrev pub RestGives : List Verb → Plays → Limits → (List ℕ → List ℕ) → Option (List ℕ) → Result (Unit {0}) TraceFault → Type 0
+RestGives verbs Played limits before known (Ok x) = RestPlayed verbs Played limits before known
+RestGives verbs Played limits before known (Err fault) = (bytes : List ℕ) → known ≡ Some bytes → RefusalOf fault (rest_from verbs limits first_world 2 (before bytes))
 
--- the header was read from the bytes before, and those after are left
-abbrev pub HeadGives : ℕ → List ℕ → List ℕ → Result ℕ TraceFault → Type 0
-HeadGives tick before after (Ok cpus) = trace_of (accepts_all tick) before ≡ with_events (plain_header cpus) (rest_from (limits_of tick cpus) first_world 2 after)
-HeadGives tick before after (Err fault) = RefusalOf fault (trace_of (accepts_all tick) before)
+-- the verbs of the version with a number
+abbrev pub verbs_in : ℕ → List Verb
+verbs_in number = verbs_of (version_of number)
+
+-- the versions that a command takes
+abbrev pub versions_in : Taken → List Version
+versions_in FirstVersion = One ∷ []
+versions_in EveryVersion = all_versions
+
+-- a command takes the version with a number
+abbrev pub is_taken : Taken → ℕ → Bool
+is_taken FirstVersion number = number == 1
+is_taken EveryVersion number = true
+
+-- a header of one of these versions was read from the bytes before, and those after are left
+abbrev pub HeadGives : List Version → ℕ → List ℕ → List ℕ → Result Header TraceFault → Type 0
+HeadGives versions tick before after (Ok head) =
+    trace_of (accepts_with versions tick) before ≡ with_events (header_with head.version head.cpus) (rest_from (verbs_in head.version) (limits_of tick head.cpus) first_world 2 after)
+HeadGives versions tick before after (Err fault) = RefusalOf fault (trace_of (accepts_with versions tick) before)
+
+-- a header that was read has the number of one of these versions, and as many processors as there may be
+pub record IsHead (versions : List Version) (head : Header) : Type 0 where
+  pub numbered : IsVersion head.version
+  pub among : IsAmong (version_of head.version) versions
+  pub counted : IsCpuCount head.cpus
+
+-- a trace of a version
+abbrev pub trace_with : Version → ℕ → List Event → Trace
+trace_with version cpus events = record { version = version; cpus = cpus; events = events }
 
 -- a trace of version 1
 abbrev pub plain_trace : ℕ → List Event → Trace
-plain_trace cpus events = record { version = One; cpus = cpus; events = events }
+plain_trace cpus events = trace_with One cpus events
 
--- A player has played all events of an accepted trace, which is that of the bytes where they are told.
-pub record TracePlayed (Played : Plays) (tick : ℕ) (known : Option (List ℕ)) : Type 0 where
+-- A player has played all events of an accepted trace of one of these versions, which is that of the bytes where they are told.
+pub record TracePlayed (Played : Plays) (versions : List Version) (tick : ℕ) (known : Option (List ℕ)) : Type 0 where
+  pub version : Version
+  pub among : IsAmong version versions
   pub cpus : ℕ
   pub counted : IsCpuCount cpus
   pub events : List Event
   pub played : Played (limits_of tick cpus) events
+  pub told : AreKnown (verbs_of version) events
   pub accepted : IsAccepted (limits_of tick cpus) events
-  pub read : (bytes : List ℕ) → known ≡ Some bytes → trace_of (accepts_all tick) bytes ≡ Ok (plain_trace cpus events)
+  pub read : (bytes : List ℕ) → known ≡ Some bytes → trace_of (accepts_with versions tick) bytes ≡ Ok (trace_with version cpus events)
 
--- a trace that can't be read has its first refusal
-abbrev pub TraceRefused : TraceFault → ℕ → Option (List ℕ) → Type 0
-TraceRefused fault tick known = (bytes : List ℕ) → known ≡ Some bytes → RefusalOf fault (trace_of (accepts_all tick) bytes)
+-- a trace that can't be read as one of these versions has its first refusal
+abbrev pub TraceRefused : TraceFault → List Version → ℕ → Option (List ℕ) → Type 0
+TraceRefused fault versions tick known = (bytes : List ℕ) → known ≡ Some bytes → RefusalOf fault (trace_of (accepts_with versions tick) bytes)
 
 -- A shelf counted this fault of a trace and nothing else: a failed read, or a name that it hasn't.
 abbrev pub CausesTraceFault : {A : Type 0} → ShelfCounts → ShelfCounts → Result A TraceFault → Type 0
@@ -155,4 +187,4 @@ TellsNothing (Ok x) = ⊥
 TellsNothing (Err (Refused refusal)) = ⊥
 TellsNothing (Err NoFile) = ⊤
 TellsNothing (Err ReadFault) = ⊤
-TellsNothing (Err NoMemory) = ⊤
+TellsNothing (Err (NoMemory _)) = ⊤

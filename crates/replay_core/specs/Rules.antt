@@ -25,14 +25,14 @@ abbrev pub IsRulesFault : RulesError → Result Rules RulesFault → Type 0
 IsRulesFault (error.Refused fault) read = read ≡ Err fault
 IsRulesFault error.NoFile read = ⊤
 IsRulesFault error.ReadFault read = ⊤
-IsRulesFault error.NoMemory read = ⊤
+IsRulesFault (error.NoMemory _) read = ⊤
 
 -- nothing is said of any bytes
 abbrev pub TellsNoFault : RulesError → Type 0
 TellsNoFault (error.Refused fault) = ⊥
 TellsNoFault error.NoFile = ⊤
 TellsNoFault error.ReadFault = ⊤
-TellsNoFault error.NoMemory = ⊤
+TellsNoFault (error.NoMemory _) = ⊤
 
 -- rules can't be read of a file: a fault is the first one of the file's bytes, where these are told; it isn't said of a file
 -- that is known to be missing; and a file that is missed isn't told
@@ -50,4 +50,4 @@ abbrev pub IsStatusOfRules : RulesError → Status → Type 0
 IsStatusOfRules (error.Refused fault) result = result ≡ status.Rules fault
 IsStatusOfRules error.NoFile result = result ≡ status.NoFile RulesFile
 IsStatusOfRules error.ReadFault result = result ≡ status.ReadFault
-IsStatusOfRules error.NoMemory result = result ≡ status.NoMemory
+IsStatusOfRules (error.NoMemory none) result = result ≡ status.NoMemory none

@@ -20,7 +20,7 @@ use Rattle.replay_core.specs.declared.trace.TraceFault.TheVariants as fault
 abbrev pub WritesText : List ℕ → ℕ → ℕ → Option (List ℕ) → Option (List ℕ) → Status → Type 0
 WritesText text before now had has status.Done = Appends had has text × (now ≡ before)
 WritesText text before now had has status.WriteFault = AppendsFront had has text × Rose before now
-WritesText text before now had has status.NoMemory = Keeps had has × (now ≡ before)
+WritesText text before now had has (status.NoMemory _) = Keeps had has × (now ≡ before)
 WritesText text before now had has _ = ⊥
 
 -- What writing some text of a kind gave: one of them was to be written.
@@ -36,7 +36,7 @@ abbrev pub IsStatusOf : TraceFault → Status → Type 0
 IsStatusOf (fault.Refused refusal) result = result ≡ status.Trace refusal.line refusal.cause
 IsStatusOf fault.NoFile result = result ≡ status.NoFile TraceFile
 IsStatusOf fault.ReadFault result = result ≡ status.ReadFault
-IsStatusOf fault.NoMemory result = result ≡ status.NoMemory
+IsStatusOf (fault.NoMemory none) result = result ≡ status.NoMemory none
 
 -- a trace that was taken apart is to be replayed with options: it is accepted at their length of a tick
 pub record IsToReplay (planner : PlannerView) (options : Options) (limits : Limits) (events : List Event) : Type 0 where

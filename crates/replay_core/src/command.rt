@@ -13,11 +13,12 @@ ghost use Rattle.replay_core.specs.Rules.{IsStatusOfRules};
 ghost use Rattle.replay_core.specs.Writes.{IsStatusOf, WritesText};
 
 use crate::generated::{write_generated, write_stress};
+use crate::import::run_import;
 use crate::lines::put_check;
 use crate::replay::write_replay;
 use crate::rules::{RulesError, read_rules};
 use crate::stalls::write_stalls;
-use crate::trace::{TraceFault, play_trace};
+use crate::trace::{Taken, TraceFault, play_trace};
 use proc_plan::Planner;
 use psi_base::{Gate, Ns, Shelf, Sink, Text, WriteFailed};
 use run_spec::{Command, Options, Status, Which};
@@ -44,7 +45,7 @@ fn fault_status(fault: TraceFault) -> Status
             which: Which::TraceFile,
         },
         TraceFault::ReadFault => Status::ReadFault,
-        TraceFault::NoMemory => Status::NoMemory,
+        TraceFault::NoMemory(none) => Status::NoMemory(none),
     }
 }
 
@@ -58,7 +59,7 @@ fn rules_status(error: RulesError) -> Status
             which: Which::RulesFile,
         },
         RulesError::ReadFault => Status::ReadFault,
-        RulesError::NoMemory => Status::NoMemory,
+        RulesError::NoMemory(none) => Status::NoMemory(none),
     }
 }
 
@@ -78,7 +79,7 @@ fn run_stall<R: Threads + Sync, S: Shelf, K: Sink>(
     ensures reads { S.given shelf.new ≤ S.given shelf.old + most_read (Command.Stall name.now) }
     ensures below { StaysOver (K.below out.old) (K.below out.new) }
 {
-    match play_trace::<S, Planner>(alloc, name, shelf, TICK) {
+    match play_trace::<S, Planner>(alloc, name, shelf, Taken::FirstVersion, TICK) {
         Ok(planner) => write_stalls(rt, alloc, planner, out),
         Err(fault) => fault_status(fault),
     }
@@ -116,7 +117,8 @@ fn run_check<S: Shelf, K: Sink>(
         ≤ S.given shelf.old + most_read (Command.Check name.now tick_ms) }
     ensures below { StaysOver (K.below out.old) (K.below out.new) }
 {
-    match play_trace::<S, Table>(alloc, name, shelf, Ns::from(tick_ms) * MILLISECOND) {
+    let tick = Ns::from(tick_ms) * MILLISECOND;
+    match play_trace::<S, Table>(alloc, name, shelf, Taken::EveryVersion, tick) {
         Ok(table) => write_line(&table, out),
         Err(fault) => fault_status(fault),
     }
@@ -152,7 +154,7 @@ fn run_replay<R: Threads + Sync, S: Shelf, K: Sink, G: Gate>(
         Err(error) => return rules_status(error),
     };
     let tick = Ns::from(options.tick_ms) * MILLISECOND;
-    match play_trace::<S, Planner>(alloc, name, shelf, tick) {
+    match play_trace::<S, Planner>(alloc, name, shelf, Taken::FirstVersion, tick) {
         Ok(planner) => write_replay(rt, alloc, planner, rules, options, out, gate),
         Err(fault) => fault_status(fault),
     }
@@ -200,5 +202,6 @@ pub(crate) fn run_command<R: Threads + Sync, S: Shelf, K: Sink, G: Gate>(
         Command::Stress { shape, workers } => {
             write_stress(rt, alloc, *shape, *workers, out, gate)
         }
+        Command::Import { file, cpus } => run_import(alloc, name_of(file), *cpus, shelf, out),
     }
 }

@@ -1,17 +1,20 @@
 //! The top call.
 ghost use Rattle.std.specs.Prelude.{◌≡◌, ◌⊎◌, ◌≢◌, ◌+◌, ◌≤◌, ℕ, List, Some, None, Ok, Err, map, string_bytes};
 ghost use Rattle.std.specs.Io.KnownBytes.{Appends, Keeps};
+ghost use Rattle.psi_base.specs.Gives.{no_memory};
 ghost use Rattle.psi_base.specs.Outside.{AppendsFront, Rose, told};
-ghost use Rattle.psi_base.specs.declared.event.Cause.{Cause};
-ghost use Rattle.psi_spec.specs.Trace.{Trace, refused, trace_of};
+ghost use Rattle.psi_base.specs.declared.event.Event.{Event};
+ghost use Rattle.psi_spec.specs.Trace.{Trace, text_of, trace_of};
+ghost use Rattle.import_spec.specs.Import.{import_of, import_trace};
 ghost use Rattle.psi_words.specs.Reads.{HasTextNames};
 ghost use Rattle.run_spec.specs.declared.command.Command.{Command};
 ghost use Rattle.run_spec.specs.declared.command.Options.{Options};
-ghost use Rattle.run_spec.specs.Outputs.{accepts_of, pace_of, rules_name, trace_name};
+ghost use Rattle.run_spec.specs.declared.status.Status.{Status};
+ghost use Rattle.run_spec.specs.Outputs.{accepts_of, pace_of, rules_name, source_name, source_of, taken_of};
 ghost use Rattle.run_spec.specs.MostRead.{most_read};
 ghost use Rattle.run_spec.specs.Replay.{IsReplayText, replay_text, with_rules};
 ghost use Rattle.run_spec.specs.Run.{FailuresAreCounted, IsTold, RulesTold, Runs, run_counts};
-ghost use Rattle.run_spec.specs.declared.status.Which.TheVariants.{TraceFile};
+ghost use Rattle.run_spec.specs.declared.status.Which.TheVariants.{ImportFile, TraceFile};
 ghost use Rattle.ruleset_json.specs.Rules.{rules_of};
 ghost use Rattle.ruleset_json.specs.declared.fault.RulesFault.{RulesFault};
 ghost use Rattle.ruleset_json.specs.declared.types.Rule.{Rule};
@@ -44,8 +47,9 @@ fn run_buffered<R: Threads + Sync, S: Shelf, K: Sink, G: Gate>(
         (K.has out.old) (K.has out.new) result }
     ensures reads { S.given shelf.new ≤ S.given shelf.old + most_read command.now }
 {
-    let Ok(mut pending) = Pending::new(alloc) else {
-        return Status::NoMemory;
+    let mut pending = match Pending::new(alloc) {
+        Ok(pending) => pending,
+        Err(none) => return Status::NoMemory(none),
     };
     let mut buffered = BufferedSink::new(out, &mut pending);
     match run_command(rt, alloc, command, shelf, &mut buffered, gate) {
@@ -75,7 +79,7 @@ pub fn run<R: Threads + Sync, S: Shelf, K: Sink, N: Sink, G: Gate>(
     // Usage comes exactly where the words aren't those of a command.
     ensures usage { result ≡ Status.Usage → command_of (map string_bytes words.now) ≡ None }
     ensures unknown { command_of (map string_bytes words.now) ≡ None →
-        (result ≡ Status.Usage) ⊎ (result ≡ Status.NoMemory) }
+        (result ≡ Status.Usage) ⊎ (result ≡ Status.NoMemory no_memory) }
 
     // What each status says of the command's files and of the output, and which counts of failures rose.
     ensures runs { (command : Command) →
@@ -107,41 +111,49 @@ pub fn run<R: Threads + Sync, S: Shelf, K: Sink, N: Sink, G: Gate>(
         × Appends (K.has out.old) (K.has out.new)
         (replay_text trace (pace_of options) (with_rules rules)) }
 
-    // An accepted trace and accepted rules give the whole output, unless a count of faults rose or memory was wanting.
+    // The import: where it is done, the output grew by exactly the text of the trace that the definition gives for the bytes.
+    ensures imported { (name bytes : List ℕ) (cpus : ℕ) →
+        command_of (map string_bytes words.now) ≡ Some (Command.Import name cpus) →
+        IsTold (Command.Import name cpus) ImportFile (S.holds shelf.old) bytes →
+        result ≡ Status.Done →
+        (events : List Event) × (import_of cpus bytes ≡ Ok events)
+        × Appends (K.has out.old) (K.has out.new) (text_of (import_trace cpus events)) }
+
+    // An accepted file, with accepted rules, gives the whole output, unless a count of faults rose or memory was wanting.
     ensures complete { (command : Command) (rules : List Rule) (bytes : List ℕ)
         (trace : Trace) →
         command_of (map string_bytes words.now) ≡ Some command →
         RulesTold command (S.holds shelf.old) rules →
-        IsTold command TraceFile (S.holds shelf.old) bytes →
-        trace_of (accepts_of command) bytes ≡ Ok trace →
+        IsTold command (source_of command) (S.holds shelf.old) bytes →
+        taken_of command bytes ≡ Ok trace →
         (Rose (S.faults shelf.old) (S.faults shelf.new) → ⊥) →
         (Rose (K.faults out.old) (K.faults out.new) → ⊥) →
-        (result ≡ Status.Done) ⊎ (result ≡ Status.NoMemory) }
+        (result ≡ Status.Done) ⊎ (result ≡ Status.NoMemory no_memory) }
 
     // A refused rules file gives its first fault with its place, unless a fault of reading rose or memory was wanting.
     ensures faulty { (command : Command) (name bytes : List ℕ) (fault : RulesFault) →
         command_of (map string_bytes words.now) ≡ Some command → rules_name command ≡ Some name →
         told (S.holds shelf.old) name ≡ Some bytes → rules_of bytes ≡ Err fault →
         (Rose (S.faults shelf.old) (S.faults shelf.new) → ⊥) →
-        (result ≡ Status.Rules fault) ⊎ (result ≡ Status.NoMemory) }
+        (result ≡ Status.Rules fault) ⊎ (result ≡ Status.NoMemory no_memory) }
 
-    // Behind accepted rules a refused trace gives its first refused line with its cause, unless a fault of reading rose or
-    // memory was wanting.
+    // Behind accepted rules a refused file gives the status of its first refused line with its cause, unless a fault of reading
+    // rose or memory was wanting.
     ensures refuses { (command : Command) (rules : List Rule) (bytes : List ℕ)
-        (line : ℕ) (why : Cause) →
+        (why : Status) →
         command_of (map string_bytes words.now) ≡ Some command →
         RulesTold command (S.holds shelf.old) rules →
-        IsTold command TraceFile (S.holds shelf.old) bytes →
-        trace_of (accepts_of command) bytes ≡ Err (refused line why) →
+        IsTold command (source_of command) (S.holds shelf.old) bytes →
+        taken_of command bytes ≡ Err why →
         (Rose (S.faults shelf.old) (S.faults shelf.new) → ⊥) →
-        (result ≡ Status.Trace line why) ⊎ (result ≡ Status.NoMemory) }
+        (result ≡ why) ⊎ (result ≡ Status.NoMemory no_memory) }
 
     // A command that reads no file ends with its whole output, unless a count of failed writes rose or memory was wanting.
     ensures made { (command : Command) →
         command_of (map string_bytes words.now) ≡ Some command →
-        trace_name command ≡ None →
+        source_name command ≡ None →
         (Rose (K.faults out.old) (K.faults out.new) → ⊥) →
-        (result ≡ Status.Done) ⊎ (result ≡ Status.NoMemory) }
+        (result ≡ Status.Done) ⊎ (result ≡ Status.NoMemory no_memory) }
 
     // Each count of failures rose exactly where the status tells of its failure.
     ensures counts { FailuresAreCounted
@@ -176,9 +188,9 @@ pub fn run<R: Threads + Sync, S: Shelf, K: Sink, N: Sink, G: Gate>(
             let _ = put_status(note, None, Status::Usage);
             Status::Usage
         }
-        Err(Fault::NoMemory) => {
-            let _ = put_status(note, None, Status::NoMemory);
-            Status::NoMemory
+        Err(Fault::NoMemory(none)) => {
+            let _ = put_status(note, None, Status::NoMemory(none));
+            Status::NoMemory(none)
         }
     }
 }

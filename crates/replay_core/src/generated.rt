@@ -43,7 +43,7 @@ pub(crate) fn write_generated<K: Sink>(alloc: Global, shape: Shape, out: &mut K)
     ) {
         Ok(()) => Status::Done,
         Err(Fault::Refused(WriteFailed)) => Status::WriteFault,
-        Err(Fault::NoMemory) => Status::NoMemory,
+        Err(Fault::NoMemory(none)) => Status::NoMemory(none),
     }
 }
 
@@ -59,7 +59,7 @@ fn take_legal(planner: &mut Planner, event: Event) -> Result<(), NoMemory>
 {
     match planner.take(&event) {
         Ok(()) => Ok(()),
-        Err(Fault::NoMemory) => Err(NoMemory),
+        Err(Fault::NoMemory(none)) => Err(none),
         Err(Fault::Refused(_)) => unreachable!(),
     }
 }
@@ -134,15 +134,18 @@ pub(crate) fn write_stress<R: Threads + Sync, K: Sink, G: Gate>(
         (K.faults out.old) (K.faults out.new) (K.has out.old) (K.has out.new) result }
     ensures below { StaysOver (K.below out.old) (K.below out.new) }
 {
-    let Ok(planner) = plan_generated(alloc, shape) else {
-        return Status::NoMemory;
+    let planner = match plan_generated(alloc, shape) {
+        Ok(planner) => planner,
+        Err(none) => return Status::NoMemory(none),
     };
-    let Ok(plans) = planner.finish(alloc) else {
-        return Status::NoMemory;
+    let plans = match planner.finish(alloc) {
+        Ok(plans) => plans,
+        Err(none) => return Status::NoMemory(none),
     };
     let options = stress_options(workers);
-    let Ok(mut replay) = prepare(alloc, &plans, None, &options) else {
-        return Status::NoMemory;
+    let mut replay = match prepare(alloc, &plans, None, &options) {
+        Ok(replay) => replay,
+        Err(none) => return Status::NoMemory(none),
     };
     match put_end(rt, &mut replay, out, gate) {
         Ok(()) => Status::Done,

@@ -4,6 +4,7 @@
 mod command;
 mod entry;
 mod generated;
+mod import;
 mod lines;
 mod note;
 mod player;

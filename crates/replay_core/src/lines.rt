@@ -4,7 +4,7 @@ ghost use Rattle.std.specs.Prelude.{◌≡◌, ℕ, ◌+◌, ◌<◌, ◌≤◌,
 ghost use Rattle.std.specs.List.{All};
 ghost use Rattle.psi_base.specs.Outside.{HasCause, PutsAll, StaysOver};
 ghost use Rattle.psi_base.specs.declared.event.Event.{Event};
-ghost use Rattle.psi_laws.specs.Plan.{IsPlan, last_change};
+ghost use Rattle.plan_laws.specs.Plan.{IsPlan, last_change};
 ghost use Rattle.psi_spec.specs.Trace.{last_moment};
 ghost use Rattle.run_spec.specs.Text.{check_text};
 ghost use Rattle.psi_spec.specs.World.{Limits};

@@ -2,9 +2,10 @@
 ghost use Rattle.std.specs.Prelude.{◌≡◌, ◌++◌, codes, option_map};
 ghost use Rattle.ruleset_json.specs.FaultText.{fault_text};
 ghost use Rattle.psi_base.specs.Outside.{PutsAll, HasCause};
-ghost use Rattle.run_spec.specs.Text.{cause_name, cause_text, field_number};
-ghost use Rattle.run_spec.specs.Status.{status_text, name_text, refusal_text};
+ghost use Rattle.run_spec.specs.Text.{cause_name, cause_text, field_number, import_cause_text};
+ghost use Rattle.run_spec.specs.Status.{import_refusal_text, status_text, name_text, refusal_text};
 
+use import_spec::ImportCause;
 use itoa::Buffer;
 use psi_base::{Cause, Sink, WriteFailed, put_all, put_each};
 use ruleset_json::{RulesFault, put_fault};
@@ -42,6 +43,7 @@ fn name_of(cause: Cause) -> &'static [u8]
         Cause::BadWindow => b"BadWindow",
         Cause::AfterEnd => b"AfterEnd",
         Cause::NoEnd => b"NoEnd",
+        Cause::IrqTooLong => b"IrqTooLong",
     }
 }
 
@@ -93,6 +95,46 @@ fn put_refusal<N: Sink>(note: &mut N, line: u32, cause: Cause) -> Result<(), Wri
     }
 }
 
+// The name of a cause against a line of a text of ftrace.
+fn import_cause_name(cause: ImportCause) -> &'static [u8]
+    ensures { result.now ≡ import_cause_text cause }
+{
+    match cause {
+        ImportCause::LineTooLong => b"LineTooLong",
+        ImportCause::Cut => b"Cut",
+        ImportCause::BadLine => b"BadLine",
+        ImportCause::BadCpu => b"BadCpu",
+        ImportCause::TooLate => b"TooLate",
+        ImportCause::TooManyTasks => b"TooManyTasks",
+        ImportCause::TooManyEvents => b"TooManyEvents",
+        ImportCause::TooManyLines => b"TooManyLines",
+    }
+}
+
+// Tells of a refused line of a text of ftrace.
+fn put_import_refusal<N: Sink>(
+    note: &mut N,
+    line: u32,
+    cause: ImportCause,
+) -> Result<(), WriteFailed>
+    ensures bytes { PutsAll (N.has note.old) (N.has note.new) result
+        (import_refusal_text line cause) }
+    ensures cause { HasCause (N.faults note.old) (N.faults note.new) result }
+{
+    let mut digits = Buffer::new();
+    let line = digits.format(line).as_bytes();
+    put_each(
+        note,
+        &[
+            b"import line ".as_slice(),
+            line,
+            b": ".as_slice(),
+            import_cause_name(cause),
+            b"\n".as_slice(),
+        ],
+    )
+}
+
 // Tells of a fault of a rules file.
 fn put_rules_fault<N: Sink>(note: &mut N, fault: RulesFault) -> Result<(), WriteFailed>
     ensures bytes { PutsAll (N.has note.old) (N.has note.new) result
@@ -103,7 +145,7 @@ fn put_rules_fault<N: Sink>(note: &mut N, fault: RulesFault) -> Result<(), Write
     put_all(note, b"\n")
 }
 
-// The name of the rules file or of the trace of a command.
+// The name of a command's file of a kind.
 fn file_name(command: Option<&Command>, which: Which) -> &[u8]
     ensures { result.now ≡ name_text (option_map (λ command. command.now) command.entry) which }
 {
@@ -112,6 +154,7 @@ fn file_name(command: Option<&Command>, which: Which) -> &[u8]
         | (Which::TraceFile, Some(Command::Check { trace, .. }))
         | (Which::TraceFile, Some(Command::Replay { trace, .. })) => Some(trace),
         (Which::RulesFile, Some(Command::Replay { options, .. })) => options.rules.as_ref(),
+        (Which::ImportFile, Some(Command::Import { file, .. })) => Some(file),
         _ => None,
     };
     match name {
@@ -134,7 +177,7 @@ pub(crate) fn put_status<N: Sink>(
         Status::Done => put_all(note, b""),
         Status::Usage => put_all(
             note,
-            b"usage: psi_oomd stall or check or replay or gen or stress\n",
+            b"usage: psi_oomd stall or check or replay or gen or stress or import\n",
         ),
         Status::Trace { line, cause } => put_refusal(note, line, cause),
         Status::Rules { fault } => put_rules_fault(note, fault),
@@ -148,6 +191,7 @@ pub(crate) fn put_status<N: Sink>(
         ),
         Status::ReadFault => put_all(note, b"read fault\n"),
         Status::WriteFault => put_all(note, b"write fault\n"),
-        Status::NoMemory => put_all(note, b"out of memory\n"),
+        Status::NoMemory(_) => put_all(note, b"out of memory\n"),
+        Status::Import { line, cause } => put_import_refusal(note, line, cause),
     }
 }

@@ -66,11 +66,13 @@ pub(crate) fn write_replay<R: Threads + Sync, K: Sink, G: Gate>(
         (K.has out.old) (K.has out.new) result }
     ensures below { StaysOver (K.below out.old) (K.below out.new) }
 {
-    let Ok(plans) = planner.finish(alloc) else {
-        return Status::NoMemory;
+    let plans = match planner.finish(alloc) {
+        Ok(plans) => plans,
+        Err(none) => return Status::NoMemory(none),
     };
-    let Ok(mut replay) = prepare(alloc, &plans, rules, options) else {
-        return Status::NoMemory;
+    let mut replay = match prepare(alloc, &plans, rules, options) {
+        Ok(replay) => replay,
+        Err(none) => return Status::NoMemory(none),
     };
     match put_replay(rt, &mut replay, out, gate) {
         Ok(()) => Status::Done,

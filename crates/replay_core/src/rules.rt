@@ -8,7 +8,7 @@ ghost use Rattle.replay_rules.specs.Judged.{given_rules};
 
 use crate::command::name_of;
 use file_reader::{FileFault, read_front};
-use psi_base::{Fault, Shelf, Text};
+use psi_base::{Fault, NoMemory, Shelf, Text};
 use ruleset_json::{RuleList, Rules, RulesFault, read};
 use std::alloc::Global;
 
@@ -21,7 +21,7 @@ pub(crate) enum RulesError {
     Refused(RulesFault),
     NoFile,
     ReadFault,
-    NoMemory,
+    NoMemory(NoMemory),
 }
 
 // Rules as a file gives them: their lists keep that each ruleset is in its ranges.
@@ -48,12 +48,12 @@ fn read_file<S: Shelf>(alloc: Global, name: &str, shelf: &mut S) -> Result<Rules
         Ok(bytes) => bytes,
         Err(FileFault::NoFile) => return Err(RulesError::NoFile),
         Err(FileFault::ReadFault) => return Err(RulesError::ReadFault),
-        Err(FileFault::NoMemory) => return Err(RulesError::NoMemory),
+        Err(FileFault::NoMemory(none)) => return Err(RulesError::NoMemory(none)),
     };
     match read(alloc, &bytes) {
         Ok(rules) => Ok(in_ranges(rules)),
         Err(Fault::Refused(fault)) => Err(RulesError::Refused(fault)),
-        Err(Fault::NoMemory) => Err(RulesError::NoMemory),
+        Err(Fault::NoMemory(none)) => Err(RulesError::NoMemory(none)),
     }
 }
 

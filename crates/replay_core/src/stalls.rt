@@ -62,14 +62,17 @@ pub(crate) fn write_stalls<R: Threads + Sync, K: Sink>(
         (K.faults out.old) (K.faults out.new) (K.has out.old) (K.has out.new) result }
     ensures below { StaysOver (K.below out.old) (K.below out.new) }
 {
-    let Ok(plans) = planner.finish(alloc) else {
-        return Status::NoMemory;
+    let plans = match planner.finish(alloc) {
+        Ok(plans) => plans,
+        Err(none) => return Status::NoMemory(none),
     };
-    let Ok(order) = plans.groups().live_order(alloc) else {
-        return Status::NoMemory;
+    let order = match plans.groups().live_order(alloc) {
+        Ok(order) => order,
+        Err(none) => return Status::NoMemory(none),
     };
-    let Ok(mut clocks) = first_clocks(alloc, &plans) else {
-        return Status::NoMemory;
+    let mut clocks = match first_clocks(alloc, &plans) {
+        Ok(clocks) => clocks,
+        Err(none) => return Status::NoMemory(none),
     };
     make_each(rt, &plans, &mut clocks);
     match put_lines(out, &plans, &mut clocks, &order, plans.finish()) {

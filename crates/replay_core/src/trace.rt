@@ -1,20 +1,29 @@
 //! Traces from a shelf.
-ghost use Rattle.std.specs.Prelude.{◌≡◌, ◌+◌, ◌*◌, ◌<◌, ◌≤◌, ◌^◌, ℕ, List, [], Option, IfOk, IsErrOf, Some, None, Ok, MatchResult, false, length};
+ghost use Rattle.std.specs.Prelude.{◌≡◌, ◌+◌, ◌*◌, ◌<◌, ◌≤◌, ◌^◌, ℕ, List, [], Option, IfOk, IfSome, IsErrOf, Some, None, Ok, MatchOption, MatchResult, false, length};
 ghost use Rattle.psi_base.specs.Outside.{told, Lacks, ShelfCounts, counts_of};
 ghost use Rattle.psi_base.specs.declared.event.Cause.TheVariants as cause;
 ghost use Rattle.psi_lines.specs.Lines.{left};
 ghost use Rattle.psi_lines.specs.Next.{furthest};
-ghost use Rattle.psi_spec.specs.Grammar.{Fits};
-ghost use Rattle.psi_spec.specs.Trace.{IsCpuCount, limits_of, refused};
+ghost use Rattle.psi_spec.specs.Grammar.{Fits, IsVersion, Version, header_of, header_with, verbs_of};
+ghost use Rattle.psi_spec.specs.Trace.{limits_of, refused};
 ghost use Rattle.psi_trace.specs.Front.{HasInFront};
 ghost use Rattle.run_spec.specs.MostRead.{most_of_trace};
-ghost use Rattle.replay_core.specs.Reads.{CausesTraceFault, HeadGives, IsTraceFault, Legally, NextGives, ReadsLine, RestGives, TailGives, TakesLine, TakesRead, TellsNothing, TracePlayed, TraceRefused, trace_fault};
+ghost use Rattle.replay_core.specs.Reads.{CausesTraceFault, HeadGives, IsHead, IsTraceFault, Legally, NextGives, ReadsLine, RestGives, TailGives, TakesLine, TakesRead, TellsNothing, TracePlayed, TraceRefused, is_taken, trace_fault, verbs_in, versions_in};
 
 use crate::player::Player;
 use psi_base::{Cause, Event, Fault, NoMemory, Ns, Refusal, Shelf};
 use psi_lines::{LineFault, Lines};
-use psi_trace::{front_event, read_event, read_header};
+use psi_trace::{Header, front_event, read_event, read_header};
 use std::alloc::Global;
+
+/// Which versions of traces a command takes.
+#[derive(Clone, Copy, Debug, PartialEq, Eq)]
+pub(crate) enum Taken {
+    /// The first alone.
+    FirstVersion,
+    /// Each that there is.
+    EveryVersion,
+}
 
 /// Why there is no trace.
 #[derive(Clone, Copy, Debug, PartialEq, Eq)]
@@ -22,17 +31,17 @@ pub(crate) enum TraceFault {
     Refused(Refusal),
     NoFile,
     ReadFault,
-    NoMemory,
+    NoMemory(NoMemory),
 }
 
 impl From<NoMemory> for TraceFault {
     ghost use Rattle.std.specs.Prelude.{◌≡◌};
     ghost use Rattle.replay_core.specs.declared.trace.TraceFault.TheVariants as fault;
 
-    ghost from_gives = { λ _ e. e ≡ fault.NoMemory };
+    ghost from_gives = { λ none e. e ≡ fault.NoMemory none };
 
-    fn from(_: NoMemory) -> Self {
-        TraceFault::NoMemory
+    fn from(none: NoMemory) -> Self {
+        TraceFault::NoMemory(none)
     }
 }
 
@@ -49,7 +58,7 @@ fn fault_at(line: u32, fault: Fault<Cause>) -> TraceFault
 {
     match fault {
         Fault::Refused(cause) => refused(line, cause),
-        Fault::NoMemory => TraceFault::NoMemory,
+        Fault::NoMemory(none) => TraceFault::NoMemory(none),
     }
 }
 
@@ -62,7 +71,7 @@ fn trace_fault(fault: LineFault, cut: Cause) -> TraceFault
         LineFault::Cut(line) => refused(line, cut),
         LineFault::NoFile => TraceFault::NoFile,
         LineFault::ReadFault => TraceFault::ReadFault,
-        LineFault::NoMemory => TraceFault::NoMemory,
+        LineFault::NoMemory(none) => TraceFault::NoMemory(none),
     }
 }
 
@@ -80,13 +89,20 @@ fn take_read<P: Player>(
     }
 }
 
-// Plays a line of at most 512 bytes, where the trace hasn't ended. Its event stays where it was read, which spares a copy.
-fn take_line<P: Player>(alloc: Global, player: &mut P, line: &[u8]) -> Result<(), Fault<Cause>>
+// Plays a line of at most 512 bytes of a trace of a version, where that hasn't ended. Its event stays where it was read, which
+// spares a copy.
+fn take_line<P: Player>(
+    alloc: Global,
+    version: u32,
+    player: &mut P,
+    line: &[u8],
+) -> Result<(), Fault<Cause>>
+    requires version { IsVersion version }
     requires short { length line.now ≤ 512 }
-    ensures { TakesLine (Legally (P.Played player.old))
-        (Legally (P.Played player.new)) line.now result }
+    ensures { TakesLine (verbs_in version) (Legally (verbs_in version) (P.Played player.old))
+        (Legally (verbs_in version) (P.Played player.new)) line.now result }
 {
-    take_read(player, &read_event(alloc, line))
+    take_read(player, &read_event(alloc, version, line))
 }
 
 // Plays the event of the line at the front of what is held, which has so many bytes before its newline, where the trace
@@ -100,8 +116,9 @@ fn play_front<P: Player>(
 ) -> Result<(), TraceFault>
     requires number { lines.old.number < 2 ^ 32 }
     requires front { HasInFront lines.old.held event.now count }
-    ensures content { (known : Option (List ℕ)) → NextGives (Legally (P.Played player.old))
-        (Legally (P.Played player.new)) lines.old.number
+    ensures content { (version : Version) (known : Option (List ℕ)) →
+        NextGives (verbs_of version) (Legally (verbs_of version) (P.Played player.old))
+        (Legally (verbs_of version) (P.Played player.new)) lines.old.number
         (left lines.old) (left lines.new) known result }
     ensures reads { (known : Option (List ℕ)) (counts : ShelfCounts) (given : ℕ)
         → ReadsLine known lines.old lines.new counts counts given given result }
@@ -114,16 +131,20 @@ fn play_front<P: Player>(
     }
 }
 
-// Reads and plays the next event line, whichever it is, where the trace hasn't ended.
+// Reads and plays the next event line of a trace of a version, whichever it is, where the trace hasn't ended.
 fn next_event<S: Shelf, P: Player>(
     alloc: Global,
+    version: u32,
     lines: &mut Lines,
     shelf: &mut S,
     player: &mut P,
 ) -> Result<(), TraceFault>
+    requires version { IsVersion version }
     requires number { lines.old.number < 2 ^ 32 }
     ensures kept { S.holds shelf.new ≡ S.holds shelf.old }
-    ensures content { NextGives (Legally (P.Played player.old)) (Legally (P.Played player.new))
+    ensures content { NextGives (verbs_in version)
+        (Legally (verbs_in version) (P.Played player.old))
+        (Legally (verbs_in version) (P.Played player.new))
         lines.old.number (left lines.old) (left lines.new)
         (told (S.holds shelf.old) lines.old.name) result }
     ensures reads { ReadsLine (told (S.holds shelf.old) lines.old.name) lines.old lines.new
@@ -133,7 +154,7 @@ fn next_event<S: Shelf, P: Player>(
 {
     let line = lines.number();
     match lines.next_bytes(shelf) {
-        Ok(Some(bytes)) => match take_line(alloc, player, bytes) {
+        Ok(Some(bytes)) => match take_line(alloc, version, player, bytes) {
             Ok(()) => Ok(()),
             Err(fault) => Err(fault_at(line, fault)),
         },
@@ -147,13 +168,17 @@ fn next_event<S: Shelf, P: Player>(
 #[inline(always)]
 fn play_next<S: Shelf, P: Player>(
     alloc: Global,
+    version: u32,
     lines: &mut Lines,
     shelf: &mut S,
     player: &mut P,
 ) -> Result<(), TraceFault>
+    requires version { IsVersion version }
     requires number { lines.old.number < 2 ^ 32 }
     ensures kept { S.holds shelf.new ≡ S.holds shelf.old }
-    ensures content { NextGives (Legally (P.Played player.old)) (Legally (P.Played player.new))
+    ensures content { NextGives (verbs_in version)
+        (Legally (verbs_in version) (P.Played player.old))
+        (Legally (verbs_in version) (P.Played player.new))
         lines.old.number (left lines.old) (left lines.new)
         (told (S.holds shelf.old) lines.old.name) result }
     ensures reads { ReadsLine (told (S.holds shelf.old) lines.old.name) lines.old lines.new
@@ -163,7 +188,7 @@ fn play_next<S: Shelf, P: Player>(
 {
     match front_event(lines.held()) {
         Some((event, count)) => play_front(lines, player, &event, count),
-        None => next_event(alloc, lines, shelf, player),
+        None => next_event(alloc, version, lines, shelf, player),
     }
 }
 
@@ -188,19 +213,21 @@ fn close<S: Shelf>(lines: &mut Lines, shelf: &mut S) -> Result<(), TraceFault>
     }
 }
 
-// Reads and plays the event lines of a trace with these limits. A player takes at most 4,000,000 events, so this ends.
+// Reads and plays the event lines of a trace with this header. A player takes at most 4,000,000 events, so this ends.
 fn play_events<S: Shelf, P: Player>(
     alloc: Global,
     lines: &mut Lines,
     shelf: &mut S,
     player: &mut P,
     tick: Ns,
-    cpus: u32,
+    head: Header,
 ) -> Result<(), TraceFault>
+    requires version { IsVersion head.version }
     requires number { lines.old.number ≡ 2 }
-    requires fresh { P.Played player.old (limits_of tick cpus) [] }
+    requires fresh { P.Played player.old (limits_of tick head.cpus) [] }
     ensures kept { S.holds shelf.new ≡ S.holds shelf.old }
-    ensures content { RestGives (Legally (P.Played player.new)) (limits_of tick cpus)
+    ensures content { RestGives (verbs_in head.version)
+        (Legally (verbs_in head.version) (P.Played player.new)) (limits_of tick head.cpus)
         (left lines.old) (told (S.holds shelf.old) lines.old.name) result }
     ensures missed { IsErrOf result TraceFault.NoFile →
         told (S.holds shelf.old) lines.old.name ≡ None }
@@ -209,7 +236,7 @@ fn play_events<S: Shelf, P: Player>(
     ensures given { S.given shelf.new + lines.old.at ≤ S.given shelf.old + most_of_trace }
 {
     'lines: loop {
-        match play_next(alloc, lines, shelf, player) {
+        match play_next(alloc, head.version, lines, shelf, player) {
             Ok(()) => {}
             Err(fault) => return Err(fault),
         }
@@ -219,14 +246,45 @@ fn play_events<S: Shelf, P: Player>(
     }
 }
 
-// Reads the header line: the number of processors.
-fn read_cpus<S: Shelf>(lines: &mut Lines, shelf: &mut S, tick: Ns) -> Result<u32, TraceFault>
+// A command takes a version.
+fn is_taken(taken: Taken, version: u32) -> bool
+    ensures { result ≡ is_taken taken version }
+{
+    match taken {
+        Taken::FirstVersion => version == 1,
+        Taken::EveryVersion => true,
+    }
+}
+
+// What a header line tells, if it is one of a version that is taken.
+fn taken_header(taken: Taken, line: &[u8]) -> Option<Header>
+    ensures head { IfSome result (λ head. IsHead (versions_in taken) head) }
+    ensures exact { MatchOption result (header_of (versions_in taken) line.now ≡ None)
+        (λ head. header_of (versions_in taken) line.now
+        ≡ Some (header_with head.version head.cpus)) }
+{
+    let Ok(head) = read_header(line) else {
+        return None;
+    };
+    if is_taken(taken, head.version) {
+        return Some(head);
+    }
+    None
+}
+
+// Reads the header line.
+fn read_head<S: Shelf>(
+    lines: &mut Lines,
+    shelf: &mut S,
+    taken: Taken,
+    tick: Ns,
+) -> Result<Header, TraceFault>
     requires { lines.old.number ≡ 1 }
     ensures kept { S.holds shelf.new ≡ S.holds shelf.old }
-    ensures counted { IfOk result IsCpuCount }
+    ensures head { IfOk result (λ head. IsHead (versions_in taken) head) }
     ensures content { (bytes : List ℕ) →
         told (S.holds shelf.old) lines.old.name ≡ Some bytes →
-        HeadGives tick (left lines.old bytes) (left lines.new bytes) result }
+        HeadGives (versions_in taken) tick (left lines.old bytes) (left lines.new bytes) result }
     ensures missing { lines.old.held ≡ [] → Lacks (S.holds shelf.old) lines.old.name →
         TellsNothing result }
     ensures reads { ReadsLine (told (S.holds shelf.old) lines.old.name) lines.old lines.new
@@ -235,27 +293,30 @@ fn read_cpus<S: Shelf>(lines: &mut Lines, shelf: &mut S, tick: Ns) -> Result<u32
         (S.given shelf.old) (S.given shelf.new) result }
 {
     match lines.next_bytes(shelf) {
-        Ok(Some(bytes)) => match read_header(bytes) {
-            Ok(cpus) => Ok(cpus),
-            Err(_) => Err(refused(1, Cause::BadHeader)),
+        Ok(Some(bytes)) => match taken_header(taken, bytes) {
+            Some(head) => Ok(head),
+            None => Err(refused(1, Cause::BadHeader)),
         },
         Ok(None) => Err(refused(1, Cause::BadHeader)),
         Err(fault) => Err(trace_fault(fault, Cause::BadHeader)),
     }
 }
 
-/// Reads a trace, and plays its events on a new player. No event is later than a million ticks (ns).
+/// Reads a trace of a version that is taken, and plays its events on a new player. No event is later than a million ticks (ns).
 pub(crate) fn play_trace<S: Shelf, P: Player + Drop>(
     alloc: Global,
     name: &str,
     shelf: &mut S,
+    taken: Taken,
     tick: Ns,
 ) -> Result<P, TraceFault>
     requires { tick ≤ 60000000000 }
     ensures kept { S.holds shelf.new ≡ S.holds shelf.old }
     ensures content { MatchResult result
-        (λ player. TracePlayed (P.Played player) tick (told (S.holds shelf.old) name.now))
-        (λ fault. TraceRefused fault tick (told (S.holds shelf.old) name.now)) }
+        (λ player. TracePlayed (P.Played player) (versions_in taken) tick
+        (told (S.holds shelf.old) name.now))
+        (λ fault. TraceRefused fault (versions_in taken) tick
+        (told (S.holds shelf.old) name.now)) }
     ensures missing { Lacks (S.holds shelf.old) name.now → TellsNothing result }
     ensures missed { IsErrOf result TraceFault.NoFile →
         told (S.holds shelf.old) name.now ≡ None }
@@ -264,12 +325,12 @@ pub(crate) fn play_trace<S: Shelf, P: Player + Drop>(
     ensures given { S.given shelf.new ≤ S.given shelf.old + most_of_trace }
 {
     let mut lines = Lines::new(alloc, name)?;
-    let cpus = match read_cpus(&mut lines, shelf, tick) {
-        Ok(cpus) => cpus,
+    let head = match read_head(&mut lines, shelf, taken, tick) {
+        Ok(head) => head,
         Err(fault) => return Err(fault),
     };
-    let mut player = P::start(alloc, cpus, 1_000_000 * tick)?;
-    match play_events(alloc, &mut lines, shelf, &mut player, tick, cpus) {
+    let mut player = P::start(alloc, head.cpus, 1_000_000 * tick)?;
+    match play_events(alloc, &mut lines, shelf, &mut player, tick, head) {
         Ok(()) => Ok(player),
         Err(fault) => Err(fault),
     }

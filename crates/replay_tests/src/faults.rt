@@ -7,6 +7,8 @@ use std::test::Fail;
 
 const SUMS: &str = "stall cpu=0 / 2000000000 2000000000 0 0 0 0 2000000000\n";
 
+const REFUSED_IN_FRONT: &str = "psitrace 1 cpus=1\n5 fork 1 / 0\n4 end\n5 end\n";
+
 const BEHIND_THE_END: &str = "psitrace 1 cpus=1\n5 end\nxyz";
 
 #[test]
@@ -17,6 +19,13 @@ fn reads_that_fail(rt: HostRuntime) -> Result<(), Fail> {
     assert!(rt; prints_nothing(&rt, "stall t", ONE_WAIT, 1, 40, fault, told)?);
     // The look behind the end fails.
     assert!(rt; prints_nothing(&rt, "stall t", ONE_WAIT, 65536, 1, fault, told)?);
+    // A refused line that is held is told, though the next read would fail.
+    let back = Status::Trace {
+        line: 3,
+        cause: Cause::TimeBack,
+    };
+    let said = "trace line 3: TimeBack\n";
+    assert!(rt; prints_nothing(&rt, "stall t", REFUSED_IN_FRONT, 65536, 1, back, said)?);
     // What stands behind the end is seen by its first byte: the read of the second one isn't made.
     let refused = Status::Trace {
         line: 3,

@@ -1,8 +1,11 @@
 //! Words that are no command, names that aren't held, and statuses.
 
 use crate::runs::{NONE, ONE_WAIT, prints_nothing};
-use psi_base::Cause;
+use import_spec::ImportCause;
+use psi_base::{Cause, NoMemory};
 use replay_core::{Status, Which};
+use std::alloc::Global;
+use std::process::Abort;
 use std::test::Fail;
 
 const NO_FILE: Status = Status::NoFile {
@@ -12,12 +15,20 @@ const NO_FILE: Status = Status::NoFile {
 // The shelf in memory holds nothing by the names `u` and `-`.
 #[test]
 fn words_and_names(rt: HostRuntime) -> Result<(), Fail> {
-    let usage = "usage: psi_oomd stall or check or replay or gen or stress\n";
+    let usage = "usage: psi_oomd stall or check or replay or gen or stress or import\n";
     assert!(rt; prints_nothing(&rt, "stall", ONE_WAIT, 7, NONE, Status::Usage, usage)?);
     assert!(rt; prints_nothing(&rt, "stall u", ONE_WAIT, 7, NONE, NO_FILE, "no file: u\n")?);
     assert!(rt; prints_nothing(&rt, "check u", ONE_WAIT, 7, NONE, NO_FILE, "no file: u\n")?);
     assert!(rt; prints_nothing(&rt, "stall -", ONE_WAIT, 7, NONE, NO_FILE, "no file: -\n")?);
     Ok(())
+}
+
+// Want of memory, as a growth that is always refused gives it.
+fn wanting(rt: &impl Abort, alloc: Global) -> NoMemory {
+    match Vec::<u8>::with_capacity(alloc, usize::MAX) {
+        Ok(_) => panic!(rt; "there is room for all bytes that can be named"),
+        Err(refused) => NoMemory::from(refused),
+    }
 }
 
 #[test]
@@ -30,7 +41,12 @@ fn codes_of_statuses(rt: HostRuntime) {
         NO_FILE.code(),
         Status::ReadFault.code(),
         Status::WriteFault.code(),
-        Status::NoMemory.code(),
+        Status::NoMemory(wanting(&rt, rt.alloc())).code(),
+        Status::Import {
+            line: 1,
+            cause: ImportCause::Cut,
+        }
+        .code(),
     ];
-    assert!(rt; codes == [0, 1, 2, 4, 5, 6, 7]);
+    assert!(rt; codes == [0, 1, 2, 4, 5, 6, 7, 8]);
 }

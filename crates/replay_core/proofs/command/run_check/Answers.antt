@@ -1,15 +1,21 @@
 use Rattle.std.proofs.Common.{refl, []}
 use Rattle.run_spec.specs.Text.{check_text}
 use Rattle.run_spec.specs.declared.command.Command.TheVariants.{Check}
-use Rattle.replay_core.specs.Reads.{plain_trace}
-use Rattle.replay_core.proofs.RunLaws.{none_given, runs_written, takes_trace}
+use Rattle.replay_core.specs.Reads.{trace_with}
+use Rattle.replay_core.proofs.RunLaws.{none_given, runs_refused, runs_written, takes_trace}
 use Rattle.replay_core.proofs.command.run_check.Goals as goal
 
 pub returns-in-Ok-clause-runs : goal.returns-in-Ok-clause-runs
 returns-in-Ok-clause-runs g c =
     let command = Check c.args.name.now c.args.tick_ms in
-    let read = rw c.from.ensures at c.in-Ok.ensures.content in
+    let read = rw c.from-tick.ensures at c.in-Ok.ensures.content in
     let causes = c.in-Ok.ensures.cause in
-    runs_written command c.args.name.now (g.S.Shelf.holds c.args.shelf.now) _ _ _ _ (plain_trace read.cpus read.events) [] (check_text (plain_trace read.cpus read.events)) c.write_line.result refl
-    (takes_trace command c.args.name.now (g.S.Shelf.holds c.args.shelf.now) read.cpus read.events refl read.counted read.accepted read.read)
+    runs_written command c.args.name.now (g.S.Shelf.holds c.args.shelf.now) _ _ _ _ (trace_with read.version read.cpus read.events) [] (check_text (trace_with read.version read.cpus read.events)) c.write_line.result refl
+    (takes_trace command c.args.name.now (g.S.Shelf.holds c.args.shelf.now) read.version read.cpus read.events (λ bytes. refl) refl read.among read.counted read.told read.accepted read.read)
     (none_given (g.S.Shelf.holds c.args.shelf.now)) c.in-Ok.ensures.missing refl (causes.faults_same (λ is. cc is)) (causes.absent_same (λ is. cc is)) (c.write_line.ensures.writes _ read.events read.played)
+
+pub returns-in-Err-clause-runs : goal.returns-in-Err-clause-runs
+returns-in-Err-clause-runs g c =
+    let files = g.S.Shelf.holds c.args.shelf.now in
+    runs_refused (Check c.args.name.now c.args.tick_ms) c.args.name.now files _ _ _ [] c.in-Err.fault c.fault_status.result (λ bytes. refl) refl (none_given files)
+    (rw c.from-tick.ensures at c.in-Err.ensures.content) c.in-Err.ensures.missing c.in-Err.ensures.missed c.in-Err.ensures.cause refl c.fault_status.ensures.status

@@ -1,12 +1,11 @@
 use Rattle.std.proofs.Common.{refl, ◌∙◌}
 use Rattle.psi_spec.specs.Trace.{limits_of}
-use Rattle.run_spec.specs.Outputs.{of_ms, pace_of}
-use Rattle.run_spec.specs.Replay.{IsReplayText}
+use Rattle.run_spec.specs.Outputs.{of_ms}
 use Rattle.run_spec.specs.declared.command.Command.TheVariants.{Replay}
 use Rattle.replay_rules.specs.Judged.{given_rules}
 use Rattle.replay_core.specs.Reads.{plain_trace}
 use Rattle.replay_core.specs.Writes.{IsToReplay}
-use Rattle.replay_core.proofs.RunLaws.{runs_written, takes_trace}
+use Rattle.replay_core.proofs.RunLaws.{runs_written, takes_plain}
 use Rattle.replay_core.proofs.command.run_replay.Goals as goal
 
 pub returns-in-Ok-play_trace-clause-runs : goal.returns-in-Ok-play_trace-clause-runs
@@ -30,5 +29,5 @@ returns-in-Ok-play_trace-clause-runs g c =
     let wrote = c.write_replay.ensures.writes limits read.events to_replay in
     let causes = c.in-Ok-play_trace.ensures.cause in
     runs_written command c.args.name.now files _ _ _ _ (plain_trace read.cpus read.events) (given_rules c.in-Ok.rules) wrote.0 c.write_replay.result refl
-    (takes_trace command c.args.name.now files read.cpus read.events refl read.counted read.accepted read.read)
+    (takes_plain command c.args.name.now files read.version read.cpus read.events (λ bytes. refl) refl refl read.among read.counted read.told read.accepted read.read)
     given (rw c.in-Ok.ensures.kept at c.in-Ok-play_trace.ensures.missing) wrote.1 (causes.faults_same (λ is. cc is) ∙ c.in-Ok.ensures.cause.faults_same (λ is. cc is)) (causes.absent_same (λ is. cc is) ∙ c.in-Ok.ensures.cause.absent_same (λ is. cc is)) wrote.2

@@ -2,7 +2,7 @@ use Rattle.std.proofs.Common.{refl, []}
 use Rattle.run_spec.specs.Text.{stall_text}
 use Rattle.run_spec.specs.declared.command.Command.TheVariants.{Stall}
 use Rattle.replay_core.specs.Reads.{plain_trace}
-use Rattle.replay_core.proofs.RunLaws.{none_given, runs_refused, runs_written, takes_trace}
+use Rattle.replay_core.proofs.RunLaws.{none_given, runs_refused, runs_written, takes_plain}
 use Rattle.replay_core.proofs.command.run_stall.Goals as goal
 
 pub returns-in-Ok-clause-runs : goal.returns-in-Ok-clause-runs
@@ -13,11 +13,11 @@ returns-in-Ok-clause-runs g c =
     let causes = c.in-Ok.ensures.cause in
     let trace = plain_trace read.cpus read.events in
     runs_written command c.args.name.now files _ _ _ _ trace [] (stall_text trace) c.write_stalls.result refl
-    (takes_trace command c.args.name.now files read.cpus read.events refl read.counted read.accepted read.read)
+    (takes_plain command c.args.name.now files read.version read.cpus read.events (λ bytes. refl) refl refl read.among read.counted read.told read.accepted read.read)
     (none_given files) c.in-Ok.ensures.missing refl (causes.faults_same (λ is. cc is)) (causes.absent_same (λ is. cc is)) (c.write_stalls.ensures.writes _ read.events read.played)
 
 pub returns-in-Err-clause-runs : goal.returns-in-Err-clause-runs
 returns-in-Err-clause-runs g c =
     let files = g.S.Shelf.holds c.args.shelf.now in
-    runs_refused (Stall c.args.name.now) c.args.name.now files _ _ _ [] c.in-Err.fault c.fault_status.result refl (none_given files)
+    runs_refused (Stall c.args.name.now) c.args.name.now files _ _ _ [] c.in-Err.fault c.fault_status.result (λ bytes. refl) refl (none_given files)
     c.in-Err.ensures.content c.in-Err.ensures.missing c.in-Err.ensures.missed c.in-Err.ensures.cause refl c.fault_status.ensures.status

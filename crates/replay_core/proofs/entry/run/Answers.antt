@@ -1,9 +1,9 @@
 use Rattle.std.proofs.Common.{◌≡◌, None}
-use Rattle.run_spec.specs.Outputs.{trace_name}
-use Rattle.run_spec.specs.declared.command.Command.TheVariants.{Replay}
+use Rattle.run_spec.specs.Outputs.{source_name}
+use Rattle.run_spec.specs.declared.command.Command.TheVariants.{Import, Replay}
 use Rattle.replay_core.proofs.GeneratedLaws.{makes, without_rules}
 use Rattle.replay_core.proofs.Pieces.{front_of_puts}
-use Rattle.replay_core.proofs.RunEnds.{completes, faults, headlined, headlined_alone, refuses}
+use Rattle.replay_core.proofs.RunEnds.{completes, faults, headlined, headlined_alone, imports, refuses}
 use Rattle.replay_core.proofs.entry.run.Goals as goal
 
 pub returns-in-Ok-clause-headline : goal.returns-in-Ok-clause-headline
@@ -18,6 +18,12 @@ returns-in-Ok-clause-alone g c = λ name bytes options rules is none tells given
     let runs = rw (same, done) at c.run_buffered-status.ensures.runs in
     headlined_alone name options (g.S.Shelf.holds c.args.shelf.now) _ _ _ _ runs bytes rules none tells given
 
+pub returns-in-Ok-clause-imported : goal.returns-in-Ok-clause-imported
+returns-in-Ok-clause-imported g c = λ name bytes cpus is tells done.
+    let same : c.in-Ok.command ≡ Import name cpus = cc (c.in-Ok.ensures.exact, is) in
+    let runs = rw (same, done) at c.run_buffered-status.ensures.runs in
+    imports name cpus (g.S.Shelf.holds c.args.shelf.now) _ _ _ _ runs bytes tells
+
 pub returns-in-Ok-clause-complete : goal.returns-in-Ok-clause-complete
 returns-in-Ok-clause-complete g c = λ command rules bytes trace is.
     let same : c.in-Ok.command ≡ command = cc (c.in-Ok.ensures.exact, is) in
@@ -29,14 +35,14 @@ returns-in-Ok-clause-faulty g c = λ command name bytes fault is.
     rw (← same) (faults c.in-Ok.command (g.S.Shelf.holds c.args.shelf.now) _ _ _ _ c.run_buffered-status.result c.run_buffered-status.ensures.runs name bytes fault)
 
 pub returns-in-Ok-clause-refuses : goal.returns-in-Ok-clause-refuses
-returns-in-Ok-clause-refuses g c = λ command rules bytes line why is.
+returns-in-Ok-clause-refuses g c = λ command rules bytes why is.
     let same : c.in-Ok.command ≡ command = cc (c.in-Ok.ensures.exact, is) in
-    rw (← same) (refuses c.in-Ok.command (g.S.Shelf.holds c.args.shelf.now) _ _ _ _ c.run_buffered-status.result c.run_buffered-status.ensures.runs rules bytes line why)
+    rw (← same) (refuses c.in-Ok.command (g.S.Shelf.holds c.args.shelf.now) _ _ _ _ c.run_buffered-status.result c.run_buffered-status.ensures.runs rules bytes why)
 
 pub returns-in-Ok-clause-made : goal.returns-in-Ok-clause-made
 returns-in-Ok-clause-made g c = λ command is unnamed.
     let same : c.in-Ok.command ≡ command = cc (c.in-Ok.ensures.exact, is) in
-    let none : trace_name c.in-Ok.command ≡ None = rw same unnamed in
+    let none : source_name c.in-Ok.command ≡ None = rw same unnamed in
     makes c.in-Ok.command (g.S.Shelf.holds c.args.shelf.now) _ _ _ _ c.run_buffered-status.result c.run_buffered-status.ensures.runs none (without_rules c.in-Ok.command none)
 
 pub returns-in-Ok-clause-reads : goal.returns-in-Ok-clause-reads

@@ -24,4 +24,4 @@ pub returns-clause-writes : goal.returns-clause-writes
 returns-clause-writes g c =
     let planned = planned_generated c.in-Ok.planner c.in-Ok-finish.plans c.args.shape c.args.workers c.requires.shape c.requires.workers c.in-Ok.ensures c.in-Ok-finish.ensures in
     let fresh = rw c.stress_options-options.ensures at c.in-Ok-prepare.ensures (generated c.args.shape) planned in
-    (c.in-Err.ensures.bytes (generated c.args.shape) (pace_of (stress_options c.args.workers)) fresh, c.in-Err.ensures.cause.failed)
+    (c.in-Err-put_end.ensures.bytes (generated c.args.shape) (pace_of (stress_options c.args.workers)) fresh, c.in-Err-put_end.ensures.cause.failed)

@@ -3,9 +3,9 @@ use Rattle.std.proofs.lemmas.List.{get_or-map}
 use Rattle.psi_spec.specs.declared.machine.GroupLife.{GroupLife}
 use Rattle.psi_base.specs.Outside.{PutsAll}
 use Rattle.psi_spec.specs.Groups.{path_at}
-use Rattle.psi_laws.specs.Plan.{last_change}
+use Rattle.plan_laws.specs.Plan.{last_change}
 use Rattle.run_spec.specs.Lines.{stall_line}
-use Rattle.psi_laws.proofs.PlanClocks.{clock_is_in_time}
+use Rattle.plan_laws.proofs.PlanClocks.{clock_is_in_time}
 use Rattle.replay_core.proofs.LineTexts.{times_at_end}
 use Rattle.replay_core.proofs.lines.put_group.Goals as goal
 

@@ -4,7 +4,7 @@ use Rattle.std.specs.Io.KnownBytes.{Appends}
 use Rattle.std.proofs.lemmas.List.{get_or_default, get_or-set_other, length-set}
 use Rattle.psi_base.proofs.Grows.{Appends-then, AppendsFront-then, PutsAll-failed}
 use Rattle.psi_base.specs.Outside.{AppendsFront}
-use Rattle.psi_laws.specs.Plan.{IsPlan, no_plan}
+use Rattle.plan_laws.specs.Plan.{IsPlan, no_plan}
 use Rattle.proc_plan.specs.Clocks.{OnPlan}
 use Rattle.proc_plan.specs.Plans.{plan_at}
 use Rattle.replay_core.specs.Lines.{HasMadeAll, plan_lines}

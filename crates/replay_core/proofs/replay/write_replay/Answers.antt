@@ -12,13 +12,13 @@ prepare-requires-clause-planned g c =
     let events = c.requires.taken.1 in
     (plain_trace limits.cpus events, planned c.args.planner c.in-Ok.plans c.args.options.now limits events c.requires.taken.2 c.in-Ok.ensures)
 
-pub returns-in_default-clause-writes : goal.returns-in_default-clause-writes
-returns-in_default-clause-writes g c = λ limits events to_replay.
+pub returns-in-Err-clause-writes : goal.returns-in-Err-clause-writes
+returns-in-Err-clause-writes g c = λ limits events to_replay.
     let some = some_text c.args.planner c.args.options.now limits events (given_rules c.args.rules) to_replay in
     (some.0, some.1, (keeps_same (g.K.Sink.has c.args.out.now), refl))
 
-pub returns-in_default-prepare-clause-writes : goal.returns-in_default-prepare-clause-writes
-returns-in_default-prepare-clause-writes g c = λ limits events to_replay.
+pub returns-in-Err-prepare-clause-writes : goal.returns-in-Err-prepare-clause-writes
+returns-in-Err-prepare-clause-writes g c = λ limits events to_replay.
     let some = some_text c.args.planner c.args.options.now limits events (given_rules c.args.rules) to_replay in
     (some.0, some.1, (keeps_same (g.K.Sink.has c.args.out.now), refl))
 
@@ -40,8 +40,8 @@ pub returns-clause-writes : goal.returns-clause-writes
 returns-clause-writes g c = λ limits events to_replay.
     let trace = plain_trace limits.cpus events in
     let fresh = c.in-Ok-prepare.ensures trace (planned c.args.planner c.in-Ok.plans c.args.options.now limits events to_replay c.in-Ok.ensures) in
-    let put = c.in-Err.ensures.bytes trace (pace_of c.args.options.now) (given_rules c.args.rules) fresh in
-    (put.0, put.1, (put.2, c.in-Err.ensures.cause.failed))
+    let put = c.in-Err-put_replay.ensures.bytes trace (pace_of c.args.options.now) (given_rules c.args.rules) fresh in
+    (put.0, put.1, (put.2, c.in-Err-put_replay.ensures.cause.failed))
 
 pub prepare-requires-clause-often : goal.prepare-requires-clause-often
 prepare-requires-clause-often g c = c.requires.taken.2.often

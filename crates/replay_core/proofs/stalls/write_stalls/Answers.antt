@@ -36,4 +36,4 @@ pub returns-clause-writes : goal.returns-clause-writes
 returns-clause-writes g c = λ limits events taken.
     let ordered = c.deref.ensures.value ∙ c.in-Ok-live_order.ensures ∙ ap live_slots c.groups.ensures.lives in
     let text = printed_text limits c.in-Ok.plans events c.deref.result.now c.finish-2.result taken.legal (c.in-Ok.ensures limits events taken) ordered c.finish-2.ensures in
-    (subst (AppendsFront (g.K.Sink.has c.args.out.now) (g.K.Sink.has c.put_lines.new.out)) text c.in-Err.ensures.bytes, c.in-Err.ensures.cause.failed)
+    (subst (AppendsFront (g.K.Sink.has c.args.out.now) (g.K.Sink.has c.put_lines.new.out)) text c.in-Err-put_lines.ensures.bytes, c.in-Err-put_lines.ensures.cause.failed)

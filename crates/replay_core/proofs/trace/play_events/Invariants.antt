@@ -1,7 +1,7 @@
 use Rattle.std.proofs.Common.{◌≡◌, ◌+◌, ◌-◌, ◌≤◌}
 use Rattle.psi_base.specs.Outside.{told}
 use Rattle.psi_lines.specs.Lines.{left}
-use Rattle.replay_core.specs.Reads.{Legally}
+use Rattle.replay_core.specs.Reads.{Legally, verbs_in}
 use Rattle.psi_spec.specs.Trace.{limits_of}
 use Rattle.replay_core.proofs.LineLaws.{SoFar}
 use Rattle.replay_core.proofs.trace.play_events.Given as goal
@@ -14,7 +14,7 @@ invariant-lines g l = record {
   given : g.S.Shelf.given l.shelf + l.fn.lines.at ≡ g.S.Shelf.given l.fn.shelf + l.lines.at;
   name : l.lines.name ≡ l.fn.lines.name;
   few : l.lines.number ≤ 4000002;
-  so_far : SoFar (Legally (g.P.Player.Played l.player)) (limits_of l.tick l.cpus) l.lines.number (left l.fn.lines) (left l.lines) (told (g.S.Shelf.holds l.fn.shelf) l.fn.lines.name);
+  so_far : SoFar (verbs_in l.head.version) (Legally (verbs_in l.head.version) (g.P.Player.Played l.player)) (limits_of l.tick l.head.cpus) l.lines.number (left l.fn.lines) (left l.lines) (told (g.S.Shelf.holds l.fn.shelf) l.fn.lines.name);
 }
 
 abbrev pub decreases-lines : goal.decreases-lines
