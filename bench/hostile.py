@@ -8,6 +8,8 @@ usage: bench/hostile.py [--program PATH] [--events N] [NAME ..]     (the built p
 Prints what each run gave, its seconds and its peak memory; nothing is asserted about those. N is how many lines of the largest
 machine are events of its tasks; half as many has the trace that is cut short. Ends with status 1 where a status or a note differs.
 """
+from __future__ import annotations
+
 import json
 import os
 import random
@@ -17,33 +19,36 @@ import sys
 import tempfile
 import threading
 import time
+from collections.abc import Callable, Iterator
+from typing import IO
 
+from built import built_program_of
 from make_trace import Machine, group_paths
 
-HERE = os.path.dirname(os.path.abspath(__file__))
-PROGRAM = os.path.join(HERE, "..", "crates", "psi_oomd_main", "out", "psi_oomd_main")
 SECONDS = 3600
 HOUR = 3600 * 10**9
 HEADER = "psitrace 1 cpus=1\n"
 TRACE = HEADER + "0 fork 1 / 0\n0 switch 0 1 idle\n0 switch 0 0 iowait\n2000000000 end\n"
 LINE = "0 prefer / none\n"
 MOST_LINES = 4_000_000
+# A plugin of a rules file.
+Plugin = dict[str, "str | dict[str, str]"]
 
 
 class Run:
     """A run of the program, from its start on. It is killed where it takes too long."""
 
-    def __init__(self, program, words, **streams):
+    def __init__(self, program: str, words: list[str], stdin: int, stdout: int | IO[bytes] | None) -> None:
         self.note_file = tempfile.TemporaryFile()
         self.output_file = tempfile.TemporaryFile()
-        streams = {"stdin": subprocess.DEVNULL, "stdout": self.output_file, **streams}
+        stdout = self.output_file if stdout is None else stdout
         self.begun = time.perf_counter()
-        self.child = subprocess.Popen([program, *words], stderr=self.note_file, **streams)
+        self.child = subprocess.Popen([program, *words], stdin=stdin, stdout=stdout, stderr=self.note_file)
         self.guard = threading.Timer(SECONDS, self.child.kill)
         self.guard.daemon = True
         self.guard.start()
 
-    def is_over(self, within):
+    def is_over(self, within: float) -> bool:
         """Whether it ends within so many seconds. It isn't waited for, so that `end` can."""
         until = time.perf_counter() + within
         while time.perf_counter() < until:
@@ -52,7 +57,8 @@ class Run:
             time.sleep(0.01)
         return False
 
-    def end(self):
+    def end(self) -> Run:
+        """Waits for its end, and gives it with its status, its note, its seconds and its peak memory (bytes)."""
         _, status, usage = os.wait4(self.child.pid, 0)
         self.guard.cancel()
         self.status = self.child.returncode = os.waitstatus_to_exitcode(status)
@@ -62,7 +68,8 @@ class Run:
         self.note = self.note_file.read(1000).decode(errors="replace")
         return self
 
-    def last_line(self):
+    def last_line(self) -> str:
+        """The last line of its output."""
         size = self.output_file.seek(0, os.SEEK_END)
         self.output_file.seek(max(0, size - 1000))
         return self.output_file.read().decode().rstrip("\n").split("\n")[-1]
@@ -71,41 +78,45 @@ class Run:
 class Table:
     """What was done, and what came of it."""
 
-    def __init__(self, program, events):
+    def __init__(self, program: str, events: int) -> None:
         self.program, self.events, self.lines = program, events, events // 2
         self.differ = 0
         self.row("what was done", "status and note", "s", "MB")
         self.room = tempfile.TemporaryDirectory()
 
-    def path(self, name):
+    def path(self, name: str) -> str:
         return os.path.join(self.room.name, name)
 
-    def file(self, name, text):
+    def file(self, name: str, text: str) -> str:
+        """Writes a file, and gives its whole name."""
         with open(self.path(name), "w") as file:
             file.write(text)
         return self.path(name)
 
-    def start(self, *words, **streams):
-        return Run(self.program, words, **streams)
+    def start(self, *words: str, stdin: int = subprocess.DEVNULL, stdout: int | IO[bytes] | None = None) -> Run:
+        """A run with these words. Without another place its output goes into a file."""
+        return Run(self.program, list(words), stdin, stdout)
 
-    def row(self, what, said, seconds="", memory=""):
+    def row(self, what: str, said: str, seconds: str = "", memory: str = "") -> None:
         """Tells of one case at once, since some take minutes."""
         print(f"{what:<48}  {seconds:>7}  {memory:>6}  {said}", flush=True)
 
-    def tell(self, what, run, is_right, more=""):
+    def tell(self, what: str, run: Run, is_right: bool, more: str = "") -> None:
+        """Tells of a run that ended, and whether it ended as it must."""
         said = f"{run.status} {run.note.strip()}".strip() + (f" ({more})" if more else "")
         self.row(what, said if is_right else said + "  THIS DIFFERS", f"{run.seconds:.2f}", f"{run.memory / 1e6:.0f}")
         self.differ += not is_right
 
-    def wants(self, what, run, status, note="", more=""):
+    def wants(self, what: str, run: Run, status: int, note: str = "", more: str = "") -> None:
+        """Tells of a run that must have ended with this status and note."""
         wanted = note and note + "\n"
         self.tell(what, run, (run.status, run.note) == (status, wanted), more)
 
-    def skip(self, what, why):
+    def skip(self, what: str, why: str) -> None:
         self.row(what, f"skipped, {why}")
 
 
-def feed(pipe, front, piece, bytes_at_most):
+def feed(pipe: int, front: bytes, piece: bytes, bytes_at_most: int) -> int:
     """Writes the front and then the piece again and again, until nobody reads. Tells how many bytes were taken."""
     piece *= max(1, 65536 // len(piece))
     taken = 0
@@ -119,7 +130,8 @@ def feed(pipe, front, piece, bytes_at_most):
     return taken
 
 
-def run_fed(table, words, front, piece, bytes_at_most=4 * 10**9):
+def run_fed(table: Table, words: list[str], front: str, piece: str, bytes_at_most: int = 4 * 10**9) -> tuple[Run, int]:
+    """A run whose input is fed, and how many bytes it took."""
     ours, theirs = os.pipe()
     run = table.start(*words, stdin=ours)
     os.close(ours)
@@ -128,7 +140,7 @@ def run_fed(table, words, front, piece, bytes_at_most=4 * 10**9):
     return run.end(), taken
 
 
-def endless(table):
+def endless(table: Table) -> None:
     """Input without end, on standard input and by devices."""
     for command in ["check", "stall", "replay"]:
         run, taken = run_fed(table, [command, "-"], "", "a")
@@ -143,10 +155,10 @@ def endless(table):
     run = table.start("replay", table.file("trace", TRACE), "--rules", "/dev/zero").end()
     table.wants("replay: /dev/zero as rules", run, 3, "rules: TooLong")
     run = table.start("check", *["a"] * 20000).end()
-    table.wants("check: 20,000 words", run, 1, "usage: psi_oomd stall or check or replay or gen or stress")
+    table.wants("check: 20,000 words", run, 1, "usage: psi_oomd stall or check or replay or gen or stress or import")
 
 
-def nested(table):
+def nested(table: Table) -> None:
     """Rules files of lists in lists."""
     for depth in [200, 500_000]:
         rules = table.file("rules", '{"a":' + "[" * depth + "]" * depth + ',"rulesets":[]}')
@@ -154,7 +166,7 @@ def nested(table):
         table.wants(f"rules nested {depth} deep", run, 3, "rules: BadJson")
 
 
-def outputs(table):
+def outputs(table: Table) -> None:
     """Outputs that take nothing, or not all."""
     trace = table.file("trace", TRACE)
     shape = ["gen", "--seed", "1", "--cpus", "8", "--groups", "12", "--events", "200000"]
@@ -174,7 +186,7 @@ def outputs(table):
     table.wants("gen: a pipe that is closed behind 100 bytes", run.end(), 6, "write fault")
 
 
-def files(table):
+def files(table: Table) -> None:
     """Names of what can't be read."""
     trace = table.file("trace", TRACE)
     for words in [["check", "/"], ["replay", "/"], ["replay", trace, "--rules", "/"]]:
@@ -188,12 +200,12 @@ def files(table):
     os.chmod(trace, 0o600)
 
 
-def named_pipe(table, name):
+def named_pipe(table: Table, name: str) -> str:
     os.mkfifo(table.path(name))
     return table.path(name)
 
 
-def pipes(table):
+def pipes(table: Table) -> None:
     """Named pipes that stay open."""
     silent = named_pipe(table, "silent")
     run = table.start("check", silent)
@@ -220,7 +232,7 @@ def pipes(table):
     table.tell("check: a bad line, and the pipe stays open", run, is_right)
 
 
-def truncated(table):
+def truncated(table: Table) -> None:
     """A trace that is cut short at more and more of the time that reading it takes: it ends at the cut, or where it was read to."""
     text = HEADER + LINE * table.lines + "0 end\n"
     cut = len(text) // 2 + 3
@@ -239,34 +251,35 @@ def truncated(table):
         table.tell(f"check: it is cut in line {line} at 0.{tenths} of its time", run, is_cut or is_whole)
 
 
-def patterns():
+def patterns() -> str:
     """As many patterns as an argument may have: the groups of each depth from 1 to 16."""
     return ",".join("/".join(["*"] * depth) for depth in range(1, 17))
 
 
-def greatest_rules():
+def greatest_rules() -> str:
     """64 rulesets of 16 detectors and 16 actions each, all of which are taken at each evaluation. One has 16 patterns."""
-    detectors = [
+    detectors: list[Plugin] = [
         {"name": "pressure_above", "args": {"cgroup": "*,*/*", "resource": "io", "threshold": "10", "duration": "10"}},
         {"name": "memory_above", "args": {"cgroup": "*,*/*", "threshold": "1%", "duration": "10"}},
         {"name": "memory_reclaim", "args": {"cgroup": "*,*/*", "duration": "10"}},
         {"name": "exists", "args": {"cgroup": "*"}},
     ]
-    kinds = [
-        {"name": "kill_by_memory_size_or_growth", "args": {}},
-        {"name": "kill_by_swap_usage", "args": {"threshold": "0"}},
-        {"name": "kill_by_pressure", "args": {"resource": "io"}},
-        {"name": "kill_by_pg_scan", "args": {}},
+    kinds: list[tuple[str, dict[str, str]]] = [
+        ("kill_by_memory_size_or_growth", {}),
+        ("kill_by_swap_usage", {"threshold": "0"}),
+        ("kill_by_pressure", {"resource": "io"}),
+        ("kill_by_pg_scan", {}),
     ]
     shared = {"cgroup": "*", "recursive": "true", "always_continue": "true", "post_action_delay": "0"}
-    actions = [{"name": kind["name"], "args": {**kind["args"], **shared}} for kind in kinds * 4]
-    actions[0]["args"]["cgroup"] = patterns()
-    groups = [[f"group {number}", *detectors] for number in range(3)] + [["true", *[detectors[3]] * 4]]
+    actions: list[Plugin] = [{"name": name, "args": {**args, **shared}} for name, args in kinds * 4]
+    actions[0] = {"name": kinds[0][0], "args": {**shared, "cgroup": patterns()}}
+    groups: list[list[object]] = [[f"group {number}", *detectors] for number in range(3)]
+    groups.append(["true", *[detectors[3]] * 4])
     ruleset = {"name": "all", "detectors": groups, "actions": actions}
     return json.dumps({"rulesets": [ruleset] * 64}, separators=(",", ":"))
 
 
-def greatest_lines(events):
+def greatest_lines(events: int) -> Iterator[str]:
     """An hour of 64 processors, 1,024 groups up to 32 deep, 65,536 tasks and 256 triggers."""
     draw = random.Random(1)
     paths, homes = group_paths(1023, 32)
@@ -286,7 +299,7 @@ def greatest_lines(events):
     yield f"{HOUR} end"
 
 
-def greatest(table):
+def greatest(table: Table) -> None:
     """The largest machine, for an hour."""
     trace = table.path("greatest")
     with open(trace, "w") as file:
@@ -299,21 +312,14 @@ def greatest(table):
     table.tell(f"replay: the largest machine, {sizes}", run, is_right, last)
 
 
-PARTS = [endless, nested, outputs, files, pipes, truncated, greatest]
+PARTS: list[Callable[[Table], None]] = [endless, nested, outputs, files, pipes, truncated, greatest]
 
 
-def main():
-    given = sys.argv[1:]
-    program, events = None, 1_000_000
-    while given[:1] in (["--program"], ["--events"]):
-        if given[0] == "--program":
-            program = os.path.abspath(given[1])
-        else:
-            events = int(given[1])
-        given = given[2:]
-    if program is None:
-        subprocess.run([os.path.join(HERE, "..", "psi_oomd"), "--build"], check=True)
-        program = PROGRAM
+def main() -> None:
+    program, given = built_program_of(sys.argv[1:])
+    events = 1_000_000
+    if given[:1] == ["--events"]:
+        events, given = int(given[1]), given[2:]
     table = Table(program, events)
     for part in PARTS:
         if not given or part.__name__ in given:
@@ -321,4 +327,5 @@ def main():
     sys.exit(1 if table.differ else 0)
 
 
-main()
+if __name__ == "__main__":
+    main()

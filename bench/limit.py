@@ -1,7 +1,7 @@
 #!/usr/bin/env python3
 """Shows the most lines that a trace may have: 4,000,000 behind the header are accepted, and one more is refused.
 
-usage: bench/limit.py
+usage: bench/limit.py [--program PATH]     (the built program where no PATH is given)
 
 Takes some 100 MB of disk at a time and more than a minute, so it isn't in the gate. Ends with status 1 where an answer
 differs.
@@ -11,27 +11,30 @@ import subprocess
 import sys
 import tempfile
 
+from built import built_program_of
+
 HERE = os.path.dirname(os.path.abspath(__file__))
-PROGRAM = os.path.join(HERE, "..", "crates", "psi_oomd_main", "out", "psi_oomd_main")
 MOST = 4_000_000
 
 
-def answer(events):
+def answer(program: str, events: int) -> tuple[int, str, str]:
+    """The status, the output and the note of a check of a trace of so many event lines."""
     with tempfile.NamedTemporaryFile(suffix=".trace") as trace:
         words = [sys.executable, os.path.join(HERE, "make_trace.py"), str(events), "16"]
         subprocess.run(words, stdout=trace, check=True)
         trace.flush()
-        done = subprocess.run([PROGRAM, "check", trace.name], capture_output=True, text=True)
+        done = subprocess.run([program, "check", trace.name], capture_output=True, text=True)
         return done.returncode, done.stdout, done.stderr
 
 
-def main():
-    subprocess.run([os.path.join(HERE, "..", "psi_oomd"), "--build"], check=True)
-    most, more = answer(MOST), answer(MOST + 1)
+def main() -> None:
+    program, _ = built_program_of(sys.argv[1:])
+    most, more = answer(program, MOST), answer(program, MOST + 1)
     print(most, more, sep="\n")
     accepted = most[0] == 0 and most[1].startswith(f"ok lines={MOST + 1} events={MOST} end=")
     refused = more == (2, "", f"trace line {MOST + 2}: TooManyEvents\n")
     sys.exit(0 if accepted and refused else 1)
 
 
-main()
+if __name__ == "__main__":
+    main()

@@ -9,13 +9,17 @@ of a random processor runs, waits for IO, sleeps or wakes, at times on another p
 stall for a while; a ready one migrates; one moves to another group; a group's memory is sampled. There are up to 2 us from
 line to line, as on a busy machine.
 """
+from __future__ import annotations
+
 import random
 import sys
+from collections.abc import Iterator
 
 
-def group_paths(groups, depth):
+def group_paths(groups: int, depth: int) -> tuple[list[str], list[str]]:
     """The paths, parents first, and the lowest of each chain."""
-    paths, lowest = [], []
+    paths: list[str] = []
+    lowest: list[str] = []
     while len(paths) < groups:
         path = f"/g{len(lowest)}"
         for level in range(min(depth, groups - len(paths))):
@@ -26,45 +30,48 @@ def group_paths(groups, depth):
 
 
 class Machine:
-    def __init__(self, draw, cpus, tasks, homes):
+    """Processors and tasks, as the lines so far made them. Each method makes an event, and gives its words."""
+
+    def __init__(self, draw: random.Random, cpus: int, tasks: int, homes: list[str]) -> None:
         self.draw = draw
         self.cpus = cpus
         self.homes = homes
-        self.ready = [[] for _ in range(cpus)]
-        self.running = [None] * cpus
-        self.asleep = []
+        self.ready: list[list[int]] = [[] for _ in range(cpus)]
+        self.running: list[int | None] = [None] * cpus
+        self.asleep: list[int] = []
         self.cpu_of = [0] * (tasks + 1)
         self.stalled = [False] * (tasks + 1)
 
-    def fork(self, pid):
+    def fork(self, pid: int) -> str:
         cpu = (pid - 1) % self.cpus
         self.cpu_of[pid] = cpu
         self.ready[cpu].append(pid)
         return f"fork {pid} {self.homes[(pid - 1) % len(self.homes)]} {cpu}"
 
-    def take(self, pids):
+    def take(self, pids: list[int]) -> int:
+        """Takes any task out of these."""
         place = self.draw.randrange(len(pids))
         pids[place], pids[-1] = pids[-1], pids[place]
         return pids.pop()
 
-    def wake(self):
+    def wake(self) -> str:
         pid = self.take(self.asleep)
         if self.draw.randrange(4) == 0:
             self.cpu_of[pid] = self.draw.randrange(self.cpus)
         self.ready[self.cpu_of[pid]].append(pid)
         return f"wake {pid} {self.cpu_of[pid]}"
 
-    def migrate(self, cpu):
+    def migrate(self, cpu: int) -> str:
         pid = self.take(self.ready[cpu])
         self.cpu_of[pid] = self.draw.randrange(self.cpus)
         self.ready[self.cpu_of[pid]].append(pid)
         return f"migrate {pid} {self.cpu_of[pid]}"
 
-    def stall(self, pid):
+    def stall(self, pid: int) -> str:
         self.stalled[pid] = not self.stalled[pid]
         return f"stall {pid}" if self.stalled[pid] else f"unstall {pid}"
 
-    def switch(self, cpu):
+    def switch(self, cpu: int) -> str:
         running, ready = self.running[cpu], self.ready[cpu]
         how = "idle" if running is None else self.draw.choice(["preempt", "sleep", "iowait", "iowait"])
         following = self.take(ready) if ready and (running is None or self.draw.randrange(4)) else None
@@ -73,11 +80,12 @@ class Machine:
         self.running[cpu] = following
         return f"switch {cpu} {following or 0} {how}"
 
-    def rare(self, cpu, tasks):
+    def rare(self, cpu: int, tasks: int) -> str | None:
         """One of the rarer lines, or None where it can't be."""
         kind = self.draw.randrange(8)
-        if kind < 4 and self.running[cpu] is not None:
-            return self.stall(self.running[cpu])
+        running = self.running[cpu]
+        if kind < 4 and running is not None:
+            return self.stall(running)
         if kind < 6 and self.cpus > 1 and self.ready[cpu]:
             return self.migrate(cpu)
         if kind == 6 and self.homes != ["/"]:
@@ -86,7 +94,7 @@ class Machine:
             return f"mem {self.draw.choice(self.homes)} {self.draw.randrange(1 << 30)} 0 {self.draw.randrange(1 << 20)}"
         return None
 
-    def line(self, tasks):
+    def line(self, tasks: int) -> str:
         """Any line, of any processor."""
         cpu = self.draw.randrange(self.cpus)
         line = self.rare(cpu, tasks) if self.draw.randrange(8) == 0 else None
@@ -96,7 +104,8 @@ class Machine:
         return self.wake() if sleeps else self.switch(cpu)
 
 
-def lines(events, tasks, cpus, groups, depth, seed):
+def lines(events: int, tasks: int, cpus: int, groups: int, depth: int, seed: int) -> Iterator[str]:
+    """The lines of a trace, without their newlines."""
     draw = random.Random(seed)
     paths, homes = group_paths(groups, depth)
     machine = Machine(draw, cpus, tasks, homes)
@@ -112,7 +121,7 @@ def lines(events, tasks, cpus, groups, depth, seed):
     yield f"{at} end"
 
 
-def main():
+def main() -> None:
     numbers = [int(word) for word in sys.argv[1:]]
     numbers += [1, 0, 1, 1][len(numbers) - 2 :]
     out = []

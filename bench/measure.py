@@ -1,7 +1,7 @@
 #!/usr/bin/env python3
 """Times psi_oomd on a made trace against `wc -lw` on the same file, in one run, and `gen` and `stress` of as many events.
 
-usage: bench/measure.py [EVENTS [TASKS [CPUS [GROUPS [DEPTH]]]]]     (1000000, 16, 1, 0 and 1 if left out)
+usage: bench/measure.py [--program PATH] [EVENTS [TASKS [CPUS [GROUPS [DEPTH]]]]]     (the built program, 1000000, 16, 1, 0, 1)
 
 Prints the best of five runs of each, the ratio, and the peak memory of psi_oomd. A benchmark: nothing is asserted.
 """
@@ -11,11 +11,12 @@ import sys
 import tempfile
 import time
 
+from built import built_program_of
+
 HERE = os.path.dirname(os.path.abspath(__file__))
-PROGRAM = os.path.join(HERE, "..", "psi_oomd")
 
 
-def once(words):
+def once(words: list[str]) -> tuple[float, int]:
     """Seconds and the peak memory (bytes) of one run."""
     before = time.perf_counter()
     child = subprocess.Popen(words, stdout=subprocess.DEVNULL)
@@ -26,15 +27,15 @@ def once(words):
     return seconds, usage.ru_maxrss * 1024
 
 
-def best(words):
+def best(words: list[str]) -> tuple[float, int]:
+    """The least seconds and the greatest peak memory (bytes) of five runs."""
     runs = [once(words) for _ in range(5)]
     return min(run[0] for run in runs), max(run[1] for run in runs)
 
 
-def main():
-    numbers = sys.argv[1:] + ["1000000", "16", "1", "0", "1"][len(sys.argv) - 1 :]
-    subprocess.run([PROGRAM, "--build"], check=True)
-    program = os.path.join(HERE, "..", "crates", "psi_oomd_main", "out", "psi_oomd_main")
+def main() -> None:
+    program, given = built_program_of(sys.argv[1:])
+    numbers = given + ["1000000", "16", "1", "0", "1"][len(given) :]
     with tempfile.NamedTemporaryFile(suffix=".trace") as trace:
         subprocess.run([sys.executable, os.path.join(HERE, "make_trace.py"), *numbers], stdout=trace, check=True)
         trace.flush()
@@ -57,4 +58,5 @@ def main():
             print(f"{name:<18} {seconds:.3f} s, {seconds / count:.2f} times wc -lw, {memory / 1e6:.0f} MB at most")
 
 
-main()
+if __name__ == "__main__":
+    main()

@@ -2,11 +2,14 @@
 """Compares the two ways in which psi_oomd reads the lines of a trace: as they stand in a file, where the common ones take a
 short way, and a few bytes at a time, where no line does. All three of output, note and status must be the same.
 
-usage: bench/quick_lines.py [COUNT [SEED]]     (1000 and 1 if left out)
+usage: bench/quick_lines.py [--program PATH] [COUNT [SEED]]     (the built program, 1000 and 1 if left out)
 
 Each of so many traces is made up at random and then spoiled at random, or not. It prints how many were accepted, and each
 one that differs; its status is 1 where one does.
 """
+from __future__ import annotations
+
+import dataclasses
 import fcntl
 import os
 import random
@@ -17,50 +20,61 @@ import tempfile
 import termios
 import time
 
-HERE = os.path.dirname(os.path.abspath(__file__))
-PROGRAM = os.path.join(HERE, "..", "crates", "psi_oomd_main", "out", "psi_oomd_main")
+from built import built_program_of
+
 COMMANDS = [["check"], ["stall"], ["replay", "--report-s", "0"]]
 PIECE = 8
 
+# The output, the note and the status of a run.
+Ended = tuple[bytes, bytes, int]
 
-def made(rng):
+
+@dataclasses.dataclass
+class Task:
+    """A task: what it does, its processor, and whether it is in a memory stall."""
+
+    mode: str
+    cpu: int
+    stalled: bool = False
+
+
+def made(rng: random.Random) -> list[str]:
     """The lines of a trace that is legal."""
     cpus = rng.randint(1, 3)
     count = rng.randint(1, 6)
     lines = [f"psitrace 1 cpus={cpus}", "0 group /a"]
-    tasks = {pid: ["ready", rng.randrange(cpus), False] for pid in range(1, count + 1)}
-    runs = [None] * cpus
+    tasks = {pid: Task("ready", rng.randrange(cpus)) for pid in range(1, count + 1)}
+    runs: list[int | None] = [None] * cpus
     for pid, task in tasks.items():
-        lines.append(f"0 fork {pid} {rng.choice(['/', '/a'])} {task[1]}")
+        lines.append(f"0 fork {pid} {rng.choice(['/', '/a'])} {task.cpu}")
     at = 0
     for _ in range(rng.randint(0, 40)):
         at += rng.choice([0, 1, 7, 10**6, 10**9])
         pid = rng.randint(1, count)
-        mode, cpu, stalled = tasks[pid]
-        if mode == "asleep":
-            cpu = rng.randrange(cpus)
-            lines.append(f"{at} wake {pid} {cpu}")
-            tasks[pid][:2] = "ready", cpu
-        elif mode == "ready" and rng.random() < 0.2:
-            cpu = rng.randrange(cpus)
-            lines.append(f"{at} migrate {pid} {cpu}")
-            tasks[pid][1] = cpu
-        elif mode == "ready":
-            how = "idle" if runs[cpu] is None else rng.choice(["preempt", "sleep", "iowait"])
-            lines.append(f"{at} switch {cpu} {pid} {how}")
-            if runs[cpu] is not None:
-                tasks[runs[cpu]][0] = "ready" if how == "preempt" else "asleep"
-            runs[cpu], tasks[pid][0] = pid, "running"
+        task = tasks[pid]
+        if task.mode == "asleep":
+            task.mode, task.cpu = "ready", rng.randrange(cpus)
+            lines.append(f"{at} wake {pid} {task.cpu}")
+        elif task.mode == "ready" and rng.random() < 0.2:
+            task.cpu = rng.randrange(cpus)
+            lines.append(f"{at} migrate {pid} {task.cpu}")
+        elif task.mode == "ready":
+            runner = runs[task.cpu]
+            how = "idle" if runner is None else rng.choice(["preempt", "sleep", "iowait"])
+            lines.append(f"{at} switch {task.cpu} {pid} {how}")
+            if runner is not None:
+                tasks[runner].mode = "ready" if how == "preempt" else "asleep"
+            runs[task.cpu], task.mode = pid, "running"
         elif rng.random() < 0.5:
-            lines.append(f"{at} {'unstall' if stalled else 'stall'} {pid}")
-            tasks[pid][2] = not stalled
+            lines.append(f"{at} {'unstall' if task.stalled else 'stall'} {pid}")
+            task.stalled = not task.stalled
         else:
-            lines.append(f"{at} switch {cpu} 0 {rng.choice(['sleep', 'iowait'])}")
-            runs[cpu], tasks[pid][0] = None, "asleep"
+            lines.append(f"{at} switch {task.cpu} 0 {rng.choice(['sleep', 'iowait'])}")
+            runs[task.cpu], task.mode = None, "asleep"
     return lines + [f"{at + rng.choice([0, 2 * 10**9])} end"]
 
 
-def spoiled(rng, text):
+def spoiled(rng: random.Random, text: bytes) -> bytes:
     """The bytes of a trace with some faults."""
     data = bytearray(text)
     for _ in range(rng.choice([0, 1, 1, 1, 2, 3])):
@@ -100,17 +114,19 @@ def spoiled(rng, text):
     return bytes(data)
 
 
-def drained(pipe):
+def drained(pipe: int) -> bool:
     """Whether all that was written into a pipe has been read."""
     held = fcntl.ioctl(pipe, termios.FIONREAD, b"\0" * 4)
-    return struct.unpack("i", held)[0] == 0
+    unread: int = struct.unpack("i", held)[0]
+    return unread == 0
 
 
-def by_pieces(words, data):
+def by_pieces(program: str, words: list[str], data: bytes) -> Ended:
     """Runs the program on standard input, which it gets a few bytes at a time."""
     child = subprocess.Popen(
-        [PROGRAM, *words, "-"], stdin=subprocess.PIPE, stdout=subprocess.PIPE, stderr=subprocess.PIPE
+        [program, *words, "-"], stdin=subprocess.PIPE, stdout=subprocess.PIPE, stderr=subprocess.PIPE
     )
+    assert child.stdin
     pipe = child.stdin.fileno()
     try:
         for at in range(0, len(data), PIECE):
@@ -123,13 +139,15 @@ def by_pieces(words, data):
     return out, note, child.returncode
 
 
-def whole(words, name):
-    ran = subprocess.run([PROGRAM, *words, name], capture_output=True)
+def whole(program: str, words: list[str], name: str) -> Ended:
+    """Runs the program on the file itself."""
+    ran = subprocess.run([program, *words, name], capture_output=True)
     return ran.stdout, ran.stderr, ran.returncode
 
 
-def main():
-    count, seed = (int(word) for word in (sys.argv[1:] + ["1000", "1"][len(sys.argv) - 1 :]))
+def main() -> None:
+    program, given = built_program_of(sys.argv[1:])
+    count, seed = (int(word) for word in (given + ["1000", "1"][len(given) :]))
     rng = random.Random(seed)
     accepted = differ = 0
     with tempfile.TemporaryDirectory() as folder:
@@ -139,7 +157,7 @@ def main():
             with open(name, "wb") as file:
                 file.write(data)
             for words in COMMANDS:
-                one, other = whole(words, name), by_pieces(words, data)
+                one, other = whole(program, words, name), by_pieces(program, words, data)
                 accepted += one[2] == 0
                 if one != other:
                     differ += 1
@@ -148,4 +166,5 @@ def main():
     sys.exit(1 if differ else 0)
 
 
-main()
+if __name__ == "__main__":
+    main()

@@ -9,13 +9,16 @@ usage: bench/refuse.py                            (all allocations of the built 
 Prints a line for each row of numbers with one answer, from 0, where nothing is refused, and ends with status 1 where a run ended
 otherwise.
 """
-import collections
+from __future__ import annotations
+
+import dataclasses
 import itertools
 import os
 import re
 import subprocess
 import sys
 import tempfile
+from collections.abc import Iterator
 
 HERE = os.path.dirname(os.path.abspath(__file__))
 CRATE = os.path.join(HERE, "..", "crates", "psi_oomd_main")
@@ -64,7 +67,19 @@ RULES = """{"rulesets":[{"name":"r","detectors":[["g",
  "actions":[{"name":"kill_by_memory_size_or_growth","args":{"cgroup":"s/*"}}]}]}
 """
 
-Replay = collections.namedtuple("Replay", "options trace begins ends")
+# The number of the allocation that was refused, the replay's name, the status, the output, and whether want of memory was told.
+Ended = tuple[int, str, int, str, bool]
+
+
+@dataclasses.dataclass(frozen=True)
+class Replay:
+    """The options and the trace of a replay, and how its whole output begins and ends."""
+
+    options: list[str]
+    trace: str
+    begins: str
+    ends: str
+
 
 REPLAYS = {
     "kill": Replay(
@@ -83,7 +98,7 @@ REPLAYS = {
 }
 
 
-def is_right(name, status, output, is_told):
+def is_right(name: str, status: int, output: str, is_told: bool) -> bool:
     """Whether a run ended as it must, where one of its allocations may have been refused."""
     replay = REPLAYS[name]
     if status == 7:
@@ -91,14 +106,15 @@ def is_right(name, status, output, is_told):
     return status == 0 and output.startswith(replay.begins) and output.endswith(replay.ends) and not is_told
 
 
-def write(folder, name, text):
+def write(folder: str, name: str, text: str) -> str:
+    """Writes a file, and gives its whole name."""
     path = os.path.join(folder, name)
     with open(path, "w") as file:
         file.write(text)
     return path
 
 
-def runs_of_built(folder):
+def runs_of_built(folder: str) -> Iterator[Ended]:
     """The number, the replay, and how its run ended, for each allocation of each."""
     subprocess.run([os.path.join(HERE, "..", "psi_oomd"), "--build"], check=True)
     shim, count = os.path.join(folder, "shim.so"), os.path.join(folder, "count")
@@ -107,7 +123,7 @@ def runs_of_built(folder):
     for name, replay in REPLAYS.items():
         words = [PROGRAM, "replay", write(folder, name, replay.trace), *replay.options]
 
-        def run(refused):
+        def run(refused: int) -> tuple[int, str, bool]:
             with open(count, "wb") as file:
                 file.write(bytes(8))
             env = {**os.environ, "LD_PRELOAD": shim, "COUNT": count, "REFUSED": str(refused)}
@@ -121,7 +137,7 @@ def runs_of_built(folder):
             yield number, name, *run(number)
 
 
-def runs_by_try(folder, first, last, step):
+def runs_by_try(folder: str, first: int, last: int, step: int) -> Iterator[Ended]:
     """The same for some numbers, by `rt try`, which runs both replays once it has built the program without a proof."""
     rules = write(folder, "rules.json", RULES)
     cases = os.path.join(folder, "cases")
@@ -132,14 +148,14 @@ def runs_by_try(folder, first, last, step):
     for number in range(first, last + 1, step):
         words = ["rt", "try", "--fail-alloc", str(number), "--cases", cases, "--data", f"rules.json={rules}"]
         ran = subprocess.run([*words, "--", "replay", "-"], cwd=CRATE, capture_output=True, text=True)
-        outputs = re.split(r"^== (.*)\n", ran.stdout, flags=re.MULTILINE)[1:]
-        outputs = dict(zip(outputs[::2], outputs[1::2]))
+        parts = re.split(r"^== (.*)\n", ran.stdout, flags=re.MULTILINE)[1:]
+        outputs = dict(zip(parts[::2], parts[1::2]))
         told = re.split(r"^case=(\w+) run=ended status=(\d+).*\n", ran.stderr, flags=re.MULTILINE)
         for said, name, status in zip(told[::3], told[1::3], told[2::3]):
             yield number, name, int(status), outputs[name], "out of memory\n" in said
 
 
-def main():
+def main() -> None:
     given = sys.argv[1:]
     wrong = runs = 0
     with tempfile.TemporaryDirectory() as folder:
@@ -149,7 +165,7 @@ def main():
             ended = runs_by_try(folder, *numbers)
         else:
             ended = runs_of_built(folder)
-        answers = ((name, status, is_right(name, status, *more), number) for number, name, status, *more in ended)
+        answers = ((it[1], it[2], is_right(*it[1:]), it[0]) for it in ended)
         for (name, status, right), row in itertools.groupby(answers, lambda answer: answer[:3]):
             numbers = [answer[3] for answer in row]
             runs += len(numbers)
@@ -160,4 +176,5 @@ def main():
     sys.exit(1 if wrong or not runs else 0)
 
 
-main()
+if __name__ == "__main__":
+    main()

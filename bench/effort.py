@@ -1,0 +1,231 @@
+#!/usr/bin/env python3
+"""Compares what small runs of psi_oomd cost with the figures that stand in bench/effort.json, and says what rose.
+
+usage: bench/effort.py [--program PATH] [--store] [NAME ..]     (the built program, and all runs of bench/effort_runs.py)
+
+Time depends on the machine, so what is counted is what doesn't:
+
+    instructions a line   those of a greater input less those of a smaller one, by the lines between them (or the ticks); what a
+                          run costs at its start is none of it
+    instructions          in thousands, of the smaller input, its start included
+    reads, opens          calls of the system with the greater input, less those by which a run without words is loaded
+    writes, threads       calls that write, and threads that were started
+    memory calls          by which memory was asked of the system and given back, counted as reads are; not where threads ask,
+                          since that varies
+    peak                  the most memory that was resident with the greater input, in KB; the least of three runs
+
+A figure in instructions or KB may rise by 3 percent, a peak by 256 KB more, and where a reader looks at the clocks of others
+while they go on, each by so much more as its run says. A number of calls must be the one that is stored: one thread for four is
+no gain. What fell by more than that is told, and is no fault; `--store` writes the figures anew, and their difference shows in
+the commit. They hold for the machine's kind and the C library that are stored with them: elsewhere, what stood before a change
+is measured and stored first.
+
+Valgrind, strace and GNU time do the counting: Debian's packages of these names. Ends with status 1 where a figure is wrong, and 2
+where one of them is missing or a run failed.
+"""
+from __future__ import annotations
+
+import json
+import os
+import platform
+import shutil
+import subprocess
+import sys
+import tempfile
+
+from effort_runs import RUNS, Run, write_inputs
+
+HERE = os.path.dirname(os.path.abspath(__file__))
+LAUNCHER = os.path.join(HERE, "..", "psi_oomd")
+PROGRAM = os.path.join(HERE, "..", "crates", "psi_oomd_main", "out", "psi_oomd_main")
+STORED = os.path.join(HERE, "effort.json")
+TOOLS = ("valgrind", "strace", "time")
+MAY_RISE_PERCENT = 3.0
+# How often the peak is taken, and by how much it may rise in any case: the system counts pages in lots.
+PEAKS = 3
+PEAK = "peak in KB"
+MAY_RISE_KB = 256
+
+CALLS = {
+    "reads": ("read", "pread64", "readv", "preadv", "preadv2"),
+    "writes": ("write", "pwrite64", "writev", "pwritev", "pwritev2"),
+    "opens": ("open", "openat", "openat2", "creat"),
+    "threads": ("clone", "clone3", "fork", "vfork"),
+    "memory calls": ("mmap", "mremap", "munmap", "brk", "madvise"),
+}
+# The calls that are also made where a program is loaded.
+LOADING = ("reads", "opens", "memory calls")
+
+# The figures of a run by their names, which have the unit.
+Figures = dict[str, float]
+
+
+class Failed(Exception):
+    """A run that can't be measured, and why."""
+
+
+def run_to_end(words: list[str], status: int = 0) -> None:
+    """Runs a program whose output doesn't matter, and which must end with this status."""
+    done = subprocess.run(words, stdin=subprocess.DEVNULL, stdout=subprocess.DEVNULL, stderr=subprocess.PIPE)
+    if done.returncode != status:
+        said = done.stderr.decode(errors="replace")[-600:]
+        raise Failed(f"{' '.join(words)}: status {done.returncode}: {said}")
+
+
+def instructions_of(words: list[str], room: str) -> int:
+    """How many instructions all threads of a run take, by callgrind. What runs before an `exec` isn't counted."""
+    counted = os.path.join(room, "callgrind")
+    tool = ["valgrind", "--quiet", "--tool=callgrind", "--trace-children=yes", "--fair-sched=try"]
+    run_to_end([*tool, f"--callgrind-out-file={counted}", *words])
+    with open(counted, encoding="utf-8", errors="replace") as file:
+        totals = [line.split()[1] for line in file if line.startswith("totals:")]
+    if len(totals) != 1:
+        raise Failed(f"{' '.join(words)}: callgrind gave {len(totals)} sums")
+    return int(totals[0])
+
+
+def calls_of(words: list[str], room: str, status: int = 0) -> dict[str, int]:
+    """How many calls of each kind all threads of a run make, by strace."""
+    counted = os.path.join(room, "strace")
+    run_to_end(["strace", "-f", "-q", "-c", "-o", counted, *words], status)
+    times = {}
+    with open(counted, encoding="utf-8") as file:
+        for cells in map(str.split, file):
+            if len(cells) >= 5 and cells[3].isdecimal():
+                times[cells[-1]] = int(cells[3])
+    return {kind: sum(times.get(name, 0) for name in names) for kind, names in CALLS.items()}
+
+
+def peak_of(words: list[str], room: str) -> int:
+    """The most memory that was resident in a run, in KB. (The system counts what its parent has as its own, and `time` has
+    little.)"""
+    counted = os.path.join(room, "time")
+    peaks = []
+    for _ in range(PEAKS):
+        run_to_end(["time", "--quiet", "-f", "%M", "-o", counted, *words])
+        with open(counted, encoding="utf-8") as file:
+            peaks.append(int(file.read()))
+    return min(peaks)
+
+
+def costs_of(run: Run) -> list[str]:
+    """The names of a run's two figures of instructions."""
+    return [f"instructions a {run.step.value}", "thousands of instructions"]
+
+
+def figures_of(run: Run, program: str, loading: dict[str, int], room: str) -> Figures:
+    """Measures a run. `loading` has the calls of a run without words."""
+    small, large = ([program, *run.words_for(size, room)] for size in run.sizes)
+    at_first = instructions_of(small, room)
+    more = instructions_of(large, room) - at_first
+    costs = [round(more / (run.sizes[1] - run.sizes[0]), 1), round(at_first / 1000)]
+    figures: Figures = dict(zip(costs_of(run), costs))
+    for kind, number in calls_of(large, room).items():
+        if kind != "memory calls" or run.is_alone:
+            figures[kind] = number - (loading[kind] if kind in LOADING else 0)
+    figures[PEAK] = peak_of(large, room)
+    return figures
+
+
+def may_differ(name: str, before: float, run: Run) -> float:
+    """By how much a figure may differ from the one that is stored."""
+    if name in CALLS:
+        return 0.0
+    return before * (MAY_RISE_PERCENT + run.varies_percent) / 100 + (MAY_RISE_KB if name == PEAK else 0)
+
+
+def faults_of(run: Run, stored: Figures, found: Figures) -> tuple[list[str], list[str]]:
+    """What is wrong with the figures of a run, and what is lower and may be stored anew."""
+    wrong: list[str] = []
+    lower: list[str] = []
+    for name in [*found, *(name for name in stored if name not in found)]:
+        before, now = stored.get(name), found.get(name)
+        if before is None or now is None:
+            wrong.append(f"{name}: {before} stored, {now} found")
+            continue
+        change = f"{name}: {before:,} stored, {now:,} found"
+        change += f", by {100 * (now - before) / before:+.1f} percent" if before else ""
+        if abs(now - before) > may_differ(name, before, run):
+            (wrong if now > before or name in CALLS else lower).append(change)
+    return wrong, lower
+
+
+def system() -> str:
+    """The machine's kind and its C library, on which figures depend."""
+    return ", ".join([platform.machine(), " ".join(platform.libc_ver())])
+
+
+def read_stored() -> tuple[str, dict[str, Figures]]:
+    """The system on which figures were stored, and those of each run."""
+    if not os.path.exists(STORED):
+        return system(), {}
+    with open(STORED, encoding="utf-8") as file:
+        stored = json.load(file)
+    return stored["system"], stored["runs"]
+
+
+def write_stored(figures: dict[str, Figures]) -> None:
+    """Writes the figures in the order of the runs."""
+    with open(STORED, "w", encoding="utf-8") as file:
+        runs = {run.name: figures[run.name] for run in RUNS if run.name in figures}
+        json.dump({"system": system(), "runs": runs}, file, indent=1)
+        file.write("\n")
+
+
+def compare(runs: list[Run], program: str, is_stored: bool) -> bool:
+    """Measures these runs, tells their figures, and whether none is wrong. They are stored where that is wanted."""
+    where, stored = read_stored()
+    if where != system():
+        print(f"these figures are of {where}, and this is {system()}: what differs may be the system's", flush=True)
+    is_right = True
+    with tempfile.TemporaryDirectory() as room:
+        write_inputs(program, runs, room)
+        loading = calls_of([program], room, status=1)
+        for run in runs:
+            found = figures_of(run, program, loading, room)
+            print(f"{run.name}: " + ", ".join(f"{number:,} {name}" for name, number in found.items()), flush=True)
+            wrong, lower = faults_of(run, stored.get(run.name, {}), found)
+            if run.name in stored or not is_stored:
+                print("".join([*(f"  wrong: {it}\n" for it in wrong), *(f"  lower: {it}\n" for it in lower)]), end="")
+            is_right = is_right and not wrong
+            stored[run.name] = found
+    if is_stored:
+        write_stored(stored)
+    return is_right or is_stored
+
+
+def words_of(given: list[str]) -> tuple[str | None, bool, list[Run]]:
+    """The program that is named, whether figures are to be stored, and the runs."""
+    program, is_stored = None, False
+    while given[:1] in (["--program"], ["--store"]):
+        if given[0] == "--store":
+            is_stored, given = True, given[1:]
+        elif len(given) > 1:
+            program, given = os.path.abspath(given[1]), given[2:]
+        else:
+            sys.exit(__doc__)
+    unknown = set(given) - {run.name for run in RUNS}
+    if unknown:
+        sys.exit(f"effort: no run has the name {', '.join(sorted(unknown))}: {', '.join(run.name for run in RUNS)}")
+    return program, is_stored, [run for run in RUNS if not given or run.name in given]
+
+
+def main(given: list[str]) -> int:
+    program, is_stored, runs = words_of(given)
+    missing = [tool for tool in TOOLS if shutil.which(tool) is None]
+    if missing:
+        print(f"effort: not found: {', '.join(missing)}, which are Debian's packages of these names", file=sys.stderr)
+        return 2
+    if program is None:
+        subprocess.run([LAUNCHER, "--build"], check=True)
+        program = PROGRAM
+    try:
+        is_right = compare(runs, program, is_stored)
+    except (Failed, subprocess.CalledProcessError) as failed:
+        print(f"effort: {failed}", file=sys.stderr)
+        return 2
+    return 0 if is_right else 1
+
+
+if __name__ == "__main__":
+    sys.exit(main(sys.argv[1:]))

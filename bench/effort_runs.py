@@ -1,0 +1,132 @@
+"""The runs that bench/effort.py measures, and what they read.
+
+Each shows work that a contract doesn't see: threads for each tick where one start is enough, a crew of another size than was
+asked for, rows where nobody reads them, patterns that are matched again, one byte a call.
+"""
+from __future__ import annotations
+
+import dataclasses
+import enum
+import json
+import os
+import subprocess
+
+
+class Step(str, enum.Enum):
+    """What the greater input of a run has more of."""
+
+    LINE = "line"
+    TICK = "tick"
+
+
+class Trace(enum.Enum):
+    """What a run reads, of a size in lines or in ticks."""
+
+    NONE = "none"
+    BUSY = "busy"
+    SPREAD = "spread"
+    MANY_GROUPS = "many groups"
+    QUIET = "quiet"
+
+
+# The words of `gen` for each trace that it makes. A thousand events take about a second.
+SHAPES = {
+    Trace.BUSY: ("--seed", "1", "--cpus", "8", "--groups", "40"),
+    Trace.SPREAD: ("--seed", "7", "--cpus", "64", "--groups", "10"),
+    Trace.MANY_GROUPS: ("--seed", "1", "--cpus", "2", "--groups", "1000"),
+}
+# The length of a tick where no word says another, in ns.
+TICK_NS = 2 * 10**9
+
+
+@dataclasses.dataclass(frozen=True)
+class Run:
+    """A run of the program in two sizes. In its words TRACE, RULES and SIZE stand for what it reads, and how much."""
+
+    name: str
+    words: tuple[str, ...]
+    trace: Trace
+    sizes: tuple[int, int] = (20_000, 60_000)
+    step: Step = Step.LINE
+    # Whether no thread is to be started, so that calls for memory are always the same.
+    is_alone: bool = False
+    # By how much instructions and memory vary from run to run, in percent.
+    varies_percent: float = 0.0
+
+    def words_for(self, size: int, room: str) -> list[str]:
+        """The words, with what is written in this folder by `write_inputs`."""
+        stands = {"TRACE": trace_path(room, self.trace, size), "RULES": rules_path(room), "SIZE": str(size)}
+        return [stands.get(word, word) for word in self.words]
+
+
+RULES = ("--rules", "RULES", "--interval-s", "1", "--tick-ms", "1000", "--report-s", "0")
+ONE_WORKER = ("--workers", "1")
+MANY_WORKERS = ("--workers", "64")
+LIVE = ("--live", "/")
+SHORT_TICKS = ("--tick-ms", "20", "--report-s", "0")
+
+RUNS = (
+    Run("check", ("check", "TRACE"), Trace.BUSY, is_alone=True),
+    Run("stall", ("stall", "TRACE"), Trace.BUSY),
+    Run("replay by one", ("replay", "TRACE", *ONE_WORKER), Trace.BUSY, is_alone=True),
+    Run("replay by many", ("replay", "TRACE", *MANY_WORKERS), Trace.BUSY),
+    Run("live by one", ("replay", "TRACE", *LIVE, *ONE_WORKER), Trace.BUSY, varies_percent=2),
+    Run("live by many", ("replay", "TRACE", *LIVE, *MANY_WORKERS), Trace.BUSY, varies_percent=2),
+    Run("live at short ticks", ("replay", "TRACE", *LIVE, *MANY_WORKERS, *SHORT_TICKS), Trace.BUSY, varies_percent=2),
+    Run("never live", ("replay", "TRACE", "--live", "/none", *MANY_WORKERS, *SHORT_TICKS), Trace.SPREAD, is_alone=True),
+    Run("quiet", ("replay", "TRACE", *MANY_WORKERS, "--report-s", "0"), Trace.QUIET, (2_000, 6_000), Step.TICK),
+    Run("rules", ("replay", "TRACE", *RULES, *ONE_WORKER), Trace.MANY_GROUPS, is_alone=True),
+    Run("gen", ("gen", *SHAPES[Trace.BUSY], "--events", "SIZE"), Trace.NONE, is_alone=True),
+    Run("stress", ("stress", *SHAPES[Trace.BUSY], "--events", "SIZE", *MANY_WORKERS), Trace.NONE),
+)
+
+
+def trace_path(room: str, trace: Trace, size: int) -> str:
+    return os.path.join(room, f"{trace.name.lower()}-{size}.trace")
+
+
+def rules_path(room: str) -> str:
+    return os.path.join(room, "rules.json")
+
+
+def quiet_trace(ticks: int) -> str:
+    """Two processors on which something happens at the beginning alone, and then nothing for so many ticks."""
+    lines = ["psitrace 1 cpus=2"]
+    for cpu in (0, 1):
+        lines += [f"0 fork {cpu + 1} / {cpu}", f"0 switch {cpu} {cpu + 1} idle"]
+    return "\n".join([*lines, f"{ticks * TICK_NS} end", ""])
+
+
+def rules() -> str:
+    """Sixteen rulesets that fire at each evaluation, with each action, over all groups."""
+    detectors = [
+        {"name": "pressure_above", "args": {"cgroup": "*", "resource": "io", "threshold": "0", "duration": "0"}},
+        {"name": "exists", "args": {"cgroup": "g1*,g2*,none/*"}},
+    ]
+    always = {"cgroup": "g*,none*", "always_continue": "true", "post_action_delay": "0"}
+    actions = [
+        {"name": "kill_by_memory_size_or_growth", "args": always},
+        {"name": "kill_by_swap_usage", "args": {**always, "threshold": "0"}},
+        {"name": "kill_by_pressure", "args": {**always, "resource": "io"}},
+        {"name": "kill_by_pg_scan", "args": always},
+    ]
+    ruleset = {"name": "all", "detectors": [["all", *detectors]], "actions": actions}
+    return json.dumps({"rulesets": [ruleset] * 16})
+
+
+def write_trace(program: str, trace: Trace, size: int, path: str) -> None:
+    """Writes a trace of a size in lines, for which the program itself is asked, or in ticks."""
+    with open(path, "w", encoding="utf-8") as file:
+        if trace is Trace.QUIET:
+            file.write(quiet_trace(size))
+        else:
+            subprocess.run([program, "gen", *SHAPES[trace], "--events", str(size)], stdout=file, check=True)
+
+
+def write_inputs(program: str, runs: list[Run], room: str) -> None:
+    """Writes what these runs read."""
+    with open(rules_path(room), "w", encoding="utf-8") as file:
+        file.write(rules())
+    for trace, size in sorted({(run.trace.value, size) for run in runs for size in run.sizes}):
+        if trace != Trace.NONE.value:
+            write_trace(program, Trace(trace), size, trace_path(room, Trace(trace), size))

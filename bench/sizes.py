@@ -1,0 +1,117 @@
+#!/usr/bin/env python3
+"""Counts what has to be believed, the code, its contracts, the proofs and the tests, and prints them as a table.
+
+usage: bench/sizes.py
+
+A line counts where it isn't blank and no comment; of definitions and proofs what takes names from elsewhere (`use`) isn't
+counted either. The files that have to be believed are those that docs/ARCHITECTURE.md lists; of these the sections of laws
+are counted with the other definitions, since nobody has to believe what is proved. A contract is a clause of a function or a loop
+(`requires`, `ensures`, `invariant`), an `assert`, or a `ghost` item, up to the line where its brackets are closed.
+"""
+import pathlib
+import re
+import sys
+from collections.abc import Iterable, Iterator
+
+TOP = pathlib.Path(__file__).resolve().parent.parent
+CRATES = TOP / "crates"
+CONTRACT = re.compile(r"(requires|ensures|invariant|measure|assert|ghost)\b")
+LAWS = re.compile(r"-- -+ laws")
+BELIEVED_TITLE = "## The files that have to be believed"
+
+
+def counted(lines: Iterable[str], comment: str) -> Iterator[str]:
+    """The lines that count, without what stands before and behind them."""
+    for line in map(str.strip, lines):
+        if line and not line.startswith(comment):
+            yield line
+
+
+def definition_lines(path: pathlib.Path) -> tuple[int, int]:
+    """How many lines of an .antt file define something, and how many of them stand in its sections of laws."""
+    every = laws = 0
+    is_law = False
+    for line in map(str.strip, path.read_text(encoding="utf-8").splitlines()):
+        if line.startswith("-- ----"):
+            is_law = bool(LAWS.match(line))
+        if line and not line.startswith(("--", "use ", "pub use ")):
+            every, laws = every + 1, laws + is_law
+    return every, laws
+
+
+def rust_lines(path: pathlib.Path) -> tuple[int, int]:
+    """How many lines of an .rt file are code, and how many are contracts."""
+    code = contracts = depth = 0
+    for line in counted(path.read_text(encoding="utf-8").splitlines(), "//"):
+        if depth == 0 and not CONTRACT.match(line):
+            code += 1
+            continue
+        contracts += 1
+        depth += sum(line.count(it) for it in "{([") - sum(line.count(it) for it in "})]")
+    return code, contracts
+
+
+def believed_files() -> tuple[list[pathlib.Path], list[pathlib.Path]]:
+    """The definitions and the files of types that docs/ARCHITECTURE.md lists as those that have to be believed."""
+    text = (TOP / "docs" / "ARCHITECTURE.md").read_text(encoding="utf-8")
+    section = text[text.index(BELIEVED_TITLE) :].partition("\n## ")[0]
+    definitions, crate = [], ""
+    for cell in re.findall(r"^\| ([^|]*`[^|]*) \|", section, re.MULTILINE):
+        named = re.match(r"(\w+): ", cell)
+        crate = named[1] if named else crate
+        definitions += [CRATES / crate / "specs" / f"{name}.antt" for name in re.findall(r"`(\w+)`", cell)]
+    types, folder = [], ""
+    for name in re.findall(r"`([\w/]+\.rt)`", section.partition("\n|")[0]):
+        folder = name.rpartition("/")[0] or folder
+        types.append(CRATES / folder / name.rpartition("/")[2])
+    return definitions, types
+
+
+def sum_of(pairs: Iterable[tuple[int, int]]) -> tuple[int, int]:
+    """The sums of the first and of the second numbers."""
+    first = second = 0
+    for one, other in pairs:
+        first, second = first + one, second + other
+    return first, second
+
+
+def sizes() -> Iterator[tuple[str, int]]:
+    """What is counted, each with its number."""
+    definitions, types = believed_files()
+    specs, proofs = (sorted(CRATES.glob(f"*/{kind}/**/*.antt")) for kind in ("specs", "proofs"))
+    rust = sorted(CRATES.glob("*/src/**/*.rt"))
+    tests = [path for path in rust if path.relative_to(CRATES).parts[0].endswith("_tests")]
+    believed, believed_laws = sum_of(map(definition_lines, definitions))
+    others, _ = sum_of(definition_lines(path) for path in specs if path not in definitions)
+    code, contracts = sum_of(rust_lines(path) for path in rust if path not in tests)
+    yield "lines of definitions to believe", believed - believed_laws
+    yield "lines of types to believe (code, counted again below)", sum_of(map(rust_lines, types))[0]
+    yield "lines of other definitions and laws", others + believed_laws
+    yield "lines of code", code
+    yield "lines of contracts in the code", contracts
+    yield "lines of proofs", sum_of(map(definition_lines, proofs))[0]
+    yield "lines of tests in crates", sum(sum_of(map(rust_lines, tests)))
+    yield "cases of the built program (`tests/cases`)", sum(1 for _ in cases())
+    yield "must-fail edits", len([*CRATES.glob("*/must-fail/*.edit"), *TOP.glob("bench/edits/**/*.edit")])
+
+
+def cases() -> Iterator[str]:
+    """The cases of tests/run: a folder, or each of its rows."""
+    for folder in (TOP / "tests" / "cases").iterdir():
+        rows = folder / "rows"
+        yield from rows.read_text(encoding="latin-1").splitlines() if rows.exists() else [folder.name]
+
+
+def main() -> int:
+    missing = [path for paths in believed_files() for path in paths if not path.exists()]
+    if missing or not all(believed_files()):
+        print(f"docs/ARCHITECTURE.md lists what isn't there: {missing}", file=sys.stderr)
+        return 1
+    print("| what | how many |\n|---|---|")
+    for name, number in sizes():
+        print(f"| {name} | {number:,} |")
+    return 0
+
+
+if __name__ == "__main__":
+    sys.exit(main())
