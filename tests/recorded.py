@@ -1,0 +1,102 @@
+"""What the tests of the tools for recordings share: how they are run, what a check says, and the stored recordings.
+
+The recordings are those of tests/recordings, whose README tells where they come from.
+"""
+from __future__ import annotations
+
+import contextlib
+import gzip
+import os
+import subprocess
+import sys
+import tarfile
+import tempfile
+from collections.abc import Callable, Iterator
+from typing import NamedTuple
+
+from must import Wrong, must, must_be
+from program import program_of
+
+TOP = os.path.dirname(os.path.dirname(os.path.abspath(__file__)))
+TOOLS = os.path.join(TOP, "tools")
+STORED = os.path.join(TOP, "tests", "recordings")
+SECONDS = 600
+
+
+class Done(NamedTuple):
+    """What a program left: its status, and what it wrote."""
+
+    status: int
+    output: bytes
+    said: str
+
+
+def run(words: list[str], given: bytes = b"", program: str = "") -> Done:
+    """Runs a program, to which `program` is the psi_oomd to use."""
+    environment = {**os.environ, "PYTHONDONTWRITEBYTECODE": "1", "PSI_OOMD": program}
+    done = subprocess.run(words, input=given, capture_output=True, timeout=SECONDS, env=environment, cwd=TOP)
+    return Done(done.returncode, done.stdout, done.stderr.decode())
+
+
+def tool(name: str, *words: str, given: bytes = b"", program: str = "") -> Done:
+    """Runs a tool."""
+    return run([os.path.join(TOOLS, name), *words], given, program)
+
+
+def accepted(program: str, trace: bytes) -> str:
+    """What psi_oomd says of a trace that it must accept."""
+    done = run([program, "check", "-"], trace)
+    must_be(f"the status of check, which said {done.said}", done.status, 0)
+    return done.output.decode()
+
+
+@contextlib.contextmanager
+def recording(name: str) -> Iterator[str]:
+    """A stored recording, as a folder that may be changed."""
+    with tempfile.TemporaryDirectory() as place:
+        with tarfile.open(os.path.join(STORED, f"{name}.tar.xz")) as archive:
+            archive.extractall(place)
+        yield os.path.join(place, name)
+
+
+def text(name: str) -> bytes:
+    """A stored text of ftrace."""
+    with gzip.open(os.path.join(STORED, f"{name}.ftrace.gz")) as file:
+        return file.read()
+
+
+def stored(name: str) -> str:
+    """A stored text that must come."""
+    with open(os.path.join(STORED, name), encoding="utf-8") as file:
+        return file.read()
+
+
+def change(folder: str, name: str, edit: Callable[[bytes], bytes]) -> None:
+    """Changes a file of a recording."""
+    path = os.path.join(folder, name)
+    with open(path, "rb") as file:
+        before = file.read()
+    after = edit(before)
+    must(after != before, f"{name} is changed")
+    with open(path, "wb") as file:
+        file.write(after)
+
+
+def end_of(trace: bytes) -> int:
+    """The end moment of a trace, in ns."""
+    return int(trace.splitlines()[-1].split(b" ")[0])
+
+
+def main(checks: dict[str, object], title: str) -> int:
+    """Runs all checks of a module on a program; answers the status."""
+    program, _ = program_of(sys.argv[1:])
+    found = [(name, check) for name, check in checks.items() if name.startswith("check_") and callable(check)]
+    failed = 0
+    for name, check in found:
+        try:
+            check(program)
+        except Wrong as wrong:
+            failed += 1
+            print(f"{name[6:].replace('_', ' ')}: {wrong}")
+    print(f"{title}: {len(found) - failed} passed, {failed} failed")
+    return 1 if failed else 0

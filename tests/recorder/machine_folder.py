@@ -1,0 +1,164 @@
+"""Makes a folder of plain files that stands for a machine, for `tools/record --root`, and tells what is in it.
+
+The machine has two processors, a page of events on each, three threads and the groups /, /system.slice,
+/system.slice/web.service and one with a blank in its name.
+"""
+from __future__ import annotations
+
+import os
+import struct
+
+EVENTS = (
+    "sched/sched_switch",
+    "sched/sched_wakeup",
+    "sched/sched_wakeup_new",
+    "sched/sched_migrate_task",
+    "sched/sched_process_exec",
+    "sched/sched_stat_iowait",
+    "task/task_newtask",
+    "cgroup/cgroup_attach_task",
+    "cgroup/cgroup_mkdir",
+    "cgroup/cgroup_rmdir",
+    "oom/mark_victim",
+)
+PAGE_BYTES = 4096
+MANY_BYTES = 10**6
+HEADER_PAGE = """\tfield: u64 timestamp;\toffset:0;\tsize:8;\tsigned:0;
+\tfield: local_t commit;\toffset:8;\tsize:8;\tsigned:1;
+\tfield: char data;\toffset:16;\tsize:4080;\tsigned:1;
+"""
+STATS = """entries: 0
+overrun: {overrun}
+commit overrun: 0
+bytes: 0
+oldest event ts: {oldest}
+now ts:   100.000000
+dropped events: 0
+read events: 50
+"""
+PRESSURE = """some avg10=0.00 avg60=0.00 avg300=0.00 total={some}
+full avg10=0.00 avg60=0.00 avg300=0.00 total={full}
+"""
+MEMORY = """MemTotal:       1000 kB
+MemFree:         100 kB
+MemAvailable:    300 kB
+SwapTotal:       500 kB
+SwapFree:        200 kB
+"""
+GROUPS = ("", "/system.slice", "/system.slice/web.service", "/user slice")
+# Each thread: its number, its process, its state, its processor, its name and its group.
+THREADS = (
+    (1, 1, "S", 0, "init", ""),
+    (101, 101, "R", 1, "web) S 9 (x", "/system.slice/web.service"),
+    (102, 101, "D", 0, "two\nlines", "/system.slice/web.service"),
+)
+# Where in_iowait and pid stand in this machine's task_struct, in bits, and how a probe fetches them.
+WAIT_BIT, PID_BIT = 9544, 10112
+FETCHED = "pid=+1264($arg1):s32 io=+1192($arg1):b1@8/32"
+
+
+def write(path: str, text: str | bytes) -> None:
+    """A file, with the folders above it."""
+    os.makedirs(os.path.dirname(path), exist_ok=True)
+    with open(path, "wb") as file:
+        file.write(text if isinstance(text, bytes) else text.encode())
+
+
+def kernel_types(wait_name: str = "in_iowait") -> bytes:
+    """The kernel's types as Documentation/bpf/btf.rst spells them: a structure that only has the name's number somewhere, one
+    of the same name without the members, and the right one."""
+    names, text = {}, b"\0"
+    for name in ("int", "task_struct", "other", "pid", wait_name):
+        names[name] = len(text)
+        text += name.encode() + b"\0"
+    named = struct.Struct("<III")
+    parts = [named.pack(names["int"], 1 << 24, 4) + struct.pack("<I", 32)]
+    parts.append(named.pack(names["other"], 4 << 24 | 1, 4) + named.pack(names["pid"], 1, names["task_struct"]))
+    parts.append(named.pack(names["task_struct"], 4 << 24 | 1, 4) + named.pack(names["other"], 1, 0))
+    members = named.pack(names[wait_name], 1, 1 << 24 | WAIT_BIT) + named.pack(names["pid"], 1, PID_BIT)
+    parts.append(named.pack(names["task_struct"], 1 << 31 | 4 << 24 | 2, 2000) + members)
+    types = b"".join(parts)
+    return struct.pack("<HBBIIIII", 0xEB9F, 1, 0, 24, 0, len(types), len(types), len(text)) + types + text
+
+
+def make_pages(top: str, processor: int, pages: bytes) -> None:
+    """Many pages stand outside, so that a new instance has no copy of them."""
+    buffer = f"{top}/tracing/per_cpu/cpu{processor}/trace_pipe_raw"
+    if len(pages) < MANY_BYTES:
+        write(buffer, pages)
+    else:
+        write(f"{top}.pages{processor}", pages)
+        os.symlink(f"{top}.pages{processor}", buffer)
+
+
+def make_tracing(top: str, overrun: int, oldest: str, pages: int) -> None:
+    """The files of tracefs."""
+    tracing = f"{top}/tracing"
+    os.makedirs(f"{tracing}/instances")
+    for file, text in (("kprobe_events", "p:other/probe do_exit\n"), ("tracing_on", "1\n"), ("trace_clock", "[local] mono\n")):
+        write(f"{tracing}/{file}", text)
+    write(f"{tracing}/buffer_size_kb", "1408\n")
+    write(f"{tracing}/options/overwrite", "0\n")
+    write(f"{tracing}/options/markers", "0\n")
+    write(f"{tracing}/events/header_page", HEADER_PAGE)
+    for number, event in enumerate((*EVENTS, "ftrace/print")):
+        for file, text in (("enable", "0\n"), ("filter", "none\n"), ("format", f"name: {event}\nID: {number}\n")):
+            write(f"{tracing}/events/{event}/{file}", text)
+    for processor in range(2):
+        write(f"{tracing}/per_cpu/cpu{processor}/stats", STATS.format(overrun=overrun if processor else 0, oldest=oldest))
+        make_pages(top, processor, bytes([processor + 1]) * (PAGE_BYTES * pages))
+    # What is written into the marker has to outlive the instance.
+    write(f"{top}.markers", "")
+    os.symlink(f"{top}.markers", f"{tracing}/trace_marker")
+
+
+def make_groups(top: str) -> None:
+    """The control groups."""
+    for group in GROUPS:
+        threads = "".join(f"{it[0]}\n" for it in THREADS if it[5] == group)
+        write(f"{top}/cgroup{group}/cgroup.threads", threads)
+        for resource in ("io", "memory", "cpu") if group else ():
+            write(f"{top}/cgroup{group}/{resource}.pressure", PRESSURE.format(some=len(group), full=len(resource)))
+    write(f"{top}/cgroup/cgroup.controllers", "cpu io memory\n")
+    web = f"{top}/cgroup/system.slice/web.service"
+    for file, text in (("memory.current", "4096\n"), ("memory.swap.current", "8192\n"), ("cgroup.pressure", "0\n")):
+        write(f"{web}/{file}", text)
+    write(f"{web}/memory.stat", "anon 1\nfile 2\npgscan_kswapd 5\npgscan 77\npgsteal 3\n")
+
+
+def make_processes(top: str) -> None:
+    """The files of /proc."""
+    for number, process, state, processor, name, _ in THREADS:
+        fields = [str(it) for it in range(4, 39)]
+        write(f"{top}/proc/{number}/stat", f"{number} ({name}) {state} {' '.join(fields)} {processor} 0 0\n")
+        write(f"{top}/proc/{number}/status", f"Name:\tx\nTgid:\t{process}\nPid:\t{number}\n")
+    write(f"{top}/proc/meminfo", MEMORY)
+    write(f"{top}/proc/sys/kernel/sched_schedstats", "0\n")
+    for resource in ("io", "memory", "cpu"):
+        write(f"{top}/proc/pressure/{resource}", PRESSURE.format(some=1000, full=500))
+
+
+def make_machine(top: str, overrun: int = 0, oldest: str = "1.000000", pages: int = 1) -> None:
+    """A whole machine in this folder; each processor has so many pages of events, and the second has lost some."""
+    make_tracing(top, overrun, oldest, pages)
+    make_groups(top)
+    make_processes(top)
+    write(f"{top}/btf", kernel_types())
+    os.mkfifo(f"{top}/trigger")
+
+
+def listing(top: str) -> dict[str, tuple[int, str | bytes | None]]:
+    """All that is in the folder: of each path what it is, with its contents."""
+    found: dict[str, tuple[int, str | bytes | None]] = {}
+    for folder, folders, files in os.walk(top):
+        for name in folders + files:
+            path = f"{folder}/{name}"
+            kind = os.lstat(path).st_mode
+            if os.path.islink(path):
+                found[path] = kind, os.readlink(path)
+            elif os.path.isfile(path):
+                with open(path, "rb") as file:
+                    found[path] = kind, file.read()
+            else:
+                found[path] = kind, None
+    return found

@@ -1,0 +1,113 @@
+"""Wrong recorders: each edit of tools/psirec makes one, and a case of tests/record must tell it from the right one."""
+from __future__ import annotations
+
+import concurrent.futures
+import os
+import re
+import shutil
+import subprocess
+import tempfile
+
+Edit = tuple[str, str, str, str]
+
+# Which file, what stands there, what a wrong recorder has instead, and the case that must fail.
+EDITS: tuple[Edit, ...] = (
+    ("record_command.py", "    if missing:", "    if False:", "nothing_is_there"),
+    ("machine.py", 'elif os.path.exists(f"{self.groups}/cgroup.events"):', "elif False:", "in_a_container"),
+    ("folder.py", "os.mkdir(path)", "os.makedirs(path, exist_ok=True)", "the_folder_is_there_already"),
+    ("undoing.py", "self.steps.pop()\n            try", "self.steps.pop(0)\n            try", "a_whole_machine"),
+    ("undoing.py", "        self.undo()\n", "        pass\n", "a_whole_machine"),
+    ("undoing.py", "except OSError", "except KeyError", "what_cannot_be_undone"),
+    ("instance.py", 'self.undoing.note("open files", self.close_files)', "pass", "a_whole_machine"),
+    ("instance.py", "for processor in range(self.machine.processors()):", "for processor in range(1):", "a_whole_machine"),
+    ("instance.py", 'self.write("trace_clock", "mono")', "pass", "what_is_set_meanwhile"),
+    ("instance.py", '"overwrite": "1", ', "", "what_is_set_meanwhile"),
+    ("instance.py", "if wanted:", "if False:", "what_is_set_meanwhile"),
+    ("instance.py", "if event in NEEDED or event in sources.filters:", "if False:", "an_event_that_must_be"),
+    ("instance.py", 'and it == "overrun")', "and False)", "ring_that_fires"),
+    ("instance.py", "is_ring and it", "it", "lost_events"),
+    ("instance.py", 'if int(statistics.get("overrun", 0)) else 0.0', "", "ring_that_was_not_overwritten"),
+    ("instance.py", "int(number) == os.getpid() or not", "", "killed_and_started_again"),
+    ("instance.py", "int(number) == os.getpid() or not os.path.exists", "os.path.exists", "two_recorders"),
+    ("instance.py", "if found[2]:", "if False:", "killed_and_started_again"),
+    ("probing.py", "path, \"0\")", 'path, "1")', "no_kprobes"),
+    ("probing.py", "probe_remover(machine, name))", "lambda: None)", "a_whole_machine"),
+    ("probing.py", "return Statistics.ABSENT", "return Statistics.OFF", "statistics_are_absent"),
+    ("probing.py", "        undoing.steps.pop()\n        raise", "        raise", "statistics_are_refused"),
+    ("probing.py", "        undoing.steps.pop()\n            say", "        say", "no_kprobes"),
+    ("probing.py", 'strip() == b"1"', 'strip() == b"2"', "statistics_are_on_already"),
+    ("probing.py", 'f"{Probe.IO} == 1"', '""', "what_is_set_meanwhile"),
+    ("kernel_types.py", "if all(it in found for it in wanted):", "if True:", "what_is_set_meanwhile"),
+    ("kernel_types.py", "if has_widths:", "if False:", "what_is_set_meanwhile"),
+    ("kernel_types.py", "if magic == MAGIC:", "if True:", "no_kernel_types"),
+    ("samples.py", "sorted(it.path for it in entries if it.is_dir(follow_symlinks=False))", "[]", "snapshot"),
+    ("samples.py", "pending.extend(reversed(children))", "pending[:0] = children", "snapshot"),
+    ("samples.py", 'text.rfind(b")")', 'text.find(b")")', "snapshot"),
+    ("samples.py", "int(words[36])", "int(words[35])", "snapshot"),
+    ("samples.py", "layout.escaped_path(os.fsencode(", "str((", "snapshot"),
+    ("samples.py", 'startswith(b"pgscan ")', 'startswith(b"pgscan")', "markers"),
+    ("samples.py", "* KIB", "* 1000", "markers"),
+    ("samples.py", "if current is not None:", "if True:", "markers"),
+    ("samples.py", "self.unaccounted ^= {group.path}", "pass", "accounting_changes"),
+    ("machine.py", "except OSError:\n        return b", "except KeyError:\n        return b", "a_group_that_vanishes"),
+    ("samples.py", "if end < 0 or len(words) < 37 or not process:", "if False:", "a_group_that_vanishes"),
+    ("waiting.py", "signal.signal(number, self.note)", "pass", "signals"),
+    ("waiting.py", "signal.getsignal(number) != signal.SIG_IGN or number", "0", "hangup_under_nohup"),
+    ("waiting.py", "self.came or signal.Signals(number)", "sys.exit(3)", "signals"),
+    ("waiting.py", "self.poll.register(signals.reader, select.POLLIN)", "pass", "ring_that_is_stopped"),
+    ("recorder.py", "return [*jobs, self.draining]", "return jobs", "what_is_set_meanwhile"),
+    ("recorder.py", "self.end = self.start + self.wanted.seconds", "self.end = self.start + 0.5", "a_whole_machine"),
+    ("recorder.py", "self.instance.note_mark(layout.STOP)", "pass", "markers"),
+    ("recorder.py", "except DiskFull:\n            reason = Reason.DISK_FULL\n        except", "except", "a_full_disk"),
+    ("recorder.py", "min(DRAIN_SECONDS, max(LEAST_DRAIN_SECONDS, period))", "DRAIN_SECONDS", "a_busy_processor"),
+    ("recorder.py", "return Reason.SIZE", "pass", "size"),
+    ("recorder.py", "self.waiting.unwatch()", "pass", "ring_that_fires"),
+    ("recorder.py", "return [*jobs, Job(", "return [*jobs, self.draining, Job(", "ring_that_fires"),
+    ("recorder.py", "self.fired + self.wanted.after_seconds", "self.fired", "ring_that_fires"),
+    ("recorder.py", "self.wanted.is_ring and self.snap", "False and self.snap", "ring_where_the_buffers_begin"),
+    ("recorder.py", "not self.fired or begin < self.fired", "True", "ring_that_was_too_small"),
+    ("recorder.py", "if it.moment >= begin * 1e9", "", "ring_where_the_buffers_begin"),
+    ("folder.py", "os.ftruncate(file", "len((file", "a_full_disk"),
+    ("folder.py", "os.posix_fallocate(file, 0, RESERVE_BYTES)", "pass", "a_full_file_system"),
+    ("folder.py", "os.unlink(f\"{self.path}/{RESERVE}\")", "pass", "a_whole_machine"),
+    ("folder.py", "FULL = (errno.ENOSPC, errno.EDQUOT, errno.EFBIG)", "FULL = ()", "a_full_disk"),
+    ("record_command.py", "suppress(OSError, ValueError):\n        print", "suppress():\n        print", "nobody_reads"),
+    ("record_command.py", "folder.discard()", "pass", "an_event_that_must_be"),
+    ("record_command.py", "remove_left_behind(machine, tell)", "pass", "killed_and_started_again"),
+    ("record_command.py", "(before + behind) / 2", "before - 1", "the_two_clocks"),
+    ("record_command.py", "ending.is_whole = False", "pass", "statistics_are_switched_off_meanwhile"),
+    ("record_command.py", "if left:", "if False:", "what_cannot_be_undone"),
+)
+
+
+def edited(top: str, edit: Edit) -> str | None:
+    """The file with this edit; nothing where what is to be edited doesn't stand there once."""
+    with open(f"{top}/tools/psirec/{edit[0]}", encoding="utf-8") as file:
+        text = file.read()
+    return text.replace(edit[1], edit[2]) if text.count(edit[1]) == 1 else None
+
+
+def is_found(top: str, edit: Edit) -> bool:
+    """Whether the case fails on the wrong recorder."""
+    with tempfile.TemporaryDirectory(prefix="wrong") as scratch:
+        shutil.copytree(f"{top}/tools", f"{scratch}/tools")
+        with open(f"{scratch}/tools/psirec/{edit[0]}", "w", encoding="utf-8") as file:
+            file.write(edited(top, edit) or "")
+        environment = {**os.environ, "RECORD_TOOLS": f"{scratch}/tools"}
+        words = [f"{top}/tests/record", edit[3]]
+        done = subprocess.run(words, env=environment, capture_output=True, text=True, check=False)
+    return done.returncode == 1 and bool(re.search(", 1 failed$", done.stdout, re.MULTILINE))
+
+
+def main(top: str, cases: list[str]) -> int:
+    """Each edit in turn; the status."""
+    stale = [edit for edit in EDITS if edit[3] not in cases or edited(top, edit) is None]
+    tried = [edit for edit in EDITS if edit not in stale]
+    with concurrent.futures.ThreadPoolExecutor(2) as pool:
+        found = list(pool.map(lambda edit: is_found(top, edit), tried))
+    missed = [edit for edit, is_told in zip(tried, found) if not is_told]
+    for told, edits in (("no case finds it", missed), ("its text or its case isn't there", stale)):
+        for edit in edits:
+            print(f"{told}: {edit[0]}: {edit[1]} -> {edit[2]}")
+    print(f"record: {len(EDITS)} wrong recorders, {len(missed) + len(stale)} not found")
+    return 1 if missed or stale else 0

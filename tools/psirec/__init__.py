@@ -1,0 +1,1 @@
+"""What `tools/record` writes and `tools/psitrace`, `tools/compare` and `tools/ftrace-check` read."""

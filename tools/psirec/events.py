@@ -1,0 +1,202 @@
+"""What a recording's events say, whatever they were read from: pages of ring buffers, or text.
+
+`moment` is in ns by the recording's clock, `processor` is the one on which the event was written, and `current` the task
+that ran there then (0 is the idle task). Tasks are threads, by the numbers of the first PID namespace. The names of the
+kernel's events are those of `include/trace/events/{sched,task,cgroup,oom}.h`.
+"""
+from __future__ import annotations
+
+from typing import NamedTuple, Union
+
+
+class Switch(NamedTuple):
+    """`sched_switch`: `previous` leaves in `state`, the letter of the kernel's print format (`R`: it stays ready)."""
+
+    moment: int
+    processor: int
+    current: int
+    previous: int
+    state: str
+    next: int
+
+
+class Wakeup(NamedTuple):
+    """`sched_wakeup`: the task is ready on `target`."""
+
+    moment: int
+    processor: int
+    current: int
+    task: int
+    target: int
+
+
+class FirstWakeup(NamedTuple):
+    """`sched_wakeup_new`: a task that was made is ready for the first time. It is written in its parent."""
+
+    moment: int
+    processor: int
+    current: int
+    task: int
+    target: int
+
+
+class Migration(NamedTuple):
+    """`sched_migrate_task`: of a ready task, or right before a wakeup."""
+
+    moment: int
+    processor: int
+    current: int
+    task: int
+    origin: int
+    target: int
+
+
+class NewTask(NamedTuple):
+    """`task_newtask`, written in the parent. `flags` are those of clone(2)."""
+
+    moment: int
+    processor: int
+    current: int
+    task: int
+    flags: int
+
+
+class Exec(NamedTuple):
+    """`sched_process_exec`: where `old` differs, that thread has taken over the number of its process's first thread."""
+
+    moment: int
+    processor: int
+    current: int
+    task: int
+    old: int
+
+
+class WaitEnds(NamedTuple):
+    """`sched_stat_iowait`: the sleep that ends was a wait for IO. It stands before the wakeup."""
+
+    moment: int
+    processor: int
+    current: int
+    task: int
+
+
+class SwitchProbe(NamedTuple):
+    """A probe on `psi_task_switch`, right before the `sched_switch` of the same processor: whether psi takes the task that
+    leaves as waiting for IO."""
+
+    moment: int
+    processor: int
+    current: int
+    task: int
+    waits: int
+
+
+class StallBegins(NamedTuple):
+    """A probe on `psi_memstall_enter`: `current` goes into a memory stall, or into one more."""
+
+    moment: int
+    processor: int
+    current: int
+
+
+class StallEnds(NamedTuple):
+    """A probe on `psi_memstall_leave`; `flags` is 0 where `current` isn't in any more stalls."""
+
+    moment: int
+    processor: int
+    current: int
+    flags: int
+
+
+class Attach(NamedTuple):
+    """`cgroup_attach_task`: a task goes to a group. It names the first thread of a process of which all threads go. In a
+    hierarchy other than that of cgroup 2 `hierarchy` isn't 0."""
+
+    moment: int
+    processor: int
+    current: int
+    hierarchy: int
+    path: bytes
+    task: int
+
+
+class GroupMade(NamedTuple):
+    """`cgroup_mkdir`."""
+
+    moment: int
+    processor: int
+    current: int
+    hierarchy: int
+    path: bytes
+
+
+class GroupRemoved(NamedTuple):
+    """`cgroup_rmdir`."""
+
+    moment: int
+    processor: int
+    current: int
+    hierarchy: int
+    path: bytes
+
+
+class Victim(NamedTuple):
+    """`mark_victim`: the kernel's own killer chose the task."""
+
+    moment: int
+    processor: int
+    current: int
+    task: int
+
+
+class Interrupts(NamedTuple):
+    """A probe on `psi_account_irqtime`: `delta` ns went to interrupts. A trace of version 1 has no word for it."""
+
+    moment: int
+    processor: int
+    current: int
+    delta: int
+
+
+class Marker(NamedTuple):
+    """A line that was written into `trace_marker`."""
+
+    moment: int
+    processor: int
+    current: int
+    text: bytes
+
+
+Event = Union[
+    Switch, Wakeup, FirstWakeup, Migration, NewTask, Exec, WaitEnds, SwitchProbe, StallBegins, StallEnds, Attach, GroupMade,
+    GroupRemoved, Victim, Interrupts, Marker,
+]  # fmt: skip
+
+# What each kind is called where kinds are counted: the kernel's name, or the probe's.
+NAMES: dict[type, str] = {
+    Switch: "sched_switch", Wakeup: "sched_wakeup", FirstWakeup: "sched_wakeup_new", Migration: "sched_migrate_task",
+    NewTask: "task_newtask", Exec: "sched_process_exec", WaitEnds: "sched_stat_iowait", SwitchProbe: "psi_task_switch",
+    StallBegins: "psi_memstall_enter", StallEnds: "psi_memstall_leave", Attach: "cgroup_attach_task",
+    GroupMade: "cgroup_mkdir", GroupRemoved: "cgroup_rmdir", Victim: "mark_victim", Interrupts: "psi_account_irqtime",
+    Marker: "trace_marker",
+}  # fmt: skip
+
+# clone(2): the new task is a thread of its parent's process; and it begins in a group that the caller named.
+CLONE_THREAD = 0x10000
+CLONE_INTO_CGROUP = 0x2_0000_0000
+
+# The letters of tasks that leave for good: dead, and zombie.
+GONE = ("X", "Z")
+
+
+NEVER = 2**64
+
+
+class Gap(NamedTuple):
+    """Events of a processor that were lost: how many (0 where that isn't known), somewhere from `start` to `end` in ns, or up
+    to `end` where `start` is 0, or from `start` on where `end` is NEVER."""
+
+    processor: int
+    start: int
+    end: int
+    lost: int

@@ -1,0 +1,141 @@
+"""The formats of a recording's events: where each field stands in a record, by the kernel's own `format` files.
+
+A field's line is `field:TYPE NAME; offset:N; size:N; signed:N;`, offsets and sizes in bytes
+(`Documentation/trace/events.rst` of Linux, section 2.2). Numbers are little-endian.
+"""
+from __future__ import annotations
+
+import operator
+import re
+import struct
+from collections.abc import Callable, Sequence
+from typing import NamedTuple
+
+FIELD = re.compile(r"\s+field:(.*?)([A-Za-z0-9_]+)(\[[^\]]*\])?;\s*offset:(\d+);\s*size:(\d+);\s*signed:([01]);")
+INTEGERS = {(1, True): "b", (1, False): "B", (2, True): "h", (2, False): "H",
+            (4, True): "i", (4, False): "I", (8, True): "q", (8, False): "Q"}  # fmt: skip
+
+
+class FormatFault(Exception):
+    """The formats aren't those of a kernel whose pages can be read."""
+
+
+class Field(NamedTuple):
+    """A field of a record; `offset` and `size` are bytes, and `size` is 0 for a text that ends the record."""
+
+    type: str
+    offset: int
+    size: int
+    is_signed: bool
+
+
+class Format(NamedTuple):
+    """An event's name, the number by which its records tell it, its fields, and its print format."""
+
+    name: str
+    number: int
+    fields: dict[str, Field]
+    print_format: str
+
+
+def field_of(line: str) -> tuple[str, Field] | None:
+    """The field that this line of a format tells, with its name."""
+    found = FIELD.match(line)
+    if not found:
+        return None
+    return found[2], Field(found[1].strip() + (found[3] or ""), int(found[4]), int(found[5]), found[6] == "1")
+
+
+def sections_of(text: str) -> dict[str, list[str]]:
+    """The lines of each `== NAME` of the recording's file of formats."""
+    sections: dict[str, list[str]] = {}
+    lines: list[str] = []
+    for line in text.split("\n"):
+        if line.startswith("== "):
+            lines = sections[line[3:].strip()] = []
+        else:
+            lines.append(line)
+    return sections
+
+
+def fields_of(lines: Sequence[str]) -> dict[str, Field]:
+    """All fields of a format, by name."""
+    return dict(found for found in map(field_of, lines) if found)
+
+
+def formats_of(sections: dict[str, list[str]]) -> dict[str, Format]:
+    """The formats of all events, by the event's name without its system's."""
+    formats = {}
+    for path, lines in sections.items():
+        number = next((int(line[4:]) for line in lines if re.fullmatch(r"ID: \d+", line)), None)
+        if number is not None:
+            name = path.rpartition("/")[2]
+            texts = [line for line in lines if line.startswith("print fmt:")]
+            formats[name] = Format(name, number, fields_of(lines), texts[0] if texts else "")
+    return formats
+
+
+class PageFormat(NamedTuple):
+    """A page of a ring buffer, by `events/header_page`: how long it is, how many bytes tell how much is used, and where
+    its records begin."""
+
+    size: int
+    commit_size: int
+    data: int
+
+
+def page_format_of(sections: dict[str, list[str]]) -> PageFormat:
+    """The pages' form that the recording tells."""
+    fields = fields_of(sections.get("header_page", ()))
+    try:
+        data, commit = fields["data"], fields["commit"]
+    except KeyError as missing:
+        raise FormatFault(f"header_page has no field {missing}") from None
+    if commit.size not in (4, 8) or commit.offset != 8:
+        raise FormatFault(f"header_page: commit has {commit.size} bytes at {commit.offset}")
+    return PageFormat(data.offset + data.size, commit.size, data.offset)
+
+
+def state_letters(print_format: str) -> tuple[dict[int, str], int]:
+    """The letter of each bit of `prev_state` by the print format of `sched_switch`, and the bit of `R+`: a task that made
+    way while it was about to sleep, and stays ready. It is the one above the letters' bits."""
+    letters = {int(bit, 16): letter for bit, letter in re.findall(r"\{\s*(0x[0-9a-fA-F]+),\s*\"(\w)\"", print_format)}
+    if not letters:
+        raise FormatFault("the format of sched_switch tells no letters of states")
+    return letters, 2 * max(letters)
+
+
+def integers_of(form: Format, names: Sequence[str]) -> Callable[[bytes, int], tuple[int, ...]]:
+    """What reads these fields, all of them whole numbers, from a record at a place."""
+    try:
+        fields = [form.fields[name] for name in names]
+        order = sorted(range(len(fields)), key=lambda place: fields[place].offset)
+        layout, end = "<", 0
+        for field in (fields[place] for place in order):
+            layout += f"{field.offset - end}x" + INTEGERS[field.size, field.is_signed]
+            end = field.offset + field.size
+        reader = struct.Struct(layout)
+    except (KeyError, struct.error) as fault:
+        raise FormatFault(f"{form.name} has no field {fault} that can be read") from None
+    return in_order(reader, [order.index(place) for place in range(len(order))])
+
+
+def in_order(reader: struct.Struct, places: list[int]) -> Callable[[bytes, int], tuple[int, ...]]:
+    """What reads by this structure and answers the numbers in the order of `places`."""
+    unpack = reader.unpack_from
+    if places == list(range(len(places))):
+        return unpack
+    pick: Callable[[tuple[int, ...]], tuple[int, ...]] = operator.itemgetter(*places)
+    return lambda data, at: pick(unpack(data, at))
+
+
+def text_at(data: bytes, at: int, end: int, field: Field) -> bytes:
+    """A text field of the record from `at` to `end`, without its closing zero."""
+    if field.type.startswith("__data_loc"):
+        where = int.from_bytes(data[at + field.offset : at + field.offset + 4], "little")
+        start = at + (where & 0xFFFF)
+        found = data[start : min(start + (where >> 16), end)]
+    else:
+        start = at + field.offset
+        found = data[start : start + field.size if field.size else end]
+    return found.split(b"\0", 1)[0]

@@ -1,0 +1,120 @@
+"""The control groups of a trace: which are there, how many tasks and groups are in each, and what a trace can't have."""
+from __future__ import annotations
+
+from collections import Counter
+
+# What a trace may have at most: groups ever made beside the root, components of a path, and bytes of one.
+MOST_GROUPS = 1023
+MOST_LEVELS = 32
+MOST_BYTES = 255
+ROOT = "/"
+
+
+def parent_of(path: str) -> str:
+    """The group above; of the root the root."""
+    return path.rpartition("/")[0] or ROOT
+
+
+def prefixes_of(path: str) -> list[str]:
+    """The groups from the one below the root down to this one."""
+    ends = [place for place, letter in enumerate(path) if letter == "/" and place] + [len(path)]
+    return [path[:end] for end in ends] if path != ROOT else []
+
+
+class Groups:
+    """The groups by path. A group that was removed while a task was in it stays until that leaves."""
+
+    def __init__(self, deepest: int | None = None) -> None:
+        self.deepest = deepest
+        self.tasks: Counter[str] = Counter()
+        self.children: Counter[str] = Counter()
+        self.live = {ROOT}
+        self.leaving: set[str] = set()
+        self.made = 0
+        # For a path that the trace doesn't have, the one that stands for it.
+        self.folded: dict[str, str] = {}
+        # Why groups were folded, and which were first.
+        self.limits: dict[str, list[str]] = {}
+
+    def limit_of(self, path: str) -> str | None:
+        """The limit that this path, which isn't there, would go beyond, if any."""
+        if path.count("/") > MOST_LEVELS:
+            return f"more than {MOST_LEVELS} levels"
+        if len(path) > MOST_BYTES:
+            return f"more than {MOST_BYTES} bytes"
+        return f"more than {MOST_GROUPS} groups" if self.made >= MOST_GROUPS else None
+
+    def make(self, path: str) -> tuple[str, list[str]]:
+        """The path that stands for this one, and the groups that are to be made for it, parents first."""
+        if path in self.live:
+            return path, []
+        place = ROOT
+        made: list[str] = []
+        for one in prefixes_of(path):
+            if one in self.live:
+                place = one
+                continue
+            if self.is_folded(one):
+                self.folded[path] = self.folded[one]
+                return self.folded[one], made
+            limit = self.limit_of(one)
+            if limit or (self.deepest is not None and one.count("/") > self.deepest):
+                self.folded[one] = self.folded[path] = place
+                if limit:
+                    self.limits.setdefault(limit, []).append(one)
+                return place, made
+            self.live.add(one)
+            self.children[place] += 1
+            self.made += 1
+            made.append(one)
+            place = one
+        return place, made
+
+    def is_folded(self, path: str) -> bool:
+        """Whether another group, which is there, stands for this one."""
+        return self.folded.get(path) in self.live
+
+    def place_of(self, path: str) -> str | None:
+        """The path that stands for this one, if it is there."""
+        return path if path in self.live else self.folded[path] if self.is_folded(path) else None
+
+    def enter(self, path: str) -> None:
+        """One task more is in the group."""
+        self.tasks[path] += 1
+
+    def leave(self, path: str) -> list[str]:
+        """One task fewer is in it; answers the groups that are gone by that."""
+        self.tasks[path] -= 1
+        return self.swept(path)
+
+    def remove(self, path: str) -> list[str]:
+        """The kernel removed the group; answers the groups that are gone from the trace by that."""
+        self.folded.pop(path, None)
+        if path not in self.live or path == ROOT:
+            return []
+        self.leaving.add(path)
+        return self.swept(path)
+
+    def swept(self, path: str) -> list[str]:
+        """Takes away the group and those above it, as far as they are to leave and nothing is in them."""
+        gone = []
+        while path in self.leaving and not self.tasks[path] and not self.children[path]:
+            self.leaving.remove(path)
+            self.live.remove(path)
+            self.children[parent_of(path)] -= 1
+            gone.append(path)
+            path = parent_of(path)
+        return gone
+
+    def is_leaving(self, path: str) -> bool:
+        """Whether the kernel removed it, and it is still there."""
+        return path in self.leaving
+
+    def leaving_below(self, path: str) -> list[str]:
+        """This group and those below it that are to leave, the deepest first."""
+        found = (it for it in self.leaving if it == path or it.startswith(path + "/"))
+        return sorted(found, key=lambda it: (-it.count("/"), it))
+
+    def keep(self, path: str) -> None:
+        """The group stays, though the kernel removed it."""
+        self.leaving.discard(path)

@@ -1,0 +1,109 @@
+"""Looks up where a member of a kernel structure stands, and how many parameters a function has, in the kernel's own types.
+
+The format is that of Documentation/bpf/btf.rst. Of its 10 MB two names are looked for: a walk over all types would take
+seconds on a slow machine, a search for the place of a name's text takes a tenth of one.
+"""
+from __future__ import annotations
+
+import struct
+from collections.abc import Iterator
+from dataclasses import dataclass
+
+MAGIC = 0xEB9F
+HEADER = struct.Struct("<HBBIIIII")
+TYPE = struct.Struct("<III")
+MEMBER = struct.Struct("<III")
+STRUCTURE, FUNCTION, PROTOTYPE = 4, 12, 13
+WORD_BITS = 32
+
+
+@dataclass(frozen=True)
+class Place:
+    """Where a member stands in its structure: the bit with which it begins, and its width where it is a bit field, else 0."""
+
+    bit: int
+    width: int
+
+    def fetch(self, argument: int, plain_type: str) -> str:
+        """How a probe fetches it from the structure to which an argument points (Documentation/trace/kprobetrace.rst). A
+        member that is no bit field has a type, as `s32`."""
+        if not self.width:
+            return f"+{self.bit // 8}($arg{argument}):{plain_type}"
+        return f"+{self.bit // WORD_BITS * 4}($arg{argument}):b{self.width}@{self.bit % WORD_BITS}/{WORD_BITS}"
+
+
+class KernelTypes:
+    """The types of a kernel, from the bytes of /sys/kernel/btf/vmlinux; none where these are something else."""
+
+    def __init__(self, data: bytes) -> None:
+        self.data = data
+        self.types = self.types_end = self.strings = 0
+        if len(data) >= HEADER.size:
+            magic, _, _, header, types, types_size, strings, _ = HEADER.unpack_from(data)
+            if magic == MAGIC:
+                self.types, self.types_end = header + types, header + types + types_size
+                self.strings = header + strings
+
+    def name_at(self, place: int) -> bytes:
+        """The name that begins there in the section of strings."""
+        start = self.strings + place
+        return self.data[start : self.data.index(b"\0", start)]
+
+    def named(self, name: str, kind: int) -> Iterator[int]:
+        """Where types of this name and kind stand. Each name stands once among the strings; what merely looks like a type
+        isn't one, so whoever asks looks further until what it finds fits."""
+        found = self.data.find(b"\0" + name.encode() + b"\0", self.strings)
+        if self.strings == 0 or found < 0:
+            return
+        wanted = struct.pack("<I", found + 1 - self.strings)
+        place = self.data.find(wanted, self.types, self.types_end)
+        while 0 <= place <= self.types_end - TYPE.size:
+            if TYPE.unpack_from(self.data, place)[1] >> 24 & 31 == kind:
+                yield place
+            place = self.data.find(wanted, place + 1, self.types_end)
+
+    def members(self, structure: str, wanted: tuple[str, ...]) -> dict[str, Place]:
+        """Where these members of the structure stand; nothing where not all are there."""
+        for place in self.named(structure, STRUCTURE):
+            info = TYPE.unpack_from(self.data, place)[1]
+            has_widths, count = bool(info >> 31), info & 0xFFFF
+            if place + TYPE.size + count * MEMBER.size > self.types_end:
+                continue
+            found = dict(self.member(place + TYPE.size + i * MEMBER.size, has_widths, wanted) for i in range(count))
+            if all(it in found for it in wanted):
+                return {it: found[it] for it in wanted}
+        return {}
+
+    def member(self, place: int, has_widths: bool, wanted: tuple[str, ...]) -> tuple[str, Place]:
+        """A member's name, empty where it isn't wanted, and its place."""
+        name_place, _, offset = MEMBER.unpack_from(self.data, place)
+        known = [it for it in wanted if self.data.startswith(it.encode() + b"\0", self.strings + name_place)]
+        if has_widths:
+            return "".join(known), Place(offset & 0xFFFFFF, offset >> 24)
+        return "".join(known), Place(offset, 0)
+
+    def parameters(self, function: str) -> int | None:
+        """How many parameters the function has, or None where it isn't there."""
+        for place in self.named(function, FUNCTION):
+            number = TYPE.unpack_from(self.data, place)[2]
+            return self.prototype_parameters(number)
+        return None
+
+    def prototype_parameters(self, number: int) -> int | None:
+        """How many parameters the prototype has that is the type of this number, from 1."""
+        place = self.types
+        for _ in range(number - 1):
+            if place > self.types_end - TYPE.size:
+                return None
+            info = TYPE.unpack_from(self.data, place)[1]
+            place += TYPE.size + extra_size(info >> 24 & 31, info & 0xFFFF)
+        if place > self.types_end - TYPE.size:
+            return None
+        info = TYPE.unpack_from(self.data, place)[1]
+        return info & 0xFFFF if info >> 24 & 31 == PROTOTYPE else None
+
+
+def extra_size(kind: int, count: int) -> int:
+    """How many bytes stand behind a type of this kind."""
+    fixed, each = {1: 4, 3: 12, 14: 4, 17: 4}, {4: 12, 5: 12, 6: 8, 13: 8, 15: 12, 19: 12}
+    return fixed.get(kind, 0) + each.get(kind, 0) * count

@@ -1,0 +1,178 @@
+"""The names that a recording has: the files of its folder, their lines, the markers among its events, and its probes.
+
+`tools/record` writes by these names and `tools/psitrace` and `tools/compare` read by them, so each stands here once. All
+files are bytes; what isn't UTF-8 in them is kept by the error handler `surrogateescape`. A path of a control group stands
+in each of them as `escaped_path` spells it, from the root of the hierarchy, which is `/`; so no path has a blank.
+
+meta        lines `KEY VALUE`, a key as often as it is needed. The last line is `end REASON`: where it is missing the
+            recorder was killed.
+formats     for each event a line `== SYSTEM/EVENT` and the text of the kernel's own file `events/SYSTEM/EVENT/format`;
+            likewise `== header_page`, which tells the size of a page of a ring buffer.
+cpuN.raw    the pages of the ring buffer of processor N, in the order in which they came.
+snapshot    what there was when the recording had begun: lines `at NS`, `group PATH PREFERENCE`,
+            `task TID TGID STATE CPU PATH NAME` and `unaccounted PATH` (a group whose `cgroup.pressure` is 0).
+pressure    for each reading `sample NUMBER PATH RESOURCE` and the two lines of that pressure file.
+
+NS is CLOCK_MONOTONIC in ns, as all times of events are (`trace_clock` is `mono`). Sizes of memory are bytes.
+"""
+from __future__ import annotations
+
+import re
+
+# The version of this layout, which `meta` tells first: `recording 1`. Where it doesn't, a sketch of the recorder wrote the
+# folder: all of the above but the end, for which SKETCH_END stands last.
+VERSION = "1"
+
+# ---------------------------------------------------------------- files
+
+META = "meta"
+FORMATS = "formats"
+SNAPSHOT = "snapshot"
+PRESSURE = "pressure"
+
+
+def raw_name(processor: int) -> str:
+    """The file of this processor's pages."""
+    return f"cpu{processor}.raw"
+
+
+# ---------------------------------------------------------------- keys of meta
+
+
+class Key:
+    """What a line of `meta` begins with, and what its value is."""
+
+    RECORDING = "recording"  # VERSION; the first line
+    UNAME = "uname"  # the words of uname(2)
+    PROCESSORS = "cpus"  # how many are configured (_NPROCESSORS_CONF): so many raw files there are
+    MOMENT = "moment"  # `realtime S monotonic S`, read together at the start: seconds with six decimals
+    EVENT = "event"  # `SYSTEM/EVENT`: it was on
+    NO_EVENT = "no-event"  # `SYSTEM/EVENT: REASON`: it couldn't be had
+    NO_PROBE = "no-probe"  # `DEFINITION: REASON`
+    RING = "ring"  # the trigger of a flight recorder, whose buffers were overwritten on purpose
+    RING_START = "ring-start"  # s: from here on all processors have events
+    FIRED = "fired"  # s: when the trigger did
+    STATS = "stats"  # `cpuN LINE`: a line of `per_cpu/cpuN/stats` at the end
+    SECONDS = "seconds"  # how long the recording lasted
+    BYTES = "bytes"  # of all pages
+    PROCESSOR_SECONDS = "cpu-seconds"  # `user S sys S`: what the recorder itself used
+    LEFT = "left"  # something that couldn't be removed from the machine
+    END = "end"  # REASON, below; the last line
+
+
+SKETCH_END = Key.PROCESSOR_SECONDS
+
+# Lines of `stats` that count events which were lost.
+LOST_STATS = ("overrun", "commit overrun", "dropped events")
+
+
+class Reason:
+    """Why a recording ended."""
+
+    SECONDS = "seconds"  # the time was over
+    SIGNAL = "signal"  # SIGINT, SIGTERM or SIGHUP came
+    SIZE = "max-mb"  # so much was written
+    TRIGGER = "trigger"  # the flight recorder's trigger had fired
+    DISK_FULL = "disk-full"  # not all pages could be written
+    FAILED = "failed"  # something else, told behind it
+
+
+# ---------------------------------------------------------------- probes
+
+# The instance of tracefs, and the group of the probes: PREFIX and the recorder's process number.
+PREFIX = "psirec"
+
+
+class Probe:
+    """Names of probes, and of what they fetch."""
+
+    STALL_BEGINS = "ms_enter"  # psi_memstall_enter
+    STALL_ENDS = "ms_leave"  # psi_memstall_leave; FLAGS is 0 where it is the outermost one
+    SWITCH = "psw"  # psi_task_switch: PID leaves, and IO says whether psi counts it as waiting for IO
+    INTERRUPT = "irq"  # psi_account_irqtime: DELTA ns
+    FLAGS = "flags"
+    PID = "pid"
+    IO = "io"
+    DELTA = "delta"
+
+
+# ---------------------------------------------------------------- markers
+
+# A marker is a line that the recorder writes into its own `trace_marker`: MARK, and one of the words below.
+MARK = "psirec "
+START = "start"
+STOP = "stop"
+TRIGGERED = "fired"
+SNAPSHOT_BEGINS = "snapshot begin"
+SNAPSHOT_ENDS = "snapshot end"
+# Longer markers than this many bytes may be cut by the kernel.
+MOST_MARKER_BYTES = 1000
+
+
+def host_marker(memory_total: int, swap_total: int, swap_free: int) -> str:
+    """The machine's memory, in bytes."""
+    return f"{MARK}host {memory_total} {swap_total} {swap_free}"
+
+
+def memory_marker(path: str, current: int, swap: int, scanned: int) -> str:
+    """A group's memory and swap in bytes, and its count of scanned pages (`pgscan`); `path` is escaped."""
+    return f"{MARK}mem {path} {current} {swap} {scanned}"
+
+
+def pressure_marker(number: int, is_end: bool) -> str:
+    """Before and behind the reading of all pressure files; `number` counts the readings from 0."""
+    return f"{MARK}pressure {number} {'end' if is_end else 'begin'}"
+
+
+def accounting_marker(path: str, is_on: bool) -> str:
+    """A group's `cgroup.pressure` was seen to have changed; `path` is escaped."""
+    return f"{MARK}accounting {path} {'on' if is_on else 'off'}"
+
+
+# ---------------------------------------------------------------- lines of snapshot and pressure
+
+PREFERENCES = ("none", "prefer", "avoid", "omit")
+RESOURCES = ("io", "memory", "cpu")
+
+
+def at_line(moment_ns: int) -> str:
+    """When a snapshot was begun: CLOCK_MONOTONIC in ns."""
+    return f"at {moment_ns}"
+
+
+def group_line(path: str, preference: str) -> str:
+    """A group that was there; `preference` is one of PREFERENCES, from the attributes that oomd and systemd-oomd read."""
+    return f"group {path} {preference}"
+
+
+def unaccounted_line(path: str) -> str:
+    """A group whose pressure isn't accounted (`cgroup.pressure` is 0)."""
+    return f"unaccounted {path}"
+
+
+def task_line(task: int, process: int, state: str, processor: int, path: str, name: str) -> str:
+    """A thread, its process (Tgid), its state's letter and its processor by /proc/TID/stat, and its group. A newline in
+    its name is written as a blank."""
+    return f"task {task} {process} {state} {processor} {path} {' '.join(name.splitlines())}"
+
+
+def sample_line(number: int, path: str, resource: str) -> str:
+    """The head of one pressure file of a reading."""
+    return f"sample {number} {path} {resource}"
+
+
+# ---------------------------------------------------------------- paths
+
+_PLAIN = frozenset(b"ABCDEFGHIJKLMNOPQRSTUVWXYZabcdefghijklmnopqrstuvwxyz0123456789_.@:-\\")
+
+
+def _escaped_component(component: bytes) -> str:
+    if component in (b".", b".."):
+        return "".join(f"\\x{byte:02x}" for byte in component)
+    return "".join(chr(byte) if byte in _PLAIN else f"\\x{byte:02x}" for byte in component)
+
+
+def escaped_path(path: bytes) -> str:
+    """A group's path with the bytes alone that a trace may have: each other one becomes `\\xHH`, which is how systemd
+    escapes names of units. An escaped path stays as it is."""
+    return "/" + "/".join(_escaped_component(it) for it in re.split(b"/+", path) if it)

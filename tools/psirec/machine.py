@@ -1,0 +1,99 @@
+"""The machine that is recorded: where its files are, and the few things that are done to it.
+
+The kernel's own texts tell how each file behaves: Documentation/trace/ftrace.rst (instances, trace_marker, trace_pipe_raw),
+Documentation/trace/kprobetrace.rst (kprobe_events), Documentation/admin-guide/cgroup-v2.rst (groups) and
+Documentation/accounting/psi.rst (pressure, triggers).
+"""
+from __future__ import annotations
+
+import errno
+import os
+import select
+from collections.abc import Iterator
+from dataclasses import dataclass
+
+SCHEDULER_STATISTICS = "sys/kernel/sched_schedstats"
+# The number of the first namespace of process numbers (PROC_PID_INIT_INO): events tell numbers as they are there.
+FIRST_PROCESS_NAMESPACE = "pid:[4026531836]"
+
+
+def read_file(path: str) -> bytes:
+    """The whole file, or nothing where it can't be read, as that of a group that went away meanwhile."""
+    try:
+        with open(path, "rb", buffering=0) as file:
+            return file.readall() or b""
+    except OSError:
+        return b""
+
+
+def write_file(path: str, text: str, flags: int = 0) -> None:
+    """Writes to a file that is there. Never with O_TRUNC, which empties the kernel's list of everyone's probes."""
+    file = os.open(path, os.O_WRONLY | flags)
+    try:
+        os.write(file, text.encode())
+    finally:
+        os.close(file)
+
+
+@dataclass(frozen=True)
+class Machine:
+    """The real machine. All its paths are absolute."""
+
+    tracing: str = "/sys/kernel/tracing"
+    groups: str = "/sys/fs/cgroup"
+    proc: str = "/proc"
+    types: str = "/sys/kernel/btf/vmlinux"
+
+    def processors(self) -> int:
+        """How many are configured; those that are absent have empty buffers."""
+        return os.sysconf("SC_NPROCESSORS_CONF")
+
+    def missing(self) -> Iterator[str]:
+        """What a recording needs and doesn't find here. Nothing is changed to find that out."""
+        if os.geteuid() != 0:
+            yield "root: tracing a whole machine takes it"
+        if os.path.exists(f"{self.proc}/self/ns/pid") and os.readlink(f"{self.proc}/self/ns/pid") != FIRST_PROCESS_NAMESPACE:
+            yield "the machine's own process numbers: this is a container, which has others"
+        yield from self.missing_files()
+
+    def missing_files(self) -> Iterator[str]:
+        """The files of `missing`."""
+        if not os.path.isdir(f"{self.tracing}/instances"):
+            yield f"tracefs: {self.tracing}/instances isn't there (mount -t tracefs tracefs {self.tracing})"
+        if not os.path.exists(f"{self.groups}/cgroup.controllers"):
+            yield (
+                f"control groups of version 2: {self.groups}/cgroup.controllers isn't there; with version 1, or both,"
+                " groups have no pressure files (systemd.unified_cgroup_hierarchy=1 at boot)"
+            )
+        elif os.path.exists(f"{self.groups}/cgroup.events"):
+            yield f"the machine's own control groups: {self.groups} isn't the root of the hierarchy, so this is a container"
+        if not read_file(f"{self.proc}/pressure/cpu"):
+            yield f"pressure: {self.proc}/pressure/cpu can't be read (psi=1 at boot)"
+
+    def make_instance(self, name: str) -> None:
+        """Makes an instance of tracing, which the kernel fills with files."""
+        os.mkdir(f"{self.tracing}/instances/{name}")
+
+    def remove_instance(self, name: str) -> None:
+        """Removes it; EBUSY while a file of it is open. Its events go off with it."""
+        os.rmdir(f"{self.tracing}/instances/{name}")
+
+    def add_probe(self, definition: str) -> None:
+        """Adds a probe, as Documentation/trace/kprobetrace.rst spells it."""
+        write_file(f"{self.tracing}/kprobe_events", f"{definition}\n", os.O_APPEND)
+
+    def remove_probe(self, name: str) -> None:
+        """Removes the probe GROUP/EVENT; EBUSY while its event is on anywhere."""
+        write_file(f"{self.tracing}/kprobe_events", f"-:{name}\n", os.O_APPEND)
+
+    def open_trigger(self, resource: str, words: str) -> tuple[int, int]:
+        """A file that signals pressure as long as it is open, and the condition of poll(2) by which it does. `words` are
+        those of Documentation/accounting/psi.rst: `some|full THRESHOLD WINDOW`, in us."""
+        file = os.open(f"{self.proc}/pressure/{resource}", os.O_RDWR | os.O_NONBLOCK)
+        try:
+            os.write(file, words.encode() + b"\0")
+        except OSError as error:
+            os.close(file)
+            hint = "; without CAP_SYS_RESOURCE a window is a multiple of 2 s" if error.errno == errno.EINVAL else ""
+            raise OSError(error.errno, f"the kernel refuses this trigger, {error.strerror}{hint}") from error
+        return file, select.POLLPRI

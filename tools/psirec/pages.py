@@ -1,0 +1,117 @@
+"""Reads the pages of a kernel's ring buffers, as `per_cpu/cpuN/trace_pipe_raw` gives them.
+
+A page begins with the moment of its first record (ns) and the word `commit`: how many bytes of records follow, and in two
+of its bits whether events were lost before the page, and whether their number stands behind the records. A record has a
+word of 5 bits of kind and 27 of time since the record before. See `include/linux/ring_buffer.h` and
+`kernel/trace/ring_buffer.c` of Linux (`RB_MISSED_EVENTS`, `rb_event_length`, `ring_buffer_read_page`).
+"""
+from __future__ import annotations
+
+import struct
+from collections.abc import Iterator
+from typing import NamedTuple
+
+from .events import Event, Gap
+from .formats import PageFormat
+from .records import Decoder
+
+MISSED = 1 << 31
+MISSED_IS_TOLD = 1 << 30
+# The rest of `commit`: a page's records have at most this many bytes (the largest pages have 1 MB).
+USED = (1 << 30) - 1
+
+# Kinds of records: 0 has its length in a word of its own, 1 to 28 are lengths in words of four bytes.
+PADDING, TIME_EXTENDS, TIME_IS = 29, 30, 31
+TIME_BITS = 27
+# A moment in a record has so many bits; those above are those of the moment before.
+MOMENT_BITS = 59
+
+WORD = struct.Struct("<I").unpack_from
+LONG = struct.Struct("<Q").unpack_from
+
+
+class PageFault(Exception):
+    """A page isn't one."""
+
+
+class Page(NamedTuple):
+    """The head of a page: the moment of its first record in ns, how many events were lost before it (0: none, -1: nobody
+    knows), and where its records begin and end."""
+
+    moment: int
+    lost: int
+    start: int
+    end: int
+
+
+def page_at(data: bytes, at: int, form: PageFormat) -> Page:
+    """The page that begins there."""
+    moment = LONG(data, at)[0]
+    commit = LONG(data, at + 8)[0] if form.commit_size == 8 else WORD(data, at + 8)[0]
+    start = at + form.data
+    end = start + (commit & USED)
+    if end > at + form.size:
+        raise PageFault(f"the page at byte {at} tells of {commit & USED} bytes of records")
+    lost = 0
+    if commit & MISSED:
+        is_told = commit & MISSED_IS_TOLD and end + 8 <= at + form.size
+        lost = (LONG(data, end)[0] if is_told else 0) or -1
+    return Page(moment, lost, start, end)
+
+
+def records_of(data: bytes, page: Page) -> Iterator[tuple[int, int, int]]:
+    """The moment of each event's record of the page in ns, and from where to where it stands."""
+    moment, at, end = page.moment, page.start, page.end
+    while at + 4 <= end:
+        word = WORD(data, at)[0]
+        kind, time = word & 31, word >> 5
+        at += 4
+        if 0 < kind < PADDING:
+            moment += time
+            yield moment, at, at + 4 * kind
+            at += 4 * kind
+            continue
+        if at + 4 > end:
+            return
+        more = WORD(data, at)[0]
+        if kind == 0:
+            moment += time
+            yield moment, at + 4, min(at + more, end)
+            at += more
+        elif kind == PADDING:
+            if time == 0:  # the rest of the page is empty
+                return
+            moment += time
+            at += more
+        else:
+            value = time + (more << TIME_BITS)
+            moment = moment + value if kind == TIME_EXTENDS else moment >> MOMENT_BITS << MOMENT_BITS | value
+            at += 4
+
+
+class Pages(NamedTuple):
+    """What the pages of one processor say: its events in their order, the gaps, and how many bytes at the end are no whole
+    page."""
+
+    events: list[Event]
+    gaps: list[Gap]
+    rest: int
+
+
+def read_pages(data: bytes, processor: int, form: PageFormat, decoders: dict[int, Decoder], is_ring: bool) -> Pages:
+    """Reads all pages of a processor. In a flight recorder's ring what was lost before the first page is no gap: it was
+    overwritten on purpose."""
+    events: list[Event] = []
+    gaps: list[Gap] = []
+    before = 0
+    pages = len(data) // form.size
+    for at in range(0, pages * form.size, form.size):
+        page = page_at(data, at, form)
+        if page.lost and not (is_ring and at == 0):
+            gaps.append(Gap(processor, before, page.moment, max(page.lost, 0)))
+        for moment, start, end in records_of(data, page):
+            decoder = decoders.get(data[start] | data[start + 1] << 8)
+            if decoder:
+                events.append(decoder(moment, processor, data, start, end))
+            before = moment
+    return Pages(events, gaps, len(data) % form.size)

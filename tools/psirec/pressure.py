@@ -1,0 +1,125 @@
+"""The pressure files of a recording, and those that a replay prints: totals of stall time in us, over time."""
+from __future__ import annotations
+
+import re
+from bisect import bisect_left
+from typing import NamedTuple
+
+from .layout import MARK, PRESSURE, escaped_path
+from .recording import text_of
+from .source import Source
+
+SAMPLE = re.compile(r"sample (\d+) (\S+) (io|memory|cpu)\nsome [^\n]*total=(\d+)\nfull [^\n]*total=(\d+)\n")
+REPORT = re.compile(r"report (\d+) (\S+) (io|memory|cpu)\nsome [^\n]*total=(\d+)\nfull [^\n]*total=(\d+)\n")
+READING = re.compile(rb"pressure (\d+) (begin|end)\s*")
+
+
+class File(NamedTuple):
+    """A pressure file: a group's, of a resource."""
+
+    path: str
+    resource: str
+
+
+class Totals(NamedTuple):
+    """Of a pressure file at a moment (ns): the total times of some and full, in us."""
+
+    moment: int
+    some: int
+    full: int
+
+
+# Of each file what a replay reported, in the order of time; and the readings of the machine's files, by number.
+Series = dict[File, list[Totals]]
+Readings = dict[int, dict[File, Totals]]
+
+
+def moments_of(source: Source) -> dict[int, tuple[int, int]]:
+    """From when to when each reading of the pressure files went on, in ns of the recording's clock."""
+    begins: dict[int, int] = {}
+    moments: dict[int, tuple[int, int]] = {}
+    for event in source.events:
+        text = getattr(event, "text", b"")
+        found = READING.fullmatch(text[len(MARK) :]) if text.startswith(MARK.encode()) else None
+        if found and found[2] == b"begin":
+            begins[int(found[1])] = event.moment
+        elif found and int(found[1]) in begins:
+            moments[int(found[1])] = begins[int(found[1])], event.moment
+    return moments
+
+
+def machine_readings(folder: str, source: Source) -> Readings:
+    """What the machine's own files said. The files of a reading were read one behind the other, so each has a moment of its
+    own between the first and the last of the reading."""
+    moments = moments_of(source)
+    found: dict[int, list[tuple[File, int, int]]] = {}
+    for number, path, resource, some, full in SAMPLE.findall(text_of(folder, PRESSURE)):
+        file = File(escaped_path(path.encode("utf-8", "surrogateescape")), resource)
+        found.setdefault(int(number), []).append((file, int(some), int(full)))
+    readings: Readings = {}
+    for number in sorted(set(found) & set(moments)):
+        (begin, end), files = moments[number], found[number]
+        readings[number] = {
+            file: Totals(begin + (end - begin) * (place + 1) // (len(files) + 1), some, full)
+            for place, (file, some, full) in enumerate(files)
+        }
+    return readings
+
+
+def replay_series(printed: str) -> Series:
+    """What a replay printed, in ns since the trace's start."""
+    series: Series = {}
+    for moment, path, resource, some, full in REPORT.findall(printed):
+        series.setdefault(File(path, resource), []).append(Totals(int(moment), int(some), int(full)))
+    return series
+
+
+def totals_at(totals: list[Totals], moment: int) -> Totals:
+    """The totals at a moment: those between two reports grow evenly from one to the other, and begin at 0."""
+    place = bisect_left([it.moment for it in totals], moment)
+    if place == len(totals):
+        return totals[-1]
+    after = totals[place]
+    before = totals[place - 1] if place else Totals(0, 0, 0)
+    part = (moment - before.moment) / (after.moment - before.moment) if after.moment > before.moment else 1.0
+    return Totals(moment, *(round(one + (other - one) * part) for one, other in zip(before[1:], after[1:])))
+
+
+class Pair(NamedTuple):
+    """What the machine and the replay say of a file: by how much its totals of some and full grew, in us."""
+
+    file: File
+    machine: tuple[int, int]
+    replay: tuple[int, int]
+
+
+class Compared(NamedTuple):
+    """Which readings were compared, how far they are apart (ns), and what came of each file."""
+
+    first: int
+    last: int
+    length: int
+    pairs: list[Pair]
+
+
+def growth(before: Totals, after: Totals) -> tuple[int, int]:
+    """By how much some and full grew, in us."""
+    return after.some - before.some, after.full - before.full
+
+
+def compared(readings: Readings, series: Series, start: int, end: int) -> Compared | None:
+    """All files that both have at the last reading of a trace that lasts from `start` to `end`, in ns of the recording's
+    clock. A group that was made after the first reading began at 0. None where less than two readings lie in the trace."""
+    inside = [number for number, files in readings.items() if all(start <= it.moment <= end for it in files.values())]
+    if len(inside) < 2:
+        return None
+    first, last = readings[inside[0]], readings[inside[-1]]
+    pairs = []
+    for file, after in sorted(last.items()):
+        reports, before = series.get(file), first.get(file)
+        if reports:
+            ours = totals_at(reports, before.moment - start) if before else Totals(0, 0, 0)
+            theirs = before or Totals(start, 0, 0)
+            pairs.append(Pair(file, growth(theirs, after), growth(ours, totals_at(reports, after.moment - start))))
+    root = File("/", "cpu")
+    return Compared(inside[0], inside[-1], last[root].moment - first[root].moment if root in last and root in first else 0, pairs)

@@ -1,0 +1,146 @@
+"""The events and probes from which a trace is made, and what is taken where one of them can't be had.
+
+A wait for IO is what the kernel counts as one (`in_iowait`), which is fewer sleeps than those in state D: on a journaling file
+system a third to a half of these aren't. Three sources tell it, the best first: a probe on `psi_task_switch` that reads the
+bit itself, the event `sched_stat_iowait`, which takes the sysctl kernel.sched_schedstats, and the state D.
+"""
+from __future__ import annotations
+
+import enum
+import os
+from collections.abc import Callable
+from dataclasses import dataclass, field
+
+from psirec.kernel_types import KernelTypes
+from psirec.layout import Key, Probe
+from psirec.machine import SCHEDULER_STATISTICS, Machine, read_file, write_file
+from psirec.undoing import Undoing
+
+# Each event, and what a recording without it can't say.
+NEEDED = ("sched/sched_switch", "sched/sched_wakeup")
+EVENTS = {
+    "sched/sched_switch": "nothing can be said",
+    "sched/sched_wakeup": "nothing can be said",
+    "sched/sched_wakeup_new": "new tasks seem to be born when they first run",
+    "sched/sched_migrate_task": "a wait for IO that ends by a migration seems to last until the wakeup",
+    "sched/sched_process_exec": "a thread that calls exec seems to be ready for ever",
+    "task/task_newtask": "new tasks are taken to be in the root group",
+    "cgroup/cgroup_attach_task": "moves of tasks between groups aren't seen",
+    "cgroup/cgroup_mkdir": "new groups are seen by their first task only",
+    "cgroup/cgroup_rmdir": "groups that were removed seem to stay",
+    "oom/mark_victim": "the kernel's own kills aren't seen",
+}
+STATISTICS_EVENT = "sched/sched_stat_iowait"
+NO_STALLS = "memory stalls aren't recorded, so memory pressure will be 0"
+BY_PROBE, BY_STATISTICS, BY_STATE = "the kernel's own flag", "sched_stat_iowait", "state D"
+STATE_ALONE = "waits for IO are told by state D alone: up to 3.5 times too many on journaling file systems"
+
+# Says (a key of `meta`, its value).
+Say = Callable[[str, str], None]
+# Tells the operator.
+Tell = Callable[[str], None]
+
+
+@dataclass
+class Sources:
+    """What is recorded: events as SYSTEM/EVENT, and filters of some."""
+
+    events: list[str] = field(default_factory=list)
+    filters: dict[str, str] = field(default_factory=dict)
+    waits: str = BY_STATE
+
+
+@dataclass(frozen=True)
+class Plan:
+    """A probe to be added: its event, the kernel's function, what it fetches, and which of its events are wanted."""
+
+    name: str
+    function: str
+    fetched: str = ""
+    wanted: str = ""
+
+    def definition(self, group: str) -> str:
+        """As `kprobe_events` takes it."""
+        return f"p:{group}/{self.name} {self.function} {self.fetched}".rstrip()
+
+
+def stall_plans() -> list[Plan]:
+    """Both run in the task itself. The flags at the leave are 0 where it is the outermost one."""
+    return [
+        Plan(Probe.STALL_BEGINS, "psi_memstall_enter"),
+        Plan(Probe.STALL_ENDS, "psi_memstall_leave", f"{Probe.FLAGS}=+0($arg1):u64"),
+    ]
+
+
+def switch_plan(types: KernelTypes) -> Plan | None:
+    """psi_task_switch(prev, next, sleep) runs right before the event of the switch. Without the filter a third of all events
+    would be its."""
+    places = types.members("task_struct", ("pid", "in_iowait"))
+    if not places:
+        return None
+    fetched = f"{Probe.PID}={places['pid'].fetch(1, 's32')} {Probe.IO}={places['in_iowait'].fetch(1, 'u32')}"
+    return Plan(Probe.SWITCH, "psi_task_switch", fetched, f"{Probe.IO} == 1")
+
+
+def interrupt_plan(machine: Machine, types: KernelTypes) -> Plan | None:
+    """psi_account_irqtime(task, delta), where the kernel accounts interrupts at all. Since 6.10 its parameters are others, and
+    none of them is the time."""
+    if not read_file(f"{machine.proc}/pressure/irq") or types.parameters("psi_account_irqtime") != 2:
+        return None
+    return Plan(Probe.INTERRUPT, "psi_account_irqtime", f"{Probe.DELTA}=$arg2:u32")
+
+
+def add_probes(machine: Machine, group: str, undoing: Undoing, say: Say) -> Sources:
+    """Adds the probes that can be had; why another can't is said."""
+    types = KernelTypes(read_file(machine.types))
+    switch, interrupt = switch_plan(types), interrupt_plan(machine, types)
+    if not switch:
+        say(Key.NO_PROBE, f"psi_task_switch: {machine.types} has no task_struct with pid and in_iowait")
+    sources = Sources()
+    for plan in [*stall_plans(), *([switch] if switch else []), *([interrupt] if interrupt else [])]:
+        definition, name = plan.definition(group), f"{group}/{plan.name}"
+        try:
+            undoing.note(f"the probe {name}", probe_remover(machine, name))
+            machine.add_probe(definition)
+        except OSError as error:
+            undoing.steps.pop()
+            say(Key.NO_PROBE, f"{definition}: {error.strerror}")
+            continue
+        sources.events.append(name)
+        if plan.wanted:
+            sources.filters[name] = plan.wanted
+        if plan.name == Probe.SWITCH:
+            sources.waits = BY_PROBE
+    return sources
+
+
+def probe_remover(machine: Machine, name: str) -> Callable[[], None]:
+    """The step that removes this probe."""
+    return lambda: machine.remove_probe(name)
+
+
+class Statistics(enum.Enum):
+    """Whether the kernel keeps the statistics by which it writes `sched_stat_iowait`."""
+
+    ON = "on"
+    OFF = "off"
+    ABSENT = "absent"
+
+
+def statistics_of(machine: Machine) -> Statistics:
+    """What the sysctl says, or that there is none."""
+    if not os.path.exists(f"{machine.proc}/{SCHEDULER_STATISTICS}"):
+        return Statistics.ABSENT
+    is_on = read_file(f"{machine.proc}/{SCHEDULER_STATISTICS}").strip() == b"1"
+    return Statistics.ON if is_on else Statistics.OFF
+
+
+def switch_statistics_on(machine: Machine, undoing: Undoing) -> None:
+    """Switches them on; they are switched off again at the end. OSError where that is refused."""
+    path = f"{machine.proc}/{SCHEDULER_STATISTICS}"
+    undoing.note("the sysctl kernel.sched_schedstats, which was 0", lambda: write_file(path, "0"))
+    try:
+        write_file(path, "1")
+    except OSError:
+        undoing.steps.pop()
+        raise

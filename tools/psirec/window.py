@@ -1,0 +1,54 @@
+"""Which part of a recording is converted: from one moment to another, and a stretch in which nothing was lost."""
+from __future__ import annotations
+
+from collections import Counter
+from collections.abc import Iterable
+from typing import NamedTuple
+
+from .events import NEVER, Gap
+from .words import SECOND
+
+
+class Window(NamedTuple):
+    """From one moment to another, both with it, in ns of the recording's clock."""
+
+    start: int
+    end: int
+
+    def length(self) -> int:
+        """In ns."""
+        return self.end - self.start
+
+
+def overlapping(gaps: Iterable[Gap], window: Window) -> list[Gap]:
+    """The gaps that touch the window: one ends with the first event that wasn't lost, and begins with the last."""
+    return [gap for gap in gaps if gap.end > window.start and gap.start < window.end]
+
+
+def longest_stretch(gaps: Iterable[Gap], window: Window) -> Window:
+    """The longest part of the window without loss on any processor; the first of equals."""
+    best, start = Window(window.start, window.start), window.start
+    for gap in sorted(gaps, key=lambda it: it.start):
+        stretch = Window(start, min(max(gap.start, start), window.end))
+        if stretch.length() > best.length():
+            best = stretch
+        start = min(max(start, gap.end), window.end)
+    last = Window(start, window.end)
+    return last if last.length() > best.length() else best
+
+
+def seconds(moment: int) -> str:
+    """A length of time in seconds, with three decimals."""
+    return f"{moment // SECOND}.{moment % SECOND // 10**6:03}"
+
+
+def loss_text(gaps: Iterable[Gap], whole: Window) -> str:
+    """How many events each processor lost, and between which moments of the recording."""
+    gaps = list(gaps)
+    lost = Counter({gap.processor: 0 for gap in gaps})
+    for gap in gaps:
+        lost[gap.processor] += gap.lost
+    counts = ", ".join(f"cpu {processor}: {lost[processor] or 'unknown'}" for processor in sorted(lost))
+    first = max(min(gap.start for gap in gaps), whole.start) - whole.start
+    last = max(whole.end if gap.end == NEVER else min(gap.end, whole.end) for gap in gaps) - whole.start
+    return f"{counts} events, between {seconds(first)} s and {seconds(last)} s"

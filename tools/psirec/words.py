@@ -1,0 +1,46 @@
+"""What the command lines of the tools share."""
+from __future__ import annotations
+
+import argparse
+import re
+import sys
+from typing import Any, NoReturn
+
+SECOND = 10**9
+
+
+class Parser(argparse.ArgumentParser):
+    """Reads words, and refuses faulty ones with a status of the tool's own. The help is what the module says of itself."""
+
+    def __init__(self, name: str, help_text: str | None, faulty: int) -> None:
+        super().__init__(prog=name, description=help_text, formatter_class=argparse.RawDescriptionHelpFormatter)
+        self.faulty = faulty
+
+    def error(self, message: str) -> NoReturn:
+        """Says what is faulty, and ends the program."""
+        self.print_usage(sys.stderr)
+        self.exit(self.faulty, f"{self.prog}: {message}\n")
+
+    def words_of(self, given: list[str]) -> dict[str, Any]:
+        """The values by the names of their options."""
+        return vars(self.parse_args(given))
+
+
+def ns_of(seconds: str) -> int:
+    """The ns of a decimal number of seconds."""
+    whole, _, part = seconds.partition(".")
+    return int(whole) * SECOND + int(part.ljust(9, "0")[:9] or "0")
+
+
+def nanoseconds(text: str) -> int:
+    """A number of seconds, with at most nine decimals, as ns."""
+    if not re.fullmatch(r"[0-9]{1,9}(\.[0-9]{1,9})?", text):
+        raise argparse.ArgumentTypeError(f"{text} is no number of seconds with at most nine decimals")
+    return ns_of(text)
+
+
+def share(text: str) -> float:
+    """A number that isn't below 0, with decimals or without."""
+    if not re.fullmatch(r"[0-9]{1,9}(\.[0-9]{1,9})?", text):
+        raise argparse.ArgumentTypeError(f"{text} is no number from 0 on")
+    return float(text)

@@ -1,0 +1,223 @@
+"""The machine as a trace knows it, and the lines of the trace: each act here writes lines that a reader of traces accepts.
+
+Whatever a caller asks of a world stays legal, so a trace of version 1 that it writes is never refused: a task that runs is
+put aside before another runs there, one that leaves for good leaves its stall first, and groups come and go in order.
+"""
+from __future__ import annotations
+
+from collections import Counter
+from enum import Enum, auto
+
+from .groups import Groups, parent_of
+
+# A label is the kernel's number of the task, unless that is taken: then it is this much more.
+LABEL_STEP = 100_000_000
+
+
+class State(Enum):
+    """What a task does."""
+
+    ASLEEP = auto()
+    WAITING = auto()  # for IO
+    READY = auto()
+    RUNNING = auto()
+
+
+class How(Enum):
+    """The word for how a running task leaves."""
+
+    PREEMPT = "preempt"
+    SLEEP = "sleep"
+    WAIT = "iowait"
+    EXIT = "exit"
+
+
+AFTER = {How.PREEMPT: State.READY, How.SLEEP: State.ASLEEP, How.WAIT: State.WAITING}
+
+
+class Task:
+    """A task of the trace: its number there, its group's path, its processor, what it does, whether it is in a memory stall,
+    and the number of its process."""
+
+    __slots__ = ("label", "group", "processor", "state", "is_stalled", "process")
+
+    def __init__(self, label: int, group: str, processor: int, process: int) -> None:
+        self.label, self.group, self.processor, self.process = label, group, processor, process
+        self.state, self.is_stalled = State.READY, False
+
+    def is_on(self, processor: int, state: State) -> bool:
+        """Whether it does this on the processor."""
+        return self.state is state and self.processor == processor
+
+    def is_blocked(self) -> bool:
+        """Whether it sleeps or waits for IO."""
+        return self.state in (State.ASLEEP, State.WAITING)
+
+
+class World:
+    """The tasks by their numbers in the kernel, and who runs on each processor. `now` is ns since the trace's start."""
+
+    def __init__(self, processors: int, groups: Groups) -> None:
+        self.processors, self.groups = processors, groups
+        self.now = 0
+        self.lines: list[str] = []
+        self.tasks: dict[int, Task] = {}
+        self.runs: dict[int, int] = {}
+        self.labels: set[int] = set()
+        # What is written once a group is made.
+        self.upon: dict[str, list[str]] = {}
+        self.mended: Counter[str] = Counter()
+
+    def put(self, words: str) -> None:
+        """Writes a line."""
+        self.lines.append(f"{self.now} {words}")
+
+    # ------------------------------------------------------------ groups
+
+    def make_group(self, path: str) -> str:
+        """Makes the group and those above it, where they aren't there, and answers the one that stands for it: one that the
+        trace can't have is folded into its parent."""
+        place, made = self.groups.make(path)
+        for one in made:
+            self.put(f"group {one}")
+            for words in self.upon.pop(one, ()):
+                self.put(words)
+        return place
+
+    def remove_group(self, path: str) -> None:
+        """Removes the group, now or when its last task has left."""
+        for one in self.groups.remove(path):
+            self.put(f"rmgroup {one}")
+
+    def leave_group(self, path: str) -> None:
+        """One task fewer is in the group."""
+        for one in self.groups.leave(path):
+            self.put(f"rmgroup {one}")
+
+    def make_again(self, path: str) -> None:
+        """Makes a group whose path the kernel had removed before: what is left in that goes to the group above."""
+        for below in self.groups.leaving_below(path):
+            for task in [it for it in self.tasks.values() if it.group == below]:
+                self.move(task, parent_of(below))
+                self.mended["task of a removed group put into the one above"] += 1
+        if self.groups.is_leaving(path):
+            self.groups.keep(path)
+            self.mended["removed group kept, since it came again"] += 1
+        self.make_group(path)
+
+    def move(self, task: Task, path: str) -> None:
+        """The task goes to the group, which is there."""
+        before, task.group = task.group, path
+        self.groups.enter(path)
+        self.put(f"move {task.label} {path}")
+        self.leave_group(before)
+
+    # ------------------------------------------------------------ tasks
+
+    def fork(self, number: int, path: str, processor: int, process: int) -> Task:
+        """A task is made, ready on the processor. One that had its number is gone."""
+        if number in self.tasks:
+            self.vanish(number)
+        place = self.make_group(path)
+        label = number
+        while label in self.labels:
+            label += LABEL_STEP
+        task = self.tasks[number] = Task(label, place, processor, process)
+        self.labels.add(label)
+        self.groups.enter(place)
+        self.put(f"fork {label} {place} {processor}")
+        return task
+
+    def running(self, processor: int) -> int:
+        """Who runs there, 0 for none."""
+        return self.runs.get(processor, 0)
+
+    def ready(self, number: int, processor: int) -> None:
+        """Makes the task ready on the processor."""
+        task = self.tasks[number]
+        if task.state is State.RUNNING:
+            self.leave(task.processor, How.PREEMPT)
+        if task.is_blocked():
+            self.put(f"wake {task.label} {processor}")
+            task.state, task.processor = State.READY, processor
+        elif task.processor != processor:
+            self.put(f"migrate {task.label} {processor}")
+            task.processor = processor
+
+    def run(self, number: int, processor: int, how: How = How.PREEMPT) -> None:
+        """Makes the task run on the processor; who ran there leaves by `how`."""
+        if self.running(processor) == number:
+            return
+        self.ready(number, processor)
+        if self.running(processor):
+            self.leave(processor, how, number)
+        else:
+            task = self.tasks[number]
+            self.put(f"switch {processor} {task.label} idle")
+            task.state, self.runs[processor] = State.RUNNING, number
+
+    def leave(self, processor: int, how: How, following: int = 0) -> None:
+        """Who runs on the processor leaves, and `following`, which is ready there, runs; or none, where it is 0."""
+        number = self.runs[processor]
+        task = self.tasks[number]
+        if how is How.EXIT and task.is_stalled:
+            self.unstall(task)
+            self.mended["memory stall ended by exit"] += 1
+        label = self.tasks[following].label if following else 0
+        self.put(f"switch {processor} {label} {how.value}")
+        self.runs[processor] = following
+        if following:
+            self.tasks[following].state = State.RUNNING
+        if how is How.EXIT:
+            self.forget(number)
+        else:
+            task.state = AFTER[how]
+
+    def detour(self, number: int, how: How, stalls: bool = False) -> None:
+        """Lets a ready task run for no time and leave by `how`, and who ran on its processor runs again."""
+        processor = self.tasks[number].processor
+        before = self.running(processor)
+        self.run(number, processor)
+        if stalls:
+            self.stall(self.tasks[number])
+        self.leave(processor, how, before)
+
+    def forget(self, number: int) -> None:
+        """The task isn't in the trace any more."""
+        task = self.tasks.pop(number)
+        self.labels.discard(task.label)
+        self.leave_group(task.group)
+
+    def vanish(self, number: int) -> None:
+        """A task is gone, though nothing told how."""
+        task = self.tasks[number]
+        if task.state is State.RUNNING:
+            self.leave(task.processor, How.EXIT)
+        else:
+            self.ready(number, task.processor)
+            self.detour(number, How.EXIT)
+        self.mended["task gone without a word"] += 1
+
+    def end_wait(self, number: int) -> None:
+        """Of a task that waits for IO: it only sleeps from now on."""
+        self.ready(number, self.tasks[number].processor)
+        self.detour(number, How.SLEEP)
+
+    def stall(self, task: Task) -> None:
+        """The task, which runs, goes into a memory stall."""
+        task.is_stalled = True
+        self.put(f"stall {task.label}")
+
+    def unstall(self, task: Task) -> None:
+        """The task, which runs, comes out of its memory stall."""
+        task.is_stalled = False
+        self.put(f"unstall {task.label}")
+
+    def swap_numbers(self, number: int, other: int) -> None:
+        """A task takes over a number, and who had that has the other from now on. Their labels stay."""
+        one, two = self.tasks.pop(number, None), self.tasks.pop(other, None)
+        for task, new in ((one, other), (two, number)):
+            if task:
+                self.tasks[new] = task
+        changed = {number: other, other: number}
+        self.runs = {processor: changed.get(who, who) for processor, who in self.runs.items()}

@@ -1,0 +1,1 @@
+"""What the tools share: the program that they run, the lines that `replay` prints, times, rules files and memory samples."""

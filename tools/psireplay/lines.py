@@ -1,0 +1,146 @@
+"""The lines that `psi_oomd replay` prints, read in order. docs/FORMATS.md tells what each means."""
+from __future__ import annotations
+
+import re
+from typing import Iterable, Iterator, NamedTuple, Optional, Union
+
+from .command import Fault
+
+RESOURCES = ("io", "memory", "cpu", "irq")
+LEVELS = ("some", "full")
+AVERAGES = ("avg10", "avg60", "avg300")
+
+
+class Pressure(NamedTuple):
+    """A line of a pressure file: averages in hundredths of a percent, and the total in us."""
+
+    avg10: int
+    avg60: int
+    avg300: int
+    total: int
+
+
+class Report(NamedTuple):
+    """A pressure file at a moment in ns. That of interrupts has no line `some`."""
+
+    moment: int
+    path: str
+    resource: str
+    some: Optional[Pressure]
+    full: Pressure
+
+
+class Event(NamedTuple):
+    """A signal of a trigger at a moment in ns; the threshold and the window are in us."""
+
+    moment: int
+    trigger: int
+    path: str
+    resource: str
+    level: str
+    threshold: int
+    window: int
+
+
+class Kill(NamedTuple):
+    """What an action of a ruleset would have killed at a moment in ns. Numbers are from 0."""
+
+    moment: int
+    ruleset: int
+    action: int
+    path: str
+
+
+class End(NamedTuple):
+    """The last line: the end in ns, and how many ticks, signals and kills there were."""
+
+    moment: int
+    ticks: int
+    events: int
+    kills: int
+
+
+Line = Union[Report, Event, Kill, End]
+
+ADVICE = ": give all that `psi_oomd replay` prints, and see what it says on standard error"
+NUMBER = "(?:0|[1-9][0-9]*)"
+PATH = r"/[A-Za-z0-9_.@:\\/-]*"
+SHARES = " ".join(rf"{average}=({NUMBER})\.([0-9][0-9])" for average in AVERAGES)
+FORMS = {
+    "live": re.compile(rf"live {NUMBER} cpu={NUMBER} count={NUMBER}(?: {NUMBER}){{7}}\n"),
+    "report": re.compile(rf"report ({NUMBER}) ({PATH}) ({'|'.join(RESOURCES)})\n"),
+    "event": re.compile(
+        rf"event ({NUMBER}) trigger=({NUMBER}) ({PATH}) (io|memory|cpu) (some|full) ({NUMBER}) ({NUMBER})\n"
+    ),
+    "kill": re.compile(rf"kill ({NUMBER}) ruleset=({NUMBER}) action=({NUMBER}) ({PATH})\n"),
+    "end": re.compile(rf"end ({NUMBER}) ticks=({NUMBER}) events=({NUMBER}) kills=({NUMBER})\n"),
+    **{level: re.compile(rf"{level} {SHARES} total=({NUMBER})\n") for level in LEVELS},
+}
+
+
+def pressure_of(fields: tuple[str, ...]) -> Pressure:
+    whole10, part10, whole60, part60, whole300, part300, total = fields
+    return Pressure(int(whole10 + part10), int(whole60 + part60), int(whole300 + part300), int(total))
+
+
+class Reader:
+    """Takes line after line. Of a report it holds the head, and the line `some`, until the file is whole."""
+
+    def __init__(self) -> None:
+        self.head: Optional[tuple[str, str, str]] = None
+        self.some: Optional[Pressure] = None
+        self.is_ended = False
+
+    def due(self) -> Optional[str]:
+        """The word with which the next line must begin, where there is but one."""
+        if not self.head:
+            return None
+        return "full" if self.some or self.head[2] == "irq" else "some"
+
+    def is_in_place(self, verb: str) -> bool:
+        due = self.due()
+        return not self.is_ended and (verb == due if due else verb not in LEVELS)
+
+    def take(self, line: str) -> Optional[Line]:
+        """What the line completes, if anything. A line that replay doesn't print there is a ValueError."""
+        verb = line.partition(" ")[0]
+        found = FORMS[verb].fullmatch(line) if verb in FORMS and self.is_in_place(verb) else None
+        if not found:
+            raise ValueError(line)
+        fields = found.groups()
+        if verb == "report":
+            self.head = (fields[0], fields[1], fields[2])
+        elif verb == "some":
+            self.some = pressure_of(fields)
+        elif verb == "full":
+            return self.whole_report(pressure_of(fields))
+        elif verb == "event":
+            moment, trigger, path, resource, level, threshold, window = fields
+            return Event(int(moment), int(trigger), path, resource, level, int(threshold), int(window))
+        elif verb == "kill":
+            return Kill(int(fields[0]), int(fields[1]), int(fields[2]), fields[3])
+        elif verb == "end":
+            self.is_ended = True
+            return End(*map(int, fields))
+        return None
+
+    def whole_report(self, full: Pressure) -> Report:
+        assert self.head
+        moment, path, resource = self.head
+        report = Report(int(moment), path, resource, self.some, full)
+        self.head = self.some = None
+        return report
+
+
+def read(printed: Iterable[bytes]) -> Iterator[Line]:
+    """What stands in the lines, but for live clocks. A line that replay doesn't print there is a fault, or no last one."""
+    reader = Reader()
+    for number, text in enumerate(printed, 1):
+        try:
+            line = reader.take(text.decode("latin-1"))
+        except ValueError:
+            raise Fault(f"line {number}: replay prints no such line here{ADVICE}") from None
+        if line:
+            yield line
+    if not reader.is_ended:
+        raise Fault(f"the input stops before the last line of a replay, which begins with `end`{ADVICE}")

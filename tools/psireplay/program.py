@@ -1,0 +1,101 @@
+"""The program that tools and tests run: the one that the variable PSI_OOMD names, or else the launcher beside the tools."""
+from __future__ import annotations
+
+import os
+import subprocess
+import tempfile
+from typing import IO, Iterator
+
+from .command import Fault
+
+TOP = os.path.dirname(os.path.dirname(os.path.dirname(os.path.abspath(__file__))))
+LAUNCHER = os.path.join(TOP, "psi_oomd")
+# A trace without events, for a run that only reads rules.
+NO_EVENTS = b"psitrace 1 cpus=1\n0 end\n"
+# The longest tick allows the longest traces, so what `replay` took at some tick is taken at this one.
+LONGEST_TICK = "--tick-ms=60000"
+# The statuses by which a trace and a rules file are refused.
+REFUSALS = (2, 3)
+ADVICE = "build ./psi_oomd, or let the variable PSI_OOMD name the program"
+
+
+def program_path() -> str:
+    """The program's name as a whole path. It needn't be there."""
+    return os.path.abspath(os.environ.get("PSI_OOMD") or LAUNCHER)
+
+
+def start(words: list[str], notes: IO[bytes]) -> subprocess.Popen[bytes]:
+    """A run of the program on a pipe, whose output comes by another. What it says of faults goes into the file of notes."""
+    path = program_path()
+    try:
+        # Where the launcher has to build first, which takes long, it says so to the user and not into the notes.
+        if path == LAUNCHER and subprocess.run([path, "--build"]).returncode:
+            raise Fault(f"{path} couldn't be built: {ADVICE}")
+        return subprocess.Popen([path, *words], stdin=subprocess.PIPE, stdout=subprocess.PIPE, stderr=notes)
+    except OSError as fault:
+        raise Fault(f"{path} can't be run ({fault.strerror}): {ADVICE}") from None
+
+
+def finish(run: subprocess.Popen[bytes], notes: IO[bytes], what: str) -> str:
+    """What the run printed. Where its status isn't 0 that is a fault, told with the program's own words."""
+    assert run.stdin and run.stdout
+    try:
+        run.stdin.close()
+    except BrokenPipeError:
+        pass  # It was refused before its end.
+    with run.stdout as output:
+        printed = output.read().decode("latin-1")
+    status = run.wait()
+    if status:
+        notes.seek(0)
+        said = notes.read().decode("utf-8", "replace").strip() or f"its status is {status}"
+        raise Fault(f"psi_oomd {'refuses' if status in REFUSALS else 'failed on'} {what}: {said}")
+    return printed
+
+
+def opened(name: str) -> IO[bytes]:
+    """A file to read. One that can't be opened is a fault, in the program's words where it isn't there."""
+    try:
+        return open(name, "rb")
+    except FileNotFoundError:
+        raise Fault(f"no file: {name}") from None
+    except OSError as fault:
+        raise Fault(f"{name}: {fault.strerror}") from None
+
+
+def accepted_rules(name: str) -> bytes:
+    """The bytes of a rules file that the program takes; another one is a fault."""
+    with opened(name) as rules:
+        given = rules.read()
+    with tempfile.NamedTemporaryFile(suffix=".json") as file, tempfile.TemporaryFile() as notes:
+        file.write(given)
+        file.flush()
+        run = start(["replay", "-", "--rules", file.name], notes)
+        assert run.stdin
+        try:
+            run.stdin.write(NO_EVENTS)
+        except BrokenPipeError:
+            pass  # A refused rules file ends the run before the trace is read.
+        finish(run, notes, f"the rules file {name}")
+    return given
+
+
+class CheckedTrace:
+    """The lines of a trace, each handed to `psi_oomd check` as it is taken. A trace that is refused is a fault at its end."""
+
+    def __init__(self, name: str) -> None:
+        self.name = name
+        self.end = 0
+
+    def lines(self) -> Iterator[bytes]:
+        """All lines; behind them `end` is the trace's end in ns."""
+        with opened(self.name) as file, tempfile.TemporaryFile() as notes:
+            run = start(["check", "-", LONGEST_TICK], notes)
+            assert run.stdin
+            for line in file:
+                try:
+                    run.stdin.write(line)
+                except BrokenPipeError:
+                    break
+                yield line
+            self.end = int(finish(run, notes, f"the trace {self.name}").rpartition("=")[2])

@@ -1,0 +1,98 @@
+"""What a rules file says: the names of rulesets and plugins, and the thresholds that a chart can show.
+
+The program decides whether a file is one, so what is read here has the form that docs/FORMATS.md tells.
+"""
+from __future__ import annotations
+
+import fnmatch
+import json
+from typing import Any, NamedTuple, Optional
+
+from .command import Fault
+from .lines import Kill
+from .program import accepted_rules
+
+POWERS = {"K": 1, "M": 2, "G": 3, "T": 4}
+
+
+class Plugin(NamedTuple):
+    """A detector or an action, with its arguments as texts."""
+
+    name: str
+    args: dict[str, str]
+
+    def covers(self, path: str) -> bool:
+        """Whether one of its patterns matches this path."""
+        return any(does_match(pattern, path) for pattern in self.args["cgroup"].split(","))
+
+
+class Ruleset(NamedTuple):
+    """A ruleset: its name, the detectors of all its groups, and its actions."""
+
+    name: str
+    detectors: list[Plugin]
+    actions: list[Plugin]
+
+
+class Killer(NamedTuple):
+    """Who kills: a ruleset's name, and the name of an action's plugin."""
+
+    ruleset: str
+    plugin: str
+
+
+def printable(text: str) -> str:
+    """The text with a sign in place of each character that a picture or a line can't have."""
+    return "".join(it if it.isprintable() else "\N{REPLACEMENT CHARACTER}" for it in text)
+
+
+def does_match(pattern: str, path: str) -> bool:
+    """Whether a pattern matches a path: as many components, in each of which `*` is any run of bytes.
+
+    `?` and `[`, which would mean something here, stand in no pattern that the program takes."""
+    if pattern == "/" or path == "/":
+        return pattern == path
+    parts, names = pattern.lstrip("/").split("/"), path[1:].split("/")
+    return len(parts) == len(names) and all(map(fnmatch.fnmatchcase, names, parts))
+
+
+def argument(value: Any) -> str:
+    """An argument as a text: whole numbers and truths may stand for the text of their spelling."""
+    return value if isinstance(value, str) else json.dumps(value)
+
+
+def plugin_of(value: Any) -> Plugin:
+    args = value.get("args", {})
+    return Plugin(printable(value["name"]), {key: argument(it) for key, it in args.items()})
+
+
+def ruleset_of(value: Any) -> Ruleset:
+    detectors = [plugin_of(it) for group in value["detectors"] for it in group[1:]]
+    return Ruleset(printable(value["name"]), detectors, [plugin_of(it) for it in value["actions"]])
+
+
+class Rules:
+    """The rulesets of a file, by their numbers."""
+
+    def __init__(self, name: str) -> None:
+        """Reads a file. One that isn't there, or that the program refuses, is a fault."""
+        self.name = name
+        self.rulesets = [ruleset_of(it) for it in json.loads(accepted_rules(name))["rulesets"]]
+
+    def killer(self, kill: Kill) -> Killer:
+        """Who kills here. A kill by none of these rules is a fault."""
+        ruleset = self.rulesets[kill.ruleset] if kill.ruleset < len(self.rulesets) else None
+        if not ruleset or kill.action >= len(ruleset.actions):
+            which = f"ruleset {kill.ruleset}, action {kill.action}"
+            raise Fault(f"{self.name} has no {which}, which kills {kill.path}: give the rules file of this replay")
+        return Killer(ruleset.name, ruleset.actions[kill.action].name)
+
+
+def size(text: str, host: Optional[int]) -> Optional[int]:
+    """The bytes that a size says, of which a percentage is one of the host's memory. None where that isn't known."""
+    if text.endswith("%"):
+        return None if host is None else host * int(text[:-1]) // 100
+    power = POWERS.get(text[-1].upper(), 0)
+    whole, _, part = (text[:-1] if power else text).partition(".")
+    thousandths = int(whole + part.ljust(3, "0"))
+    return int(thousandths * 1024**power // 1000)
