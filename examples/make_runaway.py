@@ -3,7 +3,7 @@
 
 A web server answers on processor 0. On processor 1 an index is kept, and from 60 s on an import runs that needs ever more
 memory: more and more of its time goes into getting pages back, and the index loses its own pages and waits for the disk. At
-220 s somebody ends the import by hand, and the pressure falls.
+220 s somebody ends the import by hand, its group is removed, and the pressure falls.
 """
 import heapq
 import itertools
@@ -72,6 +72,7 @@ class Machine:
         self.due = []
         self.order = itertools.count()
         self.plans, self.first = {}, {}
+        self.groups = set(GROUPS)
 
     def at(self, moment, call, *given):
         heapq.heappush(self.due, (moment, next(self.order), call, given))
@@ -101,7 +102,10 @@ class Machine:
             self.at(now + length, self.go_on, pid)
             return
         self.switch(now, cpu, kind)
-        if kind != "exit":
+        if kind == "exit":
+            print(f"{now} rmgroup /batch/import")
+            self.groups.remove("/batch/import")
+        else:
             self.at(now + length, self.wake, pid)
 
     def wake(self, now, pid):
@@ -121,7 +125,8 @@ class Machine:
             ("/batch/index", 400 - 150 * grown, scanned // 2),
         )
         for group, size, pages in sizes:
-            print(f"{now} mem {group} {round(size) << 20} 0 {pages}")
+            if group in self.groups:
+                print(f"{now} mem {group} {round(size) << 20} 0 {pages}")
         self.at(now + 10 * SECOND, self.sample)
 
     def run(self):

@@ -1,0 +1,118 @@
+"""Checks that what can't be drawn is told, with what to do about it."""
+from __future__ import annotations
+
+import functools
+import tempfile
+
+from checking import fault_of, must, must_be, story
+
+from .drawn import CHART
+
+ADVICE = ": give all that `psi_oomd replay` prints, and see what it says on standard error"
+chart_fault = functools.partial(fault_of, CHART)
+
+
+def must_say(said: str, *parts: str) -> None:
+    """Whether a fault is told as one, and has these parts."""
+    must(said.startswith("chart: ") and said.endswith("\n"), f"{said!r} is told by the chart")
+    for part in parts:
+        must(part in said, f"{said!r} has {part!r}")
+
+
+def check_unknown_lines(program: str) -> None:
+    lines = story(program).splitlines(keepends=True)
+    live = b"live 2000000000 cpu=0 count=3 1 2 3 4 5 6 7\n"
+    head, full = b"report 2000000000 / irq\n", lines[2]
+    kill = next(place for place, line in enumerate(lines) if line.startswith(b"kill"))
+    event = next(place for place, line in enumerate(lines) if line.startswith(b"event"))
+    edits: list[tuple[int, list[bytes]]] = [
+        (0, [b"repport 2000000000 / io\n"]), (0, [b"\n"]), (0, []), (1, []), (2, []), (2, [lines[2]] * 2),
+        (1, [lines[1].replace(b"avg60", b"avg61")]), (1, [lines[1].replace(b" total", b"  total")]),
+        (3, [lines[3].replace(b"memory", b"disk")]), (kill, [lines[kill].replace(b"/batch", b"batch")]),
+        (kill, [lines[kill].replace(b"kill 1", b"kill 01")]), (kill, [lines[kill], b"some\xff\n"]),
+        (event, [lines[event].replace(b" memory ", b" irq ")]), (event, [lines[event].replace(b" some ", b" most ")]),
+        (0, [live.replace(b" 7", b"")]), (0, [live.replace(b" 7", b" 7 8")]), (0, [live.replace(b"=3", b"=03")]),
+        (1, [live]), (len(lines) - 1, [lines[-1], live]), (0, [full]),
+        (len(lines) - 1, [lines[-1]] * 2), (len(lines) - 1, [lines[-1], b"\n"]), (len(lines) - 1, [lines[-1][:-1]]),
+        (0, [head, lines[1]]), (0, [head, head]),
+    ]  # fmt: skip
+    for place, instead in edits:
+        text = lines[:place] + instead + lines[place + 1 :]
+        # The first line that can't stand where it does: the edited one, the one that took its place, or the one behind it.
+        number = place + (2 if len(instead) == 2 else 1)
+        wanted = f"chart: line {number}: replay prints no such line here{ADVICE}\n"
+        must_be(f"{instead} for line {place + 1}", chart_fault(b"".join(text)), wanted)
+
+
+def check_too_little(program: str) -> None:
+    printed = story(program)
+    stops = f"chart: the input stops before the last line of a replay, which begins with `end`{ADVICE}\n"
+    for front in (b"", b"".join(printed.splitlines(keepends=True)[:-1])):
+        must_be("an input that stops", chart_fault(front), stops)
+    for words in (
+        ["--group=/x"], ["--group", "batch"], ["--from=298.5", "--to=299.5"], ["--from=300"], ["--from=7", "--to=7"],
+        ["--group=/batch", "--group=/x"], ["--resource=irq"], ["--group=/batch/import", "--from=222"],
+    ):  # fmt: skip
+        said = chart_fault(printed, *words)
+        must(said.startswith("chart: no report of ") and "--report-s" in said, f"{words}: {said}")
+    no_report = chart_fault(b"end 5 ticks=0 events=0 kills=0\n")
+    must(no_report.startswith("chart: no report of / from 0 s to 0.000000005 s of 0.000000005 s: "), no_report)
+
+
+def check_wrong_words(program: str) -> None:
+    for words in (
+        ["--resource=disk"], ["--from=1e3"], ["--to=-1"], ["--grou=/batch"], ["x"], ["--group"], ["--to=0.0000000001"],
+        ["--start"], ["--rules"], ["--trace"],
+    ):  # fmt: skip
+        must_say(chart_fault(story(program), *words), "usage: chart ")
+    for time in (
+        "2026-11-28", "2026-11-28T13:58:12", "2026-11-28 13:58:12Z", "2026-11-31T13:58:12Z", "2026-02-29T00:00:00Z",
+        "2026-11-28T24:00:00Z", "2026-11-28T13:60:12Z", "2026-11-28T13:58:60Z", "2026-13-28T13:58:12Z", "1969-12-31T23:59:59Z",
+        "2026-11-28T13:58:12+0100", "2026-11-28T13:58:12+15:00", "2026-11-28T13:58:12.0000000001Z", "now", "",
+    ):  # fmt: skip
+        must_say(chart_fault(story(program), f"--start={time}"), f"{time} is no time with its zone, as 2026-11-28T13:58:12Z")
+    start, before = "--start=2026-11-28T13:58:12Z", "2026-11-28T13:58:11Z"
+    must_say(chart_fault(story(program), f"--to={before}"), "--to is a time on the wall: say by --start")
+    must_say(chart_fault(story(program), start, f"--from={before}"), "--from is before --start")
+
+
+def check_rules_that_cannot_be_read(program: str) -> None:
+    printed = story(program)
+    must_be("no rules file", chart_fault(printed, "--rules=/nowhere"), "chart: no file: /nowhere\n")
+    must_be("a folder", chart_fault(printed, "--rules=tests"), "chart: tests: Is a directory\n")
+    said = chart_fault(printed, "--rules=examples/runaway.trace")
+    must_be("no rules", said, "chart: psi_oomd refuses the rules file examples/runaway.trace: rules: BadJson\n")
+    other = '{"rulesets":[{"name":"R","detectors":[],"actions":[]}]}'
+    with tempfile.NamedTemporaryFile("w", suffix=".json") as file:
+        file.write(other)
+        file.flush()
+        said = chart_fault(printed, "--rules", file.name)
+        advice = "which kills /batch/import: give the rules file of this replay"
+        must_be("other rules", said, f"chart: {file.name} has no ruleset 0, action 0, {advice}\n")
+
+
+def check_traces_that_cannot_be_read(program: str) -> None:
+    printed = story(program)
+    must_be("no trace", chart_fault(printed, "--trace=/nowhere"), "chart: no file: /nowhere\n")
+    must_be("a folder", chart_fault(printed, "--trace=tests"), "chart: tests: Is a directory\n")
+    said = chart_fault(printed, "--trace=examples/refused.trace")
+    must_be("no trace", said, "chart: psi_oomd refuses the trace examples/refused.trace: trace line 7: NotReady\n")
+    said = chart_fault(printed, "--trace=examples/one-wait.trace")
+    other = "examples/one-wait.trace ends at 2000000000 ns, and the replay at 300000000000 ns"
+    must_be("another trace", said, f"chart: {other}: give the trace of this replay\n")
+    with tempfile.NamedTemporaryFile("wb") as file:
+        # It is refused long before its end, while the chart still hands lines over.
+        file.write(b"psitrace 1 cpus=1\n0 mem / 1 1\n" + b"x mem / y\n0 mem\n0 rmgroup\n" * 100000)
+        file.flush()
+        said = chart_fault(printed, f"--trace={file.name}")
+        must_be("a long trace", said, f"chart: psi_oomd refuses the trace {file.name}: trace line 2: BadField 4\n")
+
+
+def check_no_program(program: str) -> None:
+    printed = story(program)
+    for words in (["--rules=examples/runaway.json"], ["--trace=examples/runaway.trace"]):
+        said = chart_fault(printed, *words, PSI_OOMD="/nowhere")
+        advice = "build ./psi_oomd, or let the variable PSI_OOMD name the program"
+        must_be("no program", said, f"chart: /nowhere can't be run (No such file or directory): {advice}\n")
+        said = chart_fault(printed, *words, PSI_OOMD="/bin/false")
+        must_say(said, "psi_oomd failed on the ", ": its status is 1")

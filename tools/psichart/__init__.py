@@ -1,0 +1,1 @@
+"""Draws what `psi_oomd replay` printed, as one SVG."""

@@ -1,0 +1,135 @@
+"""The numbers of the axes: round steps of shares, of bytes and of time."""
+from __future__ import annotations
+
+import itertools
+import math
+from typing import Iterator, NamedTuple, Optional
+
+from psireplay.times import DAY, HOUR, MINUTE, MONTHS, SECOND, ClockTime, WallTime, seconds, shown, told, zone
+
+from .svg import LEFT, LETTER, RIGHT
+
+CLOCK_STEPS = [
+    count * SECOND for count in (10, 20, 30, 60, 120, 300, 600, 1200, 1800, 3600, 7200, 10800, 21600, 43200)
+]  # fmt: skip
+UNITS = (("days", DAY), ("hours", HOUR), ("minutes", MINUTE), ("seconds", SECOND))
+SIZES = ("bytes", "KiB", "MiB", "GiB", "TiB", "PiB", "EiB")
+# An axis of time has at most so many steps, and so many pixels between two of its texts.
+MOST_STEPS = 10
+GAP = 12
+
+
+class Mark(NamedTuple):
+    """A moment on an axis (ns since the start of the trace), and what stands there."""
+
+    moment: int
+    text: str
+
+
+def round_steps() -> Iterator[int]:
+    """1, 2 and 5 times each power of ten."""
+    return (digit * int(10**power) for power in itertools.count() for digit in (1, 2, 5))
+
+
+def share_step(most: int) -> int:
+    """The least round step, in hundredths of a percent, that reaches so far in five steps."""
+    return next(step for step in round_steps() if 5 * step >= most)
+
+
+def byte_step(most: int) -> int:
+    """The least round number of bytes, KiB, MiB and so on that reaches so far in five steps."""
+    counts = (1, 2, 5, 10, 20, 50, 100, 200, 500)
+    steps = (count * int(1024**size) for size in itertools.count() for count in counts)
+    return next(step for step in steps if 5 * step >= most)
+
+
+def told_bytes(number: int, step: int) -> str:
+    """So many bytes, in the unit in which the step is a whole number."""
+    size = next(it for it in reversed(range(len(SIZES))) if step >= 1024**it)
+    return f"{number // 1024**size} {SIZES[size]}"
+
+
+def time_steps() -> Iterator[int]:
+    """Round steps of time in ns, from the least on."""
+    yield from itertools.takewhile(lambda step: step < 10 * SECOND, round_steps())
+    yield from CLOCK_STEPS
+    yield from (step * DAY for step in round_steps())
+
+
+class TimeAxis:
+    """The time that is drawn, from `start` to `end` in ns since the start of the trace."""
+
+    def __init__(self, start: int, end: int) -> None:
+        self.start, self.end = start, end
+        self.step = next(step for step in time_steps() if MOST_STEPS * step >= end - start)
+        self.unit, self.length = next((unit, it) for unit, it in UNITS if self.step >= it or it == SECOND)
+
+    def x(self, moment: int) -> float:
+        """Where a moment stands: rounded as it is written, so that it is in the pixel's column in which it is counted."""
+        return round(LEFT + (moment - self.start) * (RIGHT - LEFT) / (self.end - self.start), 2)
+
+    def holds(self, moment: int) -> bool:
+        return self.start <= moment <= self.end
+
+    def marks(self) -> Iterator[Mark]:
+        for moment in range(-(-self.start // self.step) * self.step, self.end + 1, self.step):
+            yield Mark(moment, seconds(moment) if self.unit == "seconds" else str(moment // self.length))
+
+    def caption(self) -> str:
+        return f"{self.unit} since the start of the trace"
+
+    def told(self, moment: int) -> str:
+        """A moment as beside this axis: `146 s`, `2 h 1 min`."""
+        return f"{seconds(moment)} s" if self.unit == "seconds" else told(moment)
+
+
+class WallAxis(TimeAxis):
+    """The same by the clock on the wall, which showed `wall` when the trace began."""
+
+    def __init__(self, start: int, end: int, wall: WallTime) -> None:
+        super().__init__(start, end)
+        self.wall = wall
+        self.first = wall.epoch + wall.ahead
+        self.step = next(step for step in time_steps() if self.has_room(step))
+
+    def has_room(self, step: int) -> bool:
+        steps = math.ceil((self.end - self.start) / step)
+        width = LETTER * len(self.text(step, step)) + GAP
+        return steps <= MOST_STEPS and steps * width <= RIGHT - LEFT
+
+    def text(self, local: int, step: int) -> str:
+        """What stands at a moment by the wall's clock: a day's beginning has its date."""
+        at = shown(local)
+        if step >= DAY or (local % DAY == 0 and self.has_days()):
+            return f"{at.date.tm_mday} {MONTHS[at.date.tm_mon - 1][:3]}"
+        if step >= MINUTE:
+            return at.clock[:5]
+        decimals = len(seconds(step % SECOND)) - 2 if step % SECOND else 0
+        return f"{at.clock.partition('.')[0]}.{local % SECOND:09}"[: 9 + decimals] if decimals else at.clock
+
+    def marks(self) -> Iterator[Mark]:
+        first, last = self.first + self.start, self.first + self.end
+        for local in range(-(-first // self.step) * self.step, last + 1, self.step):
+            yield Mark(local - self.first, self.text(local, self.step))
+
+    def days(self) -> tuple[ClockTime, ClockTime]:
+        return shown(self.first + self.start), shown(self.first + self.end)
+
+    def has_days(self) -> bool:
+        """Whether more than one day is drawn."""
+        first, last = self.days()
+        return first.date[:3] != last.date[:3]
+
+    def caption(self) -> str:
+        first, last = self.days()
+        until = f" to {last.day} {last.date.tm_year}" if self.has_days() else ""
+        year = f" {first.date.tm_year}" if not until or first.date.tm_year != last.date.tm_year else ""
+        return f"time of day, {first.day}{year}{until}, {zone(self.wall.ahead)}"
+
+    def told(self, moment: int) -> str:
+        at = shown(self.first + moment)
+        return f"{at.clock} on {at.day}" if self.has_days() else at.clock
+
+
+def time_axis(start: int, end: int, wall: Optional[WallTime]) -> TimeAxis:
+    return WallAxis(start, end, wall) if wall else TimeAxis(start, end)

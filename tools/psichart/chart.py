@@ -1,0 +1,180 @@
+"""The whole picture: a title, a legend, panels with one axis of time, and upright lines for kills and for ends of groups."""
+from __future__ import annotations
+
+from typing import NamedTuple, Optional
+from xml.etree import ElementTree
+
+from psireplay.lines import Kill
+from psireplay.rules import Rules
+from psireplay.samples import Samples
+from psireplay.times import rounded
+
+from .axes import TimeAxis
+from .marks import ROW, Mark, Moment, marks_of, place
+from .panels import MemoryPanel, Panel, PressurePanel
+from .replay import Gone, Replay
+from .svg import LEFT, RIGHT, STYLE, WIDTH, Element, add, counted, decimal, short
+from .thresholds import memory_thresholds, pressure_thresholds
+
+NAMES = {
+    "io": "IO pressure", "memory": "memory pressure", "cpu": "CPU pressure", "irq": "interrupt pressure", "use": "memory in use"
+}  # fmt: skip
+MARKS_TOP = 74
+# Between the texts of upright lines and the first panel there is room for that panel's name.
+NAME_ROOM = 18
+LEGEND = 50
+AVERAGES = ("10 s", "60 s", "300 s")
+# A title has the paths of so many groups at most, and so many letters if it names who kills.
+TITLED = 3
+TITLE_ROOM = 100
+
+
+class Wanted(NamedTuple):
+    """What is to be drawn, and from what."""
+
+    replay: Replay
+    resources: list[str]
+    axis: TimeAxis
+    rules: Optional[Rules]
+    samples: Optional[Samples]
+
+
+class Chart:
+    """A picture of what is wanted."""
+
+    def __init__(self, wanted: Wanted) -> None:
+        self.wanted, self.replay, self.axis = wanted, wanted.replay, wanted.axis
+        self.heading = self.title(60 // min(TITLED, len(self.replay.groups)))
+        self.marks = marks_of(filter(lambda it: self.axis.holds(it.moment), self.moments()), self.axis.x)
+        self.unnamed = place(self.marks)
+        self.panels = [panel for resource in [*wanted.resources, "use"] for panel in self.panels_of(resource)]
+        rows = [mark.row + 1 for mark in self.marks if mark.row is not None]
+        self.marks_bottom = MARKS_TOP + ROW * max(rows, default=0)
+        self.top = self.marks_bottom + 14 + (NAME_ROOM if rows else 0)
+        self.plot_height = 300 if len(self.panels) == 1 else 132 if len(self.panels) <= 5 else 96
+        self.panel_height = self.plot_height + 48
+        self.bottom = self.top + len(self.panels) * self.panel_height - 28
+        self.svg = ElementTree.Element("svg", {"xmlns": "http://www.w3.org/2000/svg", "role": "img"})
+
+    # ------------------------------------------------------------ what is drawn
+
+    def panels_of(self, resource: str) -> list[Panel]:
+        """A panel of the resource for each group; for `use` one of its memory, where there are samples."""
+        return [panel for path in self.replay.groups for panel in self.panel(resource, path)]
+
+    def panel(self, resource: str, path: str) -> list[Panel]:
+        rules, samples = self.wanted.rules, self.wanted.samples
+        name = NAMES[resource] + (f" of {short(path, 80)}" if len(self.replay.groups) > 1 else "")
+        if resource != "use":
+            thresholds = pressure_thresholds(rules, path, resource)
+            return [PressurePanel(name, self.axis, thresholds, self.replay, path, resource)]
+        if not samples:
+            return []
+        return [MemoryPanel(name, self.axis, memory_thresholds(rules, path, samples.host), samples.lives[path])]
+
+    def moments(self) -> list[Moment]:
+        """The kills, and the ends of groups."""
+        return [self.kill(it) for it in self.replay.kills] + [self.end(it) for it in self.replay.gone()]
+
+    def kill(self, kill: Kill) -> Moment:
+        at = self.axis.told(kill.moment)
+        would, who = f"{kill.path} would be killed", f"ruleset {kill.ruleset}, action {kill.action}"
+        hint = f"{would} at {at} by {who}"
+        if self.wanted.rules:
+            killer = self.wanted.rules.killer(kill)
+            who = f"'{killer.ruleset}'"
+            hint = f"{would} at {at} by ruleset {kill.ruleset} {who}, action {kill.action} {killer.plugin}"
+        # Who kills is of more worth than when, which the axis has, unless the title says who.
+        second = f"{would} at {at}" if f" by {who}" in self.heading else f"{would} by {who}"
+        texts = (f"{would} at {at} by {who}", second, f"{would} at {at}", would, kill.path)
+        return Moment(kill.moment, "kill", hint, texts)
+
+    def end(self, gone: Gone) -> Moment:
+        was = f"{gone.path} was gone"
+        at = f"{was} at {self.axis.told(gone.moment)}"
+        return Moment(gone.moment, "gone", at, (at, at, at, was, was))
+
+    def title(self, most: int) -> str:
+        groups = self.replay.groups
+        paths = [short(path, most) for path in groups]
+        which = ", ".join(paths[:-1]) + " and " * (len(paths) > 1) + paths[-1]
+        which = which if len(paths) <= TITLED else f"{len(paths)} groups"
+        kills = counted(self.replay.end.kills, "would-be kill")
+        title = f"Pressure of {which}, {rounded(self.replay.end.moment)}, {kills}"
+        return title + self.killers() if len(title + self.killers()) <= max(most, TITLE_ROOM) else title
+
+    def killers(self) -> str:
+        """Whose the kills are: a ruleset's name, or how many rulesets there are, where the rules are known."""
+        rules = self.wanted.rules
+        names = {it.ruleset: rules.killer(it).ruleset for it in self.replay.kills} if rules else {}
+        if len(names) > 1:
+            return f" by {len(names)} rulesets"
+        return "".join(f" by '{name}'" for name in names.values())
+
+    # ------------------------------------------------------------ the drawing
+
+    def draw(self) -> Element:
+        height = self.bottom + 46
+        self.svg.attrib.update({"width": str(WIDTH), "height": str(height), "viewBox": f"0 0 {WIDTH} {height}"})
+        add(self.svg, "title", self.title(1000))
+        add(self.svg, "style", STYLE)
+        add(self.svg, "rect", class_="ground", width="100%", height="100%")
+        add(self.svg, "text", self.heading, class_="title", x=16, y=26)
+        self.draw_legend()
+        self.draw_time()
+        for number, panel in enumerate(self.panels):
+            # Panels of one kind reach up to the same, so that groups can be compared.
+            most = max(it.most() for it in self.panels if it.kind == panel.kind)
+            panel.draw(self.svg, self.top + number * self.panel_height, self.plot_height, most)
+        self.draw_marks()
+        return self.svg
+
+    def draw_legend(self) -> None:
+        legend = add(self.svg, "g", class_="legend")
+        y = LEGEND
+        add(legend, "text", "average over", x=16, y=y + 4)
+        items = [(average, f"series some avg{average[:-2]}") for average in AVERAGES]
+        items += [(level, f"series plain {level}") for level in ("some", "full")]
+        for (text, classes), x in zip(items, (106, 184, 262, 370, 460)):
+            add(legend, "polyline", class_=classes, points=f"{x},{y} {x + 32},{y}")
+            add(legend, "text", text, x=x + 38, y=y + 4)
+        add(legend, "path", class_="tick some", d=f"M552 {y - 6}v6")
+        add(legend, "path", class_="tick full", d=f"M558 {y}v6")
+        add(legend, "text", "event of a trigger: some above, full below", x=568, y=y + 4)
+        kill = add(legend, "g", class_="kill")
+        add(kill, "line", x1=834, y1=y - 7, x2=834, y2=y + 7)
+        add(kill, "path", d=f"M830 {y - 7}h8l-4 7z")
+        add(kill, "text", "would be killed", x=844, y=y + 4)
+
+    def draw_time(self) -> None:
+        """The lines of the time axis through all panels, and their numbers below the last."""
+        axis = add(self.svg, "g", class_="time")
+        for mark in self.axis.marks():
+            x = self.axis.x(mark.moment)
+            for number in range(len(self.panels)):
+                top = self.top + number * self.panel_height
+                add(axis, "line", class_="grid", x1=x, y1=top, x2=x, y2=top + self.plot_height)
+            add(axis, "text", mark.text, x=x, y=self.bottom + 16, text_anchor="middle")
+        middle = (LEFT + RIGHT) / 2
+        add(self.svg, "text", self.axis.caption(), class_="small", x=middle, y=self.bottom + 34, text_anchor="middle")
+
+    def draw_marks(self) -> None:
+        marks = add(self.svg, "g", class_="marks")
+        for mark in self.marks:
+            self.draw_mark(marks, mark)
+        unnamed = sum(len(mark.moments) for mark in self.unnamed)
+        if unnamed:
+            text = f"{counted(unnamed, 'upright line')} without a path, for want of room: draw less time by --from and --to"
+            add(marks, "text", text, class_="small", x=RIGHT, y=MARKS_TOP - 4, text_anchor="end")
+
+    def draw_mark(self, marks: Element, mark: Mark) -> None:
+        """A line from the row of its text down through all panels, with a triangle for a kill, and a cross for an end."""
+        group = add(marks, "g", class_=mark.kind)
+        add(group, "title", mark.told())
+        y = self.marks_bottom if mark.row is None else self.marks_bottom - ROW * mark.row - 9
+        add(group, "line", x1=mark.x, y1=y, x2=mark.x, y2=self.bottom)
+        x = decimal(mark.x - 4)
+        add(group, "path", d=f"M{x} {y}h8l-4 7z" if mark.kind == "kill" else f"M{x} {y}l8 8m-8 0l8 -8")
+        if mark.row is not None:
+            place, anchor = (mark.x - 7, "end") if mark.is_left else (mark.x + 7, "start")
+            add(group, "text", mark.text, class_="path", x=place, y=y + 7, text_anchor=anchor)

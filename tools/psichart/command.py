@@ -1,0 +1,128 @@
+"""The command: its words, and the chart that they ask for."""
+from __future__ import annotations
+
+import argparse
+import re
+from typing import NamedTuple, Optional, Union
+from xml.etree import ElementTree
+
+from psireplay.command import Fault, Words, run_tool
+from psireplay.lines import RESOURCES
+from psireplay.rules import Rules
+from psireplay.samples import Samples
+from psireplay.times import SECOND, WallTime, seconds, wall_time
+
+from .axes import time_axis
+from .chart import Chart, Wanted
+from .replay import Replay, read_replay
+
+ABOUT = "Draws what `psi_oomd replay` printed, as an SVG. Lines of its --live are passed over."
+AFTER = (
+    "--rules and --trace run the psi_oomd beside this tool, or the program that the variable PSI_OOMD names, which says "
+    "whether the file is one."
+)
+Moment = Union[int, WallTime]
+
+
+class Given(NamedTuple):
+    """What the words say; moments in ns since the start of the trace."""
+
+    groups: list[str]
+    resource: Optional[str]
+    start: int
+    end: Optional[int]
+    wall: Optional[WallTime]
+    rules: Optional[str]
+    trace: Optional[str]
+
+
+def moment(word: str) -> Moment:
+    """A number of seconds, or a time on the wall."""
+    found = re.fullmatch(r"([0-9]{1,9})(?:\.([0-9]{1,9}))?", word)
+    if found:
+        return int(found[1]) * SECOND + int((found[2] or "").ljust(9, "0"))
+    if "T" in word:
+        return wall_time(word)
+    raise argparse.ArgumentTypeError(f"{word} is no number of seconds, and no time as 2026-11-28T13:58:12Z")
+
+
+HELP = {
+    "group": "a group whose pressure is drawn, several times for several: / if left out",
+    "resource": "the one resource to draw: all if left out, irq where reports have it",
+    "from": "where the chart begins: seconds, or a time with --start",
+    "to": "where the chart ends, likewise",
+    "start": "when the trace began, as 2026-11-28T13:58:12Z: all times are by the clock",
+    "rules": "the rules of the replay: draws thresholds of the groups, and names rulesets",
+    "trace": "the trace of the replay: draws the groups' memory too",
+}
+
+
+def words() -> Words:
+    parser = Words("chart", ABOUT, AFTER)
+    option = parser.add_argument
+    option("--group", action="append", metavar="PATH", help=HELP["group"])
+    option("--resource", choices=RESOURCES, help=HELP["resource"])
+    option("--from", dest="start", type=moment, default=0, metavar="S", help=HELP["from"])
+    option("--to", dest="end", type=moment, metavar="S", help=HELP["to"])
+    option("--start", dest="wall", type=wall_time, metavar="TIME", help=HELP["start"])
+    option("--rules", metavar="FILE", help=HELP["rules"])
+    option("--trace", metavar="FILE", help=HELP["trace"])
+    return parser
+
+
+def since_start(given: Moment, wall: Optional[WallTime], option: str) -> int:
+    """The moment in ns since the start of the trace."""
+    if not isinstance(given, WallTime):
+        return given
+    if not wall:
+        raise Fault(f"{option} is a time on the wall: say by --start when the trace began, or give seconds")
+    if given.epoch < wall.epoch:
+        raise Fault(f"{option} is before --start, when the trace began")
+    return given.epoch - wall.epoch
+
+
+def read_words() -> Given:
+    given = words().parse_args()
+    start = since_start(given.start, given.wall, "--from")
+    end = None if given.end is None else since_start(given.end, given.wall, "--to")
+    groups = list(dict.fromkeys(given.group or ["/"]))
+    return Given(groups, given.resource, start, end, given.wall, given.rules, given.trace)
+
+
+def resources_of(replay: Replay, given: Given) -> list[str]:
+    """The resources to draw. Interrupts are among them only where some drawn group has reports of them."""
+    if given.resource:
+        return [given.resource]
+    has_interrupts = any(resource == "irq" for _, resource in replay.series)
+    return list(RESOURCES if has_interrupts else RESOURCES[:3])
+
+
+def must_have_reports(replay: Replay, resources: list[str], start: int, end: int, groups: list[str]) -> None:
+    """Some report of these groups must be in the time: what to do about it is told."""
+    series = [it for (path, resource), it in replay.series.items() if path in groups and resource in resources]
+    if start < end and any(start <= moment <= end for it in series for moment in it.moments):
+        return
+    about = f" on {resources[0]}" if len(resources) == 1 and resources[0] == "irq" else ""
+    when = f"from {seconds(start)} s to {seconds(end)} s of {seconds(replay.end.moment)} s"
+    advice = "ask replay for more by --report-s and --tick-ms, or chart for another --group, --from or --to"
+    raise Fault(f"no report of {', '.join(groups)}{about} {when}: {advice}")
+
+
+def chart() -> bytes:
+    given = read_words()
+    rules = Rules(given.rules) if given.rules is not None else None
+    with open(0, "rb", closefd=False) as printed:
+        replay = read_replay(printed, given.groups)
+    end = replay.end.moment if given.end is None else min(given.end, replay.end.moment)
+    resources = resources_of(replay, given)
+    for path in given.groups:
+        must_have_reports(replay, resources, 0, max(1, replay.end.moment), [path])
+    must_have_reports(replay, resources, given.start, end, given.groups)
+    samples = Samples(given.trace, given.groups, replay.end.moment) if given.trace is not None else None
+    picture = Chart(Wanted(replay, resources, time_axis(given.start, end, given.wall), rules, samples)).draw()
+    ElementTree.indent(picture, "")
+    return bytes(ElementTree.tostring(picture, "utf-8", xml_declaration=True)) + b"\n"
+
+
+def main() -> int:
+    return run_tool("chart", chart)

@@ -1,0 +1,104 @@
+"""Upright lines through all panels, and what stands beside each: kills, and ends of groups."""
+from __future__ import annotations
+
+import itertools
+from typing import Callable, Iterable, NamedTuple, Optional
+
+from .svg import LEFT, MONOSPACE, WIDTH, short
+
+ROWS = 8
+ROW = 15
+NAMED = 4
+
+
+class Moment(NamedTuple):
+    """What happens at a moment (ns): how it is drawn, all that is told of it, and texts from the longest to the shortest."""
+
+    moment: int
+    kind: str
+    hint: str
+    texts: tuple[str, ...]
+
+
+class Mark:
+    """What happens in one pixel's column, and where its text stands: in a row from below, or nowhere."""
+
+    def __init__(self, x: float, moments: list[Moment]) -> None:
+        self.x, self.moments = x, moments
+        self.kind = moments[0].kind
+        self.row: Optional[int] = None
+        self.is_left = False
+        self.text = ""
+
+    def say(self, length: int) -> None:
+        """Takes the text of the first moment that is so long, 0 for the longest, and how many moments more there are."""
+        more = f" +{len(self.moments) - 1}" if len(self.moments) > 1 else ""
+        self.text = short(self.moments[0].texts[length], 96 if length == 0 else 64) + more
+
+    def told(self) -> str:
+        """What is told of each moment, but of many only of the first ones."""
+        lines = [it.hint for it in self.moments[:NAMED]]
+        return "\n".join(lines + ([f"and {len(self.moments) - NAMED} more"] if len(self.moments) > NAMED else []))
+
+    def span(self, is_left: bool) -> tuple[float, float]:
+        """From where to where the text goes, beside the line."""
+        width = MONOSPACE * len(self.text)
+        return (self.x - 7 - width, self.x - 7) if is_left else (self.x + 7, self.x + 7 + width)
+
+    def is_free(self, row: int, is_left: bool, placed: list[Mark]) -> bool:
+        """Whether no text, and no line up to its text, is in the way, and its own line is in no text's way."""
+        left, right = self.span(is_left)
+        for other in placed:
+            if other.row is None:
+                continue
+            other_left, other_right = other.span(other.is_left)
+            if row == other.row and left < other_right and other_left < right:
+                return False
+            if row <= other.row and left - 5 < other.x < right + 5:
+                return False
+            if row >= other.row and other_left - 5 < self.x < other_right + 5:
+                return False
+        return LEFT <= left and right <= WIDTH - 4
+
+    def place(self, placed: list[Mark]) -> bool:
+        """Takes the lowest row that is free to the right, or the highest to the left, under which there is room for others."""
+        rows = range(ROWS)
+        for row, is_left in itertools.chain(((row, False) for row in rows), ((row, True) for row in reversed(rows))):
+            if self.is_free(row, is_left, placed):
+                self.row, self.is_left = row, is_left
+                return True
+        return False
+
+
+def marks_of(moments: Iterable[Moment], x_of: Callable[[int], float]) -> list[Mark]:
+    """A mark for each pixel's column in which something of a kind happens."""
+
+    def column_of(it: Moment) -> tuple[int, str]:
+        return int(x_of(it.moment)), it.kind
+
+    columns = [list(column) for _, column in itertools.groupby(sorted(moments, key=column_of), key=column_of)]
+    return [Mark(x_of(column[0].moment), column) for column in columns]
+
+
+def place_all(marks: list[Mark], length: int, are_kills_first: bool) -> list[Mark]:
+    """Places the texts that are so long, from the last mark to the first, and gives those that found no room."""
+    for mark in marks:
+        mark.row = None
+        mark.say(length)
+    placed: list[Mark] = []
+    for mark in sorted(reversed(marks), key=lambda it: are_kills_first and it.kind != "kill"):
+        if mark.place(placed):
+            placed.append(mark)
+    return [mark for mark in marks if mark.row is None]
+
+
+def place(marks: list[Mark]) -> list[Mark]:
+    """Places the longest texts of which all have room, or the shortest, those of kills first, of which some have none. Drops
+    rows without a text. Gives the marks that have none."""
+    lengths = min((len(mark.moments[0].texts) for mark in marks), default=1)
+    if not any(not place_all(marks, length, False) for length in range(lengths)):
+        place_all(marks, lengths - 1, True)
+    rows = sorted({mark.row for mark in marks if mark.row is not None})
+    for mark in marks:
+        mark.row = None if mark.row is None else rows.index(mark.row)
+    return [mark for mark in marks if mark.row is None]

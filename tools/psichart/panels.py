@@ -1,0 +1,185 @@
+"""A panel: one resource's pressure of one group, or its memory."""
+from __future__ import annotations
+
+import itertools
+from typing import Iterator, NamedTuple, Optional
+
+from psireplay.lines import AVERAGES, LEVELS
+from psireplay.samples import Life, Sample
+
+from .axes import TimeAxis, byte_step, share_step, told_bytes
+from .replay import Replay, Series
+from .svg import LEFT, RIGHT, Element, Point, add, add_line, counted, decimal, thinned, thinned_steps
+from .thresholds import Threshold, draw_thresholds
+
+# A panel reaches at least up to 1 %, or 1 MiB, so that next to nothing doesn't look like much.
+LEAST_SHARE = 100
+LEAST_BYTES = 1024**2
+
+
+class Frame(NamedTuple):
+    """Where a panel stands: from its top, so high, and up to so much."""
+
+    top: float
+    height: float
+    most: int
+
+    @property
+    def bottom(self) -> float:
+        return self.top + self.height
+
+    @property
+    def scale(self) -> float:
+        return self.height / self.most
+
+
+class Panel:
+    """What panels have in common: a name, an axis that says of what it is, and thresholds."""
+
+    kind = ""
+    of_what = ""
+
+    def __init__(self, name: str, axis: TimeAxis, thresholds: list[Threshold]) -> None:
+        self.name, self.axis, self.thresholds = name, axis, thresholds
+
+    def most(self) -> int:
+        """How far up it reaches at least."""
+        raise NotImplementedError
+
+    def step(self, most: int) -> int:
+        raise NotImplementedError
+
+    def number(self, value: int, step: int) -> str:
+        raise NotImplementedError
+
+    def draw_inside(self, panel: Element, frame: Frame) -> None:
+        raise NotImplementedError
+
+    def draw(self, svg: Element, top: float, height: float, most: int) -> None:
+        """Draws it so that it reaches up to so much, or a little more."""
+        step = self.step(most)
+        frame = Frame(top, height, -(-most // step) * step)
+        panel = add(svg, "g", class_=f"panel {self.kind}")
+        add(panel, "text", self.name, class_="name", x=16, y=top - 13)
+        middle = top + height / 2
+        turn = f"rotate(-90 44 {decimal(middle)})"
+        add(panel, "text", self.of_what, class_="small", x=44, y=middle, text_anchor="middle", transform=turn)
+        axis = add(panel, "g", class_="share")
+        for value in range(0, frame.most + 1, step):
+            y = frame.bottom - value * frame.scale
+            add(axis, "line", class_="grid" if value else "edge", x1=LEFT, y1=y, x2=RIGHT, y2=y)
+            add(axis, "text", self.number(value, step), x=LEFT - 7, y=y, dy=".35em", text_anchor="end")
+        self.draw_inside(panel, frame)
+        draw_thresholds(panel, self.thresholds, frame.bottom, frame.scale)
+
+
+class PressurePanel(Panel):
+    """The averages of a group's reports on a resource, and below them a tick for each event of its triggers."""
+
+    of_what = "share of time"
+
+    def __init__(
+        self, name: str, axis: TimeAxis, thresholds: list[Threshold], replay: Replay, path: str, resource: str
+    ) -> None:
+        super().__init__(name, axis, thresholds)
+        self.kind = resource
+        self.series = replay.series.get((path, resource), Series())
+        self.events = {level: replay.events.get((path, resource, level), []) for level in LEVELS}
+        self.shown = [place for place, moment in enumerate(self.series.moments) if axis.holds(moment)]
+
+    def most(self) -> int:
+        shares = (shares[place] for shares in self.series.shares.values() if shares for place in self.shown)
+        return max(LEAST_SHARE, max(shares, default=0), *(it.level for it in self.thresholds))
+
+    def step(self, most: int) -> int:
+        return share_step(most)
+
+    def number(self, value: int, step: int) -> str:
+        return f"{decimal(value / 100)} %"
+
+    def draw_inside(self, panel: Element, frame: Frame) -> None:
+        for average, level in itertools.product(reversed(AVERAGES), LEVELS):
+            shares = self.series.shares[level, average]
+            lines = add(panel, "g", class_=f"series {level} {average}")
+            for places in self.unbroken() if shares else ():
+                points = ((self.axis.x(self.series.moments[it]), frame.bottom - shares[it] * frame.scale) for it in places)
+                add_line(lines, thinned(points))
+        self.draw_events(panel, frame.bottom + 5)
+
+    def unbroken(self) -> Iterator[list[int]]:
+        """The places of the reports, cut where the group wasn't there for two pixels or more."""
+        rounds, moments = self.series.rounds, self.series.moments
+        run: list[int] = []
+        for place in self.shown:
+            if run and rounds[place] > rounds[place - 1] + 1:
+                if self.axis.x(moments[place]) - self.axis.x(moments[place - 1]) >= 2:
+                    yield run
+                    run = []
+            run.append(place)
+        if run:
+            yield run
+
+    def draw_events(self, panel: Element, top: float) -> None:
+        count = 0
+        for row, level in enumerate(LEVELS):
+            moments = [moment for moment in self.events[level] if self.axis.holds(moment)]
+            count += len(moments)
+            columns = itertools.groupby(map(self.axis.x, moments), key=int)
+            ticks = "".join(f"M{decimal(next(column))} {decimal(top + 7 * row)}v6" for _, column in columns)
+            if ticks:
+                add(panel, "path", class_=f"tick {level}", d=ticks)
+        add(panel, "text", counted(count, "event"), class_="small", x=LEFT - 7, y=top + 10, text_anchor="end")
+
+
+class MemoryPanel(Panel):
+    """What samples say of a group's memory and swap, each until the next one, or until the group is removed."""
+
+    kind = "use"
+    of_what = "bytes"
+
+    def __init__(self, name: str, axis: TimeAxis, thresholds: list[Threshold], lives: list[Life]) -> None:
+        super().__init__(name, axis, thresholds)
+        self.lives = [samples for samples in map(self.shown, lives) if samples]
+        self.has_swap = any(it.swap for samples in self.lives for it in samples)
+
+    def shown(self, life: Life) -> list[Sample]:
+        """The samples in the shown time. The last one before it goes on at its start, and the last one up to its end."""
+        end = self.axis.end if life.end is None else min(life.end, self.axis.end)
+        inside = [it for it in life.samples if self.axis.start <= it.moment <= end]
+        before = [it for it in life.samples if it.moment < self.axis.start][-1:]
+        if end >= self.axis.start:
+            inside = [it._replace(moment=self.axis.start) for it in before] + inside
+        return inside + [it._replace(moment=end) for it in inside[-1:]]
+
+    def most(self) -> int:
+        used = (max(it.memory, it.swap) for samples in self.lives for it in samples)
+        return max(LEAST_BYTES, max(used, default=0), *(it.level for it in self.thresholds))
+
+    def step(self, most: int) -> int:
+        return byte_step(most)
+
+    def number(self, value: int, step: int) -> str:
+        return told_bytes(value, step)
+
+    def draw_inside(self, panel: Element, frame: Frame) -> None:
+        for place, what in enumerate(("memory", "swap") if self.has_swap else ("memory",)):
+            look, x, y = f"series {what}-use", RIGHT - 194 + 106 * place, frame.top - 17
+            add(panel, "polyline", class_=look, points=f"{decimal(x)},{decimal(y)} {decimal(x + 32)},{decimal(y)}")
+            add(panel, "text", what, x=x + 38, y=y + 4)
+            lines = add(panel, "g", class_=look)
+            for samples in self.lives:
+                add_line(lines, thinned_steps(self.steps(samples, what == "swap", frame)))
+        if not self.lives:
+            middle, text = (LEFT + RIGHT) / 2, "no sample of its memory in this time"
+            add(panel, "text", text, class_="note", x=middle, y=frame.top + 20, text_anchor="middle")
+
+    def steps(self, samples: list[Sample], is_swap: bool, frame: Frame) -> Iterator[Point]:
+        """A level up to the next sample, and there a step to that one's."""
+        last: Optional[float] = None
+        for sample in samples:
+            x, y = self.axis.x(sample.moment), frame.bottom - (sample.swap if is_swap else sample.memory) * frame.scale
+            if last is not None:
+                yield x, last
+            if y != last:
+                yield x, y
+            last = y

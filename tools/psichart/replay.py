@@ -1,0 +1,102 @@
+"""What of a replay is drawn: the reports and events of some groups, all kills, and when groups were gone."""
+from __future__ import annotations
+
+from array import array
+from typing import Iterable, NamedTuple, Optional
+
+from psireplay.lines import AVERAGES, LEVELS, End, Event, Kill, Pressure, Report, read
+
+Which = tuple[str, str]
+
+
+class Series:
+    """The averages of one resource of a group: moments in ns, shares in hundredths of a percent. A round is a tick with
+    reports; where one passes without a report of the group, the group wasn't there."""
+
+    def __init__(self) -> None:
+        self.moments, self.rounds = array("Q"), array("Q")
+        self.shares: dict[Which, array[int]] = {(level, it): array("Q") for level in LEVELS for it in AVERAGES}
+
+    def take(self, report: Report, number: int) -> None:
+        """Takes the report of the round of this number."""
+        self.moments.append(report.moment)
+        self.rounds.append(number)
+        for level, pressure in (("some", report.some), ("full", report.full)):
+            if pressure:
+                self.take_line(level, pressure)
+
+    def take_line(self, level: str, pressure: Pressure) -> None:
+        for average, share in zip(AVERAGES, pressure):
+            self.shares[level, average].append(share)
+
+
+class Gone(NamedTuple):
+    """A group that had a report in the round before, and has none in the round at this moment in ns."""
+
+    moment: int
+    path: str
+
+
+class Rounds:
+    """Which groups have reports in each round, and when one that had them has none."""
+
+    def __init__(self) -> None:
+        self.number = 0
+        self.moment: Optional[int] = None
+        self.before: set[str] = set()
+        self.now: set[str] = set()
+        self.gone: list[Gone] = []
+
+    def take(self, moment: int, path: str) -> None:
+        if moment != self.moment:
+            self.close()
+            self.moment, self.number = moment, self.number + 1
+        self.now.add(path)
+
+    def close(self) -> None:
+        """Ends the round."""
+        if self.moment is not None:
+            self.gone += [Gone(self.moment, path) for path in sorted(self.before - self.now)]
+            self.before, self.now = self.now, set()
+
+
+class Replay:
+    """What was printed of these groups, of all kills, and of the ends of groups."""
+
+    def __init__(self, groups: list[str]) -> None:
+        self.groups = groups
+        self.series: dict[tuple[str, str], Series] = {}
+        self.events: dict[tuple[str, str, str], list[int]] = {}
+        self.kills: list[Kill] = []
+        self.rounds = Rounds()
+        self.end = End(0, 0, 0, 0)
+
+    def take_report(self, report: Report) -> None:
+        self.rounds.take(report.moment, report.path)
+        if report.path in self.groups:
+            series = self.series.setdefault((report.path, report.resource), Series())
+            series.take(report, self.rounds.number)
+
+    def take_event(self, event: Event) -> None:
+        if event.path in self.groups:
+            self.events.setdefault((event.path, event.resource, event.level), []).append(event.moment)
+
+    def gone(self) -> list[Gone]:
+        """The ends of the drawn groups, and of those that would be killed."""
+        named = {*self.groups, *(kill.path for kill in self.kills)}
+        return [gone for gone in self.rounds.gone if gone.path in named]
+
+
+def read_replay(printed: Iterable[bytes], groups: list[str]) -> Replay:
+    replay = Replay(groups)
+    for line in read(printed):
+        if isinstance(line, Report):
+            replay.take_report(line)
+        elif isinstance(line, Event):
+            replay.take_event(line)
+        elif isinstance(line, Kill):
+            replay.kills.append(line)
+        else:
+            replay.end = line
+    replay.rounds.close()
+    return replay

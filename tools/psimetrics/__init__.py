@@ -1,0 +1,1 @@
+"""Writes what `psi_oomd replay` printed as metrics with timestamps."""

@@ -1,0 +1,109 @@
+"""What a replay printed, as families of counters.
+
+Pressure has the names under which a machine's own is collected: those of node_exporter's collector `pressure` for the machine,
+and those of cAdvisor, with the label `id`, for each group, which the root is one of. node_exporter has no time in which all
+waited for a processor, since the kernel has none for the machine. cAdvisor has none of interrupts: that name is made as its
+others are.
+"""
+from __future__ import annotations
+
+from array import array
+from typing import Iterable, Optional
+
+from psireplay.command import Fault
+from psireplay.lines import Event, Kill, Report, read
+from psireplay.rules import Rules
+from psireplay.times import seconds
+
+from .text import Counter, Families, Labels, Points
+
+US = 10**6
+WORDS = {"some": "waiting", "full": "stalled"}
+OF_WHAT = {"io": "IO", "memory": "memory", "cpu": "a processor", "irq": "interrupts to end"}
+WHO = {"waiting": "some task of {}", "stalled": "all tasks of {} that weren't idle"}
+KILLS = Counter("psi_oomd_kills", "How often rules would have killed a group.", 1)
+EVENTS = Counter("psi_oomd_trigger_events", "How often a trigger signalled.", 1)
+
+
+def pressure_family(prefix: str, whose: str, resource: str, word: str) -> Counter:
+    about = f"How long {WHO[word].format(whose)} waited for {OF_WHAT[resource]}."
+    return Counter(f"{prefix}_pressure_{resource}_{word}_seconds", about, US)
+
+
+class Metrics:
+    """Takes what was printed, line by line."""
+
+    def __init__(self, rules: Optional[Rules], labels: Labels) -> None:
+        """The labels are those that each metric has beside its own."""
+        self.rules, self.labels = rules, labels
+        self.families: Families = {}
+        self.rounds = array("Q")
+        self.happened: dict[Counter, dict[Labels, list[int]]] = {KILLS: {}, EVENTS: {}}
+
+    def points(self, family: Counter, *labels: tuple[str, str]) -> Points:
+        return self.families.setdefault(family, {}).setdefault((*labels, *self.labels), Points())
+
+    def take_report(self, report: Report) -> None:
+        """Takes the totals of a pressure file, which are in us."""
+        if not self.rounds or report.moment != self.rounds[-1]:
+            self.rounds.append(report.moment)
+        for level, pressure in (("some", report.some), ("full", report.full)):
+            if pressure:
+                self.take_total(report, WORDS[level], pressure.total)
+
+    def take_total(self, report: Report, word: str, total: int) -> None:
+        if report.path == "/" and (report.resource, word) != ("cpu", "stalled"):
+            family = pressure_family("node", "the machine", report.resource, word)
+            self.points(family).add(report.moment, total)
+        family = pressure_family("container", "the group", report.resource, word)
+        self.points(family, ("id", report.path)).add(report.moment, total)
+
+    def count(self, family: Counter, moment: int, *labels: tuple[str, str]) -> None:
+        self.happened[family].setdefault((*labels, *self.labels), []).append(moment)
+
+    def take_kill(self, kill: Kill) -> None:
+        numbers = (("ruleset", str(kill.ruleset)), ("action", str(kill.action)))
+        killer = self.rules.killer(kill) if self.rules else None
+        names = (("ruleset_name", killer.ruleset), ("plugin", killer.plugin)) if killer else ()
+        self.count(KILLS, kill.moment, ("id", kill.path), *numbers, *names)
+
+    def take_event(self, event: Event) -> None:
+        times = [seconds(it * 1000) for it in (event.threshold, event.window)]
+        what = (("resource", event.resource), ("level", event.level))
+        limits = (("threshold_seconds", times[0]), ("window_seconds", times[1]))
+        self.count(EVENTS, event.moment, ("id", event.path), ("trigger", str(event.trigger)), *what, *limits)
+
+    def close(self) -> Families:
+        """All families. What is counted is 0 at the start, and has a point at each of its moments and at each report."""
+        for family, metrics in self.happened.items():
+            for labels, moments in metrics.items():
+                points = self.families.setdefault(family, {}).setdefault(labels, Points())
+                for moment, value in counted(moments, self.rounds):
+                    points.add(moment, value)
+        return self.families
+
+
+def counted(moments: list[int], rounds: Iterable[int]) -> list[tuple[int, int]]:
+    """How many of the moments were there by the start, by each of them and by each round."""
+    value_at = {0: 0}
+    done = 0
+    for moment in sorted({*moments, *rounds}):
+        while done < len(moments) and moments[done] <= moment:
+            done += 1
+        value_at[moment] = done
+    return list(value_at.items())
+
+
+def metrics_of(printed: Iterable[bytes], rules: Optional[Rules], labels: Labels) -> Families:
+    """The families of what a replay printed. One without a report is a fault."""
+    metrics = Metrics(rules, labels)
+    for line in read(printed):
+        if isinstance(line, Report):
+            metrics.take_report(line)
+        elif isinstance(line, Kill):
+            metrics.take_kill(line)
+        elif isinstance(line, Event):
+            metrics.take_event(line)
+    if not metrics.rounds:
+        raise Fault("no report, so there is no metric: ask replay for ticks shorter than the trace by --tick-ms")
+    return metrics.close()

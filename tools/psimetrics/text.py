@@ -1,0 +1,82 @@
+"""Families of metrics, and the two texts in which monitoring systems read them.
+
+OpenMetrics 1.0 (https://prometheus.io/docs/specs/om/open_metrics_spec/) has timestamps in seconds; the older text of Prometheus
+(https://prometheus.io/docs/instrumenting/exposition_formats/) has them in whole ms.
+"""
+from __future__ import annotations
+
+from array import array
+from typing import Callable, Iterator, NamedTuple
+
+from psireplay.times import SECOND, WallTime, seconds
+
+MILLISECOND = SECOND // 1000
+# Prometheus cuts moments to whole ms, and a moment may fall one ms short by that. It refuses two points of one ms.
+NEAREST = 2 * MILLISECOND
+Labels = tuple[tuple[str, str], ...]
+
+
+class Points:
+    """A counter over time: moments in ns since the start of the trace, and what it had come to by then."""
+
+    def __init__(self) -> None:
+        self.moments, self.values = array("Q"), array("Q")
+
+    def add(self, moment: int, value: int) -> None:
+        """Takes the next point. It stands in place of the last one where that is too near."""
+        if self.moments and moment - self.moments[-1] < NEAREST:
+            self.moments.pop()
+            self.values.pop()
+        self.moments.append(moment)
+        self.values.append(value)
+
+
+class Counter(NamedTuple):
+    """A family of counters: its name without `_total`, what is counted, and how often one of its values is in its unit."""
+
+    name: str
+    help: str
+    per_unit: int
+
+    def text(self, value: int) -> str:
+        """The value in the family's unit, exactly."""
+        return seconds(value * (SECOND // self.per_unit))
+
+
+Families = dict[Counter, dict[Labels, Points]]
+
+
+def escaped(value: str) -> str:
+    """A label's value as it stands between quotes."""
+    return value.replace("\\", "\\\\").replace('"', '\\"').replace("\n", "\\n")
+
+
+def braced(labels: Labels) -> str:
+    return "{" + ",".join(f'{name}="{escaped(value)}"' for name, value in labels) + "}" if labels else ""
+
+
+def lines_of(family: Counter, metrics: dict[Labels, Points], when: Callable[[int], str]) -> Iterator[str]:
+    """The points of a family: one metric after the other, and each in the order of time."""
+    for labels in sorted(metrics):
+        points = metrics[labels]
+        head = f"{family.name}_total{braced(labels)}"
+        yield from (f"{head} {family.text(value)} {when(at)}" for at, value in zip(points.moments, points.values))
+
+
+def openmetrics(families: Families, start: WallTime) -> Iterator[str]:
+    """The lines of the OpenMetrics text."""
+    for family in sorted(families):
+        yield f"# TYPE {family.name} counter"
+        if family.name.endswith("_seconds"):
+            yield f"# UNIT {family.name} seconds"
+        yield f"# HELP {family.name} {family.help}"
+        yield from lines_of(family, families[family], lambda at: seconds(start.epoch + at))
+    yield "# EOF"
+
+
+def prometheus(families: Families, start: WallTime) -> Iterator[str]:
+    """The lines of the older text."""
+    for family in sorted(families):
+        yield f"# HELP {family.name}_total {family.help}"
+        yield f"# TYPE {family.name}_total counter"
+        yield from lines_of(family, families[family], lambda at: str((start.epoch + at) // MILLISECOND))

@@ -1,0 +1,107 @@
+"""tools/rules compare: what other rules change, trace by trace."""
+import argparse
+import contextlib
+import itertools
+from dataclasses import dataclass
+
+from psirules import telling
+from psirules.expectations import victims
+from psirules.program import Kill, Program
+from psirules.replays import Traces, accepted, no_input
+from psirules.rules_file import RulesFile
+from psirules.telling import Form, Outcome
+from psirules.wording import Fault, seconds
+
+ABOUT = """Replays each trace by the rules of OLD and by those of NEW, and tells of each, by the first kill that differs:
+
+  same           the same groups are killed at the same moments
+  earlier by S   the same group is killed, so many seconds earlier by NEW
+  later by S     or later
+  other victim   another group is killed
+  only in FILE   there is such a kill by these rules alone"""
+STATUS = "The status is 0 where all traces are the same, 1 where some aren't, and 2 where something couldn't be run."
+
+
+@dataclass(frozen=True)
+class Difference:
+    """What became of one trace: the word for it, the kills that differ first, by OLD and by NEW, and all of it in words."""
+
+    word: str
+    old: Kill | None
+    new: Kill | None
+    told: str
+
+
+def difference(old: list[Kill], new: list[Kill], old_rules: RulesFile, new_rules: RulesFile) -> Difference:
+    """What the first kill that differs says, number by number."""
+    for number, (one, other) in enumerate(itertools.zip_longest(old, new)):
+        earlier = f", behind {victims(new[:number])} by both" if number else ""
+        if one is None:
+            word = f"only in {new_rules.name}"
+            return Difference(word, one, other, f"{word}: {other.path} {new_rules.killed(other)}{earlier}")
+        if other is None:
+            word = f"only in {old_rules.name}"
+            return Difference(word, one, other, f"{word}: {one.path} {old_rules.killed(one)}{earlier}")
+        both = (
+            f"{other.path} {new_rules.killed(other)}; by {old_rules.name} {told_old(one, other, old_rules, new_rules)}{earlier}"
+        )
+        if one.path != other.path:
+            return Difference("other victim", one, other, f"other victim: {both}")
+        if one.moment != other.moment:
+            word = f"{'earlier' if other.moment < one.moment else 'later'} by {seconds(abs(other.moment - one.moment))} s"
+            return Difference(word, one, other, f"{word}: {both}")
+    return Difference("same", None, None, f"same: {victims(new)}")
+
+
+def told_old(old: Kill, new: Kill, old_rules: RulesFile, new_rules: RulesFile) -> str:
+    """The kill by OLD, as far as it isn't that by NEW."""
+    path = "" if old.path == new.path else f"{old.path} "
+    killer = "" if old_rules.killer(old) == new_rules.killer(new) else f", {old_rules.killer(old)}"
+    return f"{path}at {seconds(old.moment)} s{killer}"
+
+
+@dataclass(frozen=True)
+class Compared:
+    """A trace, and how its kills differ, or why it couldn't be replayed."""
+
+    trace: str
+    found: Difference | Fault
+
+    def outcome(self) -> Outcome:
+        if isinstance(self.found, Fault):
+            return Outcome(self.trace, None, str(self.found))
+        return Outcome(self.trace, self.found.word == "same", self.found.told)
+
+    def record(self, old: RulesFile, new: RulesFile) -> dict[str, object]:
+        if isinstance(self.found, Fault):
+            return {"trace": self.trace, "fault": str(self.found)}
+        kills = {"old": self.found.old and old.record(self.found.old), "new": self.found.new and new.record(self.found.new)}
+        return {"trace": self.trace, "fault": None, "word": self.found.word, "told": self.found.told, **kills}
+
+
+def run(given: argparse.Namespace) -> int:
+    no_input(given.traces)
+    program = Program()
+    program.prepare()
+    with contextlib.ExitStack() as files:
+        old, old_file = accepted(program, given.old, files)
+        new, new_file = accepted(program, given.new, files)
+        replays = Traces(given.traces, given.pace, given.jobs).replays(program, [old_file, new_file])
+    compared = []
+    for trace, one, other in zip(given.traces, *replays):
+        fault = next((it for it in (one, other) if isinstance(it, Fault)), None)
+        compared.append(Compared(trace, fault or difference(one, other, old, new)))
+    outcomes = [it.outcome() for it in compared]
+    status = telling.status_of(outcomes)
+    if given.form is Form.JSON:
+        records = [it.record(old, new) for it in compared]
+        telling.tell_json({"old": given.old, "new": given.new, "status": status, "traces": records})
+    elif given.form is Form.TAP:
+        telling.tell_tap(outcomes)
+    else:
+        for outcome in outcomes:
+            if outcome.is_ok is None:
+                telling.complain(outcome.told)
+            else:
+                print(f"{outcome.name}: {outcome.told}")
+    return status

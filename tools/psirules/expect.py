@@ -1,0 +1,92 @@
+"""tools/rules expect: whether the kills of traces are what is wanted."""
+import argparse
+import contextlib
+from collections.abc import Iterable
+
+from psirules import expectations, telling
+from psirules.expectations import Expectation
+from psirules.program import Kill, Program
+from psirules.replays import STANDARD_INPUT, Traces, accepted
+from psirules.rules_file import RulesFile, bytes_of
+from psirules.telling import Form, Outcome
+from psirules.wording import Fault
+
+ABOUT = """Replays each trace by the rules of FILE, and holds its kills against the lines of WANT, all against each trace:
+
+  first PATH from S to S   the first kill is of PATH, at a moment between these, in seconds
+  kill PATH by RULESET     some kill of PATH is by a ruleset of this name (or, where none has it, of this number)
+  no kill of PATTERN       no kill is of a group that the pattern matches
+  at most N kills          there are no more
+  no kill before S         the first kill, if there is one, isn't earlier
+
+What stands behind a # is a comment. PATH and PATTERN are written as in rules files: in a component, * is any run of bytes.
+TRACE may be - for the standard input, once."""
+STATUS = "The status is 0 where all holds, 1 where something doesn't, and 2 where something couldn't be run."
+
+
+class Judged:
+    """A trace with its kills, or the fault for which there are none, and what became of each expectation."""
+
+    def __init__(self, trace: str, found: list[Kill] | Fault, wanted: list[Expectation], rules: RulesFile) -> None:
+        self.trace, self.found, self.wanted, self.rules = trace, found, wanted, rules
+        self.outcomes = [self.outcome(it) for it in wanted]
+
+    def outcome(self, wanted: Expectation) -> Outcome:
+        if isinstance(self.found, Fault):
+            return Outcome(wanted.text, None, str(self.found))
+        verdict = wanted.verdict(self.found, self.rules)
+        return Outcome(wanted.text, verdict.holds, verdict.told)
+
+    def record(self) -> dict[str, object]:
+        is_fault = isinstance(self.found, Fault)
+        kills = [] if isinstance(self.found, Fault) else [self.rules.record(kill) for kill in self.found]
+        judged = [
+            {"line": wanted.line, "text": wanted.text, "ok": outcome.is_ok, "told": outcome.told}
+            for wanted, outcome in zip(self.wanted, self.outcomes)
+        ]
+        fault = str(self.found) if is_fault else None
+        return {"trace": self.trace, "fault": fault, "kills": kills, "expectations": judged}
+
+
+def tell_lines(judged: Iterable[Judged], is_named: bool) -> None:
+    """A line for each expectation; with the trace's name where there are several traces."""
+    for trace in judged:
+        if isinstance(trace.found, Fault):
+            telling.complain(str(trace.found))
+            continue
+        for outcome in trace.outcomes:
+            name = f"{trace.trace}: {outcome.name}" if is_named else outcome.name
+            print(f"{'ok' if outcome.is_ok else 'FAIL':<6}{name}: {outcome.told}")
+
+
+def judge(given: argparse.Namespace, program: Program) -> list[Judged]:
+    if given.traces.count(STANDARD_INPUT) > 1:
+        raise Fault("- is given twice, and the standard input is read once")
+    wanted = expectations.read(given.want, bytes_of(given.want))
+    program.prepare()
+    with contextlib.ExitStack() as files:
+        rules, file = accepted(program, given.rules, files)
+        for it in wanted:
+            try:
+                it.check(rules)
+            except Fault as fault:
+                raise Fault(f"{given.want} line {it.line}: {fault}") from fault
+        (replays,) = Traces(given.traces, given.pace, given.jobs).replays(program, [file])
+    return [Judged(trace, found, wanted, rules) for trace, found in zip(given.traces, replays)]
+
+
+def run(given: argparse.Namespace) -> int:
+    judged = judge(given, Program())
+    status = telling.status_of([outcome for trace in judged for outcome in trace.outcomes])
+    if given.form is Form.JSON:
+        telling.tell_json(
+            {"rules": given.rules, "want": given.want, "status": status, "traces": [it.record() for it in judged]}
+        )
+    elif given.form is Form.TAP:
+        named = [
+            Outcome(f"{it.trace}: {outcome.name}", outcome.is_ok, outcome.told) for it in judged for outcome in it.outcomes
+        ]
+        telling.tell_tap(named)
+    else:
+        tell_lines(judged, len(judged) > 1)
+    return status

@@ -1,0 +1,175 @@
+"""What is wanted of the kills of a replay: the lines of a WANT file, and whether they hold."""
+import difflib
+import re
+from abc import ABC, abstractmethod
+from dataclasses import dataclass
+
+from psirules.patterns import is_pattern, matches
+from psirules.program import Kill
+from psirules.rules_file import RulesFile
+from psirules.wording import Fault, counted, listed, moment, quoted, seconds
+
+FORMS = ("first PATH from S to S", "kill PATH by RULESET", "no kill of PATTERN", "at most N kills", "no kill before S")
+MOST_MOMENTS = 10
+
+
+@dataclass(frozen=True)
+class Verdict:
+    """Whether an expectation holds, and by which kills."""
+
+    holds: bool
+    told: str
+
+
+def victims(kills: list[Kill]) -> str:
+    """How many kills, and each victim with its moments."""
+    if not kills:
+        return "no kill"
+    moments: dict[str, list[str]] = {}
+    for kill in kills:
+        moments.setdefault(kill.path, []).append(f"{seconds(kill.moment)} s")
+    told = [f"{path} at {', '.join(it[:MOST_MOMENTS])}{' and later' * bool(it[MOST_MOMENTS:])}" for path, it in moments.items()]
+    return "; ".join([", ".join([counted(len(kills), "kill"), *told[:1]]), *told[1:]])
+
+
+def killed(kills: list[Kill], rules: RulesFile) -> str:
+    """The first of these kills, and how many more there are."""
+    return rules.killed(kills[0]) + (f", and {len(kills) - 1} more" if kills[1:] else "")
+
+
+@dataclass(frozen=True)
+class Expectation(ABC):
+    """A line of a WANT file: its number, and what stands there without its comment."""
+
+    line: int
+    text: str
+
+    @abstractmethod
+    def verdict(self, kills: list[Kill], rules: RulesFile) -> Verdict:
+        """Whether these kills, in the order in which they were told, are what is wanted."""
+
+    def check(self, rules: RulesFile) -> None:
+        """Raises a fault where it can't be judged by these rules."""
+
+
+@dataclass(frozen=True)
+class First(Expectation):
+    """The first kill, or one at the same moment, is of this path, and between these moments (ns), both inclusive."""
+
+    path: str
+    start: int
+    end: int
+
+    def verdict(self, kills: list[Kill], rules: RulesFile) -> Verdict:
+        if not kills:
+            return Verdict(False, "no kill")
+        found = [kill for kill in kills if kill.moment == kills[0].moment and matches(self.path, kill.path)]
+        if not found:
+            return Verdict(False, f"the first is {kills[0].path}, {rules.killed(kills[0])}")
+        when = found[0].moment
+        late = f", {seconds(when - self.end)} s late" if when > self.end else ""
+        early = f", {seconds(self.start - when)} s early" if when < self.start else ""
+        return Verdict(not late and not early, rules.killed(found[0]) + late + early)
+
+
+@dataclass(frozen=True)
+class KilledBy(Expectation):
+    """Some kill of this path is by a ruleset of this name."""
+
+    path: str
+    ruleset: str
+
+    def check(self, rules: RulesFile) -> None:
+        if not rules.numbers_of(self.ruleset):
+            raise Fault(f"{rules.name} has no ruleset {quoted(self.ruleset)}{nearest(self.ruleset, rules.ruleset_names())}")
+
+    def verdict(self, kills: list[Kill], rules: RulesFile) -> Verdict:
+        of_path = [kill for kill in kills if matches(self.path, kill.path)]
+        numbers = rules.numbers_of(self.ruleset)
+        by_ruleset = [kill for kill in of_path if kill.ruleset in numbers]
+        if by_ruleset:
+            return Verdict(True, killed(by_ruleset, rules))
+        return Verdict(False, killed(of_path, rules) if of_path else f"not killed: {victims(kills)}")
+
+
+@dataclass(frozen=True)
+class NoKillOf(Expectation):
+    """No kill is of a group that the pattern matches."""
+
+    pattern: str
+
+    def verdict(self, kills: list[Kill], rules: RulesFile) -> Verdict:
+        found = [kill for kill in kills if matches(self.pattern, kill.path)]
+        if found:
+            return Verdict(False, f"{found[0].path} {killed(found, rules)}")
+        return Verdict(True, victims(kills))
+
+
+@dataclass(frozen=True)
+class AtMost(Expectation):
+    """There are no more kills than this."""
+
+    most: int
+
+    def verdict(self, kills: list[Kill], rules: RulesFile) -> Verdict:
+        return Verdict(len(kills) <= self.most, victims(kills))
+
+
+@dataclass(frozen=True)
+class NoKillBefore(Expectation):
+    """No kill is before this moment (ns)."""
+
+    start: int
+
+    def verdict(self, kills: list[Kill], rules: RulesFile) -> Verdict:
+        early = [kill for kill in kills if kill.moment < self.start]
+        if early:
+            return Verdict(False, f"{early[0].path} {killed(early, rules)}")
+        return Verdict(True, victims(kills))
+
+
+def nearest(word: str, names: list[str]) -> str:
+    """The name that was probably meant, or all that there are."""
+    found = difflib.get_close_matches(word, names, 1)
+    if found:
+        return f": did you mean {quoted(found[0])}?"
+    return f": it has {listed([quoted(it) for it in names])}" if names else ""
+
+
+def pattern(word: str) -> str:
+    if not is_pattern(word):
+        raise Fault(f"{word} is no path and no pattern of paths: write /batch/import or /batch/*")
+    return word
+
+
+def read_line(line: int, text: str) -> Expectation:
+    """The expectation of a line, which isn't empty and has no comment."""
+    if found := re.fullmatch(r"first (\S+) from (\S+) to (\S+)", text):
+        start, end = moment(found[2]), moment(found[3])
+        if start > end:
+            raise Fault(f"{found[2]} is above {found[3]}: the earlier moment stands first")
+        return First(line, text, pattern(found[1]), start, end)
+    if found := re.fullmatch(r"kill (\S+) by (.+)", text):
+        return KilledBy(line, text, pattern(found[1]), found[2])
+    if found := re.fullmatch(r"no kill of (\S+)", text):
+        return NoKillOf(line, text, pattern(found[1]))
+    if found := re.fullmatch(r"at most ([0-9]{1,9}) kills?", text):
+        return AtMost(line, text, int(found[1]))
+    if found := re.fullmatch(r"no kill before (\S+)", text):
+        return NoKillBefore(line, text, moment(found[1]))
+    raise Fault(f"{quoted(text)} is no expectation: write {listed([f'`{it}`' for it in FORMS], 'or')}")
+
+
+def read(name: str, data: bytes) -> list[Expectation]:
+    """The expectations of a WANT file. A comment goes from a `#`, at the line's start or behind a space, to the line's end."""
+    wanted = []
+    for number, line in enumerate(data.decode("utf-8", "replace").splitlines(), 1):
+        text = " ".join(re.sub(r"(^|\s)#.*", "", line).split())
+        try:
+            if text:
+                wanted.append(read_line(number, text))
+        except Fault as fault:
+            raise Fault(f"{name} line {number}: {fault}") from fault
+    if not wanted:
+        raise Fault(f"{name} wants nothing: write lines such as `{FORMS[0]}`")
+    return wanted

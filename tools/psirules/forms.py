@@ -1,0 +1,136 @@
+"""Arguments' values: which psi_oomd takes, and what oomd 0.5.0 makes of others that it takes."""
+import re
+from dataclasses import dataclass
+from decimal import Decimal
+
+from psirules.patterns import is_pattern
+from psirules.plugins import Form
+from psirules.wording import quoted
+
+WHOLE = r"(0|[1-9][0-9]{0,19})"
+UNITS = {"": 1, "K": 1 << 10, "M": 1 << 20, "G": 1 << 30, "T": 1 << 40}
+"""Bytes by letter."""
+MOST_BYTES = 1 << 60
+MOST_PATTERNS = 16
+MOST = {Form.PERCENT: 100, Form.SECONDS: 1000000}
+LEADING = re.compile(r"\s*\+?([0-9]+)")
+"""The whole number in front, which is all that oomd reads of one."""
+
+
+@dataclass(frozen=True)
+class Repair:
+    """A text that psi_oomd takes, in place of one that only oomd takes; why; and whether the meaning becomes another."""
+
+    text: str
+    why: str
+    is_lost: bool = False
+
+
+def spelled(value: object) -> str | None:
+    """The text of an argument's value, as both programs take it; none where it isn't one."""
+    if isinstance(value, bool):
+        return "true" if value else "false"
+    return value if isinstance(value, str) else str(value) if isinstance(value, (int, float)) else None
+
+
+def is_text(value: object) -> bool:
+    """Whether psi_oomd takes a value of this kind."""
+    return isinstance(value, (str, bool)) or isinstance(value, int) and 0 <= value < 1 << 64
+
+
+def is_valid(form: Form, text: str) -> bool:
+    """Whether psi_oomd takes the text as this form."""
+    if form in MOST:
+        return bool(re.fullmatch(WHOLE, text)) and int(text) <= MOST[form]
+    if form is Form.RATIO:
+        found = re.fullmatch(WHOLE + r"(?:\.[0-9]{1,3})?", text)
+        return bool(found) and int(found[1]) <= 1000 if found else False
+    if form is Form.SIZE:
+        return size(text) is not None or bool(re.fullmatch(WHOLE + "%", text)) and int(text[:-1]) <= 100
+    if form is Form.TRUTH:
+        return text in ("true", "True", "1", "false", "False", "0")
+    if form is Form.RESOURCE:
+        return text in ("io", "memory")
+    patterns = text.split(",")
+    return len(patterns) <= MOST_PATTERNS and all(map(is_pattern, patterns))
+
+
+def size(text: str) -> int | None:
+    """The bytes of a size that isn't a percentage."""
+    found = re.fullmatch(WHOLE + r"(?:(\.[0-9]{1,3})?([KMGTkmgt]))?", text)
+    if not found:
+        return None
+    count = int(Decimal(found[1] + (found[2] or "")) * UNITS[(found[3] or "").upper()])
+    return count if count <= MOST_BYTES else None
+
+
+def size_text(count: int) -> str:
+    """So many bytes with a letter, since oomd takes a number without one as megabytes. It is at most a byte too much."""
+    for letter, unit in reversed(UNITS.items()):
+        if letter and count % unit == 0:
+            return f"{count // unit}{letter}" if count else "0"
+    thousandths = -(-count * 1000 // 1024)
+    return f"{thousandths // 1000}.{thousandths % 1000:03}".rstrip("0") + "K"
+
+
+def oomd_size(text: str) -> int | None:
+    """The bytes that oomd reads in a size with several parts, spaces or more decimals, as in `1.5M 32K 512`."""
+    joined = "".join(text.split()).lower().removeprefix("+")
+    parts = re.findall(r"([0-9]+\.?[0-9]*|\.[0-9]+)([kmgt]?)", joined)
+    if not parts or "".join(number + letter for number, letter in parts) != joined:
+        return None
+    if any(not letter for _, letter in parts[:-1]):
+        return None
+    return int(sum(Decimal(number) * UNITS[letter.upper()] for number, letter in parts))
+
+
+def repair(form: Form, text: str) -> Repair | None:
+    """What is to stand for a text that psi_oomd refuses, or takes otherwise than oomd; none where nothing has to or can."""
+    if form is Form.SIZE:
+        return repair_size(text)
+    if is_valid(form, text):
+        return None
+    if form in MOST and (found := LEADING.match(text)) and int(found[1]) <= MOST[form]:
+        return Repair(str(int(found[1])), f"oomd reads {quoted(text)} as {int(found[1])}")
+    if form is Form.RATIO and re.fullmatch(r"\s*\+?([0-9]+\.?[0-9]*|\.[0-9]+)(e-?[0-9]{1,2})?\s*", text):
+        return repair_ratio(text)
+    return repair_patterns(text) if form is Form.PATTERNS else None
+
+
+def repair_size(text: str) -> Repair | None:
+    """oomd takes a bare number as megabytes, and of a percentage the whole part."""
+    found = LEADING.match(text)
+    if text.endswith("%"):
+        is_known = is_valid(Form.SIZE, text) or not found or int(found[1]) > 100
+        return None if is_known or not found else Repair(f"{int(found[1])}%", f"oomd reads {quoted(text)} as {int(found[1])}%")
+    if found and found.end() == len(text):
+        megabytes = int(found[1])
+        why = f"{quoted(text)} has no letter: it counts bytes here, and megabytes in oomd"
+        return Repair(f"{megabytes}M", why) if 0 < megabytes <= MOST_BYTES >> 20 else None
+    count = None if is_valid(Form.SIZE, text) else oomd_size(text)
+    if count is None or count > MOST_BYTES:
+        return None
+    return Repair(size_text(count), f"oomd reads {quoted(text)} as {count} bytes")
+
+
+def repair_ratio(text: str) -> Repair | None:
+    """oomd takes any spelling of a float."""
+    rounded = f"{Decimal(text.strip()):.3f}".rstrip("0").rstrip(".")
+    is_lost = Decimal(rounded) != Decimal(text.strip())
+    return Repair(rounded, f"{quoted(text)} isn't {Form.RATIO.value}", is_lost) if is_valid(Form.RATIO, rounded) else None
+
+
+def repair_patterns(text: str) -> Repair | None:
+    """oomd passes over empty patterns and empty components, and its patterns are a shell's."""
+    patterns = []
+    for pattern in text.split(","):
+        parts = [part for part in pattern.strip().split("/") if part]
+        if parts or pattern.strip():
+            patterns.append("/".join(parts) or "/")
+    plain = ",".join(patterns)
+    wide = ",".join(re.sub(r"\[[^]/]+\]|\?", "*", pattern) for pattern in patterns)
+    if is_valid(Form.PATTERNS, plain):
+        return Repair(plain, f"spaces, empty patterns and slashes too many don't stand in {quoted(text)} here")
+    if is_valid(Form.PATTERNS, wide):
+        return Repair(wide, f"{quoted(text)} has ? or [], for which * is all that there is: more groups match", True)
+    return None

@@ -1,0 +1,131 @@
+"""tools/rules lint: what is wrong in a rules file, and a corrected one."""
+import argparse
+import json
+import re
+import sys
+from dataclasses import asdict
+from typing import Any
+
+from psirules import telling
+from psirules.mending import Finding, Kind, Mender
+from psirules.program import Program, Refusal
+from psirules.relaxed import Reading
+from psirules.rules_file import bytes_of, kept
+from psirules.telling import Form
+from psirules.wording import Fault, quoted
+
+ABOUT = """Tells what psi_oomd refuses in FILE (comments, commas behind the last item, plugins and values that only oomd has),
+what it passes over in silence (a misspelt argument does nothing; the name that was probably meant is told), and what it takes
+otherwise than oomd 0.5.0 (a size without a letter). With --fix a corrected file is printed, which psi_oomd takes, and each
+change is told on standard error; LOST stands behind those by which the rules do other things than in oomd."""
+STATUS = """The status is 0 where nothing is wrong, 1 where something is, and 2 where FILE can't be read. With --fix it is 0
+where the printed file means what FILE does, 1 where some of that is lost, and 2 where nothing could be printed."""
+WHOLE_FILE = "the file"
+MOST_BYTES = 1048576
+"""The length of a rules file at most."""
+CAUSES = {
+    "TooLong": "it has more than 1048576 bytes",
+    "BadJson": "it is no JSON text in UTF-8",
+    "MissingKey": "a key or an argument that is required isn't there",
+    "WrongKind": "a value is of another JSON kind than it has to be",
+    "TooMany": "a list is longer than it may be",
+    "UnknownPlugin": "there is no plugin of this name",
+    "BadArg": "an argument isn't of its form or its range",
+}
+
+
+def place_told(said: str, data: Any) -> str:
+    """The place of a fault, as the program tells it, with the names that stand there."""
+    lists = {"ruleset": "rulesets", "group": "detectors", "action": "actions"}
+    told, at = [], data
+    for kind, number in re.findall(r"(ruleset|group|item|action) ([0-9]+)", said):
+        try:
+            at = (at[1:] if kind == "item" else at[lists[kind]])[int(number)]
+            name = at[0] if kind == "group" else at["name"]
+            told.append(f"{kind} {number} {quoted(str(name))}")
+        except (KeyError, IndexError, TypeError):
+            told.append(f"{kind} {number}")
+            at = None
+    return ", ".join(told) or WHOLE_FILE
+
+
+def verdict(data: bytes, read: Any) -> Finding | None:
+    """The first fault that the program itself finds in these bytes."""
+    with kept(data, "") as file:
+        try:
+            Program().judge(file)
+        except Refusal as refusal:
+            if not refusal.said.startswith("rules"):
+                raise
+            cause = refusal.said.rpartition(": ")[2]
+            what = f"{refusal.said}: {CAUSES.get(cause, 'docs/FORMATS.md has its cause')}"
+            return Finding(place_told(refusal.said, read), Kind.REFUSED, what)
+    return None
+
+
+def written(data: Any) -> bytes:
+    """The data as a rules file, in lines where these have room in it."""
+    lines = (json.dumps(data, indent=1, ensure_ascii=False) + "\n").encode("utf-8", "replace")
+    close = json.dumps(data, separators=(",", ":"), ensure_ascii=False).encode("utf-8", "replace")
+    return lines if len(lines) <= MOST_BYTES else close
+
+
+class Linted:
+    """A file with what was found in it, and its corrected bytes, where they could be made."""
+
+    def __init__(self, data: bytes) -> None:
+        self.findings: list[Finding] = []
+        self.fixed: bytes | None = None
+        try:
+            reading = Reading(data)
+        except Fault as fault:
+            self.findings.append(Finding(WHOLE_FILE, Kind.REFUSED, f"{fault}: oomd doesn't take this either"))
+            return
+        self.findings += [Finding(WHOLE_FILE, Kind.REFUSED, *change) for change in reading.changes]
+        for key in reading.doubles:
+            what = f"the key {quoted(key)} stands twice in one object, and the last one counts"
+            self.findings.append(Finding(WHOLE_FILE, Kind.IGNORED, what, "the last one stays"))
+        was = verdict(data, reading.data)
+        mender = Mender(reading.data)
+        self.findings += mender.findings
+        if was and not any(it.kind is Kind.REFUSED for it in self.findings):
+            self.findings.append(was)
+        self.fixed = written(mender.data)
+        left = verdict(self.fixed, mender.data)
+        if left:
+            self.fixed = None
+            if left not in self.findings:
+                self.findings.append(left)
+
+
+def told_fix(linted: Linted, name: str) -> int:
+    """Prints the corrected file, and tells what was changed."""
+    for finding in linted.findings:
+        telling.complain(finding.told_change() if linted.fixed else finding.told())
+    if linted.fixed is None:
+        telling.complain(
+            f"{name} can't be corrected: mend by hand what is told above, and look at docs/FORMATS.md, `Rules files`"
+        )
+        return telling.NOT_RUN
+    sys.stdout.flush()
+    sys.stdout.buffer.write(linted.fixed)
+    sys.stdout.buffer.flush()
+    return telling.FAILED if any(finding.is_lost for finding in linted.findings) else telling.OK
+
+
+def run(given: argparse.Namespace) -> int:
+    if given.fix and given.form is Form.JSON:
+        raise Fault("--fix prints a corrected file, and --json what is wrong: give one of them")
+    data = sys.stdin.buffer.read() if given.file == "-" else bytes_of(given.file)
+    Program().prepare()
+    linted = Linted(data)
+    if given.fix:
+        return told_fix(linted, given.file)
+    status = telling.FAILED if any(it.kind is not Kind.NOTE for it in linted.findings) else telling.OK
+    if given.form is Form.JSON:
+        records = [{**asdict(it), "kind": it.kind.value} for it in linted.findings]
+        telling.tell_json({"file": given.file, "status": status, "findings": records})
+    else:
+        for it in linted.findings:
+            print(f"{given.file}: {it.told()}")
+    return status

@@ -1,0 +1,212 @@
+"""Goes through a rules file's data, and finds what psi_oomd refuses, passes over or takes otherwise than oomd. Each finding may
+be a change of the data."""
+import difflib
+from dataclasses import dataclass
+from enum import Enum
+from typing import Any
+
+from psirules import plugins
+from psirules.forms import is_text, is_valid, repair, spelled
+from psirules.plugins import ACTIONS, DETECTORS, OF_OOMD, Effect, Form, Plugin
+from psirules.wording import quoted
+
+
+class Kind(Enum):
+    """What becomes of the place as it stands."""
+
+    REFUSED = "refused"
+    IGNORED = "passed over"
+    DIFFERS = "differs from oomd"
+    NOTE = "note"
+
+
+@dataclass(frozen=True)
+class Finding:
+    """Where, what becomes of it, what it is, how it is corrected (none where it can't be), and whether that loses some of what
+    oomd would do."""
+
+    place: str
+    kind: Kind
+    what: str
+    change: str | None = None
+    is_lost: bool = False
+
+    def told(self) -> str:
+        return f"{self.place}: {self.kind.value}: {self.what}"
+
+    def told_change(self) -> str:
+        return f"{self.place}: {self.what}: {self.change or 'nothing is changed'}{' (LOST)' if self.is_lost else ''}"
+
+
+def alike(word: str, names: list[str]) -> str | None:
+    """The name that was probably meant."""
+    found = difflib.get_close_matches(word, names, 1, 0.75)
+    return found[0] if found else None
+
+
+class Mender:
+    """Findings about data, which is corrected in place on the way."""
+
+    def __init__(self, data: Any) -> None:
+        self.data = data
+        self.findings: list[Finding] = []
+        if isinstance(data, dict):
+            self.keys("the file", data, plugins.TOP_KEYS, plugins.TOP_KEYS_OF_OOMD)
+            for number, ruleset in enumerate(items(data, "rulesets")):
+                if isinstance(ruleset, dict):
+                    self.ruleset(f"ruleset {number} {quoted(str(ruleset.get('name', '')))}", ruleset)
+
+    def find(self, place: str, kind: Kind, what: str, change: str | None = None, is_lost: bool = False) -> None:
+        self.findings.append(Finding(place, kind, what, change, is_lost))
+
+    def keys(self, place: str, at: dict[str, Any], known: tuple[str, ...], of_oomd: tuple[str, ...] = ()) -> None:
+        """Keys that nobody knows and that are like one that is missing."""
+        for key in [key for key in at if key not in known + of_oomd]:
+            meant = alike(key, [it for it in known if it not in at])
+            if meant:
+                self.find(place, Kind.IGNORED, f"no key {quoted(key)}; did you mean {quoted(meant)}?", "it gets this name")
+                rename(at, key, meant)
+
+    def ruleset(self, place: str, ruleset: dict[str, Any]) -> None:
+        self.keys(place, ruleset, plugins.RULESET_KEYS, plugins.RULESET_KEYS_OF_OOMD)
+        if "post_action_delay" in ruleset:
+            self.value(place, ruleset, "post_action_delay", Form.SECONDS)
+        kept = []
+        for number, group in enumerate(items(ruleset, "detectors")):
+            name = str(group[0]) if isinstance(group, list) and group else ""
+            if not isinstance(group, list) or self.group(f"{place}, group {number} {quoted(name)}", group):
+                kept.append(group)
+        if isinstance(ruleset.get("detectors"), list):
+            ruleset["detectors"] = kept
+        if isinstance(ruleset.get("actions"), list):
+            ruleset["actions"] = self.actions(place, ruleset["actions"])
+
+    def group(self, place: str, group: list[Any]) -> bool:
+        """Whether the group stays, with the detectors that do."""
+        if len(group) == 1:
+            self.find(place, Kind.NOTE, "it has no detector, so it always holds; oomd refuses it")
+        kept = group[:1]
+        for number, detector in enumerate(group[1:]):
+            here = f"{place}, item {number}"
+            effect = self.plugin(here, detector, DETECTORS, ACTIONS)
+            if effect is None:
+                kept.append(detector)
+                continue
+            what = missing("detector", detector["name"], effect)
+            if effect is not Effect.CONTINUES:
+                is_lost = effect is not Effect.STOPS
+                self.find(here, Kind.REFUSED, what, "its group is taken out, which here never fires", is_lost)
+                return False
+            self.find(here, Kind.REFUSED, what, "it is taken out")
+        group[:] = kept
+        return True
+
+    def actions(self, place: str, actions: list[Any]) -> list[Any]:
+        """The actions that stay."""
+        kept = []
+        for number, action in enumerate(actions):
+            here = f"{place}, action {number}"
+            effect = self.plugin(here, action, ACTIONS, DETECTORS)
+            if effect is None:
+                kept.append(action)
+                continue
+            what = missing("action", action["name"], effect)
+            if effect is Effect.STOPS:
+                self.find(here, Kind.REFUSED, what, "it is taken out, with all behind it and the rest that it begins", True)
+                break
+            self.find(here, Kind.REFUSED, what, "it is taken out", effect is not Effect.CONTINUES)
+        if actions and not kept:
+            self.find(place, Kind.NOTE, "no action of it is left", "it stays, and kills nobody")
+        return kept
+
+    def plugin(self, place: str, plugin: Any, known: dict[str, Plugin], others: dict[str, Plugin]) -> Effect | None:
+        """What oomd's plugin does where psi_oomd has none of its name; the arguments of one that it has are corrected."""
+        if not isinstance(plugin, dict) or not isinstance(plugin.get("name"), str):
+            return None
+        name = plugin["name"]
+        if name in OF_OOMD or name in others:
+            return OF_OOMD.get(name, Effect.DECIDES)
+        if name not in known:
+            meant = alike(name, list(known))
+            guess = f"; did you mean {quoted(meant)}?" if meant else ""
+            self.find(place, Kind.REFUSED, f"no plugin {quoted(name)}{guess}", "it gets this name" if meant else None)
+            if not meant:
+                return None
+            plugin["name"] = name = meant
+        self.keys(f"{place} {quoted(name)}", plugin, plugins.PLUGIN_KEYS)
+        if isinstance(plugin.get("args"), dict):
+            return self.arguments(f"{place} {quoted(name)}", plugin["args"], known[name])
+        return None
+
+    def arguments(self, place: str, args: dict[str, Any], plugin: Plugin) -> Effect | None:
+        """Corrects arguments; tells where one of them makes a plugin that can't be said here."""
+        for name in list(args):
+            if name in plugin.of_oomd or plugin.form_of(name):
+                continue
+            meant = alike(name, [it for it in plugin.arguments() if it not in args])
+            guess = f"; did you mean {quoted(meant)}?" if meant else ""
+            change = "it gets this name" if meant else "it is taken out"
+            what = f"no argument {quoted(name)}: it means nothing here, and oomd refuses it{guess}"
+            self.find(place, Kind.IGNORED, what, change)
+            if meant:
+                rename(args, name, meant)
+            else:
+                del args[name]
+        self.of_oomd(place, args, plugin)
+        for name in [name for name in plugin.arguments() if name in args]:
+            form = plugin.form_of(name)
+            if form is Form.RESOURCE and args[name] == "cpu":
+                return Effect.WAITS_FOR_CPU
+            if form:
+                self.value(place, args, name, form)
+        return None
+
+    def of_oomd(self, place: str, args: dict[str, Any], plugin: Plugin) -> None:
+        """What arguments mean in oomd that mean nothing here."""
+        if spelled(args.get("dry")) in ("true", "True", "1") and "dry" in plugin.of_oomd:
+            self.find(place, Kind.NOTE, "oomd would tell this kill and not do it; here each kill is only told")
+        if "threshold_anon" in args and "threshold_anon" in plugin.of_oomd:
+            what = "no argument 'threshold_anon': no trace tells anonymous memory apart"
+            self.find(place, Kind.DIFFERS, what, "it takes the place of 'threshold', which counts all memory", True)
+            args["threshold"] = args.pop("threshold_anon")
+
+    def value(self, place: str, args: dict[str, Any], name: str, form: Form) -> None:
+        """Corrects one argument's value."""
+        text = spelled(args[name])
+        if text is None:
+            self.find(place, Kind.REFUSED, f"{name} is {type_told(args[name])}, not a text: it has to be {form.value}")
+            return
+        found = repair(form, text)
+        if found:
+            kind = Kind.DIFFERS if is_text(args[name]) and is_valid(form, text) else Kind.REFUSED
+            self.find(place, kind, f"{name}: {found.why}", f"it is written {quoted(found.text)}", found.is_lost)
+            args[name] = found.text
+        elif not is_valid(form, text):
+            self.find(place, Kind.REFUSED, f"{name} is {quoted(text)}: it has to be {form.value}")
+        elif not is_text(args[name]):
+            self.find(place, Kind.REFUSED, f"{name} is the number {text}, which isn't whole", f"it is written {quoted(text)}")
+            args[name] = text
+
+
+def missing(kind: str, name: str, effect: Effect) -> str:
+    """That there is no such plugin, and what oomd's does."""
+    if effect is Effect.WAITS_FOR_CPU:
+        return f"{quoted(name)} of resource 'cpu': it has to be {Form.RESOURCE.value}"
+    return f"no {kind} {quoted(name)}: in oomd it {effect.value}"
+
+
+def items(at: dict[str, Any], key: str) -> list[Any]:
+    """The list at this key, or none."""
+    found = at.get(key)
+    return found if isinstance(found, list) else []
+
+
+def rename(at: dict[str, Any], old: str, new: str) -> None:
+    """Gives a key another name, in its place."""
+    pairs = [(new if key == old else key, value) for key, value in at.items()]
+    at.clear()
+    at.update(pairs)
+
+
+def type_told(value: object) -> str:
+    return "an object" if isinstance(value, dict) else "a list" if isinstance(value, list) else "null"

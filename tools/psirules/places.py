@@ -1,0 +1,104 @@
+"""Places in a rules file: an argument of a plugin, by the names or the numbers of what it stands in."""
+import copy
+import json
+import re
+from collections.abc import Iterator
+from dataclasses import dataclass
+from typing import Any
+
+from psirules.plugins import ACTIONS, DETECTORS, Plugin
+from psirules.rules_file import RulesFile
+from psirules.wording import Fault, listed, quoted
+
+ACTIONS_WORD = "actions"
+DELAY = "post_action_delay"
+
+
+@dataclass(frozen=True)
+class Place:
+    """A plugin, or a ruleset alone: the way to it through lists and keys, and what it stands in, by numbers and by names."""
+
+    way: tuple[str | int, ...]
+    numbers: tuple[str, ...]
+    names: tuple[str, ...]
+    plugin: Plugin | None
+
+    def spelled(self) -> str:
+        return "/".join(self.numbers)
+
+    def told(self) -> str:
+        return f"{self.spelled()} ({' / '.join(map(quoted, self.names))})"
+
+    def is_meant(self, parts: list[str]) -> bool:
+        """Whether these parts name it: ruleset, the detector's group or `actions`, which may be left out, and plugin."""
+        own = list(zip(self.names, self.numbers))
+        ways = [own] if len(own) != 3 else [own, [own[0], own[2]]]
+        return any(len(parts) == len(way) and all(part in it for part, it in zip(parts, way)) for way in ways)
+
+    def arguments(self) -> list[str]:
+        return self.plugin.arguments() if self.plugin else [DELAY]
+
+    def put(self, rules: dict[str, Any], argument: str, value: str) -> None:
+        """Sets the argument in these rules."""
+        at: Any = rules
+        for step in self.way:
+            at = at[step]
+        (at.setdefault("args", {}) if self.plugin else at)[argument] = value
+
+
+def places(rules: RulesFile) -> Iterator[Place]:
+    """All plugins of the file, and the rulesets."""
+    for number, ruleset in enumerate(rules.rulesets):
+        way: tuple[str | int, ...] = ("rulesets", number)
+        yield Place(way, (str(number),), (ruleset["name"],), None)
+        for group, (name, *items) in enumerate(ruleset["detectors"]):
+            for item, plugin in enumerate(items):
+                numbers = (str(number), str(group), str(item))
+                names = (ruleset["name"], name, plugin["name"])
+                yield Place((*way, "detectors", group, item + 1), numbers, names, DETECTORS[plugin["name"]])
+        for item, plugin in enumerate(ruleset["actions"]):
+            numbers = (str(number), ACTIONS_WORD, str(item))
+            names = (ruleset["name"], ACTIONS_WORD, plugin["name"])
+            yield Place((*way, "actions", item), numbers, names, ACTIONS[plugin["name"]])
+
+
+def splits(text: str) -> Iterator[list[str]]:
+    """The text cut at none, one or two of its slashes: names may have slashes of their own."""
+    pieces = text.split("/")
+    yield [text]
+    for one in range(1, len(pieces)):
+        yield ["/".join(pieces[:one]), "/".join(pieces[one:])]
+        for two in range(one + 1, len(pieces)):
+            yield ["/".join(pieces[:one]), "/".join(pieces[one:two]), "/".join(pieces[two:])]
+
+
+def find(rules: RulesFile, text: str) -> tuple[Place, str]:
+    """The one place that is meant by `ruleset/plugin.argument`, and the argument."""
+    name, _, argument = text.rpartition(".")
+    if not name:
+        raise Fault(f"{quoted(text)} names no argument: write 'ruleset/detector.threshold'")
+    parts = list(splits(name))
+    found = [place for place in places(rules) if place.spelled() == name]
+    found = found or [place for place in places(rules) if any(place.is_meant(it) for it in parts)]
+    if len(found) > 1:
+        told = "; ".join(f"{place.spelled()}.{argument} for {place.told()}" for place in found)
+        raise Fault(f"{quoted(name)} is ambiguous in {rules.name}: write {told}")
+    if not found:
+        told = "; ".join(place.told() for place in places(rules) if place.plugin)
+        raise Fault(f"{rules.name} has no {quoted(name)}: it has {told or 'no plugin'}")
+    if argument not in found[0].arguments():
+        known = listed(found[0].arguments())
+        raise Fault(f"{found[0].told()} has no argument {quoted(argument)}: it has {known}")
+    return found[0], argument
+
+
+def changed(rules: RulesFile, values: list[tuple[Place, str, str]]) -> bytes:
+    """The file with other values of arguments."""
+    data = copy.deepcopy(rules.data)
+    for place, argument, value in values:
+        place.put(data, argument, value)
+    return json.dumps(data).encode()
+
+
+def is_number(text: str) -> bool:
+    return bool(re.fullmatch(r"[0-9]{1,15}(?:\.[0-9]{1,3})?", text))

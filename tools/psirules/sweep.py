@@ -1,0 +1,150 @@
+"""tools/rules sweep: the kills of one trace while an argument of the rules goes through its values."""
+import argparse
+import contextlib
+import functools
+import itertools
+import re
+from dataclasses import dataclass
+from decimal import Decimal
+
+from psirules import places, telling
+from psirules.places import Place
+from psirules.program import RULES_REFUSED, Kill, Pace, Program, Refusal, processors, side_by_side
+from psirules.replays import accepted, no_input
+from psirules.rules_file import RulesFile, kept
+from psirules.telling import Form, Outcome
+from psirules.wording import Fault, quoted, seconds
+
+ABOUT = """Replays TRACE by the rules of FILE once for each value of an argument, and prints a table of the kills.
+
+PLACE=VALUES says what goes through which values. PLACE is ruleset/plugin.argument: each by its name or its number from 0.
+Where several plugins are meant, the detector's group, or `actions`, stands between: ruleset/group/plugin.argument. A ruleset's
+own delay is ruleset.post_action_delay. VALUES is FROM:TO:STEP, as 20:90:10, 0.5:1.5:0.25 or 512M:2048M:512M, or values with
+commas between. With several --vary, all pairs of their values are tried."""
+STATUS = "The status is 0 where each value was tried, and 2 where something couldn't be run."
+MOST_RUNS = 10000
+
+
+@dataclass(frozen=True)
+class Axis:
+    """An argument and its values."""
+
+    place: Place
+    argument: str
+    values: list[str]
+
+
+def values_of(text: str) -> list[str]:
+    """The values of FROM:TO:STEP, both ends inclusive, or those with commas between."""
+    if ":" not in text:
+        return [value for value in text.split(",") if value]
+    found = re.fullmatch(r"([0-9.]+)([KMGTkmgt%]?):([0-9.]+)\2:([0-9.]+)\2", text)
+    numbers = [found[1], found[3], found[4]] if found else []
+    if not found or not all(map(places.is_number, numbers)):
+        raise Fault(f"{quoted(text)} is no FROM:TO:STEP: write 20:90:10, or one letter behind each as in 512M:2048M:512M")
+    start, end, step = map(Decimal, numbers)
+    if not step or start > end:
+        raise Fault(f"{quoted(text)} has no value: FROM is at most TO, and STEP above 0")
+    count = int((end - start) / step) + 1
+    if count > MOST_RUNS:
+        raise Fault(f"{quoted(text)} has {count} values, and at most {MOST_RUNS} are tried: take a greater step")
+    return [f"{(start + number * step).normalize():f}{found[2]}" for number in range(count)]
+
+
+def axis(rules: RulesFile, text: str) -> Axis:
+    name, _, values = text.rpartition("=")
+    if not name or not values_of(values):
+        raise Fault(f"{quoted(text)} is no PLACE=VALUES: write 'ruleset/detector.threshold=20:90:10'")
+    place, argument = places.find(rules, name)
+    return Axis(place, argument, values_of(values))
+
+
+@dataclass(frozen=True)
+class Row:
+    """A value of each argument, and the kills by the rules that have them."""
+
+    values: tuple[str, ...]
+    found: list[Kill] | Fault
+
+    def cells(self) -> list[str]:
+        if isinstance(self.found, Fault):
+            return [*self.values, "not run", "-", "-"]
+        first = self.found[0] if self.found else None
+        return [
+            *self.values,
+            str(len(self.found)),
+            f"{seconds(first.moment)} s" if first else "-",
+            first.path if first else "-",
+        ]
+
+    def outcome(self, axes: list[Axis]) -> Outcome:
+        name = named(axes, self.values)
+        if isinstance(self.found, Fault):
+            return Outcome(name, None, str(self.found))
+        _, kills, first, victim = self.cells()[-4:]
+        return Outcome(name, True, f"kills {kills}, first {first}, victim {victim}")
+
+    def record(self, axes: list[Axis], rules: RulesFile) -> dict[str, object]:
+        fault = str(self.found) if isinstance(self.found, Fault) else None
+        kills = [] if isinstance(self.found, Fault) else [rules.record(kill) for kill in self.found]
+        values = {f"{one.place.spelled()}.{one.argument}": value for one, value in zip(axes, self.values)}
+        return {"values": values, "fault": fault, "kills": kills}
+
+
+def replay(values: tuple[str, ...], axes: list[Axis], rules: RulesFile, given: argparse.Namespace, threads: int) -> list[Kill]:
+    """The kills with these values of the axes."""
+    data = places.changed(rules, [(one.place, one.argument, value) for one, value in zip(axes, values)])
+    pace: Pace = given.pace
+    with kept(data, rules.name) as file:
+        try:
+            return Program().replay(given.trace, file, pace, threads)
+        except Refusal as refusal:
+            if refusal.status != RULES_REFUSED:
+                raise
+            advice = "docs/FORMATS.md has the argument's form and range under `Arguments`"
+            raise Fault(f"{named(axes, values)}: {refusal.said}: {advice}") from refusal
+
+
+def named(axes: list[Axis], values: tuple[str, ...]) -> str:
+    """The values with their arguments."""
+    return ", ".join(f"{one.argument} {value}" for one, value in zip(axes, values))
+
+
+def tell_table(axes: list[Axis], rows: list[Row]) -> None:
+    """The rows under their heads, in columns."""
+    heads = ["value"] if len(axes) == 1 else [one.argument for one in axes]
+    table = [[*heads, "kills", "first kill", "victim"], *(row.cells() for row in rows)]
+    widths = [max(map(len, column)) for column in zip(*table)]
+    for cells in table:
+        print("  ".join(f"{cell:<{width}}" for cell, width in zip(cells, widths)).rstrip())
+    for fault in dict.fromkeys(str(row.found) for row in rows if isinstance(row.found, Fault)):
+        telling.complain(fault)
+
+
+def rows_of(axes: list[Axis], rules: RulesFile, given: argparse.Namespace) -> list[Row]:
+    """A row for each choice of values, replayed side by side."""
+    choices = list(itertools.islice(itertools.product(*(one.values for one in axes)), MOST_RUNS + 1))
+    if len(choices) > MOST_RUNS:
+        raise Fault(f"more than {MOST_RUNS} replays are asked for: take greater steps")
+    calls = [functools.partial(replay, values, axes, rules, given) for values in choices]
+    return [Row(values, found) for values, found in zip(choices, side_by_side(calls, given.jobs or processors()))]
+
+
+def run(given: argparse.Namespace) -> int:
+    no_input([given.trace])
+    program = Program()
+    program.prepare()
+    with contextlib.ExitStack() as files:
+        rules, _ = accepted(program, given.file, files)
+    axes = [axis(rules, text) for text in given.vary]
+    rows = rows_of(axes, rules, given)
+    outcomes = [row.outcome(axes) for row in rows]
+    status = telling.status_of(outcomes)
+    if given.form is Form.JSON:
+        records = [row.record(axes, rules) for row in rows]
+        telling.tell_json({"rules": given.file, "trace": given.trace, "status": status, "rows": records})
+    elif given.form is Form.TAP:
+        telling.tell_tap(outcomes)
+    else:
+        tell_table(axes, rows)
+    return status

@@ -1,0 +1,48 @@
+"""How outcomes are told: as lines for people, as TAP (version 13) for harnesses of tests, or as JSON."""
+import json
+import sys
+from dataclasses import dataclass
+from enum import Enum
+
+OK, FAILED, NOT_RUN = 0, 1, 2
+"""The statuses of the tools."""
+
+
+class Form(Enum):
+    LINES = "lines"
+    TAP = "tap"
+    JSON = "json"
+
+
+@dataclass(frozen=True)
+class Outcome:
+    """One thing that was looked at: what it is called, whether it is as wanted (None where it couldn't be run), and why."""
+
+    name: str
+    is_ok: bool | None
+    told: str
+
+
+def status_of(outcomes: list[Outcome]) -> int:
+    """What couldn't be run counts more than what failed: then nobody knows whether more had failed."""
+    if any(outcome.is_ok is None for outcome in outcomes):
+        return NOT_RUN
+    return OK if all(outcome.is_ok for outcome in outcomes) else FAILED
+
+
+def complain(text: str) -> None:
+    print(f"rules: {text}", file=sys.stderr)
+
+
+def tell_json(value: object) -> None:
+    json.dump(value, sys.stdout, indent=1)
+    print()
+
+
+def tell_tap(outcomes: list[Outcome]) -> None:
+    """A plan, a line for each outcome, and below it in YAML what was found."""
+    print(f"TAP version 13\n1..{len(outcomes)}")
+    for number, outcome in enumerate(outcomes, 1):
+        name = outcome.name.replace("\\", "\\\\").replace("#", "\\#")
+        print(f"{'ok' if outcome.is_ok else 'not ok'} {number} - {name}")
+        print(f"  ---\n  message: {json.dumps(outcome.told)}\n  ...")
