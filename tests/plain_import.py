@@ -1,0 +1,233 @@
+"""What `import` must make of a text of ftrace, in plain Python, by the rules that docs/FORMATS.md tells and nothing else.
+
+It keeps no table but that of the tasks which the trace so far has, and compares nothing with the program: tests/imports and
+bench/import_lines.py do. Times and moments are in ns.
+"""
+from __future__ import annotations
+
+import re
+from dataclasses import dataclass
+from typing import NamedTuple
+
+LONGEST = 512
+MOST_LINES = 16_000_000
+MOST_EVENTS = 3_999_999
+MOST_TASKS = 65_536
+LATEST = 2 * 10**15
+
+MARK = re.compile(rb": (?:sched_switch|sched_wakeup|sched_wakeup_new|sched_migrate_task): ")
+TIME = re.compile(rb"([0-9]{1,10})\.([0-9]{1,9})")
+BRACKET = re.compile(rb"\[([0-9]+)\]")
+DIGITS = re.compile(rb"[0-9]{1,10}")
+HOW = {b"R": "preempt", b"D": "iowait", b"X": "exit", b"Z": "exit"}
+
+
+class Bad(Exception):
+    """The cause against a line."""
+
+
+class Switch(NamedTuple):
+    """On a processor a task made way for the next; 0 is the idle task."""
+
+    cpu: int
+    previous: int
+    next: int
+    how: str
+
+
+class Wakeup(NamedTuple):
+    """A task was woken on a processor."""
+
+    pid: int
+    cpu: int
+
+
+class Migration(NamedTuple):
+    """A task went to a processor."""
+
+    pid: int
+    cpu: int
+
+
+Seen = Switch | Wakeup | Migration
+
+
+@dataclass
+class Task:
+    """A live task: `asleep`, `ready` or `running`, and its processor."""
+
+    mode: str
+    cpu: int
+
+
+class Result(NamedTuple):
+    """What a run must end with: its status, its output and what it says."""
+
+    status: int
+    output: bytes
+    note: str
+
+
+# ---------------------------------------------------------------- one line
+
+
+def behind_last(key: bytes, part: bytes) -> bytes:
+    """What stands behind the last occurrence of the key."""
+    before, found, behind = part.rpartition(key)
+    if not found:
+        raise Bad("BadLine")
+    return behind
+
+
+def number(key: bytes, part: bytes) -> int:
+    """The number behind the last occurrence of the key, up to a space or the end."""
+    digits = behind_last(key, part).partition(b" ")[0]
+    if not DIGITS.fullmatch(digits) or int(digits) >= 2**32:
+        raise Bad("BadLine")
+    return int(digits)
+
+
+def head_of(head: bytes) -> tuple[int, int]:
+    """The time of a head, and its processor: the last number in brackets."""
+    time = TIME.fullmatch(behind_last(b" ", head))
+    processors = BRACKET.findall(head)
+    if not time or not processors or len(processors[-1]) > 3:
+        raise Bad("BadLine")
+    return int(time[1]) * 10**9 + int(time[2].ljust(9, b"0")), int(processors[-1])
+
+
+def switch_of(cpu: int, tail: bytes) -> Switch:
+    """A switch by its tail, which the last arrow parts."""
+    left, arrow, right = tail.rpartition(b" ==> ")
+    if not arrow:
+        raise Bad("BadLine")
+    state = behind_last(b" prev_state=", left)
+    if not state:
+        raise Bad("BadLine")
+    return Switch(cpu, number(b" prev_pid=", left), number(b" next_pid=", right), HOW.get(state[:1], "sleep"))
+
+
+def task_and_cpu(tail: bytes, key: bytes) -> tuple[int, int]:
+    """The task that a tail names, which isn't 0, and the processor behind the key."""
+    pid = number(b" pid=", tail)
+    if pid == 0:
+        raise Bad("BadLine")
+    return pid, number(key, tail)
+
+
+def read_line(line: bytes) -> tuple[int, Seen] | None:
+    """What a line tells, with its time; nothing of a line without a mark, or that begins with #."""
+    mark = None if line.startswith(b"#") else MARK.search(line)
+    if mark is None:
+        return None
+    head, tail = line[: mark.start()], line[mark.end() :]
+    time, cpu = head_of(head)
+    if b"switch" in mark[0]:
+        return time, switch_of(cpu, tail)
+    if b"wakeup" in mark[0]:
+        return time, Wakeup(*task_and_cpu(tail, b" target_cpu="))
+    return time, Migration(*task_and_cpu(tail, b" dest_cpu="))
+
+
+# ---------------------------------------------------------------- the trace so far
+
+
+class Importer:
+    """The trace that the lines so far became."""
+
+    def __init__(self, cpus: int) -> None:
+        self.cpus = cpus
+        self.first: int | None = None
+        self.moment = 0
+        self.tasks: dict[int, Task] = {}
+        self.runs: dict[int, int] = {}
+        self.lines: list[bytes] = []
+
+    def acts_of(self, seen: Seen) -> list[str]:
+        """The verbs with their fields that a line becomes."""
+        if isinstance(seen, Switch):
+            return [] if seen.next and self.runs.get(seen.cpu) == seen.next else self.arrival(seen) + self.turn(seen)
+        task = self.tasks.get(seen.pid)
+        if isinstance(seen, Migration):
+            return [f"migrate {seen.pid} {seen.cpu}"] if task and task.mode == "ready" and task.cpu != seen.cpu else []
+        if task is None:
+            return [f"fork {seen.pid} / {seen.cpu}"]
+        return [f"wake {seen.pid} {seen.cpu}"] if task.mode == "asleep" else []
+
+    def arrival(self, seen: Switch) -> list[str]:
+        """What makes the next task ready on its processor."""
+        pid, cpu = seen.next, seen.cpu
+        task = self.tasks.get(pid)
+        if not pid:
+            return []
+        if task is None:
+            return [f"fork {pid} / {cpu}"]
+        if task.mode == "asleep":
+            return [f"wake {pid} {cpu}"]
+        if task.mode == "running":
+            return [f"switch {task.cpu} 0 preempt", f"migrate {pid} {cpu}"]
+        return [f"migrate {pid} {cpu}"] if task.cpu != cpu else []
+
+    def turn(self, seen: Switch) -> list[str]:
+        """What makes the next task run."""
+        runner = self.runs.get(seen.cpu)
+        if runner is None:
+            return [f"switch {seen.cpu} {seen.next} idle"] if seen.next else []
+        return [f"switch {seen.cpu} {seen.next} {seen.how if runner == seen.previous else 'preempt'}"]
+
+    def play(self, act: str) -> None:
+        """Follows an act."""
+        verb, *fields = act.split()
+        if verb == "switch":
+            cpu, pid, how = int(fields[0]), int(fields[1]), fields[2]
+            runner = self.runs.pop(cpu, None)
+            if runner is not None and how == "exit":
+                del self.tasks[runner]
+            elif runner is not None:
+                self.tasks[runner].mode = "ready" if how == "preempt" else "asleep"
+            if pid:
+                self.runs[cpu] = pid
+                self.tasks[pid].mode = "running"
+        else:
+            self.tasks[int(fields[0])] = Task("ready", int(fields[-1]))
+
+    def take(self, time: int, seen: Seen) -> None:
+        """Takes what a line tells, or raises the first cause against it."""
+        self.first = time if self.first is None else self.first
+        moment = max(self.moment, time - self.first)
+        acts = self.acts_of(seen)
+        if seen.cpu >= self.cpus:
+            raise Bad("BadCpu")
+        if moment > LATEST:
+            raise Bad("TooLate")
+        if any(act.startswith("fork") for act in acts) and len(self.tasks) >= MOST_TASKS:
+            raise Bad("TooManyTasks")
+        if len(self.lines) + len(acts) > MOST_EVENTS:
+            raise Bad("TooManyEvents")
+        self.moment = moment
+        for act in acts:
+            self.play(act)
+            self.lines.append(f"{moment} {act}\n".encode())
+
+
+def imported(text: bytes, cpus: int) -> Result:
+    """What `import - --cpus N` must do with this text."""
+    importer = Importer(cpus)
+    lines = text.split(b"\n")
+    for place, line in enumerate(lines, 1):
+        is_rest = place == len(lines)
+        if is_rest and not line:
+            break
+        try:
+            if place > MOST_LINES:
+                raise Bad("TooManyLines")
+            if len(line) > LONGEST:
+                raise Bad("LineTooLong")
+            if is_rest:
+                raise Bad("Cut")
+            if found := read_line(line):
+                importer.take(*found)
+        except Bad as cause:
+            return Result(8, b"", f"import line {place}: {cause}\n")
+    end = f"{importer.moment} end\n".encode()
+    return Result(0, b"".join([f"psitrace 1 cpus={cpus}\n".encode(), *importer.lines, end]), "")
