@@ -71,7 +71,7 @@ EDITS: tuple[Edit, ...] = (
     ("folder.py", "os.posix_fallocate(file, 0, RESERVE_BYTES)", "pass", "a_full_file_system"),
     ("folder.py", "os.unlink(f\"{self.path}/{RESERVE}\")", "pass", "a_whole_machine"),
     ("folder.py", "FULL = (errno.ENOSPC, errno.EDQUOT, errno.EFBIG)", "FULL = ()", "a_full_disk"),
-    ("record_command.py", "suppress(OSError, ValueError):\n        print", "suppress():\n        print", "nobody_reads"),
+    ("record_command.py", "suppress(OSError, ValueError):\n            os.write", "suppress():\n            os.write", "nobody_reads"),
     ("record_command.py", "folder.discard()", "pass", "an_event_that_must_be"),
     ("record_command.py", "remove_left_behind(machine, tell)", "pass", "killed_and_started_again"),
     ("record_command.py", "(before + behind) / 2", "before - 1", "the_two_clocks"),

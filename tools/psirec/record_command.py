@@ -89,9 +89,11 @@ class Words(argparse.ArgumentParser):
 
 
 def tell(line: str) -> None:
-    """Tells the operator; where nobody reads, the recording goes on."""
-    with contextlib.suppress(OSError, ValueError):
-        print(f"record: {line}", file=sys.stderr, flush=True)
+    """Tells the operator; where nobody reads, the recording goes on. Nothing is held back, since Python ends with a status of its
+    own where it can't write what it held."""
+    if sys.stderr is not None:
+        with contextlib.suppress(OSError, ValueError):
+            os.write(sys.stderr.fileno(), f"record: {line}\n".encode(errors="backslashreplace"))
 
 
 # ---------------------------------------------------------------- words
