@@ -13,3 +13,5 @@ pub mod MomentsOrder
 pub mod MomentsTold
 pub mod MomentsTriggers
 pub mod PlanPlanned
+pub mod PlanIrqs
+pub mod MomentsIrq

@@ -144,7 +144,7 @@ unfolding planned_time stall
 tells-none limits state cpu slot legal parents more at from = refl
 
 -- parents after an event more are parents before it
-fewer_before : (events : List Event) (event : Event) (parents : List (Option ℕ)) → Prolongs (parents_of (after (events ++ event ∷ [])).groups) parents → Prolongs (parents_of (after events).groups) parents
+pub fewer_before : (events : List Event) (event : Event) (parents : List (Option ℕ)) → Prolongs (parents_of (after (events ++ event ∷ [])).groups) parents → Prolongs (parents_of (after events).groups) parents
 fewer_before events event parents more = prolongs_back (after events) event parents (subst (λ (w : World). Prolongs (parents_of w.groups) parents) (after-push events event) more)
 
 -- events with the same changes leave a group in the same states

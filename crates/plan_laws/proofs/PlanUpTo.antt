@@ -80,7 +80,7 @@ numbers_front cpu front rest =
     rest
 
 -- the events up to an early change are those of the front
-until_of_front : (cpu : ℕ) (front rest : List Event) (k : ℕ) → k ≤ length (changes_of cpu front) → until_change cpu (front ++ rest) k ≡ until_change cpu front k
+pub until_of_front : (cpu : ℕ) (front rest : List Event) (k : ℕ) → k ≤ length (changes_of cpu front) → until_change cpu (front ++ rest) k ≡ until_change cpu front k
 until_of_front cpu front rest k low =
     let numbers = numbers_front cpu front rest in
     ap (λ ns. take (slice_index_or (0 ∷ ns) k 0) (front ++ rest)) numbers.1

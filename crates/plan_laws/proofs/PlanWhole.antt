@@ -11,11 +11,12 @@ use Rattle.psi_spec.specs.Groups.{AreOlder, HaveParents}
 use Rattle.psi_spec.specs.Trace.{last_moment}
 use Rattle.psi_counts.specs.Touch.{HasSlotsBelow, IsOfOne}
 use Rattle.psi_counts.specs.Legal.{added, changes_from, taken}
-use Rattle.plan_laws.specs.Plan.{EmptyIsPlan, FitsPlan, LeavesFew, no_plan, last_change, PlanIsWhole}
+use Rattle.plan_laws.specs.Plan.{EmptyIsPlan, FitsPlan, IrqsFit, LeavesFew, no_plan, last_change, PlanIsWhole}
 use Rattle.psi_spec.specs.Changes.{until_change}
 use Rattle.psi_counts.proofs.LegalLaws.{parent_each, more_groups}
 use Rattle.plan_laws.proofs.PlanLaws.{after-push, as_many, by_last, changes_same, changes_grow, touched_or_not, until_is}
 use Rattle.plan_laws.proofs.PlanStalls.{plan_is_in_order}
+use Rattle.plan_laws.proofs.MomentsIrq.{plan_irqs_fit}
 use Rattle.plan_laws.proofs.PlanStates.{legal_after, legal_front, legal_last, plan_fits, until_legal}
 use Rattle.psi_counts.proofs.TouchWithin.{changes_are_within}
 
@@ -97,7 +98,7 @@ no_more_changes cpu events = by_last (λ es. length (changes_from cpu first_worl
 -- ---- the plan
 
 pub plan_is_whole : PlanIsWhole
-plan_is_whole limits events legal latest cpu = record {
+plan_is_whole limits events legal latest cpus cpu = record {
   few = omega (arith, no_more_changes cpu events, (legal_after limits events legal).few_lines);
   order = plan_is_in_order limits events legal cpu;
   early = λ k low.
@@ -105,6 +106,7 @@ plan_is_whole limits events legal latest cpu = record {
       let world = legal_after limits (until_change cpu events k) (until_legal limits cpu events k legal) in
       omega (arith, until.last, world.early, latest);
   fits = plan_fits limits events legal cpu;
+  irqs = plan_irqs_fit limits events legal cpus cpu;
   ones = λ k change is. (all_good limits cpu events legal k change is).one;
   slots = λ k change is. subst (λ n. HasSlotsBelow n change) (sym (parent_each (after events).groups)) (all_good limits cpu events legal k change is).slots;
   older = (legal_after limits events legal).groups.older;
@@ -120,6 +122,10 @@ no_change k change is = cc is
 empty_early : (k : ℕ) → k ≤ 0 → last_change no_plan k ≤ last_moment
 empty_early zero low = omega arith
 empty_early (suc k) low = absurd (omega (arith, low))
+
+empty_irqs : IrqsFit no_plan
+empty_irqs zero low = omega arith
+empty_irqs (suc k) low = absurd (omega (arith, low))
 
 empty_fits : FitsPlan no_plan
 empty_fits slot k low = subst (λ changes. LeavesFew (taken [] slot changes) (added [] slot changes)) (sym (no_front k)) (record {
@@ -145,6 +151,7 @@ empty_is_plan = record {
   order = λ k low. absurd (no_step k low);
   early = empty_early;
   fits = empty_fits;
+  irqs = empty_irqs;
   ones = λ k change is. absurd (no_change k change is);
   slots = λ k change is. absurd (no_change k change is);
   older = empty_older;

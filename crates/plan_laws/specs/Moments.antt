@@ -1,16 +1,17 @@
--- What holds of a trace at a moment: how stall time grows from one moment to the next, which groups are live, also in the order
--- of their paths, and which triggers were set.
+-- What holds of a trace at a moment: how stall time and interrupt time grow from one moment to the next, which groups are live,
+-- also in the order of their paths, and which triggers were set.
 use Rattle.std.specs.Prelude.{◌≡◌, ℕ, ◌+◌, ◌-◌, ◌≤◌, List, length, map, take, filter, slice_get, slice_index_or, nat_le, All, IfSome, Bool, Some}
 use Rattle.std.specs.List.Sorted.{IsNonDecreasingBy}
 use Rattle.psi_base.specs.declared.event.State.{State}
 use Rattle.psi_base.specs.declared.event.Event.{Event}
 use Rattle.psi_base.specs.declared.event.TriggerSpec.{TriggerSpec}
 use Rattle.psi_spec.specs.declared.machine.GroupLife.{GroupLife}
-use Rattle.psi_spec.specs.World.{Limits, root, first_world, after, up_to}
+use Rattle.psi_spec.specs.World.{Limits, root, first_world, after, up_to, most_cpus}
 use Rattle.psi_spec.specs.Refusal.{AreLegal}
-use Rattle.psi_spec.specs.Stall.{parents_of, stall}
+use Rattle.psi_spec.specs.Stall.{parents_of, stall, irq_time}
 use Rattle.psi_spec.specs.Groups.{IsPathOrder, is_live_at, is_live_in, live_groups, path_at, test_life}
 use Rattle.psi_spec.specs.Told.{AreTriggersWithin, triggers_of}
+use Rattle.psi_counts.specs.Touch.{most_irq}
 
 -- ---- stall time
 
@@ -30,6 +31,26 @@ StallIsWithin = (limits : Limits) (events : List Event) → AreLegal limits firs
 abbrev pub NoStallAtFirst : Type 0
 NoStallAtFirst = (limits : Limits) (events : List Event) → AreLegal limits first_world events →
     (state : State) (cpu slot : ℕ) → stall state cpu slot (up_to events 0) 0 ≡ 0
+
+-- ---- interrupt time
+
+-- Interrupt time never falls from a moment to a later one, and grows by no more than the time between them and a second: what an
+-- event tells of may have begun a second before it, and what others tell of later begins no sooner than that event.
+abbrev pub IrqGrows : Type 0
+IrqGrows = (limits : Limits) (events : List Event) → AreLegal limits first_world events → limits.cpus ≤ most_cpus →
+    (cpu slot at later : ℕ) → at ≤ later →
+    (irq_time cpu slot (up_to events at) ≤ irq_time cpu slot (up_to events later))
+    × (irq_time cpu slot (up_to events later) ≤ irq_time cpu slot (up_to events at) + (later - at) + most_irq)
+
+-- Interrupt time up to a moment is no longer than the time from 0 to it, since interrupts of one processor don't overlap.
+abbrev pub IrqIsWithin : Type 0
+IrqIsWithin = (limits : Limits) (events : List Event) → AreLegal limits first_world events → limits.cpus ≤ most_cpus →
+    (cpu slot at : ℕ) → irq_time cpu slot (up_to events at) ≤ at
+
+-- At moment 0 there is none.
+abbrev pub NoIrqAtFirst : Type 0
+NoIrqAtFirst = (limits : Limits) (events : List Event) → AreLegal limits first_world events → limits.cpus ≤ most_cpus →
+    (cpu slot : ℕ) → irq_time cpu slot (up_to events 0) ≡ 0
 
 -- ---- lives of groups
 

@@ -7,14 +7,14 @@ use Rattle.psi_base.specs.declared.event.State.{State}
 use Rattle.psi_base.specs.declared.event.Event.{Event}
 use Rattle.psi_counts.specs.declared.changes.Counts.{Counts}
 use Rattle.psi_counts.specs.declared.changes.Change.{Change}
-use Rattle.psi_spec.specs.World.{World, Limits, first_world, after, up_to, most_tasks, most_events}
+use Rattle.psi_spec.specs.World.{World, Limits, first_world, after, up_to, most_cpus, most_tasks, most_events}
 use Rattle.psi_spec.specs.Refusal.{AreLegal}
 use Rattle.psi_spec.specs.Trace.{last_moment}
 use Rattle.psi_spec.specs.Groups.{AreOlder, HaveParents}
-use Rattle.psi_spec.specs.Stall.{is_under, parents_of, holds, stall, moment_of, states}
+use Rattle.psi_spec.specs.Stall.{is_under, parents_of, holds, stall, moment_of, states, irq_time}
 use Rattle.psi_counts.specs.Counts.{tells, mask_holds}
 use Rattle.psi_counts.specs.Clock.{ClockView, ClockFollows, IsInTime, IsWholeClock, zero_clock, opened, opened_time}
-use Rattle.psi_counts.specs.Touch.{AreAtMost, Follows, HasSlotsBelow, IsOfOne, change_of, is_current_in, is_current_stalled, on_chain}
+use Rattle.psi_counts.specs.Touch.{AreAtMost, Follows, HasSlotsBelow, IsOfOne, change_of, irq_in, is_current_in, is_current_stalled, on_chain}
 use Rattle.psi_spec.specs.Changes.{changes_of, count_at, times_after, touches, until_change}
 use Rattle.psi_counts.specs.Legal.{changes_from, added, taken}
 
@@ -99,14 +99,24 @@ changes_up_to plan at = length (filter (λ (change : Change). nat_le change.at a
 abbrev pub AreInOrder : PlanView → Type 0
 AreInOrder plan = (k : ℕ) → k < length plan.changes → last_change plan k ≤ last_change plan (k + 1)
 
+-- the time (ns) that interrupts took on the processor by the first k changes, whichever task ran
+abbrev pub irq_after : PlanView → ℕ → ℕ
+irq_after plan k = sum (map (λ (change : Change). change.irq) (take k plan.changes))
+
+-- Interrupts of a processor took no more time than passed, since a change tells of what they took since the last one that tells of
+-- any. So their sum is at most the moment of the last change, and fits 64 bits.
+abbrev pub IrqsFit : PlanView → Type 0
+IrqsFit plan = (k : ℕ) → k ≤ length plan.changes → irq_after plan k ≤ last_change plan k
+
 -- What holds of each plan: it has at most 4,000,000 changes, as many as a trace may have events; their moments never fall and
--- are at most 60,000,000 s, the longest trace; the counts fit; each change takes and adds the counts of one task at most, and
--- names slots that there are; and each slot but the first has a parent, which is older.
+-- are at most 60,000,000 s, the longest trace; the counts fit, and so does the time of interrupts; each change takes and adds
+-- the counts of one task at most, and names slots that there are; and each slot but the first has a parent, which is older.
 pub record IsPlan (plan : PlanView) : Type 0 where
   pub few : length plan.changes ≤ most_events
   pub order : AreInOrder plan
   pub early : (k : ℕ) → k ≤ length plan.changes → last_change plan k ≤ last_moment
   pub fits : FitsPlan plan
+  pub irqs : IrqsFit plan
   pub ones : (k : ℕ) (change : Change) → slice_get plan.changes k ≡ Some change → IsOfOne change
   pub slots : (k : ℕ) (change : Change) → slice_get plan.changes k ≡ Some change → HasSlotsBelow (length plan.parents) change
   pub older : AreOlder plan.parents
@@ -123,6 +133,15 @@ planned_after state plan slot k at j = if holds_after state plan slot j then cha
 -- how long (ns) a group was in a state by the first k changes, up to a moment: the sum over them
 unfoldable pub planned_time : State → PlanView → ℕ → ℕ → ℕ → ℕ
 planned_time state plan slot k at = sum (map (planned_after state plan slot k at) (range_with_len 1 k))
+
+-- ---- planned interrupt time
+
+-- How long (ns) interrupts took from a group by the first k changes: the sum over those of them at which the running task is in
+-- the group or below it.
+unfoldable pub planned_irq : PlanView → ℕ → ℕ → ℕ
+planned_irq plan slot k = sum (map (irq_in plan.parents slot) (take k plan.changes))
+
+-- ---- clocks that stand for a slot
 
 -- A clock stands for a slot after the first k changes of a plan. It may have started earlier, where the changes since then
 -- left the slot's states as they were; so more than one clock stands for the same slot and number. It is whole: nine words.
@@ -194,9 +213,10 @@ abbrev pub CountsByPlan : Type 0
 CountsByPlan = (limits : Limits) (events : List Event) → AreLegal limits first_world events → (cpu at : ℕ) →
     (count_at cpu events at ≡ changes_up_to (plan_of cpu events) at) × (count_at cpu events at ≤ length (changes_of cpu events)) × (last_change (plan_of cpu events) (count_at cpu events at) ≤ at)
 
--- The plan of legal events is a plan, where no moment later than 60,000,000 s is allowed.
+-- The plan of legal events is a plan, where no moment later than 60,000,000 s is allowed and there are at most 64 processors, for
+-- so many of which the world has a last moment of interrupts.
 abbrev pub PlanIsWhole : Type 0
-PlanIsWhole = (limits : Limits) (events : List Event) → AreLegal limits first_world events → limits.latest ≤ last_moment → (cpu : ℕ) → IsPlan (plan_of cpu events)
+PlanIsWhole = (limits : Limits) (events : List Event) → AreLegal limits first_world events → limits.latest ≤ last_moment → limits.cpus ≤ most_cpus → (cpu : ℕ) → IsPlan (plan_of cpu events)
 
 -- Planned time grows by a change as a clock does: up to the change by those before it, and from it on where the state holds
 -- after it.
@@ -270,3 +290,28 @@ abbrev pub PlannedAfter : Type 0
 PlannedAfter = (limits : Limits) (events : List Event) → AreLegal limits first_world events → (cpu slot k at : ℕ) →
     k ≤ length (changes_of cpu events) → last_change (plan_of cpu events) k ≤ at →
     planned (plan_of cpu events) slot k at ≡ times_after cpu slot events k at
+
+-- ---- planned interrupt times
+
+-- Before the first change interrupts took no time.
+abbrev pub NoPlannedIrq : Type 0
+NoPlannedIrq = (plan : PlanView) (slot : ℕ) → planned_irq plan slot 0 ≡ 0
+
+-- Planned interrupt time grows by each change by what the change tells of the group.
+abbrev pub PlannedIrqByChange : Type 0
+PlannedIrqByChange = (plan : PlanView) (slot k : ℕ) (change : Change) → slice_get plan.changes k ≡ Some change →
+    planned_irq plan slot (k + 1) ≡ planned_irq plan slot k + irq_in plan.parents slot change
+
+-- Planned interrupt time is no longer than the time to the last change, since interrupts of one processor don't overlap.
+abbrev pub PlannedIrqFits : Type 0
+PlannedIrqFits = (plan : PlanView) → IrqsFit plan → (slot k : ℕ) → k ≤ length plan.changes → planned_irq plan slot k ≤ last_change plan k
+
+-- Planned interrupt time is the interrupt time of the events up to the k-th change.
+abbrev pub PlannedIrqIsIrq : Type 0
+PlannedIrqIsIrq = (limits : Limits) (events : List Event) → AreLegal limits first_world events → (cpu slot k : ℕ) → k ≤ length (changes_of cpu events) →
+    planned_irq (plan_of cpu events) slot k ≡ irq_time cpu slot (until_change cpu events k)
+
+-- The planned interrupt time by the changes up to a moment is the interrupt time of the events up to it.
+abbrev pub PlannedIrqUntil : Type 0
+PlannedIrqUntil = (limits : Limits) (events : List Event) → AreLegal limits first_world events → (cpu slot at : ℕ) →
+    planned_irq (plan_of cpu events) slot (changes_up_to (plan_of cpu events) at) ≡ irq_time cpu slot (up_to events at)

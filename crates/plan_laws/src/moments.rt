@@ -1,5 +1,5 @@
 //! Laws of a trace at a moment. Each function has an empty body: its contract is the law.
-ghost use Rattle.plan_laws.specs.Moments.{GroupsKeepSlots, LivesAreInOrder, LivesTellLive, NoStallAtFirst, OrderTellsLive, OrderTellsSlots, StallGrows, StallIsWithin, TriggersAreInOrder, TriggersAreOnGroups, TriggersAreWithin, TriggersUpTo};
+ghost use Rattle.plan_laws.specs.Moments.{GroupsKeepSlots, IrqGrows, IrqIsWithin, LivesAreInOrder, LivesTellLive, NoIrqAtFirst, NoStallAtFirst, OrderTellsLive, OrderTellsSlots, StallGrows, StallIsWithin, TriggersAreInOrder, TriggersAreOnGroups, TriggersAreWithin, TriggersUpTo};
 
 /// Stall time never falls from a moment to a later one, and grows by no more than the time between them. At moment 0 there is
 /// none.
@@ -7,6 +7,15 @@ pub fn law_growth()
     ensures grows { StallGrows }
     ensures within { StallIsWithin }
     ensures none { NoStallAtFirst }
+{}
+
+/// Interrupt time never falls from a moment to a later one, and grows by no more than the time between them and a second. It is
+/// never longer than the time from 0 on, so that there is none at moment 0. The world keeps a last moment of interrupts for
+/// each of 64 processors.
+pub fn law_irq_growth()
+    ensures grows { IrqGrows }
+    ensures within { IrqIsWithin }
+    ensures none { NoIrqAtFirst }
 {}
 
 /// The groups after all events tell what they were at each moment: which were live then, and that the groups made by then have

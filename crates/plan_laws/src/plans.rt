@@ -1,6 +1,6 @@
 //! Laws of plans: the changes of one processor, and the clocks that run on them alone. Each function has an empty body: its
 //! contract is the law.
-ghost use Rattle.plan_laws.specs.Plan.{AsideStays, ChangesAreNumbered, ChangesUntil, ClockIsInTime, ClockTellsPlanned, CountsByChange, CountsByPlan, CurrentByChange, EmptyIsPlan, FollowedIsClock, KeptIsClock, PlaceOfMoment, PlanCountsAreFew, PlanIsWhole, PlanTellsStates, PlannedAfter, PlannedByChange, PlannedIsStall, PlannedUntil, StallByOwnChanges, StallUpTo, StatesStay, ZeroIsClock};
+ghost use Rattle.plan_laws.specs.Plan.{AsideStays, ChangesAreNumbered, ChangesUntil, ClockIsInTime, ClockTellsPlanned, CountsByChange, CountsByPlan, CurrentByChange, EmptyIsPlan, FollowedIsClock, KeptIsClock, NoPlannedIrq, PlaceOfMoment, PlanCountsAreFew, PlanIsWhole, PlanTellsStates, PlannedAfter, PlannedByChange, PlannedIrqByChange, PlannedIrqFits, PlannedIrqIsIrq, PlannedIrqUntil, PlannedIsStall, PlannedUntil, StallByOwnChanges, StallUpTo, StatesStay, ZeroIsClock};
 
 /// A processor's changes are what the events change that touch it, in their order and at their moments. The events up to
 /// the k-th of these have the first k changes, and end with the k-th.
@@ -17,7 +17,8 @@ pub fn law_plan_states()
 {}
 
 /// The plan of legal events is whole: its changes aren't too many, their moments never fall and aren't too late, its counts
-/// fit, each change is of one task and names slots that there are, and parents are older. The empty plan is whole too.
+/// and the time of interrupts fit, each change is of one task and names slots that there are, and parents are older. The empty
+/// plan is whole too.
 pub fn law_whole_plans()
     ensures whole { PlanIsWhole }
     ensures empty { EmptyIsPlan }
@@ -66,4 +67,18 @@ pub fn law_planned_until()
 /// The planned times after some changes are those of the events up to the last of them.
 pub fn law_planned_after()
     ensures { PlannedAfter }
+{}
+
+/// Planned interrupt time begins with none, grows change by change, and is never longer than the time to the last change.
+pub fn law_planned_irq()
+    ensures none { NoPlannedIrq }
+    ensures by_change { PlannedIrqByChange }
+    ensures fits { PlannedIrqFits }
+{}
+
+/// Planned interrupt time is the interrupt time of the events up to the change, and by the changes up to a moment that of the
+/// events up to the moment.
+pub fn law_irq_times()
+    ensures irq { PlannedIrqIsIrq }
+    ensures until { PlannedIrqUntil }
 {}

@@ -202,7 +202,7 @@ all_follow old first middle new minus plus more_minus more_plus one others = rec
 -- the change of a touched processor has the parts of the task that the event changes
 change_parts : (w : World) (event : Event) (cpu : ℕ) (change : Change) → change_of w event cpu ≡ Some change → (change.minus ≡ part cpu (before w.tasks event.act)) × (change.plus ≡ part cpu (task_after w.groups w.tasks event.act))
 unfolding change_of
-change_parts w event cpu change is = parts_then (touched event.act (before w.tasks event.act) cpu) (change_on event.at (before w.tasks event.act) (task_after w.groups w.tasks event.act) (tasks_after w.groups w.tasks event.act) cpu) change is
+change_parts w event cpu change is = parts_then (touched event.act (before w.tasks event.act) cpu) (change_on event (before w.tasks event.act) (task_after w.groups w.tasks event.act) (tasks_after w.groups w.tasks event.act) cpu) change is
   where
     parts_then : (b : Bool) (made other : Change) → (if b then Some made else None) ≡ Some other → (other.minus ≡ made.minus) × (other.plus ≡ made.plus)
     parts_then true made other same = let e : made ≡ other = cc same in (ap (λ (x : Change). x.minus) (sym e), ap (λ (x : Change). x.plus) (sym e))

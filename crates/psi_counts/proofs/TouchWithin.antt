@@ -1,6 +1,7 @@
 -- What changes tell, and that their processors and slots are ones that there are.
 use Rattle.std.proofs.Common.{◌≡◌, ℕ, ◌+◌, ◌<◌, ◌≤◌, List, [], ◌∷◌, refl, ap, ◌∙◌, sym, subst, Bool, true, false, arith, cond, Option, None, Some, ◌==◌, length, ⊎_elim}
 use Rattle.std.specs.Prelude.{◌≢◌, nat_le, ◌||◌, not, if◌then◌else◌, is_some, unwrap_or, IfSome}
+use Rattle.std.specs.List.{list_any}
 use Rattle.std.specs.FinMap as fin
 use Rattle.std.specs.Ordering.{nat_cmp}
 use Rattle.std.proofs.lemmas.Bool.Decides.{nat_tests, eqb_tells}
@@ -21,11 +22,12 @@ use Rattle.psi_spec.specs.declared.machine.GroupLife.{GroupLife}
 use Rattle.psi_spec.specs.World.{World, Limits, Tasks, task_of, test_task, task_part, placed, change_to, leave, left_by, start, running_on, is_running_on, is_running, tasks_after, after_event, new_task, readied, slot_of}
 use Rattle.psi_spec.specs.Names.{names}
 use Rattle.psi_spec.specs.Refusal.{cause_of}
-use Rattle.psi_spec.specs.Stall.{tasks_in, waits, stalls, is_up}
+use Rattle.psi_spec.specs.Stall.{irq_told, tasks_in, runs, waits, stalls, is_up}
 use Rattle.psi_counts.specs.Counts.{how_many, counts_among, is_up_stalled, IsRunningTold}
-use Rattle.psi_counts.specs.Touch.{changed, left_if, task_after, part, shown, change_on, change_of, told_first, told_of, IsBeside, AllTouched, HasSlotsBelow, AreAtMost, IsOfOne, AreWithin, WithinFirst, WithinKept, ChangesAreWithin, on_chain, Follows, is_current_in, is_current_stalled, ChangeTells, TouchesItsOwn}
+use Rattle.psi_counts.specs.Touch.{changed, left_if, task_after, part, shown, change_on, change_of, told_first, told_of, IsBeside, AllTouched, HasSlotsBelow, AreAtMost, IsOfOne, AreWithin, WithinFirst, WithinKept, ChangesAreWithin, on_chain, Follows, irq_in, is_current_in, is_current_stalled, ChangeTells, RunsOnce, TouchesItsOwn}
 use Rattle.psi_spec.specs.Changes.{before, is_at, touched}
 use Rattle.psi_counts.proofs.CountLaws.{one, how_many-cons}
+use Rattle.psi_counts.proofs.IrqLaws.{told_alone, told_few}
 use Rattle.psi_spec.proofs.TaskLaws.{itself, task_placed}
 use Rattle.psi_counts.proofs.TouchCounts.{running_found}
 use Rattle.psi_spec.proofs.GroupLaws.{found_below}
@@ -214,14 +216,19 @@ changes_are_within limits w event legal within cpu change is =
     let old = before w.tasks event.act in
     let new = task_after w.groups w.tasks event.act in
     let tasks = tasks_after w.groups w.tasks event.act in
-    let both = is_then (touched event.act old cpu) (change_on event.at old new tasks cpu) change is in
+    let both = is_then (touched event.act old cpu) (change_on event old new tasks cpu) change is in
     let later = within_kept limits w event legal within in
-    let slots : HasSlotsBelow (length w.groups) (change_on event.at old new tasks cpu) = record {
+    let slots : HasSlotsBelow (length w.groups) (change_on event old new tasks cpu) = record {
       minus = part_slot limits.cpus (length w.groups) cpu old (fits_before limits.cpus (length w.groups) w.tasks within event.act);
       plus = part_slot limits.cpus (length w.groups) cpu new (fits_after limits w event.at event.act legal within);
       current = shown_slot limits.cpus (length w.groups) (running_on tasks cpu) (fits_running limits.cpus (length w.groups) tasks later cpu (running_on tasks cpu) refl);
     } in
-    let ones : IsOfOne (change_on event.at old new tasks cpu) = record { minus = part_one cpu old; plus = part_one cpu new } in
+    let ones : IsOfOne (change_on event old new tasks cpu) = record {
+      minus = part_one cpu old;
+      plus = part_one cpu new;
+      irq = told_few limits w event legal cpu;
+      alone = told_alone w.groups w.tasks event.act cpu;
+    } in
     (touched_room limits w event.at event.act legal within cpu both.0, subst (HasSlotsBelow (length w.groups)) both.1 slots, subst IsOfOne both.1 ones, ap (λ (c : Change). c.at) (sym both.1))
 
 -- ---- what is so of each change of a processor is so of each in a touch
@@ -250,18 +257,31 @@ all_touched IsSo w event touch told beside so =
 
 -- ---- what a change tells
 
--- counts follow, and what runs is shown
+either_none : (b : Bool) → ◌≡◌ {A = ℕ} (if b then 0 else 0) 0
+either_none true = refl
+either_none false = refl
+
+-- interrupts take no task from its processor: that of a group which runs after them ran before them
+same_runner : (groups : List GroupLife) (tasks : Tasks) (a : Act) → RunsOnce tasks → (parents : List (Option ℕ)) (cpu slot : ℕ) →
+    (if is_current_in parents slot (shown (running_on (tasks_after groups tasks a) cpu)) then irq_told cpu a else 0) ≡ (if list_any runs (tasks_in parents cpu slot tasks) then irq_told cpu a else 0)
+same_runner groups tasks (act.Irq named ns) once parents cpu slot = ap (λ b. if b then irq_told cpu (act.Irq named ns) else 0) (current_tells tasks once parents cpu slot).one_runs
+same_runner groups tasks a once parents cpu slot =
+    either_none (is_current_in parents slot (shown (running_on (tasks_after groups tasks a) cpu))) ∙ sym (either_none (list_any runs (tasks_in parents cpu slot tasks)))
+
+-- counts follow, what runs is shown, and interrupts take time from what runs
 pub change_tells : ChangeTells
 unfolding change_of
 change_tells limits w event legal once cpu change is parents slot =
     let old = before w.tasks event.act in
     let new = task_after w.groups w.tasks event.act in
     let tasks = tasks_after w.groups w.tasks event.act in
-    let both = is_then (touched event.act old cpu) (change_on event.at old new tasks cpu) change is in (
+    let both = is_then (touched event.act old cpu) (change_on event old new tasks cpu) change is in (
       subst (λ (c : Change). Follows (counts_among (tasks_in parents cpu slot w.tasks)) (on_chain parents slot c.minus) (on_chain parents slot c.plus) (counts_among (tasks_in parents cpu slot (after_event w event).tasks))) both.1
           (counts_follow limits w event legal parents cpu slot),
       subst (λ (c : Change). IsRunningTold (tasks_in parents cpu slot (after_event w event).tasks) (is_current_in parents slot c.current) (is_current_stalled c.current)) both.1
           (current_tells (after_event w event).tasks (runs_once_kept limits w event legal once) parents cpu slot),
+      subst (λ (c : Change). irq_in parents slot c ≡ (if list_any runs (tasks_in parents cpu slot w.tasks) then irq_told cpu event.act else 0)) both.1
+          (same_runner w.groups w.tasks event.act once parents cpu slot),
     )
 
 -- ---- an act touches the processors that it names and those of its task

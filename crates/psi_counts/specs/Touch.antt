@@ -1,5 +1,6 @@
 -- What an event changes on the processors that it touches, and how counts of tasks follow such changes.
 use Rattle.std.specs.Prelude.{◌≡◌, ◌≢◌, ℕ, ◌+◌, ◌≤◌, ◌<◌, List, [], ◌∷◌, length, ◌==◌, Bool, true, false, if◌then◌else◌, unwrap_or, Option, None, Some, IfSome}
+use Rattle.std.specs.List.{list_any}
 use Rattle.std.specs.FinMap as tasks_by
 use Rattle.psi_base.specs.declared.event.Cpu.{Cpu}
 use Rattle.psi_base.specs.declared.event.Slot.{Slot}
@@ -15,7 +16,7 @@ use Rattle.psi_spec.specs.Names.{names}
 use Rattle.psi_spec.specs.World.{Effect, forks, interrupts, moves, none, readies, stalls, switches, effect_of}
 use Rattle.psi_spec.specs.World.{World, Limits, Tasks, no_tasks, task_of, test_task, task_part, running_on, is_running_on, new_task, readied, left_by, slot_of, tasks_after, after_event}
 use Rattle.psi_spec.specs.Refusal.{cause_of}
-use Rattle.psi_spec.specs.Stall.{is_under, tasks_in}
+use Rattle.psi_spec.specs.Stall.{irq_told, is_under, runs, tasks_in}
 use Rattle.psi_spec.specs.Changes.{before, is_at, touched}
 use Rattle.psi_counts.specs.Counts.{how_many, counts_among, IsRunningTold}
 
@@ -57,16 +58,23 @@ abbrev pub shown : Option (ℕ × Task) → Option (Slot × Bool)
 shown None = None
 shown (Some running) = Some (running.1.slot, running.1.stalled)
 
--- The change of a processor at a moment (ns): the task's counts before are taken from the chain of its slot, those after
--- are added to the chain of its slot, and then some task runs there, or none.
-abbrev pub change_on : ℕ → Option Task → Option Task → Tasks → ℕ → Change
-change_on at old new tasks cpu = record { at = at; minus = part cpu old; plus = part cpu new; current = shown (running_on tasks cpu) }
+-- The change of a processor by an event, at its moment: the task's counts before are taken from the chain of its slot, those
+-- after are added to the chain of its slot, and then some task runs there, or none. With it goes the time (ns) that interrupts
+-- took there, if the event tells of any; then the same task runs as before.
+abbrev pub change_on : Event → Option Task → Option Task → Tasks → ℕ → Change
+change_on event old new tasks cpu = record {
+  at = event.at;
+  minus = part cpu old;
+  plus = part cpu new;
+  current = shown (running_on tasks cpu);
+  irq = irq_told cpu event.act;
+}
 
 -- the change of a processor by an event, if the event touches it
 unfoldable pub change_of : World → Event → ℕ → Option Change
 change_of w event cpu =
     if touched event.act (before w.tasks event.act) cpu
-    then Some (change_on event.at (before w.tasks event.act) (task_after w.groups w.tasks event.act) (tasks_after w.groups w.tasks event.act) cpu)
+    then Some (change_on event (before w.tasks event.act) (task_after w.groups w.tasks event.act) (tasks_after w.groups w.tasks event.act) cpu)
     else None
 
 -- ---- touches
@@ -108,10 +116,17 @@ pub record AreAtMost (most : ℕ) (counts : Counts) : Type 0 where
   pub running : counts.running ≤ most
   pub stalled_running : counts.stalled_running ≤ most
 
--- a change takes and adds the counts of one task each
+-- the most time (ns) that interrupts take by one event: a second
+abbrev pub most_irq : ℕ
+most_irq = 1000000000
+
+-- A change takes and adds the counts of one task each. Where it tells that interrupts took time, which is a second at most, it
+-- takes and adds no counts.
 pub record IsOfOne (change : Change) : Type 0 where
   pub minus : IfSome change.minus (λ part. AreAtMost 1 part.1)
   pub plus : IfSome change.plus (λ part. AreAtMost 1 part.1)
+  pub irq : change.irq ≤ most_irq
+  pub alone : 0 < change.irq → (change.minus ≡ None) × (change.plus ≡ None)
 
 -- ---- how counts follow
 
@@ -145,6 +160,11 @@ abbrev pub is_current_stalled : Option (Slot × Bool) → Bool
 is_current_stalled None = false
 is_current_stalled (Some current) = current.1
 
+-- the time (ns) that interrupts took from a group by a change: all that it tells of, where the running task is in the group or
+-- below it
+abbrev pub irq_in : List (Option ℕ) → ℕ → Change → ℕ
+irq_in parents slot change = if is_current_in parents slot change.current then change.irq else 0
+
 -- the processor of each task is one of so many, and so is its slot
 abbrev pub AreWithin : ℕ → ℕ → Tasks → Type 0
 AreWithin cpus slots tasks = (pid : ℕ) → IfSome (task_of tasks pid) (λ task. (task.cpu.0 < cpus) × (task.slot.0 < slots))
@@ -169,13 +189,15 @@ abbrev pub CurrentTells : Type 0
 CurrentTells = (tasks : Tasks) → RunsOnce tasks → (parents : List (Option ℕ)) (cpu slot : ℕ) →
     IsRunningTold (tasks_in parents cpu slot tasks) (is_current_in parents slot (shown (running_on tasks cpu))) (is_current_stalled (shown (running_on tasks cpu)))
 
--- A processor's change by a legal event tells all that stall sums need there: the counts of each group follow what it takes
--- and adds on the chains, and it shows which task of each group runs afterwards.
+-- A processor's change by a legal event tells all that sums of times need there: the counts of each group follow what it takes
+-- and adds on the chains, it shows which task of each group runs afterwards, and the time of interrupts is that of the groups
+-- that have a running task in the world before the event.
 abbrev pub ChangeTells : Type 0
 ChangeTells =
     (limits : Limits) (w : World) (event : Event) → cause_of limits w event ≡ None → RunsOnce w.tasks → (cpu : ℕ) (change : Change) → change_of w event cpu ≡ Some change → (parents : List (Option ℕ)) (slot : ℕ) →
     Follows (counts_among (tasks_in parents cpu slot w.tasks)) (on_chain parents slot change.minus) (on_chain parents slot change.plus) (counts_among (tasks_in parents cpu slot (after_event w event).tasks))
     × IsRunningTold (tasks_in parents cpu slot (after_event w event).tasks) (is_current_in parents slot change.current) (is_current_stalled change.current)
+    × (irq_in parents slot change ≡ (if list_any runs (tasks_in parents cpu slot w.tasks) then irq_told cpu event.act else 0))
 
 -- An act touches the processor that it names, and the one on which the task that it changes is, before it and after it.
 abbrev pub TouchesItsOwn : Type 0
@@ -184,11 +206,13 @@ TouchesItsOwn = (w : World) (event : Event) (cpu : ℕ) →
     × (test_task (before w.tasks event.act) (is_at cpu) ≡ true → touched event.act (before w.tasks event.act) cpu ≡ true)
     × (test_task (task_after w.groups w.tasks event.act) (is_at cpu) ≡ true → touched event.act (before w.tasks event.act) cpu ≡ true)
 
--- A legal event leaves the counts of each group on a processor that it doesn't touch, and which task runs there.
+-- A legal event leaves the counts of each group on a processor that it doesn't touch, and which task runs there; and it tells of
+-- no interrupts there.
 abbrev pub StaysUntouched : Type 0
 StaysUntouched = (limits : Limits) (w : World) (event : Event) → cause_of limits w event ≡ None → (cpu : ℕ) → change_of w event cpu ≡ None → (parents : List (Option ℕ)) (slot : ℕ) →
     (counts_among (tasks_in parents cpu slot (after_event w event).tasks) ≡ counts_among (tasks_in parents cpu slot w.tasks))
     × ((on_cpu current_stalled : Bool) → IsRunningTold (tasks_in parents cpu slot w.tasks) on_cpu current_stalled → IsRunningTold (tasks_in parents cpu slot (after_event w event).tasks) on_cpu current_stalled)
+    × (irq_told cpu event.act ≡ 0)
 
 -- No task is anywhere at first.
 abbrev pub WithinFirst : Type 0
@@ -198,7 +222,7 @@ WithinFirst = (cpus slots : ℕ) → AreWithin cpus slots no_tasks
 abbrev pub WithinKept : Type 0
 WithinKept = (limits : Limits) (w : World) (event : Event) → cause_of limits w event ≡ None → AreWithin limits.cpus (length w.groups) w.tasks → AreWithin limits.cpus (length w.groups) (after_event w event).tasks
 
--- So do those of changes; and a change takes and adds the counts of one task, at the event's moment.
+-- So do those of changes; and a change takes and adds the counts of one task, or tells of interrupts, at the event's moment.
 abbrev pub ChangesAreWithin : Type 0
 ChangesAreWithin = (limits : Limits) (w : World) (event : Event) → cause_of limits w event ≡ None → AreWithin limits.cpus (length w.groups) w.tasks → (cpu : ℕ) (change : Change) → change_of w event cpu ≡ Some change →
     (cpu < limits.cpus) × HasSlotsBelow (length w.groups) change × IsOfOne change × (change.at ≡ event.at)

@@ -16,13 +16,16 @@ pub struct Counts {
 }
 
 /// What an event changes on a processor: counts taken from the chain of a slot, counts added to the chain of a
-/// slot, and afterwards the slot of the processor's running task and whether that task is in a stall.
+/// slot, and afterwards the slot of the processor's running task and whether that task is in a stall. Where interrupts took
+/// the processor, it changes nothing but that: no counts, and the task that runs, if one does, is the one that they held up.
 #[derive(Clone, Copy, Debug, PartialEq, Eq)]
 pub struct Change {
     pub at: Ns,
     pub minus: Option<(Slot, Counts)>,
     pub plus: Option<(Slot, Counts)>,
     pub current: Option<(Slot, bool)>,
+    /// For how long interrupts took the processor, in ns: a second at most, and 0 where the event tells of none.
+    pub irq: u64,
 }
 
 /// The processors that an event touches, each with its change. There is a second one only beside a first one on

@@ -19,14 +19,14 @@ pub fn law_current_tells()
     ensures { CurrentTells }
 {}
 
-/// The change of a processor tells there all that the states of each group are told by: how the counts follow, and what
-/// runs.
+/// The change of a processor tells there all that the times of each group are told by: how the counts follow, what runs, and
+/// what interrupts took.
 pub fn law_change_tells()
     ensures { ChangeTells }
 {}
 
-/// A legal event leaves counts and running task on processors that it doesn't touch, and it touches the processor that
-/// it names and those of the task that it changes.
+/// A legal event leaves counts and running task on processors that it doesn't touch, and interrupts take no time there by it.
+/// It touches the processor that it names and those of the task that it changes.
 pub fn law_touched()
     ensures others { StaysUntouched }
     ensures own { TouchesItsOwn }
@@ -38,7 +38,7 @@ pub fn law_within()
     ensures kept { WithinKept }
 {}
 
-/// So are those of changes, and a change takes and adds the counts of one task.
+/// So are those of changes, and a change takes and adds the counts of one task, or tells of interrupts alone.
 pub fn law_changes_are_within()
     ensures { ChangesAreWithin }
 {}

@@ -13,7 +13,7 @@ use task_table::Table;
 /// Behind a line stands each processor that it changes: its number, the task that is taken from the chain of a slot
 /// there, the task that is added to one, and afterwards the slot of the running task. Before each task stands the slot of
 /// its group. A task is `a` blocked, `w` waiting for IO, `r` ready or running, and in a stall `A` or `R`. A running task
-/// is `!` in a stall, and else `=`.
+/// is `!` in a stall, and else `=`. Behind a `+` stands what interrupts took there (ns).
 const LINES: &str = "1 group /a;\
     1 fork 1 /a 0 | 0 .. 1r ..;\
     2 switch 0 1 idle | 0 .. .. 1=;\
@@ -25,8 +25,9 @@ const LINES: &str = "1 group /a;\
     8 move 1 / | 0 1R 0R ..;\
     9 move 1 / | 0 0R 0R ..;\
     10 switch 0 1 idle | 0 .. .. 0!;\
-    10 irq 0 3 | 0 .. .. 0!;\
-    10 irq 1 0 | 1 .. .. ..;\
+    10 irq 0 3 | 0 .. .. 0! +3;\
+    10 irq 1 7 | 1 .. .. .. +7;\
+    10 irq 1 0 | 1 .. .. .. +0;\
     11 unstall 1 | 0 0R 0r 0=;\
     12 switch 0 0 iowait | 0 0r 0w ..;\
     13 wake 1 0 | 0 0w 0r ..;\
@@ -62,6 +63,7 @@ fn part(kind: u8, slot: u8) -> Option<(Slot, Counts)> {
 
 /// The processor with its change at this moment, if there is one.
 fn change(at: Ns, told: &str) -> Option<(Cpu, Change)> {
+    let (told, irq) = told.split_once(" +").unwrap_or((told, "0"));
     let [cpu, _, from, minus, _, to, plus, _, slot, current] = told.as_bytes() else {
         return None;
     };
@@ -71,6 +73,10 @@ fn change(at: Ns, told: &str) -> Option<(Cpu, Change)> {
         minus: part(*minus, *from),
         plus: part(*plus, *to),
         current: is_running.then_some((Slot(number(*slot)), *current == b'!')),
+        irq: irq
+            .bytes()
+            .next()
+            .map_or(0, |digit| u64::from(number(digit))),
     };
     Some((Cpu(number(*cpu)), change))
 }

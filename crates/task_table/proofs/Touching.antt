@@ -15,11 +15,12 @@ use Rattle.task_table.specs.Stands.{HasPlayed, IsIndex, TableView, table_of}
 use Rattle.psi_spec.specs.Refusal.{cause_of}
 use Rattle.psi_counts.specs.Touch.{change_of, told_of, IsBeside, IsTouch, AllTouched, HasSlotsBelow, IsOfOne, AreWithin}
 use Rattle.psi_spec.specs.Changes.{touched}
+use Rattle.psi_spec.specs.Stall.{irq_told}
 use Rattle.psi_counts.proofs.TouchWithin.{changes_are_within, all_touched}
 
 -- what is read off the task that an event changes, and off the tasks that run after it, is what the event changes
 touch_told : (w : World) (event : Event) (tasks : Tasks) (changed : TaskUpdate) (running : List (Option (ℕ × Task))) (touch : Touch) → IsChanged w.groups w.tasks event.act changed → tasks ≡ tasks_after w.groups w.tasks event.act → IsIndex running tasks
-    → ((cpu : ℕ) → told_of touch cpu ≡ (if touched event.act changed.old cpu then Some (change_for event.at changed (slice_index_or running cpu None) cpu) else None))
+    → ((cpu : ℕ) → told_of touch cpu ≡ (if touched event.act changed.old cpu then Some (change_for event.at changed (slice_index_or running cpu None) (irq_told cpu event.act) cpu) else None))
     → (cpu : ℕ) → told_of touch cpu ≡ change_of w event cpu
 unfolding change_of
 touch_told w event tasks changed running touch is are index told cpu = rw (← are, running_told running tasks index cpu, ← is.new, ← is.old) (told cpu)
@@ -48,7 +49,7 @@ told_legal limits w event touch legal within told beside =
 
 -- so is what a table that played an event reads off the changed task and the running ones
 pub told_played : (old new : TableView) (event : Event) (changed : TaskUpdate) (running : List (Option (ℕ × Task))) (touch : Touch) → HasPlayed old event new → IsChanged old.world.groups old.world.tasks event.act changed → IsIndex running new.world.tasks
-    → ((cpu : ℕ) → told_of touch cpu ≡ (if touched event.act changed.old cpu then Some (change_for event.at changed (slice_index_or running cpu None) cpu) else None)) → IsBeside touch.first touch.second → IsTold old.limits old.world event touch
+    → ((cpu : ℕ) → told_of touch cpu ≡ (if touched event.act changed.old cpu then Some (change_for event.at changed (slice_index_or running cpu None) (irq_told cpu event.act) cpu) else None)) → IsBeside touch.first touch.second → IsTold old.limits old.world event touch
 told_played old new event changed running touch played is index told beside =
     let tasks : new.world.tasks ≡ tasks_after old.world.groups old.world.tasks event.act = ap (λ (w : World). w.tasks) played.world in
     told_legal old.limits old.world event touch played.legal played.legal_before.within (touch_told old.world event new.world.tasks changed running touch is tasks index told) beside

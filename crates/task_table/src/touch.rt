@@ -4,6 +4,7 @@ ghost use Rattle.std.specs.Prelude.{◌≡◌, ℕ, if◌then◌else◌, Some, N
 ghost use Rattle.psi_counts.specs.Counts.{counts_among};
 ghost use Rattle.psi_counts.specs.Touch.{part, shown, told_of, IsBeside};
 ghost use Rattle.psi_spec.specs.Changes.{touched};
+ghost use Rattle.psi_spec.specs.Stall.{irq_told};
 ghost use Rattle.task_table.specs.Named.{change_for};
 
 use crate::running::{Running, running_at};
@@ -59,15 +60,17 @@ fn current_on(running: &[Running], cpu: Cpu) -> Option<(Slot, bool)>
     }
 }
 
-/// The change of a processor at a moment (ns), by the task that an act changes and by the tasks that run after it.
+/// The change of a processor at a moment (ns), by the task that an act changes and by the tasks that run after it. No interrupts
+/// took time.
 fn change_of(at: Ns, changed: TaskUpdate, running: &[Running], cpu: Cpu) -> Change
-    ensures { result ≡ change_for at changed (slice_index_or running.now cpu.0 None) cpu.0 }
+    ensures { result ≡ change_for at changed (slice_index_or running.now cpu.0 None) 0 cpu.0 }
 {
     Change {
         at,
         minus: part_on(cpu, changed.old),
         plus: part_on(cpu, changed.new),
         current: current_on(running, cpu),
+        irq: 0,
     }
 }
 
@@ -77,14 +80,25 @@ pub(crate) fn touch_of(at: Ns, act: &Act, changed: TaskUpdate, running: &[Runnin
     ensures told { (cpu : ℕ) →
         told_of result cpu
         ≡ (if touched act.now changed.old cpu
-        then Some (change_for at changed (slice_index_or running.now cpu None) cpu) else None) }
+        then Some (change_for at changed (slice_index_or running.now cpu None)
+        (irq_told cpu act.now) cpu) else None) }
     ensures beside { IsBeside result.first result.second }
 {
     match act {
-        Act::Fork { cpu, .. } | Act::Switch { cpu, .. } | Act::Irq { cpu, .. } => Touch {
+        Act::Fork { cpu, .. } | Act::Switch { cpu, .. } => Touch {
             first: Some((*cpu, change_of(at, changed, running, *cpu))),
             second: None,
         },
+        Act::Irq { cpu, ns } => {
+            let change = Change {
+                irq: *ns,
+                ..change_of(at, changed, running, *cpu)
+            };
+            Touch {
+                first: Some((*cpu, change)),
+                second: None,
+            }
+        }
         Act::Wake { cpu, .. } | Act::Migrate { cpu, .. } => {
             let first = Some((*cpu, change_of(at, changed, running, *cpu)));
             match changed.old {

@@ -1,0 +1,145 @@
+-- Planned interrupt time by changes, and as interrupt time.
+use Rattle.std.proofs.Common.{◌≡◌, ℕ, ◌+◌, ◌≤◌, List, [], ◌∷◌, ◌++◌, length, map, take, refl, sym, ap, ◌∙◌, arith, subst, ⊎_elim}
+use Rattle.std.specs.Prelude.{sum, if◌then◌else◌, Option}
+use Rattle.std.specs.List.{list_any}
+use Rattle.std.proofs.lemmas.List.{append-nil, map-append, take_all}
+use Rattle.std.proofs.lemmas.List.Sums.{sum_by-append, sum_by-cons}
+use Rattle.psi_base.specs.declared.event.Event.{Event}
+use Rattle.psi_counts.specs.declared.changes.Change.{Change}
+use Rattle.psi_spec.specs.World.{World, Limits, after, first_world, up_to}
+use Rattle.psi_spec.specs.Refusal.{AreLegal}
+use Rattle.psi_spec.specs.Stall.{has_running, irq_told, irq_time, parents_of, runs, tasks_in}
+use Rattle.psi_spec.specs.Changes.{changes_of, count_at, until_change}
+use Rattle.psi_counts.specs.Legal.{IsLegalWorld, changes_from}
+use Rattle.psi_counts.specs.Touch.{irq_in, is_current_in}
+use Rattle.plan_laws.specs.Plan.{NoPlannedIrq, PlannedIrqByChange, PlannedIrqFits, PlannedIrqIsIrq, PlannedIrqUntil, plan_of, planned_irq}
+use Rattle.psi_spec.proofs.StallLaws.{irq_by_event}
+use Rattle.psi_counts.proofs.IrqLaws.{at_most}
+use Rattle.psi_counts.proofs.LegalLaws.{same_tasks_later}
+use Rattle.psi_counts.proofs.TouchLaws.{stays_untouched}
+use Rattle.psi_counts.proofs.TouchWithin.{change_tells}
+use Rattle.plan_laws.proofs.PlanLaws.{as_many, by_last, changes_same, changes_grow, touched_or_not, until_is}
+use Rattle.plan_laws.proofs.PlanStalls.{fewer_before}
+use Rattle.plan_laws.proofs.PlanStates.{Prolongs, legal_after, legal_front, legal_last, until_legal, until_prolongs}
+use Rattle.plan_laws.proofs.PlanSteps.{one_more}
+use Rattle.plan_laws.proofs.PlanUpTo.{counts_by_plan, until_of_front, up_to_front}
+
+-- ---- sums over changes
+
+-- with one change more
+pub sum-push : (f : Change → ℕ) (changes : List Change) (change : Change) → sum (map f (changes ++ change ∷ [])) ≡ sum (map f changes) + f change
+sum-push f changes change =
+    let all = sum_by-append (λ n. n) (map f changes) (f change ∷ []) in
+    let last = sum_by-cons (λ n. n) (f change) [] in
+    ap sum (map-append f changes (change ∷ [])) ∙ all ∙ ap (λ n. sum (map f changes) + n) (last ∙ (let alone : f change + 0 ≡ f change = omega arith in alone))
+
+-- a sum of parts is no more than that of the wholes
+parts_sum : (part whole : Change → ℕ) → ((change : Change) → part change ≤ whole change) → (changes : List Change) → sum (map part changes) ≤ sum (map whole changes)
+parts_sum part whole less [] = omega arith
+parts_sum part whole less (change ∷ changes) =
+    let one = sum_by-cons (λ n. n) (part change) (map part changes) in
+    let other = sum_by-cons (λ n. n) (whole change) (map whole changes) in
+    let here = less change in
+    let rest = parts_sum part whole less changes in
+    omega (arith, one, other, here, rest)
+
+none_taken : (changes : List Change) → take 0 changes ≡ []
+none_taken [] = refl
+none_taken (change ∷ changes) = refl
+
+-- ---- change by change
+
+pub no_planned_irq : NoPlannedIrq
+unfolding planned_irq
+no_planned_irq plan slot = ap (λ cs. sum (map (irq_in plan.parents slot) cs)) (none_taken plan.changes)
+
+pub planned_irq_by_change : PlannedIrqByChange
+unfolding planned_irq
+planned_irq_by_change plan slot k change is =
+    ap (λ cs. sum (map (irq_in plan.parents slot) cs)) (one_more plan.changes k change is) ∙ sum-push (irq_in plan.parents slot) (take k plan.changes) change
+
+pub planned_irq_fits : PlannedIrqFits
+unfolding planned_irq
+planned_irq_fits plan fits slot k low =
+    let part : (change : Change) → irq_in plan.parents slot change ≤ change.irq = λ change. at_most (is_current_in plan.parents slot change.current) change.irq change.irq (omega arith) in
+    let sums = parts_sum (irq_in plan.parents slot) (λ change. change.irq) part (take k plan.changes) in
+    omega (arith, sums, fits k low)
+
+-- ---- planned interrupt time is interrupt time
+
+abbrev irq_sum : List (Option ℕ) → ℕ → List Change → ℕ
+irq_sum parents slot changes = sum (map (irq_in parents slot) changes)
+
+-- a group has a running task by later parents where it has one by those of the world
+running_later : (limits : Limits) (w : World) → IsLegalWorld limits w → (parents : List (Option ℕ)) → Prolongs (parents_of w.groups) parents → (cpu slot : ℕ) → list_any runs (tasks_in parents cpu slot w.tasks) ≡ has_running cpu slot w
+unfolding has_running
+running_later limits w world parents more cpu slot = ap (λ ps. list_any runs (tasks_in ps cpu slot w.tasks)) more.1 ∙ ap (list_any runs) (same_tasks_later limits w world more.0 cpu slot)
+
+-- all changes of some events tell the interrupt time of these events
+abbrev TellsIrq : Limits → ℕ → ℕ → List Event → Type 0
+TellsIrq limits cpu slot events = AreLegal limits first_world events → (parents : List (Option ℕ)) → Prolongs (parents_of (after events).groups) parents →
+    irq_sum parents slot (changes_from cpu first_world events) ≡ irq_time cpu slot events
+
+tells-none : (limits : Limits) (cpu slot : ℕ) → TellsIrq limits cpu slot []
+unfolding irq_time
+tells-none limits cpu slot legal parents more = refl
+
+tells-push : (limits : Limits) (cpu slot : ℕ) (events : List Event) (event : Event) → TellsIrq limits cpu slot events → TellsIrq limits cpu slot (events ++ event ∷ [])
+tells-push limits cpu slot events event before legal parents more =
+    let first = legal_front limits first_world events (event ∷ []) legal in
+    let allowed = legal_last limits first_world events event legal in
+    let world = legal_after limits events first in
+    let fewer = fewer_before events event parents more in
+    let sums = before first parents fewer in
+    let time = irq_by_event cpu slot events event in
+    ⊎_elim
+    (λ off.
+    let same = ap (irq_sum parents slot) (changes_same cpu events event off) in
+    let none = (stays_untouched limits (after events) event allowed cpu off.none parents slot).2 in
+    let part = at_most (has_running cpu slot (after events)) (irq_told cpu event.act) 0 (omega (arith, none)) in
+    omega (arith, same, sums, time, part))
+    (λ on.
+    let grown = ap (irq_sum parents slot) (changes_grow cpu events event on) ∙ sum-push (irq_in parents slot) (changes_from cpu first_world events) on.change in
+    let told = (change_tells limits (after events) event allowed world.once cpu on.change on.one parents slot).2 in
+    let part = told ∙ ap (λ b. if b then irq_told cpu event.act else 0) (running_later limits (after events) world parents fewer cpu slot) in
+    grown ∙ ap (λ n. n + irq_in parents slot on.change) sums ∙ ap (λ n. irq_time cpu slot events + n) part ∙ sym time)
+    (touched_or_not (after events) event cpu)
+
+tells_irq : (limits : Limits) (cpu slot : ℕ) (events : List Event) → TellsIrq limits cpu slot events
+tells_irq limits cpu slot events = by_last (TellsIrq limits cpu slot) (tells-none limits cpu slot) (tells-push limits cpu slot) events
+
+pub planned_irq_is_irq : PlannedIrqIsIrq
+unfolding planned_irq
+planned_irq_is_irq limits events legal cpu slot k low =
+    let parents : List (Option ℕ) = parents_of (after events).groups in
+    let until = until_is cpu events k low in
+    ap (irq_sum parents slot) (sym until.changes)
+    ∙ tells_irq limits cpu slot (until_change cpu events k) (until_legal limits cpu events k legal) parents (until_prolongs cpu events k)
+
+-- ---- up to a moment
+
+-- interrupt time is that of the events up to the last change
+irq_by_own_changes : (limits : Limits) (events : List Event) → AreLegal limits first_world events → (cpu slot : ℕ) → irq_time cpu slot events ≡ irq_time cpu slot (until_change cpu events (length (changes_of cpu events)))
+unfolding planned_irq
+irq_by_own_changes limits events legal cpu slot =
+    let parents : List (Option ℕ) = parents_of (after events).groups in
+    let changes : List Change = changes_from cpu first_world events in
+    let all : take (length (changes_of cpu events)) changes ≡ changes = take_all (length (changes_of cpu events)) changes (omega (arith, as_many cpu events)) in
+    sym (tells_irq limits cpu slot events legal parents ([], sym (append-nil parents)))
+    ∙ ap (irq_sum parents slot) (sym all)
+    ∙ planned_irq_is_irq limits events legal cpu slot (length (changes_of cpu events)) (omega arith)
+
+irq_up_to : (limits : Limits) (events : List Event) → AreLegal limits first_world events → (cpu slot at : ℕ) → irq_time cpu slot (up_to events at) ≡ irq_time cpu slot (until_change cpu events (count_at cpu events at))
+irq_up_to limits events legal cpu slot at =
+    let front : List Event = up_to events at in
+    let parts = up_to_front limits first_world events at legal in
+    let legally : AreLegal limits first_world front = legal_front limits first_world front parts.0 (subst (AreLegal limits first_world) parts.1 legal) in
+    irq_by_own_changes limits front legally cpu slot
+    ∙ ap (irq_time cpu slot) (sym (until_of_front cpu front parts.0 (count_at cpu events at) (omega arith)) ∙ ap (λ es. until_change cpu es (count_at cpu events at)) (sym parts.1))
+
+pub planned_irq_until : PlannedIrqUntil
+planned_irq_until limits events legal cpu slot at =
+    let count = counts_by_plan limits events legal cpu at in
+    ap (planned_irq (plan_of cpu events) slot) (sym count.0)
+    ∙ planned_irq_is_irq limits events legal cpu slot (count_at cpu events at) count.1
+    ∙ sym (irq_up_to limits events legal cpu slot at)
