@@ -8,6 +8,8 @@ pub use events::events_of;
 #[cfg(test)]
 mod clocks;
 #[cfg(test)]
+mod irqs;
+#[cfg(test)]
 mod plans;
 #[cfg(test)]
 mod refusals;

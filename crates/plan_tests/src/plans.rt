@@ -42,6 +42,7 @@ fn change(at: Ns, minus: Option<Counts>, plus: Option<Counts>, runs: bool) -> Ch
         minus: minus.map(|counts| (root, counts)),
         plus: plus.map(|counts| (root, counts)),
         current: if runs { Some((root, false)) } else { None },
+        irq: 0,
     }
 }
 

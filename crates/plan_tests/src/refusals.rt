@@ -10,7 +10,7 @@ use std::test::Fail;
 #[test]
 fn first_refused_lines(rt: HostRuntime) -> Result<(), Fail> {
     let alloc = rt.alloc();
-    let rows: [(&[&[u8]], u32, Cause); 9] = [
+    let rows: [(&[&[u8]], u32, Cause); 12] = [
         (&[b"1 fork 1 /a 0", b"2 end"], 2, Cause::UnknownGroup),
         (&[b"1 fork 1 / 1", b"2 end"], 2, Cause::BadCpu),
         (
@@ -31,6 +31,17 @@ fn first_refused_lines(rt: HostRuntime) -> Result<(), Fail> {
             Cause::AfterEnd,
         ),
         (&[b"1 end", b"1 end"], 3, Cause::AfterEnd),
+        (&[b"9 irq 0 9", b"8 irq 0 1", b"9 end"], 3, Cause::TimeBack),
+        (
+            &[b"9 irq 0 9", b"9 irq 0 1", b"9 end"],
+            3,
+            Cause::IrqTooLong,
+        ),
+        (
+            &[b"9 irq 0 9", b"9 irq 0 0", b"11 irq 0 3", b"11 end"],
+            4,
+            Cause::IrqTooLong,
+        ),
         (&[], 2, Cause::NoEnd),
     ];
     for (lines, line, cause) in rows {

@@ -46,7 +46,7 @@ as_many_parents parents plan same = sym (ap length same) ∙ length-map parents 
 pub current_below : (plan : PlanView) (k : ℕ) → IsPlan plan → k ≤ length plan.changes → IfSome (current_after plan k) (λ running. running.0.0 < length plan.parents)
 current_below plan zero whole within = tt
 current_below plan (suc k) whole within =
-    let none : Change = record { at = 0; minus = None; plus = None; current = None } in
+    let none : Change = record { at = 0; minus = None; plus = None; current = None; irq = 0 } in
     let is = slice_get-get_or plan.changes k none (omega (arith, within)) in
     let next : suc k ≡ k + 1 = omega arith in
     subst (λ o. IfSome o (λ (running : Slot × Bool). running.0.0 < length plan.parents)) (sym (ap (current_after plan) next ∙ (current_by_change plan k (slice_index_or plan.changes k none) is).0)) (whole.slots k (slice_index_or plan.changes k none) is).current

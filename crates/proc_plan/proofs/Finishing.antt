@@ -29,7 +29,7 @@ pub all_whole : (planner : PlannerView) (limits : Limits) (events : List Event) 
 all_whole planner limits events groups is taken same = λ k d room.
     let below : k < limits.cpus = omega (arith, room, is.each, ap (λ (l : Limits). l.cpus) taken.limits_are) in
     subst (λ changes. IsPlan (plan_over groups changes)) (get_or_default planner.changes k [] d room)
-    (subst IsPlan (sym (plan_is planner limits events groups k taken same below)) (plan_is_whole limits events taken.legal taken.short k))
+    (subst IsPlan (sym (plan_is planner limits events groups k taken same below)) (plan_is_whole limits events taken.legal taken.short taken.counted.1 k))
 
 -- each of the changes as they are listed
 pub all_listed : (groups : List GroupLife) (changes : List ChangesView) → All (λ list. IsPlan (plan_over groups list)) (lists_of changes) → All (λ (changes : ChangesView). IsPlan (plan_over groups changes.list)) changes
@@ -54,7 +54,7 @@ are_plans planner limits events groups is taken same =
     let made : (cpu : ℕ) → cpu < length (finished planner groups).plans → plan_at (finished planner groups) cpu ≡ plan_of cpu events = λ cpu room. plan_made planner limits events groups cpu is taken same (omega (arith, room, many)) in
     record {
       counted = subst IsCpuCount (sym many) taken.counted;
-      whole = λ cpu room. subst IsPlan (sym (made cpu room)) (plan_is_whole limits events taken.legal taken.short cpu);
+      whole = λ cpu room. subst IsPlan (sym (made cpu room)) (plan_is_whole limits events taken.legal taken.short taken.counted.1 cpu);
       parents = λ cpu room. ap (λ (plan : PlanView). plan.parents) (made cpu room) ∙ sym (ap parents_of (same ∙ ap (λ (w : World). w.groups) taken.world));
       groups = subst AreGroups (sym (same ∙ ap (λ (w : World). w.groups) taken.world)) (legal_after limits events taken.legal).groups;
       small = is.small;

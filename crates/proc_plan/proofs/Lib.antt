@@ -1,5 +1,7 @@
 pub mod Building
 pub mod ClockSteps
+pub mod Upward
+pub mod IrqWalk
 pub mod Finishing
 pub mod PlanReads
 pub mod Taking

@@ -64,7 +64,7 @@ pub record IsUntil (plan : PlanView) (at k : ℕ) : Type 0 where
 
 pub point_counts : (plan : PlanView) (at k : ℕ) → AreInOrder plan → k ≤ length plan.changes → IsPartitionPoint (λ (change : Change). nat_le change.at at ≡ true) (λ (change : Change). nat_le change.at at ≡ false) plan.changes k → IsUntil plan at k
 point_counts plan at k order room point =
-    let none : Change = record { at = 0; minus = None; plus = None; current = None } in
+    let none : Change = record { at = 0; minus = None; plus = None; current = None; irq = 0 } in
     let past = last_before plan at k none room point.0 in
     let next : k < length plan.changes → at < last_change plan (k + 1) = λ more.
     let late = is_late (slice_index_or plan.changes k none).at at (point.1 k none (omega arith) more) in

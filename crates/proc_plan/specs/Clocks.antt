@@ -1,6 +1,8 @@
 -- Clocks that run on a plan.
-use Rattle.std.specs.Prelude.{◌≡◌, ℕ, ◌≤◌, length}
-use Rattle.plan_laws.specs.Plan.{IsClock, IsPlan, PlanView, counts_after, current_after, last_change}
+use Rattle.std.specs.Prelude.{◌≡◌, ℕ, ◌+◌, ◌≤◌, ◌<◌, List, length, slice_index_or, Bool, if◌then◌else◌, Option}
+use Rattle.psi_base.specs.declared.event.Slot.{Slot}
+use Rattle.psi_counts.specs.Touch.{is_current_in}
+use Rattle.plan_laws.specs.Plan.{IsClock, IsPlan, PlanView, counts_after, current_after, last_change, planned_irq}
 use Rattle.slot_clocks.specs.Clocks.{ClocksView, cell_at}
 
 -- clocks on a plan: the plan, and how many of its changes were made
@@ -18,3 +20,18 @@ pub record AreClocks (plan : PlanView) (clocks : ClocksView) (k : ℕ) : Type 0 
   pub last : clocks.last ≡ last_change plan k
   pub counts : (slot : ℕ) → (cell_at clocks slot).counts ≡ counts_after plan slot k
   pub each : (slot : ℕ) → IsClock (cell_at clocks slot).clock plan slot k
+
+-- the time (ns) that interrupts took from the group in a slot
+abbrev pub irq_at : List ℕ → ℕ → ℕ
+irq_at times slot = slice_index_or times slot 0
+
+-- The times that interrupts took from the groups of a processor are those of its plan after the first k changes: one for each
+-- slot that the plan knows.
+pub record AreIrqs (plan : PlanView) (times : List ℕ) (k : ℕ) : Type 0 where
+  pub room : length times ≡ length plan.parents
+  pub each : (slot : ℕ) → slot < length plan.parents → irq_at times slot ≡ planned_irq plan slot k
+
+-- the times of all groups have grown by a time (ns) where the running task is in the group or below it
+abbrev pub AllGrow : List (Option ℕ) → Option (Slot × Bool) → ℕ → List ℕ → List ℕ → Type 0
+AllGrow parents current irq old new = (slot : ℕ) → slot < length old →
+    irq_at new slot ≡ irq_at old slot + (if is_current_in parents slot current then irq else 0)

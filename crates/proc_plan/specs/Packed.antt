@@ -12,6 +12,15 @@ marked_count mark = if mark then 1 else 0
 abbrev pub counts_by : Marks → Counts
 counts_by marks = record { io = marked_count marks.io; stalled = marked_count marks.stalled; running = marked_count marks.running; stalled_running = marked_count marks.stalled_running }
 
+-- The time (ns) that interrupts took: it stands where else the slot stands whose counts are taken, since a change that tells of it
+-- takes none.
+abbrev pub irq_by : Bool → ℕ → ℕ
+irq_by takes minus_or_irq = if takes then 0 else minus_or_irq
+
+-- the slot with a number
+abbrev pub slot_by : ℕ → Slot
+slot_by number = record { 0 = number }
+
 -- one part of a change, what it takes or what it adds, where it has that part
 abbrev pub part_by : Bool → Slot → Marks → Option (Slot × Counts)
 part_by there slot marks = if there then Some (slot, counts_by marks) else None

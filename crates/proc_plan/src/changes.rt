@@ -2,7 +2,7 @@
 
 ghost use Rattle.std.specs.Prelude.{◌≡◌, ◌++◌, ◌<◌, ◌≤◌, [], ◌∷◌, length, IfSome, OnOk};
 ghost use Rattle.psi_counts.specs.Touch.{AreAtMost, IsOfOne};
-ghost use Rattle.proc_plan.specs.Packed.{counts_by, current_by, part_by};
+ghost use Rattle.proc_plan.specs.Packed.{counts_by, current_by, irq_by, part_by};
 
 use psi_base::{NoMemory, Ns, Slot};
 use psi_counts::{Change, Counts};
@@ -48,11 +48,13 @@ impl Marks {
 /// A change in 32 bytes, which can only be one of a single task. Contracts see the change.
 ///
 /// Whether a side or a running task is there stands beside its slot. In a plan of 4,000,000 changes each byte counts: a page of
-/// memory that is touched for the first time costs more than what is written there.
+/// memory that is touched for the first time costs more than what is written there. So the time that interrupts took has no
+/// place of its own: a change that tells of it takes no counts, and needs no slot for them.
 #[derive(Drop)]
 pub(crate) struct Packed {
     at: Ns,
-    minus: Slot,
+    /// The slot whose counts are taken. Where none are, the time that interrupts took, in ns.
+    minus_or_irq: u32,
     plus: Slot,
     current: Slot,
     minus_marks: Marks,
@@ -65,15 +67,16 @@ pub(crate) struct Packed {
 
 impl Model for Packed {
     ghost use Rattle.psi_counts.specs.declared.changes.Change.{Change};
-    ghost use Rattle.proc_plan.specs.Packed.{current_by, part_by};
+    ghost use Rattle.proc_plan.specs.Packed.{current_by, irq_by, part_by, slot_by};
 
     ghost Value = { Change };
 
     ghost view = { λ p. record {
       at = p.at;
-      minus = part_by p.takes p.minus p.minus_marks;
+      minus = part_by p.takes (slot_by p.minus_or_irq) p.minus_marks;
       plus = part_by p.adds p.plus p.plus_marks;
       current = current_by p.runs p.current p.stalled;
+      irq = irq_by p.takes p.minus_or_irq;
     } };
 }
 
@@ -124,8 +127,15 @@ fn unpack_current(runs: bool, slot: Slot, stalled: bool) -> Option<(Slot, bool)>
     if runs { Some((slot, stalled)) } else { None }
 }
 
+// The time that interrupts took, in ns, where no counts are taken.
+fn unpack_irq(takes: bool, minus_or_irq: u32) -> u64
+    ensures { result ≡ irq_by takes minus_or_irq }
+{
+    if takes { 0 } else { u64::from(minus_or_irq) }
+}
+
 impl Packed {
-    /// A change, packed. It must be of one task.
+    /// A change, packed. It must be of one task, or tell of interrupts alone.
     fn new(change: Change) -> Packed
         requires { IsOfOne change }
         ensures { result ≡ change }
@@ -135,7 +145,7 @@ impl Packed {
         let (runs, current, stalled) = pack_current(change.current);
         Packed {
             at: change.at,
-            minus,
+            minus_or_irq: if takes { minus.0 } else { change.irq as u32 },
             plus,
             current,
             minus_marks,
@@ -160,9 +170,10 @@ impl Packed {
     {
         Change {
             at: self.at,
-            minus: unpack_part(self.takes, self.minus, self.minus_marks),
+            minus: unpack_part(self.takes, Slot(self.minus_or_irq), self.minus_marks),
             plus: unpack_part(self.adds, self.plus, self.plus_marks),
             current: unpack_current(self.runs, self.current, self.stalled),
+            irq: unpack_irq(self.takes, self.minus_or_irq),
         }
     }
 }
@@ -203,7 +214,7 @@ impl Changes {
         Ok(())
     }
 
-    /// Adds a change behind the others. There must be room for it, and it must be of one task.
+    /// Adds a change behind the others. There must be room for it, and it must be of one task, or tell of interrupts alone.
     pub(crate) fn push(&mut self, change: Change)
         requires room { 0 < self.old.room }
         requires one { IsOfOne change }

@@ -1,8 +1,9 @@
 //! Clocks that run on a plan.
 
 ghost use Rattle.std.specs.Prelude.{◌≡◌, ◌+◌, ◌<◌, ℕ, length, IfOk};
-ghost use Rattle.plan_laws.specs.Plan.{IsClock, PlanView};
+ghost use Rattle.plan_laws.specs.Plan.{IsClock, PlanView, planned_irq};
 
+use crate::irqs::add_irq;
 use crate::plan::Plan;
 use cpu_clock::Clock;
 use psi_base::{NoMemory, Slot};
@@ -44,6 +45,17 @@ pub trait ProcClocks {
         ensures clock { IsClock result (plan self.old) slot.0 (made self.old) };
 }
 
+/// Clocks that tell as well for how long interrupts took from each group.
+pub trait IrqClocks: ProcClocks {
+    /// For how long (ns) interrupts took from the group in a slot that the plan knows, by the changes that were made.
+    fn own_irq(&mut self, slot: Slot) -> u64
+        requires made { slot.0 < length (Self.plan self.old).parents }
+        ensures plan { Self.plan self.new ≡ Self.plan self.old }
+        ensures made { Self.made self.new ≡ Self.made self.old }
+        ensures home { Self.home self.new ≡ Self.home self.old }
+        ensures irq { result ≡ planned_irq (Self.plan self.old) slot.0 (Self.made self.old) };
+}
+
 /// Clocks for one thread. Contracts see the plan and how many of its changes were made.
 #[derive(Drop)]
 pub struct PlainClocks<'a> {
@@ -51,13 +63,15 @@ pub struct PlainClocks<'a> {
     /// Of all slots, as the plan knows them.
     parents: &'a [Option<Slot>],
     clocks: SlotClocks,
+    /// For how long interrupts took from each group, in ns, by slot. Changes that tell of none don't touch it.
+    irqs: Vec<u64>,
     count: u64,
 }
 
 impl<'a> Model for PlainClocks<'a> {
     ghost use Rattle.std.specs.Prelude.{◌≡◌};
     ghost use Rattle.slot_clocks.specs.Clocks.{parent_numbers};
-    ghost use Rattle.proc_plan.specs.Clocks.{AreClocks, OnPlan};
+    ghost use Rattle.proc_plan.specs.Clocks.{AreClocks, AreIrqs, OnPlan};
 
     ghost Value = { OnPlan };
 
@@ -65,7 +79,8 @@ impl<'a> Model for PlainClocks<'a> {
 
     ghost invariant = { λ c.
         AreClocks c.plan.now c.clocks c.count
-        × (parent_numbers c.parents.now ≡ c.plan.now.parents) };
+        × (parent_numbers c.parents.now ≡ c.plan.now.parents)
+        × AreIrqs c.plan.now c.irqs.items c.count };
 }
 
 impl<'a> PlainClocks<'a> {
@@ -79,6 +94,7 @@ impl<'a> PlainClocks<'a> {
             plan,
             parents: plan.parents(),
             clocks: SlotClocks::make(alloc, slots)?,
+            irqs: vec![in alloc; 0; slots as usize]?,
             count: 0,
         })
     }
@@ -101,10 +117,17 @@ impl<'a> ProcClocks for PlainClocks<'a> {
     fn apply(&mut self) {
         let change = self.plan.change(self.count + 1);
         self.clocks.apply(self.parents, &change);
+        add_irq(&mut self.irqs, self.parents, change.current, change.irq);
         self.count += 1;
     }
 
     fn own(&mut self, slot: Slot) -> Clock {
         self.clocks.clock(slot)
+    }
+}
+
+impl<'a> IrqClocks for PlainClocks<'a> {
+    fn own_irq(&mut self, slot: Slot) -> u64 {
+        self.irqs[slot.0 as usize]
     }
 }

@@ -3,6 +3,7 @@
 
 mod changes;
 mod clocks;
+mod irqs;
 mod laws;
 mod plan;
 mod planner;
@@ -12,7 +13,7 @@ mod side;
 mod side_laws;
 mod sides;
 
-pub use clocks::{PlainClocks, ProcClocks};
+pub use clocks::{IrqClocks, PlainClocks, ProcClocks};
 pub use laws::{law_ended_traces, law_standing_plans};
 pub use plan::Plan;
 pub use planner::Planner;

@@ -16,8 +16,8 @@ use std::marker::Model;
 /// slots that it names. Contracts see both as lists.
 ///
 /// There are at most 4,000,000 changes. Their moments never fall and are at most 60,000,000 s. Each takes and adds the counts
-/// of one task at most, and names slots that there are; a parent has a smaller slot; and after any number of changes each
-/// count of each slot is from 0 to 65,536.
+/// of one task at most, and names slots that there are; a parent has a smaller slot; after any number of changes each count of
+/// each slot is from 0 to 65,536, and interrupts took no more time than up to the last of them.
 #[derive(Drop)]
 pub struct Plan {
     changes: Changes,
@@ -43,8 +43,8 @@ fn part_slot(part: Option<(Slot, Counts)>) -> Option<Slot>
     part.map(|(slot, _)| slot)
 }
 
-// The slot of the running task.
-fn current_slot(current: Option<(Slot, bool)>) -> Option<Slot>
+/// The slot of the running task.
+pub(crate) fn current_slot(current: Option<(Slot, bool)>) -> Option<Slot>
     ensures { result ≡ slot_in current }
 {
     current.map(|(slot, _)| slot)

@@ -3,34 +3,16 @@ use Rattle.std.proofs.Common.{◌≡◌, ℕ, ◌<◌, ◌≤◌, List, length, 
 use Rattle.std.specs.Prelude.{slice_index_or, slice_set, ◌==◌, if◌then◌else◌}
 use Rattle.std.proofs.lemmas.Bool.Decides.{nat_tests, eqb_tells}
 use Rattle.std.proofs.lemmas.List.{get_or-set_same, get_or-set_other, get_or_default, get_or_past, length-map}
-use Rattle.std.proofs.Math.ListN.{get_or-map}
 use Rattle.std.proofs.lemmas.List.Elements.{All-set}
 use Rattle.psi_base.specs.declared.event.Slot.{Slot}
 use Rattle.psi_spec.specs.Stall.{is_under, number_of_slot}
 use Rattle.psi_spec.specs.Groups.{AreOlder, leads_to}
-use Rattle.psi_spec.proofs.GroupLaws.{by_step, ancestors_older}
+use Rattle.psi_spec.proofs.GroupLaws.{by_step}
 use Rattle.slot_clocks.specs.Clocks.{parent_numbers}
-use Rattle.slot_clocks.specs.Walk.{height}
+use Rattle.proc_plan.proofs.Upward.{at_itself, not_below, parent_number}
 use Rattle.side_watch.specs.declared.cell.Cell.{Cell}
 use Rattle.side_watch.specs.Sides.{cell_counted, counted, side_cell_in, zero_side_cell}
 use Rattle.side_watch.specs.Watch.{AreSmallCells, IsSmallMemory}
-
--- the parent of a slot by its number
-parent_number : (parents : List (Option Slot)) (slot : ℕ) → number_of_slot (slice_index_or parents slot None) ≡ slice_index_or (parent_numbers parents) slot None
-parent_number parents slot = sym (get_or-map number_of_slot parents slot None)
-
-itself : (n : ℕ) → (n == n) ≡ true
-itself n = grind (arith, nat_tests)
-
--- a parent doesn't lead to its child
-not_below : (parents : List (Option ℕ)) (place : ℕ) (o : Option ℕ) → AreOlder parents → slice_index_or parents place None ≡ o → leads_to parents o place ≡ false
-not_below parents place None older is = refl
-not_below parents place (Some parent) older is =
-    let less = older place parent is in
-    elim (is_under parents parent place) as (λ b. is_under parents parent place ≡ b → b ≡ false) [
-      | true ↦ λ under. let bound = ancestors_older parents parent place older under in absurd (omega (arith, bound, less))
-      | false ↦ λ _. refl
-    ] refl
 
 -- a walk that stands past all groups counts none of them
 pub past_all : (parents : List (Option Slot)) (place at : ℕ) (came : Bool) (cell : Cell) → AreOlder (parent_numbers parents) → length parents ≤ place → at < length parents → cell_counted (parent_numbers parents) (Some place) came at cell ≡ cell
@@ -53,7 +35,7 @@ step_up parents cells cell place at came older room is =
     (λ same.
     let at_is : place ≡ at = same.1 in
     let off : leads_to numbers (slice_index_or numbers place None) place ≡ false = not_below numbers place (slice_index_or numbers place None) older refl in
-    let on : is_under numbers place place ≡ true = by_step numbers place place older ∙ rw (itself place) refl in
+    let on : is_under numbers place place ≡ true = at_itself numbers place older in
     subst (λ n. cell_counted numbers (slice_index_or numbers place None) came n (side_cell_in (slice_set cells place cell) n) ≡ cell_counted numbers (Some place) came n (side_cell_in cells n)) at_is
     (rw (off, on, get_or-set_same cells place cell zero_side_cell room) is))
     (λ other.
@@ -61,14 +43,6 @@ step_up parents cells cell place at came older room is =
     let under : is_under numbers place at ≡ leads_to numbers (slice_index_or numbers place None) at = by_step numbers place at older ∙ rw off refl in
     rw (under, get_or-set_other cells place at cell zero_side_cell (λ is. other.1 (sym is))) refl)
     (eqb_tells place at))
-
--- the walk comes to a lower height
-pub falls : (parents : List (Option Slot)) (slot : Slot) → AreOlder (parent_numbers parents) → height (slice_index_or parents slot.0 None) < height (Some slot)
-falls parents slot older = by_option (slice_index_or parents slot.0 None) (sym (parent_number parents slot.0))
-  where
-    by_option : (o : Option Slot) → slice_index_or (parent_numbers parents) slot.0 None ≡ number_of_slot o → height o < height (Some slot)
-    by_option None is = omega arith
-    by_option (Some parent) is = let less = older slot.0 parent.0 is in omega (arith, less)
 
 -- a count that changes leaves samples small
 pub small_kept : (cells : List Cell) (cell : Cell) (place : ℕ) (came : Bool) → place < length cells → cell ≡ counted came (side_cell_in cells place) → AreSmallCells cells → AreSmallCells (slice_set cells place cell)

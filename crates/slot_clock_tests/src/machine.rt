@@ -128,6 +128,7 @@ impl Machine {
             minus: self.tasks[task],
             plus: now,
             current,
+            irq: 0,
         };
         self.clocks.apply(&self.parents, &change);
         self.tasks[task] = now;

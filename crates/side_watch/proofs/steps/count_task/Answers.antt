@@ -2,6 +2,7 @@ use Rattle.std.proofs.Common.{◌≡◌, ℕ, ◌<◌, length, ap, sym, ◌∙�
 use Rattle.std.specs.Prelude.{slice_index_or, None}
 use Rattle.slot_clocks.specs.Walk.{height}
 use Rattle.side_watch.specs.Sides.{counted, side_cell_in}
+use Rattle.proc_plan.proofs.Upward.{falls}
 use Rattle.side_watch.proofs.Walks as walks
 use Rattle.side_watch.proofs.steps.count_task.Goals as goal
 
@@ -12,7 +13,7 @@ returns-then-place-cells-clause-counted c = λ at room.
 
 pub up-smaller : goal.up-smaller
 up-smaller c =
-    let fallen : height (slice_index_or c.args.parents.now c.in-Some.slot.0 None) < height c.up.next = rw c.in-Some.is (walks.falls c.args.parents.now c.in-Some.slot c.requires.older) in
+    let fallen : height (slice_index_or c.args.parents.now c.in-Some.slot.0 None) < height c.up.next = rw c.in-Some.is (falls c.args.parents.now c.in-Some.slot c.requires.older) in
     fallen
 
 pub up-preserved : goal.up-preserved

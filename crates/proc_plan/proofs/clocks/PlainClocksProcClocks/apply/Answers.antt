@@ -1,9 +1,12 @@
-use Rattle.std.proofs.Common.{arith, subst, sym, ◌≡◌, ◌≤◌, ◌<◌, ◌+◌, ◌-◌, length, Bool}
+use Rattle.std.proofs.Math.Seq.{take-append_seam}
+use Rattle.std.proofs.Common.{arith, rules, subst, sym, ◌∙◌, ◌++◌, take, drop, ◌≡◌, ◌≤◌, ◌<◌, ◌+◌, ◌-◌, length, Bool}
 use Rattle.std.specs.Prelude.{IfSome}
 use Rattle.psi_base.specs.declared.event.Slot.{Slot}
 use Rattle.psi_counts.specs.Touch.{HasSlotsBelow}
+use Rattle.psi_spec.specs.Groups.{AreOlder}
 use Rattle.plan_laws.proofs.PlanSteps.{current_by_change}
 use Rattle.proc_plan.proofs.ClockSteps.{AreMade, as_many_parents, can_follow, current_below, next_clocks, told}
+use Rattle.proc_plan.proofs.IrqWalk.{irqs_fit, next_irqs}
 use Rattle.proc_plan.proofs.clocks.PlainClocksProcClocks.apply.Goals as goal
 
 pub apply-requires-clause-current : goal.apply-requires-clause-current
@@ -46,10 +49,37 @@ apply-requires-clause-early c =
     let room : c.self.inside.count + 1 ≤ length c.self.inside.plan.now.changes = search (arith, c.requires, c.self.view_is) in
     omega (arith, are.whole.early (c.self.inside.count + 1) room, (current_by_change c.self.inside.plan.now c.self.inside.count c.change-change.result is).1)
 
+pub add_irq-requires-clause-older : goal.add_irq-requires-clause-older
+add_irq-requires-clause-older c = subst AreOlder (sym c.self.invariant.1) c.self.invariant.0.whole.older
+
+pub add_irq-requires-clause-room : goal.add_irq-requires-clause-room
+add_irq-requires-clause-room c = rw c.deref_mut.ensures.value (c.self.invariant.2.room ∙ as_many_parents c.self.inside.parents.now c.self.inside.plan.now c.self.invariant.1)
+
+pub add_irq-requires-clause-below : goal.add_irq-requires-clause-below
+add_irq-requires-clause-below c =
+    let place : c.self.inside.count + 1 - 1 ≡ c.self.inside.count = omega arith in
+    let is = rw place at c.change-change.ensures in
+    let known = as_many_parents c.self.inside.parents.now c.self.inside.plan.now c.self.invariant.1 in
+    subst (λ n. IfSome c.change-change.result.current (λ (running : Slot × Bool). running.0.0 < n)) known (c.self.invariant.0.whole.slots c.self.inside.count c.change-change.result is).current
+
+pub add_irq-requires-clause-fits : goal.add_irq-requires-clause-fits
+add_irq-requires-clause-fits c =
+    let place : c.self.inside.count + 1 - 1 ≡ c.self.inside.count = omega arith in
+    let is = rw place at c.change-change.ensures in
+    let room : c.self.inside.count < length c.self.inside.plan.now.changes = search (arith, c.requires, c.self.view_is) in
+    let fit = irqs_fit c.self.inside.plan.now c.self.inside.irqs.items c.self.inside.count c.change-change.result c.self.invariant.0.whole c.self.invariant.2 room is in
+    rw (c.deref_mut.ensures.value, c.self.invariant.1) (λ slot below. fit slot (omega (arith, below, c.self.invariant.2.room)))
+
 pub invariant_of-self : goal.invariant_of-self
 invariant_of-self c =
     let place : c.self.inside.count + 1 - 1 ≡ c.self.inside.count = omega arith in
     let is = rw place at c.change-change.ensures in
     let e = rw c.self.invariant.1 at c.apply.ensures in
     let made : AreMade c.self.inside.plan.now c.change-change.result c.self.inside.clocks c.apply.new.self = record { room = e.room; counts = e.counts; clocks = e.clocks; whole = e.whole; told = e.told; current = e.current; last = e.last } in
-    (next_clocks c.self.inside.plan.now c.self.inside.clocks c.apply.new.self c.self.inside.count c.change-change.result c.self.invariant.0 is made, c.self.invariant.1)
+    let size : c.self.inside.irqs.len ≡ length c.add_irq.new.times = search rules in
+    let kept : take c.self.inside.irqs.len (c.add_irq.new.times ++ drop (length c.add_irq.new.times) c.self.inside.irqs.items) ≡ c.add_irq.new.times = rw size (take-append_seam _ _) in
+    let grown = rw (c.deref_mut.ensures.value, c.self.invariant.1) at c.add_irq.ensures in (
+      next_clocks c.self.inside.plan.now c.self.inside.clocks c.apply.new.self c.self.inside.count c.change-change.result c.self.invariant.0 is made,
+      c.self.invariant.1,
+      rw kept (next_irqs c.self.inside.plan.now c.self.inside.irqs.items c.add_irq.new.times c.self.inside.count c.change-change.result c.self.invariant.2 is grown.room grown.grown),
+    )

@@ -1,0 +1,75 @@
+-- Interrupt times of groups, change by change and step by step.
+use Rattle.std.proofs.Common.{◌≡◌, ℕ, zero, suc, ◌+◌, ◌<◌, ◌^◌, List, length, refl, sym, ap, ◌∙◌, subst, arith, Bool, true, false, Option, None, Some, ⊎_elim}
+use Rattle.std.specs.Prelude.{slice_get, slice_index_or, slice_set, replicate, if◌then◌else◌}
+use Rattle.std.proofs.lemmas.Bool.Decides.{eqb_tells}
+use Rattle.std.proofs.lemmas.List.{get_or-set_same, get_or-set_other, length-replicate}
+use Rattle.psi_base.specs.declared.event.Slot.{Slot}
+use Rattle.psi_counts.specs.declared.changes.Change.{Change}
+use Rattle.psi_counts.specs.Touch.{irq_in, is_current_in}
+use Rattle.psi_spec.specs.Stall.{is_under, number_of_slot}
+use Rattle.psi_spec.specs.Groups.{AreOlder, leads_to}
+use Rattle.psi_spec.proofs.GroupLaws.{by_step}
+use Rattle.plan_laws.specs.Plan.{IsPlan, PlanView}
+use Rattle.plan_laws.proofs.PlanIrqs.{no_planned_irq, planned_irq_by_change, planned_irq_fits}
+use Rattle.slot_clocks.specs.Clocks.{parent_numbers}
+use Rattle.proc_plan.specs.Clocks.{AllGrow, AreIrqs, irq_at}
+use Rattle.proc_plan.proofs.Upward.{at_itself, not_below, parent_number}
+
+-- ---- the walk up from the running task's group
+
+-- a group has its time where the walk stands, and the walk goes on to the parent
+pub step_up : (parents : List (Option Slot)) (times : List ℕ) (place at irq : ℕ) → AreOlder (parent_numbers parents) → place < length times →
+    irq_at (slice_set times place (irq_at times place + irq)) at + (if leads_to (parent_numbers parents) (number_of_slot (slice_index_or parents place None)) at then irq else 0)
+    ≡ irq_at times at + (if is_under (parent_numbers parents) place at then irq else 0)
+step_up parents times place at irq older room =
+    let numbers : List (Option ℕ) = parent_numbers parents in
+    rw (parent_number parents place) (
+    ⊎_elim
+    (λ same.
+    let off : leads_to numbers (slice_index_or numbers place None) place ≡ false = not_below numbers place (slice_index_or numbers place None) older refl in
+    subst (λ n. irq_at (slice_set times place (irq_at times place + irq)) n + (if leads_to numbers (slice_index_or numbers place None) n then irq else 0) ≡ irq_at times n + (if is_under numbers place n then irq else 0)) same.1
+    (rw (off, at_itself numbers place older, get_or-set_same times place (irq_at times place + irq) 0 room) (omega arith)))
+    (λ other.
+    let under : is_under numbers place at ≡ leads_to numbers (slice_index_or numbers place None) at = by_step numbers place at older ∙ rw other.0 refl in
+    rw (under, get_or-set_other times place at (irq_at times place + irq) 0 (λ is. other.1 (sym is))) refl)
+    (eqb_tells place at))
+
+-- ---- over a change
+
+-- before the first change there is none
+pub first_irqs : (plan : PlanView) → AreIrqs plan (replicate (length plan.parents) 0) 0
+first_irqs plan = record {
+  room = length-replicate {A = ℕ} (length plan.parents) 0;
+  each = λ slot below. all_none (length plan.parents) slot ∙ sym (no_planned_irq plan slot);
+}
+  where
+    all_none : (slots slot : ℕ) → irq_at (replicate slots 0) slot ≡ 0
+    all_none zero slot = refl
+    all_none (suc slots) zero = refl
+    all_none (suc slots) (suc slot) = all_none slots slot
+
+-- the time of a group fits with that of the change
+pub irqs_fit : (plan : PlanView) (times : List ℕ) (k : ℕ) (change : Change) → IsPlan plan → AreIrqs plan times k → k < length plan.changes → slice_get plan.changes k ≡ Some change → (slot : ℕ) → slot < length plan.parents →
+    irq_at times slot + irq_in plan.parents slot change < 2 ^ 64
+irqs_fit plan times k change whole are more is slot below =
+    let next = planned_irq_by_change plan slot k change is in
+    let fits = planned_irq_fits plan whole.irqs slot (k + 1) (omega (arith, more)) in
+    let early = whole.early (k + 1) (omega (arith, more)) in
+    omega (arith, are.each slot below, next, fits, early)
+
+-- times that have grown by a change are those after it
+pub next_irqs : (plan : PlanView) (old new : List ℕ) (k : ℕ) (change : Change) → AreIrqs plan old k → slice_get plan.changes k ≡ Some change → length new ≡ length old
+    → ((slot : ℕ) → slot < length old → irq_at new slot ≡ irq_at old slot + irq_in plan.parents slot change) → AreIrqs plan new (k + 1)
+next_irqs plan old new k change are is room grown = record {
+  room = room ∙ are.room;
+  each = λ slot below.
+      grown slot (omega (arith, below, are.room)) ∙ ap (λ n. n + irq_in plan.parents slot change) (are.each slot below) ∙ sym (planned_irq_by_change plan slot k change is);
+}
+
+-- no time is added where interrupts took none
+pub nothing_grows : (parents : List (Option ℕ)) (current : Option (Slot × Bool)) (irq : ℕ) (times : List ℕ) → irq ≡ 0 → AllGrow parents current irq times times
+nothing_grows parents current irq times none slot below = none_more (is_current_in parents slot current)
+  where
+    none_more : (b : Bool) → irq_at times slot ≡ irq_at times slot + (if b then irq else 0)
+    none_more true = omega (arith, none)
+    none_more false = omega arith
