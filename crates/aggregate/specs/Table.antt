@@ -1,10 +1,11 @@
--- A table of times: for each group, by its slot, a row with the seven times (ns) of each processor.
+-- A table of times: for each group, by its slot, a row with the times (ns) of each processor: in the seven states, and what
+-- interrupts took.
 use Rattle.std.specs.Prelude.{◌≡◌, ◌≢◌, ◌⊎◌, All, ℕ, ◌*◌, ◌<◌, List, [], length, map, take, drop, replicate, slice_index_or, slice_set}
 use Rattle.std.specs.List.{range_with_len}
 
--- seven times of no length
+-- times of no length
 abbrev pub no_times : List ℕ
-no_times = replicate 7 0
+no_times = replicate 8 0
 
 -- zeros for so many processors and groups
 abbrev pub new_table : ℕ → ℕ → List (List (List ℕ))

@@ -3,17 +3,19 @@ ghost use Rattle.std.specs.Prelude.{◌≡◌, ◌<◌, ◌*◌, [], IfOk, lengt
 ghost use Rattle.aggregate.specs.Table as table;
 ghost use Rattle.aggregate.specs.Table.{new_table, put_times, HaveSameSizes, IsPlace, KeepsSizes, SetsOnePlace};
 
+use pressure_spec::{TIMES, Times};
 use psi_base::{Cpu, NoMemory, Slot};
 use std::alloc::Global;
 use std::marker::Model;
 
-/// For each group, by its slot, a row of each processor's seven times (ns), in the order of the states.
+/// For each group, by its slot, a row of each processor's times (ns): in the order of the states, and last what interrupts
+/// took.
 #[derive(Drop)]
 pub struct Rows {
     cpus: u32,
     slots: u32,
     /// Row by row, `cpus` a row.
-    times: Vec<[u64; 7]>,
+    times: Vec<Times>,
 }
 
 impl Model for Rows {
@@ -37,7 +39,7 @@ impl Rows {
     }
 
     /// Sets the times of a group on a processor.
-    pub fn set(&mut self, cpu: Cpu, slot: Slot, times: [u64; 7])
+    pub fn set(&mut self, cpu: Cpu, slot: Slot, times: Times)
         requires { IsPlace self.old slot.0 cpu.0 }
         ensures { self.new ≡ put_times self.old slot.0 cpu.0 times }
     {
@@ -56,7 +58,7 @@ impl Rows {
     }
 
     /// The times of a group on each processor.
-    pub fn row(&self, slot: Slot) -> &[[u64; 7]]
+    pub fn row(&self, slot: Slot) -> &[Times]
         requires { slot.0 < length self.now }
         ensures { result.now ≡ slice_index_or self.now slot.0 [] }
     {
@@ -67,18 +69,18 @@ impl Rows {
 }
 
 /// The rows of these times, which stand row by row.
-fn rows_with(cpus: u32, slots: u32, times: Vec<[u64; 7]>) -> Rows
+fn rows_with(cpus: u32, slots: u32, times: Vec<Times>) -> Rows
     requires { length times.items ≡ slots * cpus }
     ensures { result ≡ table.rows_of cpus slots times.items }
 {
     Rows { cpus, slots, times }
 }
 
-/// So many places of seven times, all zeros.
-fn no_times(alloc: Global, count: usize) -> Result<Vec<[u64; 7]>, NoMemory>
+/// So many places of times, all zeros.
+fn no_times(alloc: Global, count: usize) -> Result<Vec<Times>, NoMemory>
     ensures { IfOk result (λ times. times.items ≡ replicate count table.no_times) }
 {
-    Ok(vec![in alloc; [0u64; 7]; count]?)
+    Ok(vec![in alloc; [0u64; TIMES]; count]?)
 }
 
 /// Laws of tables: they keep their sizes, and what is set is found at its place and changes no other.

@@ -1,14 +1,17 @@
 //! The totals of a group.
-ghost use Rattle.std.specs.Prelude.{◌≡◌, ◌≤◌, All};
+ghost use Rattle.std.specs.Prelude.{◌≡◌};
 ghost use Rattle.psi_spec.specs.Trace.{last_moment};
 ghost use Rattle.pressure_spec.specs.Share as model;
+ghost use Rattle.pressure_spec.specs.Share.{AreAmountsWithin, most_irq_total};
 
+use pressure_spec::{Amounts, QUANTITIES};
 use std::marker::Model;
 
-/// How long a group was in each state but nonidle since it was made (ns): the sums of its shares.
+/// How long a group was in each state but nonidle since it was made, and how long interrupts took from it (ns): the sums of
+/// its shares.
 #[derive(Drop)]
 pub struct Totals {
-    sums: [u64; 6],
+    sums: Amounts,
 }
 
 impl Model for Totals {
@@ -24,19 +27,21 @@ impl Totals {
     pub fn zero() -> Totals
         ensures { result ≡ model.no_totals }
     {
-        Totals { sums: [0; 6] }
+        Totals {
+            sums: [0; QUANTITIES],
+        }
     }
 
     /// Adds the shares of an interval (ns).
-    pub fn add(&mut self, shares: [u64; 6])
-        requires { All (λ total. total ≤ last_moment) (model.plus self.old shares) }
+    pub fn add(&mut self, shares: Amounts)
+        requires { AreAmountsWithin last_moment most_irq_total (model.plus self.old shares) }
         ensures { self.new ≡ model.plus self.old shares }
     {
         add_each(&mut self.sums, &shares);
     }
 
-    /// The totals (ns), in the order of the states.
-    pub fn get(&self) -> [u64; 6]
+    /// The totals (ns), in the order of the states, and last that of interrupt time.
+    pub fn get(&self) -> Amounts
         ensures { result ≡ self.now }
     {
         self.sums
@@ -44,11 +49,11 @@ impl Totals {
 }
 
 /// Adds the shares to the sums.
-fn add_each(sums: &mut [u64; 6], shares: &[u64; 6])
-    requires { All (λ total. total ≤ last_moment) (model.plus sums.old shares.now) }
+fn add_each(sums: &mut Amounts, shares: &Amounts)
+    requires { AreAmountsWithin last_moment most_irq_total (model.plus sums.old shares.now) }
     ensures { sums.new ≡ model.plus sums.old shares.now }
 {
-    'each: for i in 0..6 {
+    'each: for i in 0..QUANTITIES {
         sums[i] += shares[i];
     }
 }

@@ -2,22 +2,31 @@
 ghost use Rattle.std.specs.Prelude.{◌≡◌, ◌≤◌, ◌<◌, ◌+◌, ◌*◌, ◌/◌, ℕ, All, length, map, slice_index};
 ghost use Rattle.psi_spec.specs.Trace.{longest_tick};
 ghost use Rattle.pressure_spec.specs.Share as model;
+ghost use Rattle.pressure_spec.specs.Share.{AreTimesWithin, longest_irq, pressure_places};
+
+use pressure_spec::{Amounts, QUANTITIES, Times};
 
 /// The kernel's timer tick in this profile: a millisecond (ns).
 const TICK: u64 = 1_000_000;
 
-/// How long a group was in each state but nonidle in an interval (ns), over all processors: the mean of `deltas`, which
-/// has its times in the interval on each processor (ns), in the order of the states, each with the weight of the
-/// processor. The weight is for how many whole timer ticks the group wasn't idle there.
-pub fn share(deltas: &[[u64; 7]]) -> [u64; 6]
+/// The place of nonidle among the times of a processor.
+const NONIDLE: usize = 6;
+
+/// The places of the quantities of pressure among the times of a processor: all but nonidle.
+const PLACES: [usize; QUANTITIES] = [0, 1, 2, 3, 4, 5, 7];
+
+/// How long a group was in each state but nonidle in an interval, and how long interrupts took from it (ns), over all
+/// processors: the mean of `deltas`, which has its times in the interval on each processor (ns), each with the weight of
+/// the processor. The weight is for how many whole timer ticks the group wasn't idle there.
+pub fn share(deltas: &[Times]) -> Amounts
     requires few { length deltas.now ≤ 64 }
-    requires short { All (λ times. All (λ time. time ≤ longest_tick) times) deltas.now }
+    requires short { All (AreTimesWithin longest_tick (longest_tick + longest_irq)) deltas.now }
     ensures { result ≡ model.shares deltas.now }
 {
-    let mut sums = [0u64; 6];
+    let mut sums = [0u64; QUANTITIES];
     let mut weights = 0u64;
     'rows: for times in deltas {
-        let weight = times[6] / TICK;
+        let weight = times[NONIDLE] / TICK;
         weights += weight;
         add_weighted(&mut sums, times, weight);
     }
@@ -27,24 +36,25 @@ pub fn share(deltas: &[[u64; 7]]) -> [u64; 6]
 }
 
 /// Adds the times of a processor to the sums, with its weight.
-fn add_weighted(sums: &mut [u64; 6], times: &[u64; 7], weight: u64)
+fn add_weighted(sums: &mut Amounts, times: &Times, weight: u64)
     requires weight { weight ≤ 60000 }
-    requires times { All (λ time. time ≤ longest_tick) times.now }
-    requires sums { All (λ sum. sum ≤ 63 * longest_tick * 60000) sums.old }
-    ensures { (k : ℕ) → k < 6 →
-        slice_index sums.new k ≡ slice_index sums.old k + slice_index times.now k * weight }
+    requires times { AreTimesWithin longest_tick (longest_tick + longest_irq) times.now }
+    requires sums { All (λ sum. sum ≤ 63 * (longest_tick + longest_irq) * 60000) sums.old }
+    ensures { (k : ℕ) → k < 7 →
+        slice_index sums.new k
+        ≡ slice_index sums.old k + slice_index times.now (slice_index pressure_places k) * weight }
 {
-    'each: for i in 0..6 {
-        sums[i] += times[i] * weight;
+    'each: for i in 0..QUANTITIES {
+        sums[i] += times[PLACES[i]] * weight;
     }
 }
 
 /// Divides each sum.
-fn divide(sums: &mut [u64; 6], divisor: u64)
+fn divide(sums: &mut Amounts, divisor: u64)
     requires { 0 < divisor }
     ensures { sums.new ≡ map (λ sum. sum / divisor) sums.old }
 {
-    'each: for i in 0..6 {
+    'each: for i in 0..QUANTITIES {
         sums[i] /= divisor;
     }
 }

@@ -49,8 +49,8 @@ mod tests {
     }
 
     /// The totals of a group that was never out of an IO stall up to a moment.
-    fn io_until(at: u64) -> [u64; 6] {
-        [at, at, 0, 0, 0, 0]
+    fn io_until(at: u64) -> [u64; 7] {
+        [at, at, 0, 0, 0, 0, 0]
     }
 
     // Ticks of 2 s: each is an update over a whole period.
@@ -65,6 +65,18 @@ mod tests {
         assert_eq!(rt; averages.get(State::IoSome), [67_480, 13_181, 2_791]);
         assert_eq!(rt; averages.get(State::IoFull), [67_480, 13_181, 2_791]);
         assert_eq!(rt; averages.get(State::MemSome), [0, 0, 0]);
+        assert_eq!(rt; averages.get(State::CpuFull), [0, 0, 0]);
+        assert_eq!(rt; averages.irq(), [0, 0, 0]);
+    }
+
+    // Interrupts take half of the first two seconds, and none of the next two.
+    #[test]
+    fn averages_of_interrupts(rt: HostRuntime) {
+        let mut averages = Averages::new(0);
+        averages.update(2 * SECOND, [0, 0, 0, 0, 0, 0, SECOND]);
+        assert_eq!(rt; averages.irq(), [18_550, 3_350, 700]);
+        averages.update(4 * SECOND, [0, 0, 0, 0, 0, 0, SECOND]);
+        assert_eq!(rt; averages.irq(), [15_189, 3_240, 695]);
         assert_eq!(rt; averages.get(State::CpuFull), [0, 0, 0]);
     }
 
@@ -82,34 +94,45 @@ mod tests {
     // Processor 0 waits for IO all the time, and processor 1 is busy for half of it.
     #[test]
     fn weighted_shares(rt: HostRuntime) {
-        let waits = [2 * SECOND, 2 * SECOND, 0, 0, 0, 0, 2 * SECOND];
-        let runs = [0, 0, 0, 0, 0, 0, SECOND];
+        let waits = [2 * SECOND, 2 * SECOND, 0, 0, 0, 0, 2 * SECOND, 0];
+        let runs = [0, 0, 0, 0, 0, 0, SECOND, 0];
         let part = 1_333_333_333;
-        assert_eq!(rt; share(&[waits, runs]), [part, part, 0, 0, 0, 0]);
+        assert_eq!(rt; share(&[waits, runs]), [part, part, 0, 0, 0, 0, 0]);
         // Less than a timer tick has no weight.
-        let short = [900_000, 900_000, 0, 0, 0, 0, 900_000];
-        assert_eq!(rt; share(&[short]), [0; 6]);
-        assert_eq!(rt; share(&[]), [0; 6]);
-        let every = [1, 2, 3, 4, 5, 6, 7 * SECOND];
-        assert_eq!(rt; share(&[every]), [1, 2, 3, 4, 5, 6]);
+        let short = [900_000, 900_000, 0, 0, 0, 0, 900_000, 900_000];
+        assert_eq!(rt; share(&[short]), [0; 7]);
+        assert_eq!(rt; share(&[]), [0; 7]);
+        let every = [1, 2, 3, 4, 5, 6, 7 * SECOND, 8];
+        assert_eq!(rt; share(&[every]), [1, 2, 3, 4, 5, 6, 8]);
+    }
+
+    // Processor 0 is busy for two seconds, of which interrupts take one, and processor 1 for a second without interrupts: a
+    // plain mean would be half a second.
+    #[test]
+    fn weighted_interrupts(rt: HostRuntime) {
+        let interrupted = [0, 0, 0, 0, 0, 0, 2 * SECOND, SECOND];
+        let free = [0, 0, 0, 0, 0, 0, SECOND, 0];
+        let want = [0, 0, 0, 0, 0, 0, 666_666_666];
+        assert_eq!(rt; share(&[interrupted, free]), want);
+        assert_eq!(rt; share(&[free, interrupted]), want);
     }
 
     #[test]
     fn totals_are_sums(rt: HostRuntime) {
         let mut totals = Totals::zero();
-        totals.add([1, 2, 3, 4, 5, 6]);
-        totals.add([10, 20, 30, 40, 50, 60]);
-        assert_eq!(rt; totals.get(), [11, 22, 33, 44, 55, 66]);
+        totals.add([1, 2, 3, 4, 5, 6, 7]);
+        totals.add([10, 20, 30, 40, 50, 60, 70]);
+        assert_eq!(rt; totals.get(), [11, 22, 33, 44, 55, 66, 77]);
     }
 
     #[test]
     fn rows_by_slot_and_processor(rt: HostRuntime) -> Result<(), Fail> {
         let mut rows = Rows::make(rt.alloc(), 2, 3)?;
-        rows.set(Cpu(1), Slot(1), [1; 7]);
-        rows.set(Cpu(0), Slot(2), [2; 7]);
-        assert_eq!(rt; rows.row(Slot(0)), [[0u64; 7], [0; 7]].as_slice());
-        assert_eq!(rt; rows.row(Slot(1)), [[0u64; 7], [1; 7]].as_slice());
-        assert_eq!(rt; rows.row(Slot(2)), [[2u64; 7], [0; 7]].as_slice());
+        rows.set(Cpu(1), Slot(1), [1; 8]);
+        rows.set(Cpu(0), Slot(2), [2; 8]);
+        assert_eq!(rt; rows.row(Slot(0)), [[0u64; 8], [0; 8]].as_slice());
+        assert_eq!(rt; rows.row(Slot(1)), [[0u64; 8], [1; 8]].as_slice());
+        assert_eq!(rt; rows.row(Slot(2)), [[2u64; 8], [0; 8]].as_slice());
         Ok(())
     }
 

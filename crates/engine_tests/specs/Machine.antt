@@ -1,24 +1,32 @@
 -- A machine whose times grow as a test tells.
-use Rattle.std.specs.Prelude.{◌≡◌, ℕ, ◌+◌, ◌≤◌, List, length, slice_index}
-use Rattle.pressure_spec.specs.Ticks.{time_in}
+use Rattle.std.specs.Prelude.{◌≡◌, ℕ, ◌+◌, ◌<◌, ◌≤◌, List, length, slice_index}
+use Rattle.pressure_spec.specs.Share.{irq_place, longest_irq}
+use Rattle.pressure_spec.specs.Ticks.{time_in, time_of}
 use Rattle.aggregate.specs.Table.{HasSizes}
 use Rattle.tick_engine.specs.Engine.{EngineView}
-use Rattle.tick_engine.specs.Tables.{tick_at, time_of}
+use Rattle.tick_engine.specs.Tables.{tick_at}
 
--- no time of a processor fell, or grew by more than this (ns)
-pub record GrewWithin (most : ℕ) (before now : List ℕ) : Type 0 where
+-- No time of a processor fell up to a moment (ns). None in a state grew by more than this (ns), and what interrupts took by at
+-- most a second more; and it isn't above the moment.
+pub record GrewWithin (most at : ℕ) (before now : List ℕ) : Type 0 where
   pub kept : (place : ℕ) → slice_index before place ≤ slice_index now place
-  pub grown : (place : ℕ) → slice_index now place ≤ slice_index before place + most
+  pub grown : (place : ℕ) → place < irq_place → slice_index now place ≤ slice_index before place + most
+  pub irq_grown : slice_index now irq_place ≤ slice_index before irq_place + most + longest_irq
+  pub irq_early : slice_index now irq_place ≤ at
 
--- no time of a group did
-pub record RowGrewWithin (most : ℕ) (before now : List (List ℕ)) : Type 0 where
+-- so of a group on each processor
+pub record RowGrewWithin (most at : ℕ) (before now : List (List ℕ)) : Type 0 where
   pub kept : (cpu place : ℕ) → time_of before cpu place ≤ time_of now cpu place
-  pub grown : (cpu place : ℕ) → time_of now cpu place ≤ time_of before cpu place + most
+  pub grown : (cpu place : ℕ) → place < irq_place → time_of now cpu place ≤ time_of before cpu place + most
+  pub irq_grown : (cpu : ℕ) → time_of now cpu irq_place ≤ time_of before cpu irq_place + most + longest_irq
+  pub irq_early : (cpu : ℕ) → time_of now cpu irq_place ≤ at
 
--- no time of a table did
-pub record TableGrewWithin (most : ℕ) (before now : List (List (List ℕ))) : Type 0 where
+-- so of each group of a table
+pub record TableGrewWithin (most at : ℕ) (before now : List (List (List ℕ))) : Type 0 where
   pub kept : (slot cpu place : ℕ) → time_in before slot cpu place ≤ time_in now slot cpu place
-  pub grown : (slot cpu place : ℕ) → time_in now slot cpu place ≤ time_in before slot cpu place + most
+  pub grown : (slot cpu place : ℕ) → place < irq_place → time_in now slot cpu place ≤ time_in before slot cpu place + most
+  pub irq_grown : (slot cpu : ℕ) → time_in now slot cpu irq_place ≤ time_in before slot cpu irq_place + most + longest_irq
+  pub irq_early : (slot cpu : ℕ) → time_in now slot cpu irq_place ≤ at
 
 -- the engine had this tick last, and the table to come has its sizes
 pub record IsMachine (cpus slots at : ℕ) (last next : List (List (List ℕ))) (engine : EngineView) : Type 0 where

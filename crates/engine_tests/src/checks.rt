@@ -7,11 +7,18 @@ ghost use Rattle.tick_engine.specs.Engine.{IsLifeWithin};
 ghost use Rattle.engine_tests.specs.Machine.{GrewWithin, RowGrewWithin, TableGrewWithin};
 
 use aggregate::Rows;
+use pressure_spec::{TIMES, Times};
 use psi_base::{Ns, Slot, TriggerSpec};
 use psi_spec::GroupLife;
 
 /// The last moment (ns).
 const LAST_MOMENT: Ns = 60_000_000_000_000_000;
+
+/// How much more than the time in between interrupts may have taken (ns).
+const LONGEST_IRQ: Ns = 1_000_000_000;
+
+/// The place of what interrupts took among the times of a processor.
+const IRQ: usize = TIMES - 1;
 
 /// The moments of a group are within the last.
 fn is_life(life: &GroupLife) -> bool
@@ -59,25 +66,26 @@ pub(crate) fn are_triggers(triggers: &[TriggerSpec], slots: usize) -> bool
     true
 }
 
-/// No time of a processor fell, or grew by more than this (ns).
-fn grew_within(most: Ns, before: &[u64; 7], now: &[u64; 7]) -> bool
-    ensures { result ≡ true → GrewWithin most before.now now.now }
+/// No time of a processor fell up to a moment (ns). None in a state grew by more than this (ns), and what interrupts
+/// took by at most a second more; and it isn't above the moment.
+fn grew_within(most: Ns, at: Ns, before: &Times, now: &Times) -> bool
+    ensures { result ≡ true → GrewWithin most at before.now now.now }
 {
-    'each: for i in 0..7 {
-        if now[i] < before[i] || now[i] - before[i] > most {
+    'each: for i in 0..TIMES {
+        if now[i] < before[i] || (i < IRQ && now[i] - before[i] > most) {
             return false;
         }
     }
-    true
+    now[IRQ] - before[IRQ] <= most.saturating_add(LONGEST_IRQ) && now[IRQ] <= at
 }
 
 /// No time of a group did.
-fn row_grew_within(most: Ns, before: &[[u64; 7]], now: &[[u64; 7]]) -> bool
+fn row_grew_within(most: Ns, at: Ns, before: &[Times], now: &[Times]) -> bool
     requires { length before.now ≡ length now.now }
-    ensures { result ≡ true → RowGrewWithin most before.now now.now }
+    ensures { result ≡ true → RowGrewWithin most at before.now now.now }
 {
     'cpus: for cpu in 0..now.len() {
-        if !grew_within(most, &before[cpu], &now[cpu]) {
+        if !grew_within(most, at, &before[cpu], &now[cpu]) {
             return false;
         }
     }
@@ -85,15 +93,15 @@ fn row_grew_within(most: Ns, before: &[[u64; 7]], now: &[[u64; 7]]) -> bool
 }
 
 /// No time of so many groups on so many processors did.
-pub(crate) fn table_grew_within(most: Ns, slots: u32, before: &Rows, now: &Rows) -> bool
+pub(crate) fn table_grew_within(most: Ns, at: Ns, slots: u32, before: &Rows, now: &Rows) -> bool
     requires slots { length before.now ≡ slots }
     requires slots_now { length now.now ≡ slots }
     requires cpus { (slot : ℕ) →
         length (slice_index_or before.now slot []) ≡ length (slice_index_or now.now slot []) }
-    ensures { result ≡ true → TableGrewWithin most before.now now.now }
+    ensures { result ≡ true → TableGrewWithin most at before.now now.now }
 {
     'slots: for slot in 0..slots {
-        if !row_grew_within(most, before.row(Slot(slot)), now.row(Slot(slot))) {
+        if !row_grew_within(most, at, before.row(Slot(slot)), now.row(Slot(slot))) {
             return false;
         }
     }

@@ -2,6 +2,7 @@
 
 use crate::checks::{are_lives, are_triggers, table_grew_within};
 use aggregate::Rows;
+use pressure_spec::{Amounts, AverageRows, Times};
 use psi_base::{Cpu, NoMemory, Ns, Slot, State, TriggerSpec};
 use psi_spec::GroupLife;
 use std::alloc::Global;
@@ -76,7 +77,7 @@ impl Machine {
     }
 
     /// Sets the times (ns) of a group on a processor up to the tick to come.
-    pub fn set(&mut self, cpu: u32, slot: u32, times: [u64; 7]) -> Result<(), Failed> {
+    pub fn set(&mut self, cpu: u32, slot: u32, times: Times) -> Result<(), Failed> {
         if cpu >= self.cpus || slot >= self.slots {
             return Err(Failed::OutOfRange);
         }
@@ -87,7 +88,7 @@ impl Machine {
     /// The next tick, at this moment (ns).
     pub fn tick(&mut self, now: Ns) -> Result<(), Failed> {
         let is_soon = now > self.at && now - self.at <= LONGEST_TICK && now <= LAST_MOMENT;
-        if !is_soon || !table_grew_within(now - self.at, self.slots, &self.last, &self.next) {
+        if !is_soon || !table_grew_within(now - self.at, now, self.slots, &self.last, &self.next) {
             return Err(Failed::NotNext);
         }
         self.engine.tick(now, &self.next);
@@ -97,15 +98,15 @@ impl Machine {
     }
 
     /// The totals of a group (ns).
-    pub fn totals(&self, slot: u32) -> Result<[u64; 6], Failed> {
+    pub fn totals(&self, slot: u32) -> Result<Amounts, Failed> {
         if slot >= self.slots {
             return Err(Failed::OutOfRange);
         }
         Ok(self.engine.totals(Slot(slot)))
     }
 
-    /// The averages of a group, in the order of the states.
-    pub fn averages(&self, slot: u32) -> Result<[[u64; 3]; 6], Failed> {
+    /// The averages of a group, in the order of the states, and of interrupt time.
+    pub fn averages(&self, slot: u32) -> Result<AverageRows, Failed> {
         if slot >= self.slots {
             return Err(Failed::OutOfRange);
         }
@@ -117,6 +118,7 @@ impl Machine {
             averages.get(State::MemFull),
             averages.get(State::CpuSome),
             averages.get(State::CpuFull),
+            averages.irq(),
         ])
     }
 

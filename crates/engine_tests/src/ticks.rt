@@ -2,6 +2,7 @@
 //! averages and triggers.
 
 use crate::machine::{Failed, Machine};
+use pressure_spec::{AverageRows, Times};
 use psi_base::{Level, Ns, Path, Res, Slot, TriggerSpec};
 use psi_spec::GroupLife;
 use std::alloc::Global;
@@ -40,12 +41,12 @@ fn trigger(
 }
 
 /// By how much (ns) a time grows in an interval: a part of it that looks like chance.
-fn growth(tick: u64, slot: u64, cpu: u64, state: u64, interval: Ns) -> Ns {
+fn growth(tick: u64, slot: u64, cpu: u64, place: u64, interval: Ns) -> Ns {
     let mixed = tick
         .wrapping_mul(5)
         .wrapping_add(slot.wrapping_mul(3))
         .wrapping_add(cpu.wrapping_mul(7))
-        .wrapping_add(state.wrapping_mul(2));
+        .wrapping_add(place.wrapping_mul(2));
     interval.wrapping_mul(mixed % 11) / 10
 }
 
@@ -87,19 +88,19 @@ fn moment(tick: u64) -> Ns {
     }
 }
 
-/// How long a state of a group on a processor lasted up to a tick (ns).
-fn time(tick: u64, slot: u32, cpu: u32, state: u64) -> Ns {
+/// The time at a place of a group on a processor up to a tick (ns).
+fn time(tick: u64, slot: u32, cpu: u32, place: u64) -> Ns {
     let mut time = 0u64;
     for past in 1..=tick {
         let interval = moment(past).wrapping_sub(moment(past.wrapping_sub(1)));
-        let grown = growth(past, u64::from(slot), u64::from(cpu), state, interval);
+        let grown = growth(past, u64::from(slot), u64::from(cpu), place, interval);
         time = time.wrapping_add(grown);
     }
     time
 }
 
-/// How long each did.
-fn times(tick: u64, slot: u32, cpu: u32) -> [u64; 7] {
+/// All of them.
+fn times(tick: u64, slot: u32, cpu: u32) -> Times {
     [
         time(tick, slot, cpu, 0),
         time(tick, slot, cpu, 1),
@@ -108,6 +109,7 @@ fn times(tick: u64, slot: u32, cpu: u32) -> [u64; 7] {
         time(tick, slot, cpu, 4),
         time(tick, slot, cpu, 5),
         time(tick, slot, cpu, 6),
+        time(tick, slot, cpu, 7),
     ]
 }
 
@@ -155,8 +157,8 @@ fn have_totals(machine: &Machine, text: &str) -> bool {
     slot == 4
 }
 
-/// The numbers of six states are those of the text.
-fn are_averages(averages: &[[u64; 3]; 6], text: &str) -> bool {
+/// The numbers of all quantities are those of the text.
+fn are_averages(averages: &AverageRows, text: &str) -> bool {
     let mut parts = text.split(", ");
     for numbers in averages {
         let Some(part) = parts.next() else {
@@ -198,47 +200,47 @@ fn is_tick(machine: &mut Machine, tick: u64, row: &str) -> bool {
 
 /// Each tick: the triggers that signal, and behind them the totals of each group.
 const TICKS: &str = "04|\
-    611764705 811764705 429411764 241176470 441176470 511764705|\
-    613333333 813333333 353333333 553333333 386666666 586666666|\
-    0 0 0 0 0 0|\
-    0 0 0 0 0 0;\
+    611764705 811764705 429411764 241176470 441176470 511764705 329411764|\
+    613333333 813333333 353333333 553333333 386666666 586666666 253333333|\
+    0 0 0 0 0 0 0|\
+    0 0 0 0 0 0 0;\
     04|\
-    1091764705 1491764705 1309411764 551176470 951176470 891764705|\
-    1276491227 1097543859 837543859 890175438 923508771 1149824560|\
-    0 0 0 0 0 0|\
-    0 0 0 0 0 0;\
+    1091764705 1491764705 1309411764 551176470 951176470 891764705 1109411764|\
+    1276491227 1097543859 837543859 890175438 923508771 1149824560 637543859|\
+    0 0 0 0 0 0 0|\
+    0 0 0 0 0 0 0;\
     01245|\
-    2177478990 2977478990 1937983192 1579747898 1594033612 1934621847|\
-    2409824560 2630877192 1304210525 1756842104 1456842104 2083157893|\
-    960000000 1360000000 1760000000 620000000 1020000000 760000000|\
-    1326315789 568421052 968421052 673684210 1073684210 1126315789;\
+    2177478990 2977478990 1937983192 1579747898 1594033612 1934621847 2795126049|\
+    2409824560 2630877192 1304210525 1756842104 1456842104 2083157893 2370877192|\
+    960000000 1360000000 1760000000 620000000 1020000000 760000000 1560000000|\
+    1326315789 568421052 968421052 673684210 1073684210 1126315789 768421052;\
     05|\
-    2855256767 3244145656 2404649858 1879747898 2094033612 2512399624|\
-    2409824560 2630877192 1304210525 1756842104 1456842104 2083157893|\
-    1502857142 2102857142 2074285714 1134285714 1341428571 1281428571|\
-    1892982455 1335087718 1201754385 1107017543 1340350876 1592982455;\
+    2855256767 3244145656 2404649858 1879747898 2094033612 2512399624 3161792715|\
+    2409824560 2630877192 1304210525 1756842104 1456842104 2083157893 2370877192|\
+    1502857142 2102857142 2074285714 1134285714 1341428571 1281428571 2402857142|\
+    1892982455 1335087718 1201754385 1107017543 1340350876 1592982455 1635087718;\
     0135|\
-    5800711312 7389600201 7750104403 4225202443 3239488157 4857854169|\
-    2409824560 2630877192 1304210525 1756842104 1456842104 2083157893|\
-    5569523808 3702857142 4874285714 2934285714 4341428571 4748095237|\
-    5417982455 6060087718 3414254385 4519517543 3890350876 4517982455;\
+    5800711312 7389600201 7750104403 4225202443 3239488157 4857854169 7907247260|\
+    2409824560 2630877192 1304210525 1756842104 1456842104 2083157893 2370877192|\
+    5569523808 3702857142 4874285714 2934285714 4341428571 4748095237 4602857142|\
+    5417982455 6060087718 3414254385 4519517543 3890350876 4517982455 3247587718;\
     05|\
-    6720711312 8609600201 8280104403 5055202443 3819488157 5737854169|\
-    2409824560 2630877192 1304210525 1756842104 1456842104 2083157893|\
-    6305887444 4739220778 6210649350 3520649350 4627792207 5334458873|\
-    6452982455 6570087718 4224254385 5052017543 4722850876 5402982455;\
+    6720711312 8609600201 8280104403 5055202443 3819488157 5737854169 8287247260|\
+    2409824560 2630877192 1304210525 1756842104 1456842104 2083157893 2370877192|\
+    6305887444 4739220778 6210649350 3520649350 4627792207 5334458873 5789220778|\
+    6452982455 6570087718 4224254385 5052017543 4722850876 5402982455 3907587718;\
     01235|\
-    7715448154 9035915990 9006420192 5560465600 4624751314 6582591011|\
-    2409824560 2630877192 1304210525 1756842104 1456842104 2083157893|\
-    7225887444 5959220778 6740649350 4350649350 5207792207 6214458873|\
-    7237597839 7654703102 4593485154 5721248312 5184389337 6164520916";
+    7715448154 9035915990 9006420192 5560465600 4624751314 6582591011 8863563049|\
+    2409824560 2630877192 1304210525 1756842104 1456842104 2083157893 2370877192|\
+    7225887444 5959220778 6740649350 4350649350 5207792207 6214458873 6169220778|\
+    7237597839 7654703102 4593485154 5721248312 5184389337 6164520916 5142203102";
 
 /// The averages of each group after the last tick.
 const AVERAGES: &str =
-    "94268 23401 5194, 110736 27710 6168, 103858 24776 5465, 60827 15667 3497, 54267 13794 3081, 74548 18957 4225;\
-    39915 7835 1660, 44601 8592 1815, 20989 4199 893, 29320 5733 1214, 23621 4724 1004, 34383 6777 1437;\
-    77486 16699 3608, 63912 14735 3223, 81155 17990 3908, 49316 11085 2411, 70754 15285 3303, 75985 16172 3486;\
-    92356 19450 4172, 92356 19450 4172, 58387 13127 2844, 85307 18177 3906, 71951 15765 3402, 92356 19450 4172";
+    "94268 23401 5194, 110736 27710 6168, 103858 24776 5465, 60827 15667 3497, 54267 13794 3081, 74548 18957 4225, 109978 27234 6048;\
+    39915 7835 1660, 44601 8592 1815, 20989 4199 893, 29320 5733 1214, 23621 4724 1004, 34383 6777 1437, 41324 7772 1636;\
+    77486 16699 3608, 63912 14735 3223, 81155 17990 3908, 49316 11085 2411, 70754 15285 3303, 75985 16172 3486, 80522 18276 3986;\
+    92356 19450 4172, 92356 19450 4172, 58387 13127 2844, 85307 18177 3906, 71951 15765 3402, 92356 19450 4172, 73527 15652 3364";
 
 // The machine has three processors and four groups. The second group goes at the fourth tick, the third is made between
 // the second tick and the third, and the last at the third. Times grow also where a group isn't live, and no total sees
@@ -265,7 +267,7 @@ fn groups_that_come_and_go(rt: HostRuntime) -> Result<(), Fail> {
 
 /// All states have lasted the whole time for IO, and none for memory and processors.
 fn waits(machine: &mut Machine, now: Ns) -> Result<(), Failed> {
-    machine.set(0, 0, [now, now, 0, 0, 0, 0, now])?;
+    machine.set(0, 0, [now, now, 0, 0, 0, 0, now, 0])?;
     machine.tick(now)
 }
 
@@ -283,12 +285,62 @@ fn waits_without_end(rt: HostRuntime) -> Result<(), Fail> {
     let alloc = rt.alloc();
     let lives = vec![in alloc; group(alloc, 0, None)?]?;
     let mut machine = Machine::make(alloc, 1, &lives, &[])?;
-    let totals = "2000000000 2000000000 0 0 0 0";
-    let averages = "37100 6700 1400, 37100 6700 1400, 0 0 0, 0 0 0, 0 0 0, 0 0 0";
+    let totals = "2000000000 2000000000 0 0 0 0 0";
+    let averages = "37100 6700 1400, 37100 6700 1400, 0 0 0, 0 0 0, 0 0 0, 0 0 0, 0 0 0";
     assert!(rt; is_wait(&mut machine, 2 * SECOND, totals, averages));
-    let totals = "4000000000 4000000000 0 0 0 0";
-    let averages = "67480 13181 2791, 67480 13181 2791, 0 0 0, 0 0 0, 0 0 0, 0 0 0";
+    let totals = "4000000000 4000000000 0 0 0 0 0";
+    let averages = "67480 13181 2791, 67480 13181 2791, 0 0 0, 0 0 0, 0 0 0, 0 0 0, 0 0 0";
     assert!(rt; is_wait(&mut machine, 4 * SECOND, totals, averages));
+    Ok(())
+}
+
+/// Interrupts took so long (ns) up to a moment from a group that is never idle on one processor, and in none of the states.
+fn interrupt(machine: &mut Machine, now: Ns, irq: Ns) -> Result<(), Failed> {
+    machine.set(0, 0, [0, 0, 0, 0, 0, 0, now, irq])?;
+    machine.tick(now)
+}
+
+/// The group has this total of interrupt time (ns), and no other.
+fn has_irq_total(machine: &Machine, irq: Ns) -> bool {
+    match machine.totals(0) {
+        Ok(totals) => totals == [0, 0, 0, 0, 0, 0, irq],
+        Err(_) => false,
+    }
+}
+
+/// At a moment, the group has all that interrupts took as its total, and these averages.
+fn is_interrupted(machine: &mut Machine, now: Ns, irq: Ns, averages: &str) -> bool {
+    interrupt(machine, now, irq).is_ok()
+        && has_irq_total(machine, irq)
+        && has_averages(machine, 0, averages)
+}
+
+// One processor, where interrupts took half of the first two seconds, and nothing of the next two.
+#[test]
+fn interrupts_of_half_a_period(rt: HostRuntime) -> Result<(), Fail> {
+    let alloc = rt.alloc();
+    let lives = vec![in alloc; group(alloc, 0, None)?]?;
+    let mut machine = Machine::make(alloc, 1, &lives, &[])?;
+    let averages = "0 0 0, 0 0 0, 0 0 0, 0 0 0, 0 0 0, 0 0 0, 18550 3350 700";
+    assert!(rt; is_interrupted(&mut machine, 2 * SECOND, SECOND, averages));
+    let averages = "0 0 0, 0 0 0, 0 0 0, 0 0 0, 0 0 0, 0 0 0, 15189 3240 695";
+    assert!(rt; is_interrupted(&mut machine, 4 * SECOND, SECOND, averages));
+    Ok(())
+}
+
+// A trace tells of interrupts when they are over. So a share may be a second longer than its interval, which is half a
+// second here.
+#[test]
+fn interrupts_told_late(rt: HostRuntime) -> Result<(), Fail> {
+    let alloc = rt.alloc();
+    let lives = vec![in alloc; group(alloc, 0, None)?]?;
+    let mut machine = Machine::make(alloc, 1, &lives, &[])?;
+    let none = "0 0 0, 0 0 0, 0 0 0, 0 0 0, 0 0 0, 0 0 0, 0 0 0";
+    assert!(rt; is_interrupted(&mut machine, SECOND, 0, none));
+    let half = SECOND / 2;
+    assert!(rt; is_interrupted(&mut machine, SECOND + half, SECOND + half, none));
+    let averages = "0 0 0, 0 0 0, 0 0 0, 0 0 0, 0 0 0, 0 0 0, 27825 5025 1050";
+    assert!(rt; is_interrupted(&mut machine, 2 * SECOND, SECOND + half, averages));
     Ok(())
 }
 
@@ -323,7 +375,7 @@ fn is_second(machine: &mut Machine, second: u64) -> bool {
         3 => (200, 256),
         _ => (0, 0),
     };
-    machine.set(0, 0, [now, 0, 0, 0, 0, 0, now]).is_ok()
+    machine.set(0, 0, [now, 0, 0, 0, 0, 0, now, 0]).is_ok()
         && machine.tick(now).is_ok()
         && is_range(machine.fired(), from, to)
 }

@@ -1,27 +1,28 @@
 //! The averages of one group.
 ghost use Rattle.std.specs.Prelude.{◌≡◌, ◌≢◌, ◌≤◌, ◌<◌, ◌+◌, ◌^◌, ℕ, All, [], map, slice_index, slice_index_or};
 ghost use Rattle.psi_spec.specs.Trace.{last_moment};
-ghost use Rattle.pressure_spec.specs.Share.{zip_with};
+ghost use Rattle.pressure_spec.specs.Share.{irq_quantity, zip_with};
 ghost use Rattle.psi_spec.specs.Stall.{state_number};
 ghost use Rattle.pressure_spec.specs.Average as model;
 ghost use Rattle.pressure_spec.specs.Average.{IsRow};
 ghost use Rattle.psi_base.specs.declared.event.State.TheVariants as state_of;
 
 use crate::fixed_point::{load, power};
+use pressure_spec::{Amounts, AverageRows, QUANTITIES};
 use psi_base::{Ns, State};
 use std::marker::Model;
 
 /// The time from one update to the next (ns).
 const PERIOD: Ns = 2_000_000_000;
 
-/// How many states have averages: all but nonidle.
-const PRESSURE_STATES: usize = 6;
+/// The place of interrupt time among the quantities that have averages.
+const IRQ: usize = QUANTITIES - 1;
 
 /// What is left of an average over 10, 60 and 300 seconds after a period with nothing active, in parts of 2048.
 const FACTORS: [u64; 3] = [1677, 1981, 2034];
 
-/// The averages of a group's pressure over 10, 60 and 300 seconds, of each state but nonidle: the kernel's `avg` of a
-/// `psi_group`. Each is a fixed-point number of at most 204,800.
+/// The averages of a group's pressure over 10, 60 and 300 seconds, of each state but nonidle, and of interrupt time: the
+/// kernel's `avg` of a `psi_group`. Each is a fixed-point number of at most 204,800.
 #[derive(Drop)]
 pub struct Averages {
     /// The moment of the last update (ns).
@@ -29,9 +30,9 @@ pub struct Averages {
     /// The moment from which the next update is due (ns).
     next: Ns,
     /// How much of each total was sampled so far (ns).
-    sampled: [u64; PRESSURE_STATES],
-    /// The three averages of each state.
-    averages: [[u64; 3]; PRESSURE_STATES],
+    sampled: Amounts,
+    /// The three averages of each quantity.
+    averages: AverageRows,
 }
 
 impl Model for Averages {
@@ -47,30 +48,26 @@ impl Model for Averages {
 }
 
 /// What is sampled of each total in this time (ns): what wasn't yet, and at most the time.
-fn samples_of(
-    time: Ns,
-    sampled: &[u64; PRESSURE_STATES],
-    totals: &[u64; PRESSURE_STATES],
-) -> [u64; PRESSURE_STATES]
+fn samples_of(time: Ns, sampled: &Amounts, totals: &Amounts) -> Amounts
     ensures value { result ≡ model.samples_of time sampled.now totals.now }
-    ensures fits { (k : ℕ) → k < 6 →
+    ensures fits { (k : ℕ) → k < 7 →
         slice_index sampled.now k + slice_index result k < 2 ^ 64 }
 {
-    let mut samples = [0u64; PRESSURE_STATES];
-    'each: for i in 0..PRESSURE_STATES {
+    let mut samples = [0u64; QUANTITIES];
+    'each: for i in 0..QUANTITIES {
         samples[i] = totals[i].saturating_sub(sampled[i]).min(time);
     }
     samples
 }
 
 /// Adds the samples to what was sampled before.
-fn add_samples(sampled: &mut [u64; PRESSURE_STATES], samples: &[u64; PRESSURE_STATES])
-    requires { (k : ℕ) → k < 6 →
+fn add_samples(sampled: &mut Amounts, samples: &Amounts)
+    requires { (k : ℕ) → k < 7 →
         slice_index sampled.old k + slice_index samples.now k < 2 ^ 64 }
     ensures { sampled.new ≡
         zip_with (λ sampled sample. sampled + sample) sampled.old samples.now }
 {
-    'each: for i in 0..PRESSURE_STATES {
+    'each: for i in 0..QUANTITIES {
         sampled[i] += samples[i];
     }
 }
@@ -104,7 +101,7 @@ fn average_after(missed: u64, decay: u64, average: u64, factor: u64, percent: u6
     load(decayed, factor, percent * 2048)
 }
 
-/// The three averages of a state after an update.
+/// The three averages of a quantity after an update.
 fn row_after(missed: u64, decays: &[u64; 3], row: &[u64; 3], percent: u64) -> [u64; 3]
     requires decays { decays.now ≡ map (λ factor. model.power factor missed) model.factors }
     requires row { IsRow row.now }
@@ -119,13 +116,8 @@ fn row_after(missed: u64, decays: &[u64; 3], row: &[u64; 3], percent: u64) -> [u
     after
 }
 
-/// Updates the averages of all states with their samples over this time (ns).
-fn update_rows(
-    rows: &mut [[u64; 3]; PRESSURE_STATES],
-    missed: u64,
-    time: Ns,
-    samples: &[u64; PRESSURE_STATES],
-)
+/// Updates the averages of all quantities with their samples over this time (ns).
+fn update_rows(rows: &mut AverageRows, missed: u64, time: Ns, samples: &Amounts)
     requires time { 0 < time }
     requires short { time ≤ 4000000000 }
     requires samples { All (λ sample. sample ≤ time) samples.now }
@@ -134,7 +126,7 @@ fn update_rows(
     ensures rows { All (λ row. IsRow row) rows.new }
 {
     let decays = decays_of(missed);
-    'each: for i in 0..PRESSURE_STATES {
+    'each: for i in 0..QUANTITIES {
         rows[i] = row_after(missed, &decays, &rows[i], samples[i] * 100 / time);
     }
 }
@@ -148,16 +140,16 @@ impl Averages {
         Averages {
             last: at,
             next: at + PERIOD,
-            sampled: [0; PRESSURE_STATES],
-            averages: [[0; 3]; PRESSURE_STATES],
+            sampled: [0; QUANTITIES],
+            averages: [[0; 3]; QUANTITIES],
         }
     }
 
-    /// A tick at this moment (ns), with the group's totals (ns) of all states but nonidle, in the order of the states.
-    /// Where an update is due, each average decays over the periods that were missed and is loaded with what is new of its
+    /// A tick at this moment (ns), with the group's totals (ns) of all states but nonidle, in the order of the states,
+    /// and of interrupt time. Where an update is due, each average decays over the periods that were missed and is loaded with what is new of its
     /// total, of which no more is taken than the time since the last update less these periods: the kernel's
     /// `update_averages`. Before that, nothing changes.
-    pub fn update(&mut self, now: Ns, totals: [u64; 6])
+    pub fn update(&mut self, now: Ns, totals: Amounts)
         requires { now ≤ last_moment }
         ensures { self.new ≡ model.average_step self.old now totals }
     {
@@ -180,5 +172,13 @@ impl Averages {
         ensures most { All (λ average. average ≤ 204800) result }
     {
         self.averages[state as usize]
+    }
+
+    /// The averages over 10, 60 and 300 seconds of interrupt time, in fixed point.
+    pub fn irq(&self) -> [u64; 3]
+        ensures value { result ≡ slice_index_or self.now.averages irq_quantity [] }
+        ensures most { All (λ average. average ≤ 204800) result }
+    {
+        self.averages[IRQ]
     }
 }

@@ -50,15 +50,15 @@ unfolding power_from
 power_most x n x_most = within_most n 2048 x n (omega arith) x_most
 
 -- a sample by the place of its quantity
-pub get_or-samples_of : (time : ℕ) (sampled totals : List ℕ) (k o : ℕ) → length sampled ≡ 6 → length totals ≡ 6 → k < 6 → get_or (samples_of time sampled totals) k o ≡ min (get_or totals k 0 - get_or sampled k 0) time
-get_or-samples_of time sampled totals k o six also below = get_or-zip_with (sample_of time) sampled totals k 0 0 o (omega arith) (omega arith)
+pub get_or-samples_of : (time : ℕ) (sampled totals : List ℕ) (k o : ℕ) → length sampled ≡ 7 → length totals ≡ 7 → k < 7 → get_or (samples_of time sampled totals) k o ≡ min (get_or totals k 0 - get_or sampled k 0) time
+get_or-samples_of time sampled totals k o seven also below = get_or-zip_with (sample_of time) sampled totals k 0 0 o (omega arith) (omega arith)
 
-pub length-samples_of : (time : ℕ) (sampled totals : List ℕ) → length sampled ≡ 6 → length totals ≡ 6 → length (samples_of time sampled totals) ≡ 6
-length-samples_of time sampled totals six also = length-zip_with (sample_of time) sampled totals (omega arith) ∙ six
+pub length-samples_of : (time : ℕ) (sampled totals : List ℕ) → length sampled ≡ 7 → length totals ≡ 7 → length (samples_of time sampled totals) ≡ 7
+length-samples_of time sampled totals seven also = length-zip_with (sample_of time) sampled totals (omega arith) ∙ seven
 
 -- a sample is at most the time
-pub samples_most : (time : ℕ) (sampled totals : List ℕ) → length sampled ≡ 6 → length totals ≡ 6 → All (λ sample. sample ≤ time) (samples_of time sampled totals)
-samples_most time sampled totals six also = λ k d below. let is = get_or-samples_of time sampled totals k d six also (omega (arith, length-samples_of time sampled totals six also)) in omega (arith, is)
+pub samples_most : (time : ℕ) (sampled totals : List ℕ) → length sampled ≡ 7 → length totals ≡ 7 → All (λ sample. sample ≤ time) (samples_of time sampled totals)
+samples_most time sampled totals seven also = λ k d below. let is = get_or-samples_of time sampled totals k d seven also (omega (arith, length-samples_of time sampled totals seven also)) in omega (arith, is)
 
 even_power : (result x n : ℕ) → power_from result x (2 * n) ≡ power_from result (product x x) n
 even_power result x zero = power_from_zero result x ∙ sym (power_from_zero result (product x x))
@@ -187,39 +187,39 @@ time_some old now is due =
     let whole : (now - old.next) / period * period ≤ now - old.next = div-mul-le_self (now - old.next) period in
     omega (arith, later, whole)
 
-get_or-rows : (old : AverageState) (now : ℕ) (totals : List ℕ) (i : ℕ) → IsAverageState old → length totals ≡ 6 → i < 6 →
+get_or-rows : (old : AverageState) (now : ℕ) (totals : List ℕ) (i : ℕ) → IsAverageState old → length totals ≡ 7 → i < 7 →
     get_or (updated old now totals).averages i [] ≡ row_after (missed old now) (sampled_time old now) (get_or old.averages i []) (sample_of (sampled_time old now) (get_or old.sampled i 0) (get_or totals i 0))
-get_or-rows old now totals i is six below =
+get_or-rows old now totals i is seven below =
     let samples = samples_of (sampled_time old now) old.sampled totals in
-    let long : length samples ≡ 6 = length-samples_of (sampled_time old now) old.sampled totals is.sampled six in
+    let long : length samples ≡ 7 = length-samples_of (sampled_time old now) old.sampled totals is.sampled seven in
     get_or-zip_with (row_after (missed old now) (sampled_time old now)) old.averages samples i [] 0 [] (omega (arith, is.rows)) (omega (arith, long))
-    ∙ ap (row_after (missed old now) (sampled_time old now) (get_or old.averages i [])) (get_or-samples_of (sampled_time old now) old.sampled totals i 0 is.sampled six below)
+    ∙ ap (row_after (missed old now) (sampled_time old now) (get_or old.averages i [])) (get_or-samples_of (sampled_time old now) old.sampled totals i 0 is.sampled seven below)
 
-update_keeps : (old : AverageState) (now : ℕ) (totals : List ℕ) → IsAverageState old → length totals ≡ 6 → old.next ≤ now → IsAverageState (updated old now totals)
-update_keeps old now totals is six due =
+update_keeps : (old : AverageState) (now : ℕ) (totals : List ℕ) → IsAverageState old → length totals ≡ 7 → old.next ≤ now → IsAverageState (updated old now totals)
+update_keeps old now totals is seven due =
     let time = sampled_time old now in
     let samples = samples_of time old.sampled totals in
-    let long : length samples ≡ 6 = length-samples_of time old.sampled totals is.sampled six in
+    let long : length samples ≡ 7 = length-samples_of time old.sampled totals is.sampled seven in
     let some : 0 < time = time_some old now is due in
     let whole : (now - old.next) / period * period ≤ now - old.next = div-mul-le_self (now - old.next) period in
     let rest : now - old.next < ((now - old.next) / period + 1) * period = omega arith in
-    let rows : length (updated old now totals).averages ≡ 6 = length-zip_with (row_after (missed old now) time) old.averages samples (is.rows ∙ sym long) ∙ is.rows in
+    let rows : length (updated old now totals).averages ≡ 7 = length-zip_with (row_after (missed old now) time) old.averages samples (is.rows ∙ sym long) ∙ is.rows in
     record {
       later = omega (arith, rest);
       soon = omega (arith, whole);
       sampled = length-zip_with (λ sampled sample. sampled + sample) old.sampled samples (is.sampled ∙ sym long) ∙ is.sampled;
       rows = rows;
       each = λ i d below.
-          let place : i < 6 = omega (arith, rows) in
+          let place : i < 7 = omega (arith, rows) in
           let inside : i < length old.averages = omega (arith, is.rows) in
-          rw (get_or_default (updated old now totals).averages i d [] below, get_or-rows old now totals i is six place)
+          rw (get_or_default (updated old now totals).averages i d [] below, get_or-rows old now totals i is seven place)
           (row_kept (missed old now) time (get_or old.averages i []) (sample_of time (get_or old.sampled i 0) (get_or totals i 0)) some (omega arith) (is.each i [] inside));
     }
 
-step_keeps : (old : AverageState) (now : ℕ) (totals : List ℕ) → IsAverageState old → length totals ≡ 6 → IsAverageState (average_step old now totals)
+step_keeps : (old : AverageState) (now : ℕ) (totals : List ℕ) → IsAverageState old → length totals ≡ 7 → IsAverageState (average_step old now totals)
 unfolding average_step
-step_keeps old now totals is six =
-    let kept : old.next ≤ now → IsAverageState (updated old now totals) = update_keeps old now totals is six in
+step_keeps old now totals is seven =
+    let kept : old.next ≤ now → IsAverageState (updated old now totals) = update_keeps old now totals is seven in
     elim (nat_lt now old.next) as (λ test. nat_lt now old.next ≡ test → IsAverageState (if test then old else updated old now totals)) [ true ↦ λ early. is | false ↦ λ due. kept (grind (arith, due)) ] refl
 
 -- ---- every list of ticks
@@ -232,14 +232,15 @@ from_keeps old (tick ∷ ticks) is all =
 zeros_row : IsRow (0 ∷ 0 ∷ 0 ∷ [])
 zeros_row = record { three = refl; most = λ j d below. grind arith }
 
-new_row : (at : ℕ) (i : ℕ) (d : List ℕ) → i < 6 → IsRow (get_or (new_averages at).averages i d)
+new_row : (at : ℕ) (i : ℕ) (d : List ℕ) → i < 7 → IsRow (get_or (new_averages at).averages i d)
 new_row at zero d below = zeros_row
 new_row at (suc zero) d below = zeros_row
 new_row at (suc (suc zero)) d below = zeros_row
 new_row at (suc (suc (suc zero))) d below = zeros_row
 new_row at (suc (suc (suc (suc zero)))) d below = zeros_row
 new_row at (suc (suc (suc (suc (suc zero))))) d below = zeros_row
-new_row at (suc (suc (suc (suc (suc (suc i)))))) d below = absurd (omega arith)
+new_row at (suc (suc (suc (suc (suc (suc zero)))))) d below = zeros_row
+new_row at (suc (suc (suc (suc (suc (suc (suc i))))))) d below = absurd (omega arith)
 
 new_is : (at : ℕ) → IsAverageState (new_averages at)
 new_is at = record {
@@ -259,14 +260,14 @@ due_step : (old : AverageState) (now : ℕ) (totals : List ℕ) → old.next ≤
 unfolding average_step
 due_step old now totals due = grind arith
 
-average_of_step : (old : AverageState) (now : ℕ) (totals : List ℕ) (i j : ℕ) → IsAverageState old → length totals ≡ 6 → i < 6 → j < 3 → old.next ≤ now →
+average_of_step : (old : AverageState) (now : ℕ) (totals : List ℕ) (i j : ℕ) → IsAverageState old → length totals ≡ 7 → i < 7 → j < 3 → old.next ≤ now →
     average_of (average_step old now totals) i j ≡ average_after (missed old now) (percent_of (sampled_time old now) (sample_of (sampled_time old now) (sampled_of old i) (get_or totals i 0))) (average_of old i j) (get_or factors j 0)
-average_of_step old now totals i j is six below place due =
+average_of_step old now totals i j is seven below place due =
     let inside : i < length old.averages = omega (arith, is.rows) in
-    rw (due_step old now totals due, get_or-rows old now totals i is six below)
+    rw (due_step old now totals due, get_or-rows old now totals i is seven below)
     (get_or-row_after (missed old now) (sampled_time old now) (get_or old.averages i []) (sample_of (sampled_time old now) (get_or old.sampled i 0) (get_or totals i 0)) j (is.each i [] inside).three place)
 
-old_most : (old : AverageState) (i j : ℕ) → IsAverageState old → i < 6 → j < 3 → average_of old i j ≤ 204800
+old_most : (old : AverageState) (i j : ℕ) → IsAverageState old → i < 7 → j < 3 → average_of old i j ≤ 204800
 old_most old i j is below place =
     let inside : i < length old.averages = omega (arith, is.rows) in
     let row = is.each i [] inside in
@@ -292,49 +293,49 @@ empty_load missed_periods average factor percent within none =
     rw active (grind (arith, first, down average, down faded), λ some. grind (arith, first, falls average, falls faded, down average, down faded))
 
 pub rises_when_stalled : RisesWhenStalled
-rises_when_stalled old now totals i j is six below place due soon stalled =
+rises_when_stalled old now totals i j is seven below place due soon stalled =
     let none : missed old now ≡ 0 = omega arith in
     let time = sampled_time old now in
     let some : 0 < time = time_some old now is due in
     let all : sample_of time (sampled_of old i) (get_or totals i 0) ≡ time = omega arith in
     let full : percent_of time (sample_of time (sampled_of old i) (get_or totals i 0)) ≡ 100 = rw all (mul-div_cancel_left 100 some) in
-    rw (average_of_step old now totals i j is six below place due)
+    rw (average_of_step old now totals i j is seven below place due)
     (full_load (missed old now) (average_of old i j) (get_or factors j 0) (percent_of time (sample_of time (sampled_of old i) (get_or totals i 0))) none (old_most old i j is below place) (factor_below j place) full)
 
 pub falls_when_free : FallsWhenFree
-falls_when_free old now totals i j is six below place due free =
+falls_when_free old now totals i j is seven below place due free =
     let time = sampled_time old now in
     let some : 0 < time = time_some old now is due in
     let nothing : sample_of time (sampled_of old i) (get_or totals i 0) ≡ 0 = omega arith in
     let none : percent_of time (sample_of time (sampled_of old i) (get_or totals i 0)) ≡ 0 = rw nothing (grind arith) in
-    rw (average_of_step old now totals i j is six below place due)
+    rw (average_of_step old now totals i j is seven below place due)
     (empty_load (missed old now) (average_of old i j) (get_or factors j 0) (percent_of time (sample_of time (sampled_of old i) (get_or totals i 0))) (factor_below j place) none)
 
 pub carries_the_rest : CarriesTheRest
-carries_the_rest old now totals i is six below due =
+carries_the_rest old now totals i is seven below due =
     let time = sampled_time old now in
     let samples = samples_of time old.sampled totals in
-    let long : length samples ≡ 6 = length-samples_of time old.sampled totals is.sampled six in
+    let long : length samples ≡ 7 = length-samples_of time old.sampled totals is.sampled seven in
     rw (due_step old now totals due)
     (get_or-zip_with (λ sampled sample. sampled + sample) old.sampled samples i 0 0 0 (omega (arith, is.sampled)) (omega (arith, long))
-    ∙ ap (λ n. sampled_of old i + n) (get_or-samples_of time old.sampled totals i 0 is.sampled six below))
+    ∙ ap (λ n. sampled_of old i + n) (get_or-samples_of time old.sampled totals i 0 is.sampled seven below))
 
 -- what was sampled stays within the totals
-sampled_within : (old : AverageState) (now : ℕ) (totals : List ℕ) (i : ℕ) → IsAverageState old → length totals ≡ 6 → i < 6 → sampled_of old i ≤ get_or totals i 0 → sampled_of (average_step old now totals) i ≤ get_or totals i 0
+sampled_within : (old : AverageState) (now : ℕ) (totals : List ℕ) (i : ℕ) → IsAverageState old → length totals ≡ 7 → i < 7 → sampled_of old i ≤ get_or totals i 0 → sampled_of (average_step old now totals) i ≤ get_or totals i 0
 unfolding average_step
-sampled_within old now totals i is six below within =
-    let due : old.next ≤ now → sampled_of (average_step old now totals) i ≤ get_or totals i 0 = λ due. omega (arith, carries_the_rest old now totals i is six below due) in
+sampled_within old now totals i is seven below within =
+    let due : old.next ≤ now → sampled_of (average_step old now totals) i ≤ get_or totals i 0 = λ due. omega (arith, carries_the_rest old now totals i is seven below due) in
     let early : now < old.next → sampled_of (average_step old now totals) i ≤ get_or totals i 0 = λ early. grind (arith, within) in
     let case : (old.next ≤ now) ⊎ (now < old.next) = grind arith in
     ⊎_elim due early case
 
-from_within : (old : AverageState) (before : List ℕ) (ticks : List (ℕ × List ℕ)) (i : ℕ) → IsAverageState old → HasTotals ticks → NeverFalls before ticks → i < 6 → sampled_of old i ≤ get_or before i 0 →
+from_within : (old : AverageState) (before : List ℕ) (ticks : List (ℕ × List ℕ)) (i : ℕ) → IsAverageState old → HasTotals ticks → NeverFalls before ticks → i < 7 → sampled_of old i ≤ get_or before i 0 →
     sampled_of (averages_from old ticks) i ≤ get_or (last_totals before ticks) i 0
 from_within old before [] i is all never below within = within
 from_within old before (tick ∷ ticks) i is all never below within =
-    let six : length tick.1 ≡ 6 = all 0 tick (omega arith) in
+    let seven : length tick.1 ≡ 7 = all 0 tick (omega arith) in
     let here : sampled_of old i ≤ get_or tick.1 i 0 = omega (arith, within, never.0 i) in
-    from_within (average_step old tick.0 tick.1) tick.1 ticks i (step_keeps old tick.0 tick.1 is six) (λ k d inside. all (suc k) d (omega arith)) never.1 below (sampled_within old tick.0 tick.1 i is six below here)
+    from_within (average_step old tick.0 tick.1) tick.1 ticks i (step_keeps old tick.0 tick.1 is seven) (λ k d inside. all (suc k) d (omega arith)) never.1 below (sampled_within old tick.0 tick.1 i is seven below here)
 
 pub samples_within_total : SamplesWithinTotal
 samples_within_total at ticks i all never below = from_within (new_averages at) [] ticks i (new_is at) all never below (grind arith)

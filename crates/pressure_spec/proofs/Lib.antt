@@ -2,3 +2,4 @@ pub mod AverageLaws
 pub mod ShareLaws
 pub mod SignalLaws
 pub mod SampleLaws
+pub mod WithinLaws

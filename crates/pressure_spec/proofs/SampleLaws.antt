@@ -260,7 +260,7 @@ unfolding totals_after totals_of
 total_is_sum cpus lives ticks slot i below =
     let samples = group_samples cpus lives ticks slot in
     let sums = λ (i : ℕ). sum_by (λ (row : List ℕ). get_or row i 0) (shares_of samples) in
-    get_or-map-range_with_len sums 0 6 i i 0 below (omega arith) ∙ fold-map (λ (sum : ℕ) (row : List ℕ). sum + get_or row i 0) (λ (sample : ℕ × List ℕ). sample.1) 0 samples
+    get_or-map-range_with_len sums 0 7 i i 0 below (omega arith) ∙ fold-map (λ (sum : ℕ) (row : List ℕ). sum + get_or row i 0) (λ (sample : ℕ × List ℕ). sample.1) 0 samples
 
 totals_never_fall_at : (cpus : ℕ) (lives : List GroupLife) (ticks more : List Tick) (slot i : ℕ) → i < length pressure_places → get_or (totals_after cpus lives ticks slot) i 0 ≤ get_or (totals_after cpus lives (ticks ++ more) slot) i 0
 totals_never_fall_at cpus lives ticks more slot i below =

@@ -4,9 +4,10 @@ use Rattle.std.specs.Prelude.{map, max, sum_by, All}
 use Rattle.std.proofs.Common.{◌++◌, ◌⊎◌, ⊎_elim}
 use Rattle.std.proofs.Math.Nat.{div-le_of_le-mul, le-div_iff_mul-le, mul-le-mul_right, mul-le-mul_left}
 use Rattle.std.proofs.lemmas.List.Sums.{sum_by-cons, sum_by-append}
-use Rattle.std.proofs.lemmas.List.{length-map, get_or-map, get_or_past}
+use Rattle.std.proofs.lemmas.List.{length-map, get_or-map}
 use Rattle.std.proofs.lemmas.List.FromFn.{fill_by_all, get_or-map-range_with_len}
-use Rattle.pressure_spec.specs.Share.{zip_with, pressure_places, weight, total_weight, weighted_time, share_of, shares, totals_of, ShareIsMean, SharesWithin, IdleHasNone, TotalsGrow}
+use Rattle.psi_spec.specs.Trace.{longest_tick}
+use Rattle.pressure_spec.specs.Share.{AreTimesWithin, zip_with, irq_place, irq_quantity, longest_irq, pressure_places, weight, total_weight, time_sum, weighted_time, share_of, shares, totals_of, ShareIsMean, ShareSumFits, ShareWithinSum, SharesWithin, IdleHasNone, TotalsGrow}
 
 pub length-zip_with : {A B C : Type 0} (f : A → B → C) → (xs : List A) (ys : List B) → length xs ≡ length ys → length (zip_with f xs ys) ≡ length xs
 length-zip_with f [] ys same = refl
@@ -30,35 +31,28 @@ zip_with_all f (x ∷ xs) (y ∷ ys) (z ∷ zs) n d e o xn yn zn each =
     let rest = zip_with_all f xs ys zs (length xs) d e o refl (omega arith) (omega arith) (λ k below. each (suc k) (omega arith)) in
     cc (here, rest)
 
--- ---- lists with one number for each pressure state
+-- ---- lists with one number for each pressure quantity
 
--- the states stand at the places of their numbers
-place_at : (k : ℕ) → k < 6 → get_or pressure_places k 0 ≡ k
-place_at zero below = refl
-place_at (suc zero) below = refl
-place_at (suc (suc zero)) below = refl
-place_at (suc (suc (suc zero))) below = refl
-place_at (suc (suc (suc (suc zero)))) below = refl
-place_at (suc (suc (suc (suc (suc zero))))) below = refl
-place_at (suc (suc (suc (suc (suc (suc k)))))) below = absurd (omega arith)
+-- lists of seven numbers that agree at each place are the same
+pub same_seven : (xs ys : List ℕ) → length xs ≡ 7 → length ys ≡ 7 → ((k : ℕ) → k < 7 → get_or xs k 0 ≡ get_or ys k 0) → xs ≡ ys
+same_seven xs ys seven also each =
+    fill_by_all (λ k. get_or ys k 0) xs 7 0 seven each ∙ sym (fill_by_all (λ k. get_or ys k 0) ys 7 0 also (λ k below. refl))
 
--- lists of six numbers that agree at each place are the same
-pub same_six : (xs ys : List ℕ) → length xs ≡ 6 → length ys ≡ 6 → ((k : ℕ) → k < 6 → get_or xs k 0 ≡ get_or ys k 0) → xs ≡ ys
-same_six xs ys six also each =
-    fill_by_all (λ k. get_or ys k 0) xs 6 0 six each ∙ sym (fill_by_all (λ k. get_or ys k 0) ys 6 0 also (λ k below. refl))
+-- a share, by the number of its quantity
+pub get_or-shares : (rows : List (List ℕ)) (k o : ℕ) → k < 7 → get_or (shares rows) k o ≡ share_of rows (get_or pressure_places k 0)
+unfolding shares
+get_or-shares rows k o below = get_or-map (share_of rows) pressure_places k 0 o below
 
--- the sum of the times with a number, each with the weight of its processor
-pub shares_all : (rows : List (List ℕ)) (sums : List ℕ) (divisor : ℕ) → length sums ≡ 6 → divisor ≡ max (total_weight rows) 1 →
-    ((k : ℕ) → k < 6 → get_or sums k 0 ≡ sum_by (λ times. get_or times k 0 * weight times) rows) →
+-- the sum of the times of each quantity, each with the weight of its processor
+pub shares_all : (rows : List (List ℕ)) (sums : List ℕ) (divisor : ℕ) → length sums ≡ 7 → divisor ≡ max (total_weight rows) 1 →
+    ((k : ℕ) → k < 7 → get_or sums k 0 ≡ sum_by (λ times. get_or times (get_or pressure_places k 0) 0 * weight times) rows) →
     map (λ sum. sum / divisor) sums ≡ shares rows
 unfolding shares
-shares_all rows sums divisor six divisor_is each =
-    let long : length (map (λ sum. sum / divisor) sums) ≡ 6 = length-map sums (λ sum. sum / divisor) ∙ six in
-    same_six (map (λ sum. sum / divisor) sums) (map (share_of rows) pressure_places) long refl (λ k below.
-    let inside : k < length sums = omega (arith, six) in
-    let place = get_or pressure_places k 0 in
-    let same : place ≡ k = place_at k below in
-    let quotient : share_of rows place ≡ get_or sums k 0 / divisor = rw (same, each k below, divisor_is) refl in
+shares_all rows sums divisor seven divisor_is each =
+    let long : length (map (λ sum. sum / divisor) sums) ≡ 7 = length-map sums (λ sum. sum / divisor) ∙ seven in
+    same_seven (map (λ sum. sum / divisor) sums) (map (share_of rows) pressure_places) long refl (λ k below.
+    let inside : k < length sums = omega (arith, seven) in
+    let quotient : share_of rows (get_or pressure_places k 0) ≡ get_or sums k 0 / divisor = rw (each k below, divisor_is) refl in
     get_or-map (λ sum. sum / divisor) sums k 0 0 inside ∙ sym quotient ∙ sym (get_or-map (share_of rows) pressure_places k 0 0 below))
 
 -- ---- laws
@@ -89,20 +83,66 @@ share_is_mean rows place least most all =
           (le-div_iff_mul-le some).1 low,
     )
 
--- a number of a list whose numbers are bounded, or 0 behind its end
-get_or_most : (xs : List ℕ) (k most : ℕ) → All (λ x. x ≤ most) xs → get_or xs k 0 ≤ most
-get_or_most xs k most all =
-    let inside : k < length xs → get_or xs k 0 ≤ most = λ below. all k 0 below in
-    let past : length xs ≤ k → get_or xs k 0 ≤ most = λ above. rw (get_or_past xs k 0 above) (omega arith) in
-    let case : (k < length xs) ⊎ (length xs ≤ k) = grind arith in
-    ⊎_elim inside past case
+-- the places of the states stand in their order
+pub state_place : (quantity : ℕ) → quantity < irq_quantity → get_or pressure_places quantity 0 ≡ quantity
+state_place zero below = refl
+state_place (suc zero) below = refl
+state_place (suc (suc zero)) below = refl
+state_place (suc (suc (suc zero))) below = refl
+state_place (suc (suc (suc (suc zero)))) below = refl
+state_place (suc (suc (suc (suc (suc zero))))) below = refl
+state_place (suc (suc (suc (suc (suc (suc k)))))) below = absurd (omega arith)
+
+-- no time of an interval is longer than the longest tick and a second
+time_most : (times : List ℕ) (place : ℕ) → place ≤ irq_place → AreTimesWithin longest_tick (longest_tick + longest_irq) times → get_or times place 0 ≤ longest_tick + longest_irq
+time_most times place within is =
+    let state : place < irq_place → get_or times place 0 ≤ longest_tick + longest_irq = λ below. let most = is.states place below in omega (arith, most) in
+    let irq : place ≡ irq_place → get_or times place 0 ≤ longest_tick + longest_irq = λ same. rw same is.irq in
+    let case : (place < irq_place) ⊎ (place ≡ irq_place) = grind arith in
+    ⊎_elim state irq case
+
+-- a share isn't above what no time at its place is above
+share_most : (rows : List (List ℕ)) (place most : ℕ) → All (λ times. get_or times place 0 ≤ most) rows → share_of rows place ≤ most
+share_most rows place most all = (share_is_mean rows place 0 most (λ k d below. (omega arith, all k d below))).0
 
 pub shares_within : SharesWithin
-unfolding shares
-shares_within rows most all = λ k d below.
-    let place = get_or pressure_places k 0 in
-    let times : All (λ times. (0 ≤ get_or times place 0) × (get_or times place 0 ≤ most)) rows = λ i e inside. (omega arith, get_or_most (get_or rows i e) place most (all i e inside)) in
-    rw (get_or-map (share_of rows) pressure_places k 0 d below) (share_is_mean rows place 0 most times).0
+shares_within rows most most_irq all = record {
+  states = λ quantity below.
+      let place : get_or pressure_places quantity 0 ≡ quantity = state_place quantity below in
+      let times : All (λ times. get_or times quantity 0 ≤ most) rows = λ k d inside. (all k d inside).states quantity (omega arith) in
+      rw (get_or-shares rows quantity 0 (omega arith), place) (share_most rows quantity most times);
+  irq = rw (get_or-shares rows irq_quantity 0 (omega arith)) (share_most rows irq_place most_irq (λ k d inside. (all k d inside).irq));
+}
+
+-- a time of one of the rows is at most all of them together
+time_within_sum : (rows : List (List ℕ)) (place k : ℕ) (d : List ℕ) → k < length rows → get_or (get_or rows k d) place 0 ≤ time_sum rows place
+time_within_sum [] place k d below = absurd (omega arith)
+time_within_sum (times ∷ rows) place zero d below =
+    let sum = sum_by-cons (λ (times : List ℕ). get_or times place 0) times rows in omega (arith, sum)
+time_within_sum (times ∷ rows) place (suc k) d below =
+    let rest = time_within_sum rows place k d (omega arith) in
+    let sum = sum_by-cons (λ (times : List ℕ). get_or times place 0) times rows in omega (arith, sum, rest)
+
+pub share_within_sum : ShareWithinSum
+share_within_sum rows place = share_most rows place (time_sum rows place) (λ k d below. time_within_sum rows place k d below)
+
+-- the weights of processors together, of which each is at most this
+weight_most : (rows : List (List ℕ)) (most : ℕ) → All (λ times. weight times ≤ most) rows → total_weight rows ≤ length rows * most
+weight_most [] most all = omega arith
+weight_most (times ∷ rows) most all =
+    let here = all 0 times (omega arith) in
+    let rest = weight_most rows most (λ k d below. all (suc k) d (omega arith)) in
+    omega (arith, sum_by-cons weight times rows, here, rest)
+
+pub share_sum_fits : ShareSumFits
+share_sum_fits rows place few within all =
+    let most = longest_tick + longest_irq in
+    let time : All (λ times. (0 ≤ get_or times place 0) × (get_or times place 0 ≤ most)) rows = λ k d below. (omega arith, time_most (get_or rows k d) place within (all k d below)) in
+    let weights : total_weight rows ≤ length rows * (longest_tick / 1000000) = weight_most rows (longest_tick / 1000000) (λ k d below. let idle = (all k d below).states 6 (omega arith) in omega (arith, idle)) in
+    let sum = (sum_between rows place 0 most time).1 in
+    let all_weights : total_weight rows ≤ 64 * (longest_tick / 1000000) = omega (arith, weights, few) in
+    let wide : most * total_weight rows ≤ most * (64 * (longest_tick / 1000000)) = mul-le-mul_left most all_weights in
+    (omega (arith, sum, wide), omega (arith, sum, wide))
 
 -- without weight there is no time
 no_weight : (rows : List (List ℕ)) (place : ℕ) → total_weight rows ≡ 0 → weighted_time rows place ≡ 0
@@ -119,12 +159,12 @@ idle_has_none rows place none = rw (no_weight rows place none) (omega arith)
 
 pub totals_grow : TotalsGrow
 unfolding totals_of
-totals_grow samples sample six =
-    zip_with_all (λ x y. x + y) (totals_of samples) sample (totals_of (samples ++ sample ∷ [])) 6 0 0 0 refl six refl (λ k below.
+totals_grow samples sample seven =
+    zip_with_all (λ x y. x + y) (totals_of samples) sample (totals_of (samples ++ sample ∷ [])) 7 0 0 0 refl seven refl (λ k below.
     let sums = λ (rows : List (List ℕ)) (i : ℕ). sum_by (λ (row : List ℕ). get_or row i 0) rows in
     let f = λ (row : List ℕ). get_or row k 0 in
-    let before : get_or (totals_of samples) k 0 ≡ sum_by f samples = get_or-map-range_with_len (sums samples) 0 6 k k 0 below (omega arith) in
-    let after : get_or (totals_of (samples ++ sample ∷ [])) k 0 ≡ sum_by f (samples ++ sample ∷ []) = get_or-map-range_with_len (sums (samples ++ sample ∷ [])) 0 6 k k 0 below (omega arith) in
+    let before : get_or (totals_of samples) k 0 ≡ sum_by f samples = get_or-map-range_with_len (sums samples) 0 7 k k 0 below (omega arith) in
+    let after : get_or (totals_of (samples ++ sample ∷ [])) k 0 ≡ sum_by f (samples ++ sample ∷ []) = get_or-map-range_with_len (sums (samples ++ sample ∷ [])) 0 7 k k 0 below (omega arith) in
     let sum : sum_by f (samples ++ sample ∷ []) ≡ sum_by f samples + sum_by f (sample ∷ []) = sum_by-append f samples (sample ∷ []) in
     let one : sum_by f (sample ∷ []) ≡ get_or sample k 0 = omega arith in
     omega (arith, before, after, sum, one))

@@ -1,4 +1,4 @@
--- The pressure files io.pressure, memory.pressure and cpu.pressure of a group, as Documentation/accounting/psi.rst has them.
+-- The pressure files io.pressure, memory.pressure, cpu.pressure and irq.pressure of a group, as Documentation/accounting/psi.rst has them.
 use Rattle.std.specs.Prelude.{◌≡◌, ℕ, ◌+◌, ◌*◌, ◌/◌, ◌%◌, ◌^◌, ◌≤◌, ◌<◌, All, length, List, [], ◌++◌, slice_index, slice_index_or, codes, decimal, ◌&&◌, Bool, true, false, if◌then◌else◌}
 use Rattle.psi_base.specs.declared.event.Res.{Res}
 use Rattle.psi_base.specs.declared.event.Res.TheVariants.{Io, Memory, Cpu}
@@ -47,6 +47,11 @@ full_line res is_root totals averages =
 -- a pressure file: the line on some tasks and the line on all
 unfoldable pub file_text : Res → Bool → List ℕ → List (List ℕ) → List ℕ
 file_text res is_root totals averages = state_line res SomeStalled totals averages ++ full_line res is_root totals averages
+
+-- the pressure file of interrupts, by its averages and total (ns): the line on all tasks alone, since no task runs on a processor
+-- while an interrupt does
+abbrev pub irq_text : List ℕ → ℕ → List ℕ
+irq_text averages total = file_line FullStalled averages total
 
 -- ---- what a pressure file tells
 

@@ -13,8 +13,9 @@ use Rattle.psi_base.specs.declared.event.TriggerSpec.{TriggerSpec}
 use Rattle.psi_spec.specs.declared.machine.GroupLife.{GroupLife}
 use Rattle.psi_spec.specs.World.{root}
 use Rattle.psi_spec.specs.Groups.{is_live_at}
-use Rattle.pressure_spec.specs.Ticks.{Tick, no_row}
+use Rattle.pressure_spec.specs.Ticks.{AreNextTicks, IsNextTick, Tick, last_tick, no_row, no_tick}
 use Rattle.pressure_spec.specs.Share.{at_state, no_totals, pressure_places, shares, totals_of, zip_with}
+use Rattle.pressure_spec.specs.Share.{AreAmountsWithin, irq_place, irq_quantity, longest_irq, most_irq_total, time_sum}
 use Rattle.pressure_spec.specs.Average.{AverageState, average_of, averages_after, last_totals}
 use Rattle.pressure_spec.specs.Signal.{TriggerState, fires, new_trigger, trigger_after}
 
@@ -47,7 +48,7 @@ group_samples cpus lives ticks slot = samples_from (life_of lives slot) slot (no
 
 -- ---- totals and averages
 
--- the totals (ns) of a group after ticks: of each state the sum of its shares
+-- the totals (ns) of a group after ticks: of each quantity the sum of its shares
 unfoldable pub totals_after : ℕ → List GroupLife → List Tick → ℕ → List ℕ
 totals_after cpus lives ticks slot = totals_of (map (λ sample. sample.1) (group_samples cpus lives ticks slot))
 
@@ -123,6 +124,24 @@ TotalIsSum = (cpus : ℕ) (lives : List GroupLife) (ticks : List Tick) (slot i :
 abbrev pub TotalsNeverFall : Type 0
 TotalsNeverFall = (cpus : ℕ) (lives : List GroupLife) (ticks more : List Tick) (slot i : ℕ) →
     slice_index (totals_after cpus lives ticks slot) i ≤ slice_index (totals_after cpus lives (ticks ++ more) slot) i
+
+-- No share of a state is longer than the time from one tick to the next, and that of interrupts is at most a second longer.
+abbrev pub NextSharesWithin : Type 0
+NextSharesWithin = (last tick : Tick) (slot : ℕ) → IsNextTick last tick →
+    AreAmountsWithin (tick.at - last.at) (tick.at - last.at + longest_irq) (shares (growths (row_at last slot) (row_at tick slot)))
+
+-- No total of a state is longer than the time up to the last tick, and an interrupt total is at most the interrupt times of
+-- the processors together, since a share is at most what these grew by.
+abbrev pub TotalsWithin : Type 0
+TotalsWithin = (cpus : ℕ) (lives : List GroupLife) (ticks : List Tick) (slot : ℕ) → slot < length lives → AreNextTicks (no_tick cpus (length lives)) ticks →
+    AreAmountsWithin (last_tick (no_tick cpus (length lives)) ticks).at (time_sum (row_at (last_tick (no_tick cpus (length lives)) ticks) slot) irq_place)
+    (totals_after cpus lives ticks slot)
+
+-- So the interrupt totals of up to 64 processors have their bound, because no interrupt time is above the moment of its tick.
+abbrev pub IrqTotalBound : Type 0
+IrqTotalBound = (cpus : ℕ) (lives : List GroupLife) (ticks : List Tick) (slot : ℕ) → slot < length lives → AreNextTicks (no_tick cpus (length lives)) ticks →
+    length (row_at (last_tick (no_tick cpus (length lives)) ticks) slot) ≤ 64 →
+    slice_index (totals_after cpus lives ticks slot) irq_quantity ≤ most_irq_total
 
 -- After any ticks no average of a group is above 100 percent.
 abbrev pub GroupsAtMostHundred : Type 0

@@ -1,9 +1,11 @@
--- How long a group was in each state in an interval, over all processors: the kernel's collect_percpu_times.
-use Rattle.std.specs.Prelude.{◌≡◌, ℕ, ◌+◌, ◌*◌, ◌/◌, ◌<◌, ◌≤◌, max, List, [], ◌∷◌, ◌++◌, length, map, sum_by, slice_index, All}
+-- How long a group was in each state in an interval, and how long interrupts took from it, over all processors: the kernel's
+-- collect_percpu_times.
+use Rattle.std.specs.Prelude.{◌≡◌, ℕ, ◌+◌, ◌*◌, ◌/◌, ◌^◌, ◌<◌, ◌≤◌, max, List, [], ◌∷◌, ◌++◌, length, map, sum_by, slice_index, All}
 use Rattle.std.specs.List.{range_with_len}
 use Rattle.psi_base.specs.declared.event.State.{State}
 use Rattle.psi_base.specs.declared.event.State.TheVariants.{Nonidle}
 use Rattle.psi_spec.specs.Stall.{state_number}
+use Rattle.psi_spec.specs.Trace.{longest_tick}
 
 -- f of the elements of two lists, place by place
 abbrev pub zip_with : {A B C : Type 0} → (A → B → C) → List A → List B → List C
@@ -11,15 +13,24 @@ zip_with f [] ys = []
 zip_with f (x ∷ xs) [] = []
 zip_with f (x ∷ xs) (y ∷ ys) = f x y ∷ zip_with f xs ys
 
--- the quantities whose pressure is told, each by its place in a list of times: all states but nonidle
-abbrev pub pressure_places : List ℕ
-pressure_places = 0 ∷ 1 ∷ 2 ∷ 3 ∷ 4 ∷ 5 ∷ []
+-- Times (ns) of a group on a processor: one in each of the seven states, in the order of their numbers, and behind them, at
+-- this place, what interrupts took.
+abbrev pub irq_place : ℕ
+irq_place = 7
 
--- the number of a state in a list that has one for each state, in the order of their numbers
+-- the quantities whose pressure is told, each by its place in a list of times: all states but nonidle, and interrupt time
+abbrev pub pressure_places : List ℕ
+pressure_places = 0 ∷ 1 ∷ 2 ∷ 3 ∷ 4 ∷ 5 ∷ irq_place ∷ []
+
+-- the place of interrupt time in a list that has a number for each of these quantities: the last
+abbrev pub irq_quantity : ℕ
+irq_quantity = 6
+
+-- the number of a state in a list that begins with one for each state, in the order of their numbers
 abbrev pub at_state : List ℕ → State → ℕ
 at_state numbers state = slice_index numbers (state_number state)
 
--- the weight of a processor: how long it wasn't idle, in whole timer ticks of a millisecond, of seven times (ns)
+-- the weight of a processor: how long it wasn't idle, in whole timer ticks of a millisecond, by its times (ns)
 abbrev pub weight : List ℕ → ℕ
 weight times = at_state times Nonidle / 1000000
 
@@ -51,6 +62,31 @@ no_totals = map (λ place. 0) pressure_places
 unfoldable pub totals_of : List (List ℕ) → List ℕ
 totals_of samples = map (λ i. sum_by (λ sample. slice_index sample i) samples) (range_with_len 0 (length pressure_places))
 
+-- the times (ns) at a place of all processors together
+abbrev pub time_sum : List (List ℕ) → ℕ → ℕ
+time_sum rows place = sum_by (λ times. slice_index times place) rows
+
+-- ---- bounds
+
+-- the longest time (ns) that one line of a trace tells of interrupts, a second: all of it may have passed before the last tick
+abbrev pub longest_irq : ℕ
+longest_irq = 1000000000
+
+-- No interrupt total (ns) is above this: it is at most the interrupt times of the processors together, which are at most 64,
+-- each of them at most the last moment that a trace may reach.
+abbrev pub most_irq_total : ℕ
+most_irq_total = 4000000000000000000
+
+-- times (ns) on a processor: none in a state is above the first bound, and what interrupts took isn't above the second
+pub record AreTimesWithin (most most_irq : ℕ) (times : List ℕ) : Type 0 where
+  pub states : (place : ℕ) → place < irq_place → slice_index times place ≤ most
+  pub irq : slice_index times irq_place ≤ most_irq
+
+-- shares or totals (ns): none of a state is above the first bound, and that of interrupt time isn't above the second
+pub record AreAmountsWithin (most most_irq : ℕ) (amounts : List ℕ) : Type 0 where
+  pub states : (quantity : ℕ) → quantity < irq_quantity → slice_index amounts quantity ≤ most
+  pub irq : slice_index amounts irq_quantity ≤ most_irq
+
 -- ---- laws
 
 -- A share is a mean: it is at most the longest time at its place on a processor, and at least the shortest where some
@@ -60,9 +96,20 @@ ShareIsMean = (rows : List (List ℕ)) (place least most : ℕ) →
     All (λ times. (least ≤ slice_index times place) × (slice_index times place ≤ most)) rows →
     (share_of rows place ≤ most) × (0 < total_weight rows → least ≤ share_of rows place)
 
--- No share is longer than an interval that no time is longer than.
+-- So no share of a state is longer than an interval that no time in a state is longer than, and no share of interrupt time is
+-- above what no interrupt time is above.
 abbrev pub SharesWithin : Type 0
-SharesWithin = (rows : List (List ℕ)) (most : ℕ) → All (λ times. All (λ time. time ≤ most) times) rows → All (λ share. share ≤ most) (shares rows)
+SharesWithin = (rows : List (List ℕ)) (most most_irq : ℕ) → All (AreTimesWithin most most_irq) rows → AreAmountsWithin most most_irq (shares rows)
+
+-- A share is at most the processors' times together.
+abbrev pub ShareWithinSum : Type 0
+ShareWithinSum = (rows : List (List ℕ)) (place : ℕ) → share_of rows place ≤ time_sum rows place
+
+-- The sum in a share fits 64 bits: each of at most 64 processors has at most the longest tick, and of interrupts a second more,
+-- and weighs at most as many timer ticks as the longest tick has.
+abbrev pub ShareSumFits : Type 0
+ShareSumFits = (rows : List (List ℕ)) (place : ℕ) → length rows ≤ 64 → place ≤ irq_place → All (AreTimesWithin longest_tick (longest_tick + longest_irq)) rows →
+    (weighted_time rows place ≤ 64 * (longest_tick + longest_irq) * (longest_tick / 1000000)) × (weighted_time rows place < 2 ^ 64)
 
 -- Where no processor has weight, which takes a whole timer tick, there is no share.
 abbrev pub IdleHasNone : Type 0

@@ -1,11 +1,13 @@
 -- The moments at which pressure is sampled, and the tables of times that a trace gives at them. All groups are sampled on one
 -- grid of moments, which is this profile's; the kernel samples each group by a timer of its own.
-use Rattle.std.specs.Prelude.{ℕ, ◌+◌, ◌-◌, ◌*◌, ◌/◌, ◌<◌, ◌≤◌, List, [], ◌∷◌, length, map, replicate, slice_index, slice_index_or, nat_lt, ◌==◌, ◌&&◌, ◌||◌, Bool}
+use Rattle.std.specs.Prelude.{ℕ, ◌+◌, ◌++◌, ◌-◌, ◌*◌, ◌/◌, ◌<◌, ◌≤◌, List, [], ◌∷◌, length, map, replicate, slice_index, slice_index_or, nat_lt, ◌==◌, ◌&&◌, ◌||◌, Bool}
 use Rattle.std.specs.List.{range_with_len}
 use Rattle.psi_base.specs.declared.event.Event.{Event}
+use Rattle.psi_base.specs.declared.event.State.{State}
 use Rattle.psi_spec.specs.World.{after, up_to}
-use Rattle.psi_spec.specs.Stall.{stall, states}
+use Rattle.psi_spec.specs.Stall.{irq_time, stall, states}
 use Rattle.psi_spec.specs.Trace.{last_moment, longest_tick}
+use Rattle.pressure_spec.specs.Share.{irq_place, longest_irq}
 
 -- ---- ticks
 
@@ -31,15 +33,20 @@ is_report period length last i = i == last || (nat_lt 0 period && is_due period 
 
 -- ---- tables
 
--- A tick: its moment (ns), and the times (ns) in the seven states up to it, of each group on each processor: a table by slot,
--- by processor and by state.
+-- A tick: its moment (ns), and the times (ns) in the seven states and of interrupts up to it, of each group on each processor:
+-- a table by slot, by processor and by place.
 pub record Tick : Type 0 where
   pub at : ℕ
   pub table : List (List (List ℕ))
 
--- the stall times (ns) of a group on a processor up to a moment, in the order of the states
+-- the times (ns) of a group on a processor: those in the states, in the order of their numbers, and then what interrupts took
+abbrev pub times_with : (State → ℕ) → ℕ → List ℕ
+times_with in_state irq = map in_state states ++ irq ∷ []
+
+-- the times (ns) of a group on a processor up to a moment
 abbrev pub times_until : ℕ → ℕ → List Event → ℕ → List ℕ
-times_until cpu slot events at = map (λ state. stall state cpu slot (up_to events at) at) states
+times_until cpu slot events at =
+    times_with (λ state. stall state cpu slot (up_to events at) at) (irq_time cpu slot (up_to events at))
 
 -- the times (ns) of a group on each of so many processors
 abbrev pub row_until : ℕ → ℕ → List Event → ℕ → List (List ℕ)
@@ -61,7 +68,7 @@ ticks_of cpus events length count = map (tick_of cpus events length) (range_with
 
 -- before the first tick no time has passed on any of so many processors
 abbrev pub no_row : ℕ → List (List ℕ)
-no_row cpus = replicate cpus (map (λ _. 0) states)
+no_row cpus = replicate cpus (times_with (λ state. 0) 0)
 
 -- before the first tick: the moment 0, and no time has passed in any of so many groups on so many processors
 abbrev pub no_tick : ℕ → ℕ → Tick
@@ -72,18 +79,25 @@ abbrev pub last_tick : Tick → List Tick → Tick
 last_tick before [] = before
 last_tick before (tick ∷ ticks) = last_tick tick ticks
 
+-- the time (ns) of a processor at a place of a group's row, and 0 where it has no such place
+abbrev pub time_of : List (List ℕ) → ℕ → ℕ → ℕ
+time_of row cpu place = slice_index (slice_index_or row cpu []) place
+
 -- the time (ns) at a place of a table, and 0 where it has no such place
 abbrev pub time_in : List (List (List ℕ)) → ℕ → ℕ → ℕ → ℕ
-time_in table slot cpu place = slice_index (slice_index_or (slice_index_or table slot []) cpu []) place
+time_in table slot cpu place = time_of (slice_index_or table slot []) cpu place
 
--- A tick comes next after another: it is later, by at most the longest tick, and within the last moment; and no time fell
--- since then, or grew by more than the time in between.
+-- A tick comes next after another: it is later, by at most the longest tick, and within the last moment. No time fell since
+-- then. None in a state grew by more than the time in between. Interrupt time may have grown by a second more, since a trace
+-- tells of it when it has passed; and all of it passed before the tick.
 pub record IsNextTick (last tick : Tick) : Type 0 where
   pub later : last.at < tick.at
   pub soon : tick.at ≤ last.at + longest_tick
   pub early : tick.at ≤ last_moment
   pub kept : (slot cpu place : ℕ) → time_in last.table slot cpu place ≤ time_in tick.table slot cpu place
-  pub grown : (slot cpu place : ℕ) → time_in tick.table slot cpu place ≤ time_in last.table slot cpu place + (tick.at - last.at)
+  pub grown : (slot cpu place : ℕ) → place < irq_place → time_in tick.table slot cpu place ≤ time_in last.table slot cpu place + (tick.at - last.at)
+  pub irq_grown : (slot cpu : ℕ) → time_in tick.table slot cpu irq_place ≤ time_in last.table slot cpu irq_place + (tick.at - last.at) + longest_irq
+  pub irq_early : (slot cpu : ℕ) → time_in tick.table slot cpu irq_place ≤ tick.at
 
 -- ticks come one after another, the first of them after the one before them
 abbrev pub AreNextTicks : Tick → List Tick → Type 0

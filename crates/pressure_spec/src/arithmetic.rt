@@ -1,8 +1,8 @@
 //! Laws of the arithmetic of pressure: of averages, shares and triggers. Each function has an empty body: its contract
 //! is the law.
 
-ghost use Rattle.pressure_spec.specs.Share.{IdleHasNone, ShareIsMean, SharesWithin, TotalsGrow};
-ghost use Rattle.pressure_spec.specs.Samples.{FiredApart, GroupsAtMostHundred, TotalIsSum, TotalsNeverFall};
+ghost use Rattle.pressure_spec.specs.Share.{IdleHasNone, ShareIsMean, ShareSumFits, ShareWithinSum, SharesWithin, TotalsGrow};
+ghost use Rattle.pressure_spec.specs.Samples.{FiredApart, GroupsAtMostHundred, IrqTotalBound, NextSharesWithin, TotalIsSum, TotalsNeverFall, TotalsWithin};
 ghost use Rattle.pressure_spec.specs.Signal.{PendingIsSignalled, QuietWhenStill, RemembersLast, SignalsApart};
 ghost use Rattle.pressure_spec.specs.Average.{AtMostHundred, CarriesTheRest, FallsWhenFree, LoadApproaches, PowerHalves, RisesWhenStalled, SamplesWithinTotal};
 
@@ -36,15 +36,20 @@ pub fn law_signals()
 pub fn law_shares()
     ensures mean { ShareIsMean }
     ensures within { SharesWithin }
+    ensures sum { ShareWithinSum }
+    ensures fits { ShareSumFits }
     ensures idle { IdleHasNone }
     ensures totals { TotalsGrow }
 {}
 
-/// Groups over any list of ticks: a total is the sum of its shares and so never falls, no average is above 100 percent,
-/// and two signals of a trigger are at least its window apart.
+/// Groups over any list of ticks: a total is the sum of its shares and so never falls, and no total is too long for what
+/// counts it. No average is above 100 percent, and two signals of a trigger are at least its window apart.
 pub fn law_ticks()
     ensures sum { TotalIsSum }
     ensures kept { TotalsNeverFall }
+    ensures shares { NextSharesWithin }
+    ensures within { TotalsWithin }
+    ensures bound { IrqTotalBound }
     ensures most { GroupsAtMostHundred }
     ensures apart { FiredApart }
 {}

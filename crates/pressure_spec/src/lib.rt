@@ -4,5 +4,7 @@
 #![tactic(auto)]
 
 mod arithmetic;
+mod quantities;
 
 pub use arithmetic::{law_averages, law_fixed_point, law_shares, law_signals, law_ticks};
+pub use quantities::{Amounts, AverageRows, QUANTITIES, TIMES, Times};

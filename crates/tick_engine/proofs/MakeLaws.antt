@@ -1,21 +1,21 @@
 -- An engine before the first tick.
 use Rattle.std.proofs.Common.{◌≡◌, ℕ, ◌≤◌, List, [], ◌∷◌, length, get_or, refl, ap, ◌∙◌, arith}
-use Rattle.std.specs.Prelude.{All, map}
+use Rattle.std.specs.Prelude.{map}
 use Rattle.std.proofs.lemmas.List.{get_or-map, length-append, length-map}
-use Rattle.std.proofs.lemmas.List.Elements.{All-map, All-replicate}
+use Rattle.std.proofs.lemmas.List.Elements.{All-map}
 use Rattle.psi_base.specs.declared.event.TriggerSpec.{TriggerSpec}
 use Rattle.psi_spec.specs.declared.machine.GroupLife.{GroupLife}
 use Rattle.psi_spec.specs.Told.{AreTriggersWithin, IsTriggerWithin}
 use Rattle.psi_spec.specs.Trace.{last_moment}
 use Rattle.psi_spec.specs.World.{root}
-use Rattle.pressure_spec.specs.Share.{no_totals}
-use Rattle.pressure_spec.specs.Samples.{group_averages, totals_after}
-use Rattle.pressure_spec.specs.Share.{totals_of}
+use Rattle.pressure_spec.specs.Share.{irq_place, time_sum, totals_of}
+use Rattle.pressure_spec.specs.Samples.{group_averages, row_at, totals_after}
+use Rattle.pressure_spec.proofs.WithinLaws.{none_within}
 use Rattle.aggregate.specs.Table.{new_table}
 use Rattle.aggregate.proofs.TableLaws.{keeps_sizes}
 use Rattle.tick_engine.specs.declared.watch.Watch.{Watch}
 use Rattle.tick_engine.specs.Tables.{tick_at}
-use Rattle.tick_engine.specs.Step.{AreTotalsWithin, new_watch, no_group, unsampled_group}
+use Rattle.tick_engine.specs.Step.{AreGroupsWithin, engine_group, new_watch, no_group, unsampled_group}
 use Rattle.tick_engine.specs.Engine.{EngineView, IsEngine, StandsFor, group_after}
 
 -- an engine before the first tick
@@ -38,8 +38,12 @@ first_stands cpus lives triggers = record {
   unfired = λ none. refl;
 }
 
-no_totals_within : All (λ total. total ≤ 0) no_totals
-no_totals_within = All-replicate (λ total. total ≤ 0) 6 0 (omega arith)
+-- no group has totals yet
+groups_within : (cpus : ℕ) (lives : List GroupLife) → AreGroupsWithin (tick_at 0 (new_table cpus (length lives))) (map unsampled_group lives)
+unfolding totals_of
+groups_within cpus lives slot below =
+    let none : engine_group (map unsampled_group lives) slot ≡ unsampled_group (get_or lives slot root) = get_or-map unsampled_group lives slot root no_group (omega (arith, below, length-map lives unsampled_group)) in
+    rw none (none_within 0 (time_sum (row_at (tick_at 0 (new_table cpus (length lives))) slot) irq_place))
 
 -- what is made of lives and triggers in range is an engine
 pub first_is : (cpus : ℕ) (lives : List GroupLife) (triggers : List TriggerSpec) → cpus ≤ 64 → length lives ≤ 1024 → AreTriggersWithin last_moment (length lives) triggers → IsEngine (first_engine cpus lives triggers)
@@ -52,6 +56,6 @@ first_is cpus lives triggers few_cpus few_groups within =
       few_watches = omega (arith, length-map triggers new_watch, within.few);
       sizes = rw slots (keeps_sizes.new cpus (length lives));
       early = omega arith;
-      totals = All-map (λ group. AreTotalsWithin 0 group) unsampled_group lives (λ k d below. no_totals_within);
+      totals = groups_within cpus lives;
       watches = rw slots (All-map Within new_watch triggers within.each);
     }

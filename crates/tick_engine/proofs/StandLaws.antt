@@ -17,7 +17,7 @@ use Rattle.pressure_spec.specs.Samples.{fired_at, growths, has_fired, history_of
 use Rattle.pressure_spec.proofs.SampleLaws as samples
 use Rattle.tick_engine.specs.declared.group.Group.{Group}
 use Rattle.tick_engine.specs.declared.watch.Watch.{Watch}
-use Rattle.tick_engine.specs.Step.{AreStepped, AreTotalsWithin, begun_signals, begun_trigger, engine_group, fired_among, group_step, is_live_group, no_watch, sampled, stepped, watch_begun, watch_in, watch_signals, watch_stepped, watched_total}
+use Rattle.tick_engine.specs.Step.{AreGroupsWithin, AreStepped, begun_signals, begun_trigger, engine_group, fired_among, group_step, is_live_group, no_watch, sampled, stepped, watch_begun, watch_in, watch_signals, watch_stepped, watched_total}
 use Rattle.aggregate.specs.Table.{HasSizes}
 use Rattle.psi_spec.specs.Told.{IsTriggerWithin}
 use Rattle.psi_spec.specs.Trace.{last_moment}
@@ -291,7 +291,7 @@ begun_within groups now slots watches all = All-map (λ (watch : Watch). IsTrigg
 
 -- an engine stays one over a tick
 pub engine_kept : (old new : EngineView) (tick : Tick) → IsEngine old → IsNextTick old.last tick → HasSizes old.cpus (length old.groups) tick.table → IsTicked tick old new →
-    All (λ group. AreTotalsWithin tick.at group) new.groups → IsEngine new
+    AreGroupsWithin tick new.groups → IsEngine new
 engine_kept old new tick engine next sizes is totals =
     let begun_trigger = map (watch_begun old.groups tick.at) old.watches in
     let many = ticked_many is in

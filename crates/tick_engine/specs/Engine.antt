@@ -12,7 +12,7 @@ use Rattle.pressure_spec.specs.Samples.{fired_at, group_averages, history_of, li
 use Rattle.aggregate.specs.Table.{HasSizes}
 use Rattle.tick_engine.specs.declared.group.Group.{Group}
 use Rattle.tick_engine.specs.declared.watch.Watch.{Watch}
-use Rattle.tick_engine.specs.Step.{AreTotalsWithin, engine_group}
+use Rattle.tick_engine.specs.Step.{AreGroupsWithin, engine_group}
 
 -- An engine: for how many processors it is, the last tick, what it keeps of each group and of each trigger, and the numbers
 -- of the triggers that signalled at the last tick.
@@ -74,14 +74,14 @@ abbrev pub AreWatchesWithin : ℕ → List Watch → Type 0
 AreWatchesWithin slots watches = All (λ watch. IsTriggerWithin last_moment slots watch.spec) watches
 
 -- What holds of each engine: its processors, groups and triggers are few, the last table has its sizes, no total is longer
--- than the time up to the last tick, and the triggers are in range.
+-- than what passed up to the last tick, and the triggers are in range.
 pub record IsEngine (engine : EngineView) : Type 0 where
   pub few_cpus : engine.cpus ≤ 64
   pub few_groups : length engine.groups ≤ most_groups
   pub few_watches : length engine.watches ≤ 256
   pub sizes : HasSizes engine.cpus (length engine.groups) engine.last.table
   pub early : engine.last.at ≤ last_moment
-  pub totals : All (λ group. AreTotalsWithin engine.last.at group) engine.groups
+  pub totals : AreGroupsWithin engine.last engine.groups
   pub watches : AreWatchesWithin (length engine.groups) engine.watches
 
 -- there is room for as many

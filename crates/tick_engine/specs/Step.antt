@@ -1,5 +1,5 @@
 -- What one tick does to one group and to one trigger.
-use Rattle.std.specs.Prelude.{◌≡◌, ℕ, ◌≤◌, ◌<◌, List, length, slice_index_or, nat_le, not, ◌&&◌, Bool, false, if◌then◌else◌, Option, None, Some, All, filter}
+use Rattle.std.specs.Prelude.{◌≡◌, ℕ, ◌≤◌, ◌<◌, List, length, slice_index, slice_index_or, nat_le, not, ◌&&◌, Bool, false, if◌then◌else◌, Option, None, Some, filter}
 use Rattle.std.specs.List.{range_with_len}
 use Rattle.psi_base.specs.declared.event.Level.TheVariants.{SomeStalled}
 use Rattle.psi_base.specs.declared.event.Res.TheVariants.{Io}
@@ -7,7 +7,7 @@ use Rattle.psi_base.specs.declared.event.TriggerSpec.{TriggerSpec}
 use Rattle.psi_spec.specs.declared.machine.GroupLife.{GroupLife}
 use Rattle.psi_spec.specs.Groups.{is_gone_by}
 use Rattle.pressure_spec.specs.Ticks.{Tick}
-use Rattle.pressure_spec.specs.Share.{at_state, no_totals, plus, shares}
+use Rattle.pressure_spec.specs.Share.{AreAmountsWithin, at_state, irq_place, irq_quantity, no_totals, plus, shares, time_sum}
 use Rattle.pressure_spec.specs.Average.{average_step, new_averages}
 use Rattle.pressure_spec.specs.Signal.{TriggerState, fires, new_trigger, trigger_step}
 use Rattle.pressure_spec.specs.Samples.{growths, row_at, watched_state}
@@ -40,9 +40,18 @@ sampled group now added = record { made = group.made; gone = group.gone; totals 
 abbrev pub group_step : Tick → Tick → ℕ → Group → Group
 group_step last tick slot group = if is_live_group group tick.at then sampled group tick.at (shares (growths (row_at last slot) (row_at tick slot))) else group
 
--- no total (ns) of a group is above this
-abbrev pub AreTotalsWithin : ℕ → Group → Type 0
-AreTotalsWithin most group = All (λ total. total ≤ most) group.totals
+-- no total (ns) of the group in a slot is longer than what passed up to a tick: those of states are within its moment, and that
+-- of interrupts within the interrupt times of the processors together
+abbrev pub AreTotalsWithin : Tick → ℕ → Group → Type 0
+AreTotalsWithin tick slot group = AreAmountsWithin tick.at (time_sum (row_at tick slot) irq_place) group.totals
+
+-- this holds of each group
+abbrev pub AreGroupsWithin : Tick → List Group → Type 0
+AreGroupsWithin tick groups = (slot : ℕ) → slot < length groups → AreTotalsWithin tick slot (engine_group groups slot)
+
+-- no total (ns) of a state is above this
+abbrev pub AreStatesWithin : ℕ → Group → Type 0
+AreStatesWithin most group = (quantity : ℕ) → quantity < irq_quantity → slice_index group.totals quantity ≤ most
 
 -- each group is as a tick leaves it
 abbrev pub AreStepped : Tick → Tick → List Group → List Group → Type 0

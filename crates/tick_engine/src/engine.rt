@@ -16,6 +16,7 @@ use crate::last::LastTick;
 use crate::watch::{Watch, begin_all, step_all};
 use aggregate::Rows;
 use fixed_average::Averages;
+use pressure_spec::{Amounts, TIMES, Times};
 use psi_base::{NoMemory, Ns, Slot, TriggerSpec};
 use psi_spec::GroupLife;
 use std::alloc::Global;
@@ -30,7 +31,7 @@ pub struct Engine {
     groups: Vec<Group>,
     watches: Vec<Watch>,
     /// Room for what the times of a group grow by, one place a processor.
-    growths: Vec<[u64; 7]>,
+    growths: Vec<Times>,
     /// The numbers of the triggers that signalled at the last tick, with room for all of them.
     fired: Vec<u32>,
 }
@@ -61,10 +62,10 @@ fn groups_of(alloc: Global, lives: &[GroupLife]) -> Result<Vec<Group>, NoMemory>
 }
 
 /// Room for what the times of a group grow by, one place a processor.
-fn no_growths(alloc: Global, cpus: u32) -> Result<Vec<[u64; 7]>, NoMemory>
+fn no_growths(alloc: Global, cpus: u32) -> Result<Vec<Times>, NoMemory>
     ensures { IfOk result (λ growths. length growths.items ≡ cpus) }
 {
-    Ok(vec![in alloc; [0u64; 7]; cpus as usize]?)
+    Ok(vec![in alloc; [0u64; TIMES]; cpus as usize]?)
 }
 
 /// The triggers, before the first tick.
@@ -125,8 +126,8 @@ impl Engine {
         self.last.set(now, rows);
     }
 
-    /// The totals of a group (ns), in the order of the states.
-    pub fn totals(&self, slot: Slot) -> [u64; 6]
+    /// The totals of a group (ns), in the order of the states, and last that of interrupt time.
+    pub fn totals(&self, slot: Slot) -> Amounts
         requires { slot.0 < length self.now.groups }
         ensures { result ≡ totals_in self.now slot.0 }
     {

@@ -1,19 +1,20 @@
 //! What is kept of one group.
 
-ghost use Rattle.std.specs.Prelude.{◌≡◌, ◌≤◌, ◌<◌, All, length};
+ghost use Rattle.std.specs.Prelude.{◌≡◌, ◌≤◌, ◌<◌, ◌+◌, All, length};
 ghost use Rattle.aggregate.specs.Table.{HasSizes};
 ghost use Rattle.pressure_spec.specs.Samples.{row_at};
-ghost use Rattle.pressure_spec.specs.Share.{plus, shares};
+ghost use Rattle.pressure_spec.specs.Share.{AreAmountsWithin, AreTimesWithin, longest_irq, most_irq_total, plus, shares};
 ghost use Rattle.pressure_spec.specs.Ticks.{IsNextTick};
 ghost use Rattle.psi_spec.specs.Trace.{last_moment, longest_tick};
 ghost use Rattle.psi_spec.specs.World.{most_groups};
-ghost use Rattle.tick_engine.specs.Step.{AreStepped, AreTotalsWithin, group_step, is_live_group, sampled, unsampled_group};
+ghost use Rattle.tick_engine.specs.Step.{AreGroupsWithin, AreStepped, AreTotalsWithin, group_step, is_live_group, sampled, unsampled_group};
 ghost use Rattle.tick_engine.specs.Tables.{tick_at};
 
 use crate::growth::put_growths;
 use crate::last::LastTick;
 use aggregate::{Rows, Totals, share};
 use fixed_average::Averages;
+use pressure_spec::Times;
 use psi_base::{Ns, Slot};
 use psi_spec::GroupLife;
 
@@ -53,11 +54,12 @@ impl Group {
 
     /// Adds the shares of an interval to the totals, of what the times of each processor grew by in it (ns), and has the
     /// averages take them at the interval's end.
-    pub(crate) fn sample(&mut self, now: Ns, growths: &[[u64; 7]])
+    pub(crate) fn sample(&mut self, now: Ns, growths: &[Times])
         requires few { length growths.now ≤ 64 }
-        requires short { All (λ times. All (λ time. time ≤ longest_tick) times) growths.now }
+        requires short { All (AreTimesWithin longest_tick (longest_tick + longest_irq))
+            growths.now }
         requires early { now ≤ last_moment }
-        requires fits { All (λ total. total ≤ last_moment)
+        requires fits { AreAmountsWithin last_moment most_irq_total
             (plus self.old.totals (shares growths.now)) }
         ensures { self.new ≡ sampled self.old now (shares growths.now) }
     {
@@ -67,16 +69,16 @@ impl Group {
 
     /// Samples the group at a tick, by what its times grew by since the last one, where it is live. Else it stays as it is,
     /// and costs no share.
-    fn tick(&mut self, slot: Slot, growths: &mut [[u64; 7]], last: &LastTick, now: Ns, rows: &Rows)
+    fn tick(&mut self, slot: Slot, growths: &mut [Times], last: &LastTick, now: Ns, rows: &Rows)
         requires few { length growths.old ≤ 64 }
         requires last { length (row_at last.now slot.0) ≡ length growths.old }
         requires row { length (row_at (tick_at now rows.now) slot.0) ≡ length growths.old }
         requires last_slot { slot.0 < length last.now.table }
         requires slot { slot.0 < length rows.now }
         requires next { IsNextTick last.now (tick_at now rows.now) }
-        requires totals { AreTotalsWithin last.now.at self.old }
+        requires totals { AreTotalsWithin last.now slot.0 self.old }
         ensures stepped { self.new ≡ group_step last.now (tick_at now rows.now) slot.0 self.old }
-        ensures totals { AreTotalsWithin now self.new }
+        ensures totals { AreTotalsWithin (tick_at now rows.now) slot.0 self.new }
     {
         if !self.is_live(now) {
             return;
@@ -89,7 +91,7 @@ impl Group {
 /// Takes all groups over a tick.
 pub(crate) fn tick_all(
     groups: &mut [Group],
-    growths: &mut [[u64; 7]],
+    growths: &mut [Times],
     last: &LastTick,
     now: Ns,
     rows: &Rows,
@@ -99,9 +101,9 @@ pub(crate) fn tick_all(
     requires last { HasSizes (length growths.old) (length groups.old) last.now.table }
     requires sizes { HasSizes (length growths.old) (length groups.old) rows.now }
     requires next { IsNextTick last.now (tick_at now rows.now) }
-    requires totals { All (λ group. AreTotalsWithin last.now.at group) groups.old }
+    requires totals { AreGroupsWithin last.now groups.old }
     ensures stepped { AreStepped last.now (tick_at now rows.now) groups.old groups.new }
-    ensures totals { All (λ group. AreTotalsWithin now group) groups.new }
+    ensures totals { AreGroupsWithin (tick_at now rows.now) groups.new }
 {
     'groups: for (slot, group) in groups.iter_mut().enumerate() {
         group.tick(Slot(slot as u32), growths, last, now, rows);

@@ -8,7 +8,7 @@ ghost use Rattle.psi_spec.specs.Stall.{state_number};
 ghost use Rattle.psi_spec.specs.Told.{IsTriggerWithin};
 ghost use Rattle.psi_spec.specs.Trace.{last_moment};
 ghost use Rattle.tick_engine.specs.Engine.{AreWatchesWithin};
-ghost use Rattle.tick_engine.specs.Step.{AreTotalsWithin, fired_among, new_watch, watch_begun, watch_signals, watch_stepped, watched_total};
+ghost use Rattle.tick_engine.specs.Step.{AreStatesWithin, fired_among, new_watch, watch_begun, watch_signals, watch_stepped, watched_total};
 
 use crate::group::Group;
 use psi_base::{Level, Ns, Res, State, TriggerSpec};
@@ -72,7 +72,7 @@ impl Watch {
     /// Begins the trigger at the first tick that isn't before its line, with its total at the tick before.
     fn begin(&mut self, groups: &[Group], now: Ns)
         requires spec { IsTriggerWithin last_moment (length groups.now) self.old.spec }
-        requires totals { All (λ group. AreTotalsWithin last_moment group) groups.now }
+        requires totals { All (λ group. AreStatesWithin last_moment group) groups.now }
         ensures { self.new ≡ watch_begun groups.now now self.old }
     {
         if self.trigger.is_none() && self.spec.at <= now {
@@ -84,7 +84,7 @@ impl Watch {
     /// Steps the trigger at a tick, if it has begun and its group is live. True where it signals.
     fn step(&mut self, groups: &[Group], now: Ns) -> bool
         requires spec { IsTriggerWithin last_moment (length groups.now) self.old.spec }
-        requires totals { All (λ group. AreTotalsWithin last_moment group) groups.now }
+        requires totals { All (λ group. AreStatesWithin last_moment group) groups.now }
         requires early { now ≤ last_moment }
         ensures state { self.new ≡ watch_stepped groups.now now self.old }
         ensures signals { result ≡ watch_signals groups.now now self.old }
@@ -103,7 +103,7 @@ impl Watch {
 /// Begins each trigger whose line isn't later than a tick and that hasn't begun, with its total at the tick before.
 pub(crate) fn begin_all(watches: &mut [Watch], groups: &[Group], now: Ns)
     requires watches { AreWatchesWithin (length groups.now) watches.old }
-    requires totals { All (λ group. AreTotalsWithin last_moment group) groups.now }
+    requires totals { All (λ group. AreStatesWithin last_moment group) groups.now }
     ensures { watches.new ≡ map (watch_begun groups.now now) watches.old }
 {
     'watches: for watch in watches.iter_mut() {
@@ -129,7 +129,7 @@ pub(crate) fn step_all(watches: &mut [Watch], groups: &[Group], now: Ns, fired: 
     requires few { length watches.old ≤ 256 }
     requires room { length watches.old ≤ vec_capacity fired.old }
     requires watches { AreWatchesWithin (length groups.now) watches.old }
-    requires totals { All (λ group. AreTotalsWithin last_moment group) groups.now }
+    requires totals { All (λ group. AreStatesWithin last_moment group) groups.now }
     requires early { now ≤ last_moment }
     ensures watches { watches.new ≡ map (watch_stepped groups.now now) watches.old }
     ensures fired { fired.new.items ≡ fired_among groups.now now watches.old

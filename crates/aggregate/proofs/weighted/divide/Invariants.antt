@@ -3,7 +3,7 @@ use Rattle.aggregate.proofs.weighted.divide.Given as goal
 
 abbrev pub invariant-each : goal.invariant-each
 invariant-each l = record {
-  six : length l.sums ≡ 6;
+  seven : length l.sums ≡ 7;
   done : (k : ℕ) → k < l.i → get_or l.sums k 0 ≡ get_or l.fn.sums k 0 / l.divisor;
   left : (k : ℕ) → l.i ≤ k → get_or l.sums k 0 ≡ get_or l.fn.sums k 0;
 }

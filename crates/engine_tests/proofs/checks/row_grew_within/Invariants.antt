@@ -3,4 +3,4 @@ use Rattle.engine_tests.specs.Machine.{GrewWithin}
 use Rattle.engine_tests.proofs.checks.row_grew_within.Given as goal
 
 abbrev pub invariant-cpus : goal.invariant-cpus
-invariant-cpus l = (k : ℕ) → k < l.cpu → GrewWithin l.most (get_or l.before k []) (get_or l.now k [])
+invariant-cpus l = (k : ℕ) → k < l.cpu → GrewWithin l.most l.at (get_or l.before k []) (get_or l.now k [])

@@ -3,4 +3,4 @@ use Rattle.engine_tests.specs.Machine.{RowGrewWithin}
 use Rattle.engine_tests.proofs.checks.table_grew_within.Given as goal
 
 abbrev pub invariant-slots : goal.invariant-slots
-invariant-slots l = (k : ℕ) → k < l.slot → RowGrewWithin l.most (get_or l.before k []) (get_or l.now k [])
+invariant-slots l = (k : ℕ) → k < l.slot → RowGrewWithin l.most l.at (get_or l.before k []) (get_or l.now k [])

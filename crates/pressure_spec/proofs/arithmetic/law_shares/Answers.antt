@@ -12,3 +12,9 @@ returns-clause-totals c = laws.totals_grow
 
 pub returns-clause-within : goal.returns-clause-within
 returns-clause-within c = laws.shares_within
+
+pub returns-clause-sum : goal.returns-clause-sum
+returns-clause-sum c = laws.share_within_sum
+
+pub returns-clause-fits : goal.returns-clause-fits
+returns-clause-fits c = laws.share_sum_fits

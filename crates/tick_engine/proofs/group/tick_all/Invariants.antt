@@ -7,5 +7,5 @@ abbrev pub invariant-groups : goal.invariant-groups
 invariant-groups l = record {
   done : (slot : ℕ) → slot < l.slot → engine_group l.groups slot ≡ group_step l.last (tick_at l.now l.rows) slot (engine_group l.fn.groups slot);
   left : (slot : ℕ) → l.slot ≤ slot → engine_group l.groups slot ≡ engine_group l.fn.groups slot;
-  totals : (slot : ℕ) → slot < l.slot → AreTotalsWithin l.now (engine_group l.groups slot);
+  totals : (slot : ℕ) → slot < l.slot → AreTotalsWithin (tick_at l.now l.rows) slot (engine_group l.groups slot);
 }

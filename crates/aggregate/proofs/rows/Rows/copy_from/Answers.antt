@@ -1,4 +1,4 @@
-use Rattle.std.proofs.Common.{◌≡◌, length, arith, sym, ◌∙◌, ap, subst}
+use Rattle.std.proofs.Common.{◌≡◌, length, arith, ap}
 use Rattle.aggregate.specs.Table.{rows_of, HaveSameSizes}
 use Rattle.aggregate.proofs.TableLaws.{flats_same}
 use Rattle.aggregate.proofs.rows.Rows.copy_from.Goals as goal

@@ -8,6 +8,7 @@ use Rattle.tick_engine.specs.Tables.{tick_at}
 use Rattle.tick_engine.specs.Step.{engine_group, group_step, watch_begun}
 use Rattle.tick_engine.specs.Engine.{EngineView, StandsFor}
 use Rattle.tick_engine.proofs.StandLaws as stand
+use Rattle.tick_engine.proofs.StepLaws.{states_within}
 use Rattle.tick_engine.proofs.engine.Engine.tick.Goals as goal
 
 -- a list that was written back in whole is what was written
@@ -25,6 +26,14 @@ step_all-requires-clause-watches c =
     let begun_long : length c.begin_all.new.watches ≡ length old.watches.items = ap length begun ∙ length-map old.watches.items (watch_begun old.groups.items c.args.now) in
     let begun_seen : c.deref_mut-4.result.now ≡ map (watch_begun old.groups.items c.args.now) old.watches.items = c.deref_mut-4.ensures.value ∙ seam c.begin_all.new.watches _ _ (length old.watches.items) begun_long watches_long ∙ begun in
     rw (groups_kept, begun_seen) (stand.begun_within old.groups.items c.args.now (length old.groups.items) old.watches.items c.self.invariant.1.watches)
+
+pub step_all-requires-clause-totals : goal.step_all-requires-clause-totals
+step_all-requires-clause-totals c =
+    let old = c.self.inside in
+    let groups_long : old.groups.len ≡ length old.groups.items = omega (arith, c.deref_mut-2.ensures.len, ap length c.deref_mut-2.ensures.value) in
+    let groups_same : length c.tick_all.new.groups ≡ length old.groups.items = omega (arith, c.tick_all.auto.groups, ap length c.deref_mut-2.ensures.value) in
+    let groups_seen : c.deref-2.result.now ≡ c.tick_all.new.groups = c.deref-2.ensures.value ∙ seam c.tick_all.new.groups _ _ (length old.groups.items) groups_same groups_long in
+    rw groups_seen (states_within (tick_at c.args.now c.args.rows.now) c.tick_all.new.groups c.requires.next.early c.tick_all.ensures.totals)
 
 -- what the calls made of the engine
 ticked : (c : goal.After-set) → stand.IsTicked (tick_at c.args.now c.args.rows.now)
