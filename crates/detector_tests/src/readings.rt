@@ -3,6 +3,7 @@ ghost use Rattle.std.specs.Prelude.{◌≡◌};
 
 use crate::checks::{comes_last, is_group};
 use detectors::{GroupReading, HostReading, Reading};
+use pressure_spec::QUANTITIES;
 use psi_base::{NoMemory, Path, Preference, Slot};
 use psi_spec::GroupLife;
 use std::alloc::Global;
@@ -48,7 +49,7 @@ pub fn life(alloc: Global, path: &str, parent: Option<Slot>) -> Result<GroupLife
 pub fn bare_group(slot: u32) -> GroupReading {
     GroupReading {
         slot: Slot(slot),
-        averages: [[0; 3]; 6],
+        averages: [[0; 3]; QUANTITIES],
         current: 0,
         swap: 0,
         scan: 0,

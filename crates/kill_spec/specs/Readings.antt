@@ -45,7 +45,8 @@ ten_seconds = 0
 abbrev pub sixty_seconds : ℕ
 sixty_seconds = 1
 
--- the full average of a resource over a window, by the window's place, in fixed point
+-- The full average of a resource over a window, by the window's place, in fixed point. Rules ask for those of states alone, so
+-- interrupt time, whose averages stand behind them, decides nothing.
 abbrev pub full_average : Res → ℕ → GroupReading → ℕ
 full_average resource window group =
     slice_index (slice_index_or group.averages (state_number (state_of resource FullStalled)) []) window

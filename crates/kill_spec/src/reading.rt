@@ -1,4 +1,5 @@
 //! What is read at an evaluation.
+use pressure_spec::AverageRows;
 use psi_base::{Preference, Slot};
 
 /// A live group at an evaluation.
@@ -6,9 +7,9 @@ use psi_base::{Preference, Slot};
 pub struct GroupReading {
     /// Its slot.
     pub slot: Slot,
-    /// Its averages after the tick, over 10, 60 and 300 seconds, of each state but nonidle: in fixed point, at most
-    /// 204,800, which is 100 percent.
-    pub averages: [[u64; 3]; 6],
+    /// Its averages after the tick, over 10, 60 and 300 seconds, of each state but nonidle, and of interrupt time, at
+    /// which no rule looks: in fixed point, at most 204,800, which is 100 percent.
+    pub averages: AverageRows,
     /// Memory in use by its last sample, in bytes, at most 2^60; 0 without one.
     pub current: u64,
     /// Swap in use by its last sample, in bytes, at most 2^60; 0 without one.

@@ -9,6 +9,7 @@ ghost use Rattle.replay_rules.specs.Seen.{HasRows, LiveAscend, group_by, read_by
 
 use detectors::Reading;
 use kill_spec::GroupReading;
+use pressure_spec::AverageRows;
 use psi_base::{Ns, Slot, State};
 use psi_spec::GroupLife;
 use side_watch::Watch;
@@ -26,8 +27,8 @@ pub fn is_live_at(life: &GroupLife, at: Ns) -> bool
 }
 
 /// The averages of a group over 10, 60 and 300 seconds, of each state but nonidle, in the order of
-/// the states.
-fn averages_of(engine: &Engine, slot: Slot) -> [[u64; 3]; 6]
+/// the states, and of interrupt time.
+fn averages_of(engine: &Engine, slot: Slot) -> AverageRows
     requires made { slot.0 < length engine.now.groups }
     requires rows { HasRows engine.now slot.0 }
     ensures averages { result ≡ (averages_in engine.now slot.0).averages }
@@ -41,6 +42,7 @@ fn averages_of(engine: &Engine, slot: Slot) -> [[u64; 3]; 6]
         averages.get(State::MemFull),
         averages.get(State::CpuSome),
         averages.get(State::CpuFull),
+        averages.irq(),
     ]
 }
 
