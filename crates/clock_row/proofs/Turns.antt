@@ -197,7 +197,7 @@ parent_below parents low (Some slot) older is = older low slot.0 (sym is)
 -- ---- the four chains of a change
 
 some_change : (plan : PlanView) (k : ℕ) → k < length plan.changes → (change : Change) × (slice_get plan.changes k ≡ Some change)
-some_change plan k room = let none : Change = record { at = 0; minus = None; plus = None; current = None } in (slice_index_or plan.changes k none, slice_get-get_or plan.changes k none room)
+some_change plan k room = let none : Change = record { at = 0; minus = None; plus = None; current = None; irq = 0 } in (slice_index_or plan.changes k none, slice_get-get_or plan.changes k none room)
 
 -- what holds of four holds of all in their list
 all_four : (P : Option Slot → Type 0) (a b c d : Option Slot) → P a → P b → P c → P d → All P (a ∷ b ∷ c ∷ d ∷ [])

@@ -2,7 +2,7 @@
 ghost use Rattle.std.specs.Prelude.{◌≡◌, ◌+◌, ◌*◌, ◌<◌, ◌≤◌, length, replicate, IfOk, Ok};
 ghost use Rattle.atomic_table.specs.Seated.{TableId};
 ghost use Rattle.psi_counts.specs.Clock.{words_of};
-ghost use Rattle.plan_laws.specs.Plan.{IsClock, IsPlan};
+ghost use Rattle.plan_laws.specs.Plan.{IsClock, IsPlan, planned_irq};
 ghost use Rattle.clock_row.specs.Row.{writer_at_start};
 ghost use Rattle.clock_row.specs.Steps.{count_shown, count_told, new_reader};
 ghost use Rattle.clock_row.specs.Words.{AreClockWords, StayByMask, words_at};
@@ -14,7 +14,7 @@ use crate::view::{Board, RowSeat};
 use crate::words::{WORDS, own_words};
 use atomic_table::Table;
 use cpu_clock::Clock;
-use proc_plan::{PlainClocks, Plan, ProcClocks};
+use proc_plan::{IrqClocks, PlainClocks, Plan, ProcClocks};
 use psi_base::{NoMemory, Slot};
 use std::alloc::Global;
 use std::marker::Model;
@@ -26,7 +26,8 @@ pub struct Row;
 /// Makes the changes of a plan in a row, while readers take clocks out of it. Contracts see which row it is, and what the
 /// writer knows of it.
 ///
-/// It counts tasks and turns clocks in [`PlainClocks`] of its own, and brings into the row what a change turned there.
+/// It counts tasks, turns clocks and sums interrupt time in [`PlainClocks`] of its own, and brings into the row what a change
+/// turned there. Interrupt time stays beside the row, where no reader sees it.
 #[derive(Drop)]
 pub struct ClockWriter<'a> {
     plan: &'a Plan,
@@ -112,6 +113,18 @@ impl<'a> ProcClocks for ClockWriter<'a> {
         ensures words { words_of result ≡ words_at self.old.knows.body slot.0 }
     {
         Clock::from_words(own_words(&self.board, &mut self.seat, WORDS * slot.0 as usize))
+    }
+}
+
+impl<'a> IrqClocks for ClockWriter<'a> {
+    /// The interrupt time (ns) of a slot, out of the writer's own clocks: the row has none. Takes no memory.
+    fn own_irq(&mut self, slot: Slot) -> u64
+        requires { slot.0 < length self.old.knows.plan.parents }
+        ensures same { self.new ≡ self.old }
+        ensures irq { result
+            ≡ planned_irq self.old.knows.plan slot.0 self.old.knows.count }
+    {
+        self.clocks.own_irq(slot)
     }
 }
 

@@ -10,4 +10,6 @@ pub use threads::{are_plain, beside};
 #[cfg(test)]
 mod alone;
 #[cfg(test)]
+mod irqs;
+#[cfg(test)]
 mod live;

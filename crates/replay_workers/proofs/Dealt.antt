@@ -259,9 +259,9 @@ new_lane plans room cpu number lane same below own on size whole slots =
 -- ---- room
 
 -- what is kept takes few bytes, or is that of one tick
-pub room_is : (cpus slots moments : ℕ) → (1 ≤ room_of cpus slots moments) × (room_of cpus slots moments ≤ max moments 1) × ((56 * (room_of cpus slots moments * slots * cpus) ≤ 64000000) ⊎ (room_of cpus slots moments ≡ 1))
+pub room_is : (cpus slots moments : ℕ) → (1 ≤ room_of cpus slots moments) × (room_of cpus slots moments ≤ max moments 1) × ((64 * (room_of cpus slots moments * slots * cpus) ≤ 64000000) ⊎ (room_of cpus slots moments ≡ 1))
 room_is cpus slots moments =
-    let bytes = 56 * (slots * cpus) in
+    let bytes = 64 * (slots * cpus) in
     let fits = 64000000 / max bytes 1 in
     let room = room_of cpus slots moments in
     let is : room ≡ max (min (min fits moments) 256) 1 = refl in
@@ -274,7 +274,7 @@ room_is cpus slots moments =
           let more : bytes ≤ max bytes 1 = grind arith in
           let one : room * bytes ≤ fits * bytes = mul-le-mul_right bytes below in
           let two : fits * bytes ≤ fits * max bytes 1 = mul-le-mul_left fits more in
-          let same : 56 * (room * slots * cpus) ≡ room * bytes = grind arith in
+          let same : 64 * (room * slots * cpus) ≡ room * bytes = grind arith in
           inl (omega (arith, most, one, two, same)))
           case,
     )

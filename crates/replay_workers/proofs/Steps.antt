@@ -3,9 +3,7 @@ use Rattle.std.proofs.Common.{◌≡◌, ℕ, ◌+◌, ◌*◌, ◌<◌, ◌≤�
 use Rattle.std.specs.Prelude.{◌≢◌}
 use Rattle.std.proofs.Math.Nat.{mul-le-mul_right}
 use Rattle.std.proofs.lemmas.List.{get_or_append_left, get_or_push, get_or-set_same, get_or-set_other, length-append, length-set}
-use Rattle.psi_counts.specs.Clock.{ClockView, opened}
-use Rattle.plan_laws.specs.Plan.{IsClock, PlanView, changes_up_to, last_change, planned}
-use Rattle.plan_laws.proofs.PlanClocks.{clock_tells_planned}
+use Rattle.plan_laws.specs.Plan.{PlanView}
 use Rattle.aggregate.specs.Table.{HasSizes, put_times, times_at}
 use Rattle.aggregate.proofs.TableLaws.{keeps_sizes, sets_one_place}
 use Rattle.replay_workers.specs.declared.ticks.Ticks.{Ticks}
@@ -64,11 +62,6 @@ keeps_more old new plan ticks j at before tick moment = λ k slot early below.
     case
 
 -- ---- one group more
-
--- a clock that stands for a slot after the changes up to a moment opens to the slot's times then
-pub times_by_clock : (clock : ClockView) (plan : PlanView) (slot k at : ℕ) → IsClock clock plan slot k → last_change plan k ≤ at → k ≡ changes_up_to plan at → opened clock at ≡ times_by plan slot at
-times_by_clock clock plan slot k at is later all =
-    clock_tells_planned clock plan slot k at is later ∙ ap (λ n. planned plan slot n at) all
 
 -- places in which the times of the first so many groups are kept for a tick
 pub record KeptTo (old new : List (List ℕ)) (slots j slot : ℕ) (plan : PlanView) (at : ℕ) : Type 0 where

@@ -1,5 +1,5 @@
 -- The table at a moment by plans is the table of stall times.
-use Rattle.std.proofs.Common.{◌≡◌, ℕ, ◌<◌, List, [], length, get_or, sym, ap, ◌∙◌, arith}
+use Rattle.std.proofs.Common.{◌≡◌, ℕ, ◌<◌, List, [], ◌∷◌, ◌++◌, length, get_or, sym, ap, ◌∙◌, arith}
 use Rattle.std.proofs.lemmas.List.{ext_get_or}
 use Rattle.std.proofs.lemmas.List.FromFn.{get_or-map-range_with_len, length-map-range_with_len}
 use Rattle.psi_base.specs.declared.event.Event.{Event}
@@ -7,14 +7,17 @@ use Rattle.psi_spec.specs.Refusal.{AreLegal}
 use Rattle.psi_spec.specs.World.{Limits, after, first_world}
 use Rattle.pressure_spec.specs.Ticks.{row_until, table_until, times_until}
 use Rattle.plan_laws.proofs.PlanPlanned.{planned_until}
+use Rattle.plan_laws.proofs.PlanIrqs.{planned_irq_until}
 use Rattle.proc_plan.specs.Plans.{PlansView, StandFor, plan_at}
 use Rattle.proc_plan.proofs.Finishing.{standing_plans}
 use Rattle.replay_workers.specs.Crew.{TableIsOfEvents, times_by}
 
--- the times of a processor's plan are the stall times there
+-- the times of a processor's plan are the stall times there, and the interrupt time
 times_are : (limits : Limits) (cpus : ℕ) (events : List Event) (plans : PlansView) (slot cpu at : ℕ) → AreLegal limits first_world events → StandFor plans cpus events → cpu < cpus → times_by (plan_at plans cpu) slot at ≡ times_until cpu slot events at
 times_are limits cpus events plans slot cpu at legal stand below =
-    ap (λ plan. times_by plan slot at) (standing_plans plans cpus events stand cpu below) ∙ planned_until limits events legal cpu slot at
+    let in_states = planned_until limits events legal cpu slot at in
+    let irq = planned_irq_until limits events legal cpu slot at in
+    ap (λ plan. times_by plan slot at) (standing_plans plans cpus events stand cpu below) ∙ (λ i. in_states i ++ irq i ∷ [])
 
 pub table_is_of_events : TableIsOfEvents
 table_is_of_events limits cpus events plans table at legal stand is =

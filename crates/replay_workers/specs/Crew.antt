@@ -6,8 +6,8 @@ use Rattle.psi_base.specs.declared.event.Event.{Event}
 use Rattle.psi_spec.specs.Refusal.{AreLegal}
 use Rattle.psi_spec.specs.World.{Limits, first_world}
 use Rattle.psi_spec.specs.Changes.{RiseWithin}
-use Rattle.plan_laws.specs.Plan.{IsClock, IsPlan, PlanView, changes_up_to, last_change, no_plan, planned}
-use Rattle.pressure_spec.specs.Ticks.{table_until}
+use Rattle.plan_laws.specs.Plan.{IsClock, IsPlan, PlanView, changes_up_to, last_change, no_plan, planned_irq, planned_time}
+use Rattle.pressure_spec.specs.Ticks.{table_until, times_with}
 use Rattle.proc_plan.specs.Clocks.{OnPlan}
 use Rattle.proc_plan.specs.Plans.{PlansView, StandFor, plan_at}
 use Rattle.clock_row.specs.declared.reader.Sample.{Sample}
@@ -58,9 +58,9 @@ abbrev pub most_ahead : ℕ
 most_ahead = 256
 
 -- Over how many ticks a crew of so many processors and groups goes at once, where a trace is taken to so many moments: over as
--- many as can be kept in 56 bytes a tick, group and processor, and no more than 256 or than there are, but over one at least.
+-- many as can be kept in 64 bytes a tick, group and processor, and no more than 256 or than there are, but over one at least.
 abbrev pub room_of : ℕ → ℕ → ℕ → ℕ
-room_of cpus slots moments = max (min (min (most_kept / max (56 * (slots * cpus)) 1) moments) most_ahead) 1
+room_of cpus slots moments = max (min (min (most_kept / max (64 * (slots * cpus)) 1) moments) most_ahead) 1
 
 -- the clocks of a processor, by its number
 abbrev pub clocks_at : List OnPlan → ℕ → OnPlan
@@ -84,9 +84,13 @@ pub record AreAt (plans : PlansView) (clocks : List OnPlan) (at : ℕ) : Type 0 
   pub there : (cpu : ℕ) → cpu < length clocks → (clocks_at clocks cpu).made ≡ changes_up_to (plan_at plans cpu) at
   pub past : (cpu : ℕ) → cpu < length clocks → last_change (plan_at plans cpu) (changes_up_to (plan_at plans cpu) at) ≤ at
 
--- the times (ns) of a slot by the changes of a plan up to a moment
+-- the times (ns) of a slot at a moment by the first k changes of a plan: those in the states, and behind them the interrupt time
+abbrev pub planned_with_irq : PlanView → ℕ → ℕ → ℕ → List ℕ
+planned_with_irq plan slot k at = times_with (λ state. planned_time state plan slot k at) (planned_irq plan slot k)
+
+-- these times by the changes up to the moment
 abbrev pub times_by : PlanView → ℕ → ℕ → List ℕ
-times_by plan slot at = planned plan slot (changes_up_to plan at) at
+times_by plan slot at = planned_with_irq plan slot (changes_up_to plan at) at
 
 -- ---- live samples
 
@@ -130,9 +134,9 @@ pub record IsTableAt (table : List (List (List ℕ))) (plans : PlansView) (at : 
 abbrev pub RoomIsSmall : Type 0
 RoomIsSmall = (cpus slots moments : ℕ) →
     (1 ≤ room_of cpus slots moments) × (room_of cpus slots moments ≤ max moments 1)
-    × ((56 * (room_of cpus slots moments * slots * cpus) ≤ most_kept) ⊎ (room_of cpus slots moments ≡ 1))
+    × ((64 * (room_of cpus slots moments * slots * cpus) ≤ most_kept) ⊎ (room_of cpus slots moments ≡ 1))
 
--- The table at a moment by the plans of legal events is the table of their stall times.
+-- The table at a moment by the plans of legal events is the table of their stall times and interrupt times.
 abbrev pub TableIsOfEvents : Type 0
 TableIsOfEvents = (limits : Limits) (cpus : ℕ) (events : List Event) (plans : PlansView) (table : List (List (List ℕ))) (at : ℕ) →
     AreLegal limits first_world events → StandFor plans cpus events → IsTableAt table plans at → table ≡ table_until cpus events at

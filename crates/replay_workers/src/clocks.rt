@@ -1,10 +1,13 @@
-//! The clocks of processors before any change, and up to one.
+//! The clocks of processors before any change and up to one, and the times that they tell.
 ghost use Rattle.std.specs.Prelude.{◌≡◌, ◌<◌, ◌≤◌, ℕ, length, IfOk};
+ghost use Rattle.plan_laws.specs.Plan.{IsPlan, last_change};
+ghost use Rattle.psi_spec.specs.Trace.{last_moment};
 ghost use Rattle.proc_plan.specs.Plans.{plan_at};
-ghost use Rattle.replay_workers.specs.Crew.{AreOnPlans, clocks_at};
+ghost use Rattle.replay_workers.specs.Crew.{AreOnPlans, clocks_at, planned_with_irq};
 
-use proc_plan::{PlainClocks, Plans, ProcClocks};
-use psi_base::{Cpu, Gate, NoMemory};
+use pressure_spec::{TIMES, Times};
+use proc_plan::{IrqClocks, PlainClocks, Plans, ProcClocks};
+use psi_base::{Cpu, Gate, NoMemory, Ns, Slot};
 use std::alloc::Global;
 
 /// The clocks of all processors before the first change. They take all the memory that their changes need.
@@ -33,4 +36,26 @@ pub fn make_until<C: ProcClocks, G: Gate>(clocks: &mut C, cpu: Cpu, changes: u64
         clocks.apply();
         gate.moved(cpu, clocks.count());
     }
+}
+
+/// Where the interrupt time stands, behind the times in the seven states.
+const IRQ_PLACE: usize = 7;
+
+/// The times (ns) of a slot at a moment, after the changes that were made: those in the seven states, in their order, and the
+/// interrupt time behind them.
+pub fn own_times<C: IrqClocks>(clocks: &mut C, slot: Slot, at: Ns) -> Times
+    requires slot { slot.0 < length (C.plan clocks.old).parents }
+    requires whole { IsPlan (C.plan clocks.old) }
+    requires past { last_change (C.plan clocks.old) (C.made clocks.old) ≤ at }
+    requires early { at ≤ last_moment }
+    ensures plan { C.plan clocks.new ≡ C.plan clocks.old }
+    ensures made { C.made clocks.new ≡ C.made clocks.old }
+    ensures home { C.home clocks.new ≡ C.home clocks.old }
+    ensures times { result
+        ≡ planned_with_irq (C.plan clocks.old) slot.0 (C.made clocks.old) at }
+{
+    let mut times = [0; TIMES];
+    times[..IRQ_PLACE].copy_from_slice(&clocks.own(slot).opened(at));
+    times[IRQ_PLACE] = clocks.own_irq(slot);
+    times
 }

@@ -15,8 +15,8 @@ const MOST_KEPT: u64 = 64_000_000;
 /// Over how many ticks a crew goes at once at most.
 const MOST_AHEAD: u64 = 256;
 
-/// How many bytes the times of a group on a processor take.
-const TIMES_BYTES: u64 = 56;
+/// How many bytes the eight times of a group on a processor take.
+const TIMES_BYTES: u64 = 64;
 
 /// Over how many ticks a crew goes at once, where a trace is taken to so many moments: over as many as can be kept, no more than
 /// 256, and over one at least.

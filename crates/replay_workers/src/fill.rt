@@ -8,6 +8,7 @@ ghost use Rattle.replay_workers.specs.Lanes.{AreKept, FillsProcessor, batch_at, 
 use crate::batch::Batch;
 use crate::lane::Lane;
 use aggregate::Rows;
+use pressure_spec::Times;
 use proc_plan::Plans;
 use psi_base::{Cpu, Ns, Slot};
 
@@ -24,7 +25,7 @@ pub(crate) fn lane_in<'b, 'a>(batches: &'b [Batch<'a>], cpu: Cpu) -> &'b Lane<'a
 }
 
 // Puts the times (ns) of all groups on a processor into a table, those that are kept for the tick with a number from 0.
-fn fill_processor(rows: &mut Rows, cpus: u32, slots: u32, cpu: Cpu, tick: u32, kept: &[[u64; 7]])
+fn fill_processor(rows: &mut Rows, cpus: u32, slots: u32, cpu: Cpu, tick: u32, kept: &[Times])
     requires sizes { HasSizes cpus slots rows.old }
     requires there { cpu.0 < cpus }
     requires room { tick * slots + slots ≤ length kept.now }

@@ -11,6 +11,7 @@ use crate::lane_clocks::LaneClocks;
 use crate::ticks::Ticks;
 use crate::watch::Watcher;
 use cpu_clock::Clock;
+use pressure_spec::{TIMES, Times};
 use proc_plan::{Plan, Plans};
 use psi_base::{Cpu, Gate, NoMemory, Ns, Slot};
 use std::alloc::Global;
@@ -25,7 +26,7 @@ pub(crate) struct Lane<'a> {
     slots: u32,
     clocks: LaneClocks<'a>,
     /// Tick by tick, `slots` a tick.
-    kept: Vec<[u64; 7]>,
+    kept: Vec<Times>,
 }
 
 impl<'a> Model for Lane<'a> {
@@ -44,10 +45,10 @@ impl<'a> Model for Lane<'a> {
 }
 
 // So many places for times.
-fn places(alloc: Global, count: usize) -> Result<Vec<[u64; 7]>, NoMemory>
+fn places(alloc: Global, count: usize) -> Result<Vec<Times>, NoMemory>
     ensures { IfOk result (λ times. length times.items ≡ count) }
 {
-    Ok(vec![in alloc; [0u64; 7]; count]?)
+    Ok(vec![in alloc; [0u64; TIMES]; count]?)
 }
 
 impl<'a> Lane<'a> {
@@ -103,7 +104,7 @@ impl<'a> Lane<'a> {
     }
 
     /// The times (ns) of all groups, by slot, that are kept for a tick with a number from 0.
-    pub(crate) fn kept(&self) -> &[[u64; 7]]
+    pub(crate) fn kept(&self) -> &[Times]
         ensures { result.now ≡ self.now.kept }
     {
         &self.kept

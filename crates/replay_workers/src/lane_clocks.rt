@@ -5,11 +5,12 @@ ghost use Rattle.psi_spec.specs.Trace.{last_moment};
 ghost use Rattle.replay_workers.specs.Crew.{last_of, moment_in};
 ghost use Rattle.replay_workers.specs.Lanes.{KeepsTick, KeepsTicks, clocks_in, row_of_clocks};
 
-use crate::clocks::make_until;
+use crate::clocks::{make_until, own_times};
 use crate::ticks::Ticks;
 use clock_row::{ClockWriter, Row};
 use cpu_clock::Clock;
-use proc_plan::{PlainClocks, Plan, ProcClocks};
+use pressure_spec::Times;
+use proc_plan::{IrqClocks, PlainClocks, Plan, ProcClocks};
 use psi_base::{Cpu, Gate, NoMemory, Ns, Slot};
 use std::alloc::Global;
 
@@ -24,7 +25,7 @@ pub(crate) enum LaneClocks<'a> {
 
 // Keeps the times (ns) of all groups at the tick with a number from 0, whose moment this is. The clocks made all changes up to
 // the moment.
-fn keep_tick<C: ProcClocks>(clocks: &mut C, slots: u32, tick: u32, at: Ns, kept: &mut [[u64; 7]])
+fn keep_tick<C: IrqClocks>(clocks: &mut C, slots: u32, tick: u32, at: Ns, kept: &mut [Times])
     requires known { slots ≡ length (C.plan clocks.old).parents }
     requires whole { IsPlan (C.plan clocks.old) }
     requires all { C.made clocks.old ≡ changes_up_to (C.plan clocks.old) at }
@@ -38,18 +39,18 @@ fn keep_tick<C: ProcClocks>(clocks: &mut C, slots: u32, tick: u32, at: Ns, kept:
 {
     let start = tick as usize * slots as usize;
     'slots: for slot in 0..slots {
-        kept[start + slot as usize] = clocks.own(Slot(slot)).opened(at);
+        kept[start + slot as usize] = own_times(clocks, Slot(slot), at);
     }
 }
 
 // Makes the changes of a plan tick by tick, and keeps the times of all groups at each tick.
-fn go_over<C: ProcClocks, G: Gate>(
+fn go_over<C: IrqClocks, G: Gate>(
     plan: &Plan,
     clocks: &mut C,
     slots: u32,
     cpu: Cpu,
     ticks: Ticks,
-    kept: &mut [[u64; 7]],
+    kept: &mut [Times],
     gate: &G,
 )
     requires plan { C.plan clocks.old ≡ plan.now }
@@ -124,7 +125,7 @@ impl<'a> LaneClocks<'a> {
         slots: u32,
         cpu: Cpu,
         ticks: Ticks,
-        kept: &mut [[u64; 7]],
+        kept: &mut [Times],
         gate: &G,
     )
         requires plan { (clocks_in self.old).plan ≡ plan.now }

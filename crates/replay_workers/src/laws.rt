@@ -1,7 +1,8 @@
 //! Laws of tables, and of the room for them. Each function has an empty body: its contract is the law.
 ghost use Rattle.replay_workers.specs.Crew.{RoomIsSmall, TableIsOfEvents};
 
-/// The table that a crew fills at a moment is that of the stall times of the trace's events up to it.
+/// The table that a crew fills at a moment is that of the stall times of the trace's events up to it, and of their interrupt
+/// times.
 pub fn law_tables()
     ensures { TableIsOfEvents }
 {}

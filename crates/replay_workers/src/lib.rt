@@ -14,7 +14,7 @@ mod ticks;
 mod watch;
 
 pub use clock_row::Sample;
-pub use clocks::{first_clocks, make_until};
+pub use clocks::{first_clocks, make_until, own_times};
 pub use crew::Crew;
 pub use laws::{law_room, law_tables};
 pub use ticks::Ticks;
