@@ -1,0 +1,10 @@
+mod Sorted
+mod Ascii
+mod ArgumentTexts
+mod PluginData
+mod RulesData
+mod Lists
+mod Steps
+mod OnlyTexts
+mod RulesTexts
+mod Written

@@ -1,5 +1,5 @@
 -- The rules that a rules file and a drop-in file over it make.
-use Rattle.std.specs.Prelude.{ℕ, ◌+◌, List, [], ◌∷◌, position, ◌&&◌, Bool, is_none, if◌then◌else◌, Option, None, Some, option_map, Result, Ok, Err}
+use Rattle.std.specs.Prelude.{ℕ, ◌+◌, List, [], ◌∷◌, position, ◌&&◌, Bool, is_none, if◌then◌else◌, Option, None, Some, Result, Ok, Err}
 use Rattle.std.specs.Str.{bytes_eq}
 use Rattle.ruleset_json.specs.declared.fault.Place.TheVariants as place
 use Rattle.ruleset_json.specs.declared.fault.RulesFault.{RulesFault}

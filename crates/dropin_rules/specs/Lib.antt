@@ -1,1 +1,5 @@
+pub mod FaultText
 pub mod Joined
+pub mod RulesText
+pub mod HasPatterns
+pub mod Laws

@@ -1,10 +1,20 @@
 //! Drop-in files over a rules file, and rules as text.
 //!
-//! [`join`] puts the parts of a drop-in file into the rules of a rules file.
+//! [`join`] puts the parts of a drop-in file into the rules of a rules file, and [`write_rules`] writes rules as a rules
+//! file that gives them.
 #![tactic(auto)]
 
+mod action;
+mod argument;
+mod detector;
 mod fault;
+mod laws;
+mod note;
 mod parts;
+mod text;
 
 pub use fault::{DropCause, DropFault};
+pub use laws::law_text_is_read_again;
+pub use note::put_drop_fault;
 pub use parts::join;
+pub use text::write_rules;

@@ -13,3 +13,5 @@ mod patterns;
 mod shown;
 #[cfg(test)]
 mod usual;
+#[cfg(test)]
+mod written;

@@ -25,6 +25,10 @@ place_words (place.Group i j) = codes "ruleset" ∷ decimal i ∷ codes "group" 
 place_words (place.Detector i j k) = codes "ruleset" ∷ decimal i ∷ codes "group" ∷ decimal j ∷ codes "item" ∷ decimal k ∷ []
 place_words (place.Action i k) = codes "ruleset" ∷ decimal i ∷ codes "action" ∷ decimal k ∷ []
 
+-- what is told of a fault: the word for its file, its place there, and the name of its cause
+abbrev pub placed_text : List ℕ → Place → List ℕ → List ℕ
+placed_text file at why = joined (file ∷ place_words at) ++ (codes ": " ++ why)
+
 -- the text of a fault
 abbrev pub fault_text : RulesFault → List ℕ
-fault_text fault = joined (codes "rules" ∷ place_words fault.place) ++ (codes ": " ++ rules_cause_name fault.what)
+fault_text fault = placed_text (codes "rules") fault.place (rules_cause_name fault.what)

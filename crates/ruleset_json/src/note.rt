@@ -1,14 +1,14 @@
 //! The text of a fault.
 ghost use Rattle.psi_base.specs.Outside.{PutsAll, HasCause};
 ghost use Rattle.std.specs.Prelude.{◌≡◌};
-ghost use Rattle.ruleset_json.specs.FaultText.{fault_text, rules_cause_name};
+ghost use Rattle.ruleset_json.specs.FaultText.{fault_text, placed_text, rules_cause_name};
 
 use crate::fault::{Place, RulesCause, RulesFault};
 use itoa::Buffer;
 use psi_base::{Sink, WriteFailed, put_each};
 
-// The name of a cause.
-fn name_of(cause: RulesCause) -> &'static [u8]
+/// The name of a cause.
+pub fn cause_name(cause: RulesCause) -> &'static [u8]
     ensures { result.now ≡ rules_cause_name cause }
 {
     match cause {
@@ -22,59 +22,76 @@ fn name_of(cause: RulesCause) -> &'static [u8]
     }
 }
 
-/// Writes what a fault is told as: `rules`, the place by the numbers of its ruleset, its group and its item or its
-/// action, which is nothing for the whole file, then `: ` and the cause. Takes no memory.
-pub fn put_fault<K: Sink>(out: &mut K, fault: RulesFault) -> Result<(), WriteFailed>
-    ensures bytes { PutsAll (K.has out.old) (K.has out.new) result (fault_text fault) }
+/// Writes what is told of a fault in a file: the word for the file, the place by the numbers of its ruleset, its group and
+/// its item or its action, which is nothing for the whole file, then `: ` and the name of the cause. Takes no memory.
+pub fn put_placed<K: Sink>(
+    out: &mut K,
+    file: &[u8],
+    place: Place,
+    cause: &[u8],
+) -> Result<(), WriteFailed>
+    ensures bytes { PutsAll (K.has out.old) (K.has out.new) result
+        (placed_text file.now place cause.now) }
     ensures cause { HasCause (K.faults out.old) (K.faults out.new) result }
 {
-    let name = name_of(fault.what);
     let (mut first, mut second, mut third) = (Buffer::new(), Buffer::new(), Buffer::new());
-    match fault.place {
-        Place::Whole => put_each(out, &[b"rules: ".as_slice(), name]),
+    match place {
+        Place::Whole => put_each(out, &[file, b": ".as_slice(), cause]),
         Place::Rule(rule) => put_each(
             out,
             &[
-                b"rules ruleset ".as_slice(),
+                file,
+                b" ruleset ".as_slice(),
                 first.format(rule).as_bytes(),
                 b": ".as_slice(),
-                name,
+                cause,
             ],
         ),
         Place::Group(rule, group) => put_each(
             out,
             &[
-                b"rules ruleset ".as_slice(),
+                file,
+                b" ruleset ".as_slice(),
                 first.format(rule).as_bytes(),
                 b" group ".as_slice(),
                 second.format(group).as_bytes(),
                 b": ".as_slice(),
-                name,
+                cause,
             ],
         ),
         Place::Detector(rule, group, item) => put_each(
             out,
             &[
-                b"rules ruleset ".as_slice(),
+                file,
+                b" ruleset ".as_slice(),
                 first.format(rule).as_bytes(),
                 b" group ".as_slice(),
                 second.format(group).as_bytes(),
                 b" item ".as_slice(),
                 third.format(item).as_bytes(),
                 b": ".as_slice(),
-                name,
+                cause,
             ],
         ),
         Place::Action(rule, action) => put_each(
             out,
             &[
-                b"rules ruleset ".as_slice(),
+                file,
+                b" ruleset ".as_slice(),
                 first.format(rule).as_bytes(),
                 b" action ".as_slice(),
                 second.format(action).as_bytes(),
                 b": ".as_slice(),
-                name,
+                cause,
             ],
         ),
     }
+}
+
+/// Writes what a fault of a rules file is told as: `rules`, its place and its cause. Takes no memory.
+pub fn put_fault<K: Sink>(out: &mut K, fault: RulesFault) -> Result<(), WriteFailed>
+    ensures bytes { PutsAll (K.has out.old) (K.has out.new) result (fault_text fault) }
+    ensures cause { HasCause (K.faults out.old) (K.faults out.new) result }
+{
+    put_placed(out, b"rules", fault.place, cause_name(fault.what))
 }

@@ -1,0 +1,16 @@
+-- What a fault of a drop-in file is told as.
+use Rattle.std.specs.Prelude.{ℕ, List, codes}
+use Rattle.ruleset_json.specs.FaultText.{placed_text, rules_cause_name}
+use Rattle.dropin_rules.specs.declared.fault.DropCause.{DropCause}
+use Rattle.dropin_rules.specs.declared.fault.DropCause.TheVariants as cause
+use Rattle.dropin_rules.specs.declared.fault.DropFault.{DropFault}
+
+-- the name of a cause
+abbrev pub drop_cause_name : DropCause → List ℕ
+drop_cause_name (cause.Rules what) = rules_cause_name what
+drop_cause_name cause.NoParts = codes "NoParts"
+drop_cause_name cause.UnknownRule = codes "UnknownRule"
+
+-- the text of a fault
+abbrev pub drop_fault_text : DropFault → List ℕ
+drop_fault_text fault = placed_text (codes "drop-in") fault.place (drop_cause_name fault.what)

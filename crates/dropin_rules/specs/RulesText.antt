@@ -1,0 +1,100 @@
+-- Rules as text: the compact JSON of a rules file that gives them, with every default filled in. An argument has its own
+-- text, and the members of each object stand in the order of their keys' bytes.
+use Rattle.std.specs.Prelude.{ℕ, ◌/◌, ◌%◌, List, [], ◌∷◌, ◌++◌, codes, decimal, map}
+use Rattle.psi_spec.specs.Fields.{resource_word}
+use Rattle.path_match.specs.Match.{patterns_text}
+use Rattle.serde_json.specs.Data.{Data, string, array, object, Members, no_members, member}
+use Rattle.serde_json.specs.View.{items_of}
+use Rattle.serde_json.specs.Written.{compact_text}
+use Rattle.ruleset_json.specs.declared.name.ActionName.TheVariants as action_name
+use Rattle.ruleset_json.specs.declared.name.DetectorName.TheVariants as detector_name
+use Rattle.ruleset_json.specs.declared.name.Key.{Key}
+use Rattle.ruleset_json.specs.declared.name.Key.TheVariants as key
+use Rattle.ruleset_json.specs.declared.types.Action.{Action}
+use Rattle.ruleset_json.specs.declared.types.Action.TheVariants as action
+use Rattle.ruleset_json.specs.declared.types.DetectorGroup.{DetectorGroup}
+use Rattle.ruleset_json.specs.declared.types.DetectorSpec.{DetectorSpec}
+use Rattle.ruleset_json.specs.declared.types.DetectorSpec.TheVariants as detector
+use Rattle.ruleset_json.specs.declared.types.Rule.{Rule}
+use Rattle.ruleset_json.specs.declared.types.Size.{Size}
+use Rattle.ruleset_json.specs.declared.types.Size.TheVariants as size
+use Rattle.ruleset_json.specs.Arguments.{truth_text}
+use Rattle.ruleset_json.specs.Names.{action_word, detector_word, key_word}
+
+-- ---- arguments
+
+-- a ratio, which is in thousandths: three digits stand behind the point
+abbrev pub ratio_text : ℕ → List ℕ
+ratio_text n = decimal (n / 1000) ++ codes "." ++ decimal (n / 100 % 10) ++ decimal (n / 10 % 10) ++ decimal (n % 10)
+
+-- a size: its bytes, or its percentage
+abbrev pub size_text : Size → List ℕ
+size_text (size.Bytes n) = decimal n
+size_text (size.Percent n) = decimal n ++ codes "%"
+
+-- ---- plugins
+
+-- texts, each under its key
+abbrev pub texts : List (Key × List ℕ) → Members
+texts [] = no_members
+texts (argument ∷ arguments) = member (key_word argument.0) (string argument.1) (texts arguments)
+
+-- the plugin of this name, with these arguments
+abbrev pub plugin : List ℕ → List (Key × List ℕ) → Data
+plugin name arguments = object (member (codes "args") (object (texts arguments)) (member (codes "name") (string name) no_members))
+
+-- a detector
+abbrev pub detector_data : DetectorSpec → Data
+detector_data (detector.PressureAbove cgroup resource threshold duration) = plugin (detector_word detector_name.PressureAbove)
+    ((key.Cgroup, patterns_text cgroup) ∷ (key.Duration, decimal duration) ∷ (key.Resource, resource_word resource) ∷ (key.Threshold, decimal threshold) ∷ [])
+detector_data (detector.PressureRisingBeyond cgroup resource threshold duration ratio) = plugin (detector_word detector_name.PressureRisingBeyond)
+    ((key.Cgroup, patterns_text cgroup) ∷ (key.Duration, decimal duration) ∷ (key.FastFallRatio, ratio_text ratio) ∷ (key.Resource, resource_word resource) ∷ (key.Threshold, decimal threshold) ∷ [])
+detector_data (detector.MemoryAbove cgroup threshold duration) = plugin (detector_word detector_name.MemoryAbove)
+    ((key.Cgroup, patterns_text cgroup) ∷ (key.Duration, decimal duration) ∷ (key.Threshold, size_text threshold) ∷ [])
+detector_data (detector.MemoryReclaim cgroup duration) = plugin (detector_word detector_name.MemoryReclaim)
+    ((key.Cgroup, patterns_text cgroup) ∷ (key.Duration, decimal duration) ∷ [])
+detector_data (detector.SwapFree threshold) = plugin (detector_word detector_name.SwapFree)
+    ((key.ThresholdPct, decimal threshold) ∷ [])
+detector_data (detector.Exists cgroup negate) = plugin (detector_word detector_name.Exists)
+    ((key.Cgroup, patterns_text cgroup) ∷ (key.Negate, truth_text negate) ∷ [])
+
+-- an action
+abbrev pub action_data : Action → Data
+action_data (action.SizeOrGrowth cgroup size_threshold percentile ratio after) = plugin (action_word action_name.SizeOrGrowth)
+    ((key.AlwaysContinue, truth_text after.always_continue) ∷ (key.Cgroup, patterns_text cgroup) ∷ (key.GrowingSizePercentile, decimal percentile) ∷ (key.MinGrowthRatio, ratio_text ratio)
+    ∷ (key.PostActionDelay, decimal after.delay_s) ∷ (key.Recursive, truth_text after.recursive) ∷ (key.SizeThreshold, decimal size_threshold) ∷ [])
+action_data (action.SwapUsage cgroup threshold after) = plugin (action_word action_name.SwapUsage)
+    ((key.AlwaysContinue, truth_text after.always_continue) ∷ (key.Cgroup, patterns_text cgroup)
+    ∷ (key.PostActionDelay, decimal after.delay_s) ∷ (key.Recursive, truth_text after.recursive) ∷ (key.Threshold, size_text threshold) ∷ [])
+action_data (action.Pressure cgroup resource after) = plugin (action_word action_name.Pressure)
+    ((key.AlwaysContinue, truth_text after.always_continue) ∷ (key.Cgroup, patterns_text cgroup)
+    ∷ (key.PostActionDelay, decimal after.delay_s) ∷ (key.Recursive, truth_text after.recursive) ∷ (key.Resource, resource_word resource) ∷ [])
+action_data (action.PgScan cgroup after) = plugin (action_word action_name.PgScan)
+    ((key.AlwaysContinue, truth_text after.always_continue) ∷ (key.Cgroup, patterns_text cgroup)
+    ∷ (key.PostActionDelay, decimal after.delay_s) ∷ (key.Recursive, truth_text after.recursive) ∷ [])
+
+-- ---- rules
+
+-- these in a list
+abbrev pub list_data : List Data → Data
+list_data ds = array (items_of ds)
+
+-- a group: its name, and its detectors behind it in one list
+abbrev pub group_data : DetectorGroup → Data
+group_data group = list_data (string group.name ∷ map detector_data group.detectors)
+
+-- a ruleset
+abbrev pub rule_data : Rule → Data
+rule_data rule = object
+    (member (codes "actions") (list_data (map action_data rule.actions))
+    (member (codes "detectors") (list_data (map group_data rule.groups))
+    (member (codes "name") (string rule.name) no_members)))
+
+-- rulesets, as a file has them
+abbrev pub rules_data : List Rule → Data
+rules_data rules = object (member (codes "rulesets") (list_data (map rule_data rules)) no_members)
+
+-- the text of rules. In a text a quotation mark and a backslash have a backslash before them; a byte below 32 is `\b`,
+-- `\t`, `\n`, `\f`, `\r`, or `\u00` with two lower-case digits; each other byte stands for itself.
+unfoldable pub rules_text : List Rule → List ℕ
+rules_text rules = compact_text (rules_data rules)
