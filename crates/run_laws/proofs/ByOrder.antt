@@ -32,6 +32,6 @@ reports_by_order limits trace pace i order legal is =
     let at = tick_moment pace.length i in
     let lives = lives_of trace in
     ap (flat_map (group_report trace pace i)) (order_tells_live limits trace.events legal order is at)
-    ∙ pieces_where (is_live_slot lives at) (with_path lives) (group_report trace pace i) (slot_report at lives (totals_at trace pace i) (average_state_at trace pace i)) order
+    ∙ pieces_where (is_live_slot lives at) (with_path lives) (group_report trace pace i) (slot_report trace.version at lives (totals_at trace pace i) (average_state_at trace pace i)) order
     (λ slot live. where_true (is_live_at (life_of lives slot) at) _ live)
     (λ slot gone. where_false (is_live_at (life_of lives slot) at) _ gone)

@@ -2,6 +2,7 @@
 use Rattle.std.specs.Prelude.{◌≡◌, ℕ, List, [], if◌then◌else◌}
 use Rattle.std.specs.List.{flat_map}
 use Rattle.psi_spec.specs.declared.machine.GroupLife.{GroupLife}
+use Rattle.psi_spec.specs.Grammar.{Version}
 use Rattle.psi_spec.specs.Groups.{IsPathOrder, is_live_at, path_at}
 use Rattle.psi_spec.specs.Refusal.{AreLegal}
 use Rattle.psi_spec.specs.Trace.{Trace}
@@ -11,14 +12,15 @@ use Rattle.pressure_spec.specs.Ticks.{tick_moment, ticks_of}
 use Rattle.pressure_spec.specs.Samples.{group_averages, life_of, totals_after}
 use Rattle.run_spec.specs.Replay.{Pace, files_text, lives_of, reports}
 
--- the report of the group in a slot at a moment (ns), where it is live then, by the totals (ns) and averages of slots
-abbrev pub slot_report : ℕ → List GroupLife → (ℕ → List ℕ) → (ℕ → AverageState) → ℕ → List ℕ
-slot_report at lives totals averages slot =
-    if is_live_at (life_of lives slot) at then files_text at (path_at lives slot) slot (totals slot) (averages slot).averages else []
+-- the report of the group in a slot at a moment (ns) in a trace of a version, where it is live then, by the totals (ns) and
+-- averages of slots
+abbrev pub slot_report : Version → ℕ → List GroupLife → (ℕ → List ℕ) → (ℕ → AverageState) → ℕ → List ℕ
+slot_report version at lives totals averages slot =
+    if is_live_at (life_of lives slot) at then files_text version at (path_at lives slot) slot (totals slot) (averages slot).averages else []
 
 -- the reports of the live groups among these slots, in their order
-abbrev pub slot_reports : ℕ → List GroupLife → (ℕ → List ℕ) → (ℕ → AverageState) → List ℕ → List ℕ
-slot_reports at lives totals averages order = flat_map (slot_report at lives totals averages) order
+abbrev pub slot_reports : Version → ℕ → List GroupLife → (ℕ → List ℕ) → (ℕ → AverageState) → List ℕ → List ℕ
+slot_reports version at lives totals averages order = flat_map (slot_report version at lives totals averages) order
 
 -- the totals (ns) of slots after ticks of a trace
 abbrev pub totals_at : Trace → Pace → ℕ → ℕ → List ℕ
@@ -34,4 +36,4 @@ average_state_at trace pace i slot = group_averages trace.cpus (lives_of trace) 
 abbrev pub ReportsByOrder : Type 0
 ReportsByOrder = (limits : Limits) (trace : Trace) (pace : Pace) (i : ℕ) (order : List ℕ) →
     AreLegal limits first_world trace.events → IsPathOrder (lives_of trace) order →
-    reports trace pace i ≡ slot_reports (tick_moment pace.length i) (lives_of trace) (totals_at trace pace i) (average_state_at trace pace i) order
+    reports trace pace i ≡ slot_reports trace.version (tick_moment pace.length i) (lives_of trace) (totals_at trace pace i) (average_state_at trace pace i) order

@@ -3,7 +3,7 @@ use Rattle.std.specs.Prelude.{◌≡◌, ℕ, ◌+◌, ◌<◌, ◌≤◌, List,
 use Rattle.psi_base.specs.declared.event.Event.{Event}
 use Rattle.psi_spec.specs.Refusal.{AreLegal}
 use Rattle.psi_spec.specs.Trace.{Trace, last_moment, longest_tick}
-use Rattle.psi_spec.specs.World.{Limits, after, first_world}
+use Rattle.psi_spec.specs.World.{Limits, after, first_world, most_cpus}
 use Rattle.pressure_spec.specs.Ticks.{IsNextTick, Tick, last_tick, no_tick, tick_moment, tick_of, ticks_of}
 use Rattle.run_spec.specs.Replay.{Beside, Pace, fired_in, kills_in, kills_until, signals_until, tick_text, ticks_text}
 use Rattle.ruleset_json.specs.declared.types.Rule.{Rule}
@@ -12,9 +12,9 @@ use Rattle.ruleset_json.specs.declared.types.Rule.{Rule}
 abbrev pub before_ticks : ℕ → List Event → Tick
 before_ticks cpus events = no_tick cpus (length (after events).groups)
 
--- The ticks of legal events come one after another.
+-- The ticks of legal events come one after another, on no more processors than the world keeps a last moment of interrupts for.
 abbrev pub TicksFollow : Type 0
-TicksFollow = (limits : Limits) (cpus : ℕ) (events : List Event) (length i : ℕ) → AreLegal limits first_world events →
+TicksFollow = (limits : Limits) (cpus : ℕ) (events : List Event) (length i : ℕ) → AreLegal limits first_world events → limits.cpus ≤ most_cpus →
     0 < length → length ≤ longest_tick → tick_moment length (i + 1) ≤ last_moment →
     IsNextTick (last_tick (before_ticks cpus events) (ticks_of cpus events length i)) (tick_of cpus events length (i + 1))
 

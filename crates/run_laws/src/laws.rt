@@ -3,7 +3,8 @@ ghost use Rattle.run_laws.specs.Live.{NoTextAtFirst, OneTextMore, OneTextUnwatch
 ghost use Rattle.run_laws.specs.Reports.{ReportsByOrder};
 ghost use Rattle.run_laws.specs.Ticking.{KillsMore, SignalsMore, TextMore, TicksFollow, TicksMore};
 
-/// The ticks of an accepted trace come one after another: no time falls, or grows by more than the time in between.
+/// The ticks of an accepted trace come one after another: no time falls, or grows by more than the time in between, and what
+/// interrupts took, by more than that and a second.
 pub fn law_next_tick()
     ensures { TicksFollow }
 {}

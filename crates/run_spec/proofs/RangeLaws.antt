@@ -10,12 +10,12 @@ use Rattle.psi_base.specs.Path.{is_path}
 use Rattle.run_spec.specs.declared.command.Command.{Command}
 use Rattle.run_spec.specs.declared.command.Options.{Options}
 use Rattle.run_spec.specs.declared.command.Shape.{Shape}
-use Rattle.run_spec.specs.declared.command.Command.TheVariants.{Stall, Check, Replay, Gen, Stress, Import}
+use Rattle.run_spec.specs.declared.command.Command.TheVariants.{Stall, Check, Replay, Gen, Stress, Import, Rules}
 use Rattle.std.proofs.Common.{lit≤}
 use Rattle.run_spec.specs.Words.{◌>>=◌, Given, parted, value_given, is_name, number_within, number_or}
-use Rattle.run_spec.specs.Words.{needed, trace_given, rules_given, live_given, tick_given, workers_given}
+use Rattle.run_spec.specs.Words.{needed, trace_given, rules_given, drop_in_given, live_given, tick_given, workers_given}
 use Rattle.run_spec.specs.Words.{options_of, shape_of, stall_of, check_of, replay_of, gen_of}
-use Rattle.run_spec.specs.Words.{stress_of, import_of, CommandForm, forms, command_of, IsWithin, AreOptions, IsShape}
+use Rattle.run_spec.specs.Words.{stress_of, import_of, rules_command_of, IsOptionName, CommandForm, forms, command_of, IsWithin, AreOptions, IsShape}
 use Rattle.run_spec.specs.Words.{IsCommand, SpelledInRange}
 
 -- a step that found something had something before it
@@ -59,7 +59,7 @@ both_true true b is = (refl, is)
 both_true false b is = absurd (true≢false (sym is))
 
 rules_ranges : (given : Option (List ℕ)) (rules : Option (List ℕ)) → rules_given given ≡ Some rules
-    → IfSome rules (λ name. (name ≢ []) × (name ≢ codes "-"))
+    → IsOptionName rules
 rules_ranges None rules is =
     let same : None ≡ rules = cc in
     subst (λ r. IfSome r (λ name. (name ≢ []) × (name ≢ codes "-"))) same tt
@@ -71,6 +71,15 @@ rules_ranges (Some name) rules is =
       λ dash. absurd
           (true≢false (sym both.1 ∙ ap not ((bytes_eq-Decides name (codes "-")).1 dash))),
     )
+
+-- a drop-in file has such a name, and stands over rules
+drop_in_ranges : (rules given : Option (List ℕ)) (drop_in : Option (List ℕ)) → drop_in_given rules given ≡ Some drop_in
+    → IsOptionName drop_in × (rules ≡ None → drop_in ≡ None)
+drop_in_ranges rules None drop_in is =
+    let same : None ≡ drop_in = cc in (subst IsOptionName same tt, λ _. sym same)
+drop_in_ranges None (Some name) drop_in is = absurd (true≢false (sym (ap is_some is)))
+drop_in_ranges (Some rules) (Some name) drop_in is =
+    (rules_ranges (Some name) drop_in is, λ none. absurd (true≢false (ap is_some none)))
 
 live_ranges : (given : Option (List ℕ)) (live : Option (List ℕ)) → live_given given ≡ Some live
     → IfSome live (λ path. is_path path ≡ true)
@@ -110,7 +119,8 @@ options_ranges : (given : Given) (options : Options) → options_of given ≡ So
 unfolding options_of
 options_ranges given options is =
     let rules = bind_some (rules_given (value_given (codes "rules") given)) _ options is in
-    let tick = bind_some (tick_given given) _ options rules.2 in
+    let drop_in = bind_some (drop_in_given rules.0 (value_given (codes "drop-in") given)) _ options rules.2 in
+    let tick = bind_some (tick_given given) _ options drop_in.2 in
     let interval =
     bind_some (number_or 5 1 3600 (value_given (codes "interval-s") given)) _ options tick.2 in
     let report =
@@ -121,6 +131,7 @@ options_ranges given options is =
     bind_some (number_or 1 1 16 (value_given (codes "live-count") given)) _ options live.2 in
     let same : record {
       rules = rules.0;
+      drop_in = drop_in.0;
       tick_ms = tick.0;
       interval_s = interval.0;
       report_s =
@@ -130,8 +141,11 @@ options_ranges given options is =
       live_count = count.0;
     }
     ≡ options = cc count.2 in
+    let over = drop_in_ranges rules.0 (value_given (codes "drop-in") given) drop_in.0 drop_in.1 in
     subst AreOptions same (record {
       rules = rules_ranges (value_given (codes "rules") given) rules.0 rules.1;
+      drop_in = over.0;
+      over = over.1;
       tick_ms = tick_ranges given tick.0 tick.1;
       interval_s = or_ranges 5 1 3600 _ interval.0 (lit≤ tt, lit≤ tt) interval.1;
       report_s = (or_ranges 10 0 3600 _ report.0 (lit≤ tt, lit≤ tt) report.1).1;
@@ -214,6 +228,18 @@ import_ranges given command is =
       needed_ranges 1 64 (value_given (codes "cpus") given) cpus.0 cpus.1,
     )
 
+pub rules_command_ranges : (given : Given) (command : Command) → rules_command_of given ≡ Some command
+    → IsCommand command
+unfolding rules_command_of
+rules_command_ranges given command is =
+    let file = bind_some (trace_given given) _ command is in
+    let drop_in = bind_some (rules_given (value_given (codes "drop-in") given)) _ command file.2 in
+    let same : Rules file.0 drop_in.0 ≡ command = cc drop_in.2 in
+    subst IsCommand same (
+      trace_ranges given file.0 file.1,
+      rules_ranges (value_given (codes "drop-in") given) drop_in.0 drop_in.1,
+    )
+
 -- ---- all commands
 
 -- a fact holds of each command's table
@@ -241,7 +267,7 @@ GivesCommands read =
     (given : Given) (command : Command) → read given ≡ Some command → IsCommand command
 
 all_ranges : OfEach GivesCommands forms
-all_ranges = (stall_ranges, (check_ranges, (replay_ranges, (gen_ranges, (stress_ranges, (import_ranges, tt))))))
+all_ranges = (stall_ranges, (check_ranges, (replay_ranges, (gen_ranges, (stress_ranges, (import_ranges, (rules_command_ranges, tt)))))))
 
 pub command_ranges : SpelledInRange
 unfolding command_of

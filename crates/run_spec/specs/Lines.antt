@@ -4,7 +4,7 @@ use Rattle.psi_base.specs.declared.event.Res.{Res}
 use Rattle.psi_base.specs.declared.event.TriggerSpec.{TriggerSpec}
 use Rattle.psi_spec.specs.Fields.{resource_word, level_word}
 use Rattle.psi_spec.specs.Grammar.{joined}
-use Rattle.pressure_spec.specs.File.{file_text}
+use Rattle.pressure_spec.specs.File.{file_text, irq_text}
 
 -- a number behind its label
 abbrev pub labelled : List ℕ → ℕ → List ℕ
@@ -16,7 +16,7 @@ line_of words = joined words ++ codes "\n"
 
 -- ---- stall and check
 
--- the line of a group on a processor: its times (ns) in the states, in the states' order
+-- the line of a group on a processor: its times (ns) in the states, in the states' order, and what is told behind them
 abbrev pub stall_line : ℕ → List ℕ → List ℕ → List ℕ
 stall_line cpu path times =
     line_of (codes "stall" ∷ labelled (codes "cpu=") cpu ∷ path ∷ map decimal times)
@@ -52,15 +52,23 @@ kill_line at rule action path =
     line_of (codes "kill" ∷ decimal at ∷ labelled (codes "ruleset=") rule
     ∷ labelled (codes "action=") action ∷ path ∷ [])
 
--- the line ahead of a pressure file: the tick (ns), the group's path and the resource
+-- the line ahead of a pressure file: the tick (ns), the group's path and the word of what the file tells
+abbrev pub head_line : ℕ → List ℕ → List ℕ → List ℕ
+head_line at path word = line_of (codes "report" ∷ decimal at ∷ path ∷ word ∷ [])
+
+-- the line ahead of the pressure file of a resource
 abbrev pub report_head : ℕ → List ℕ → Res → List ℕ
-report_head at path res = line_of (codes "report" ∷ decimal at ∷ path ∷ resource_word res ∷ [])
+report_head at path res = head_line at path (resource_word res)
 
 -- a report on a resource of a group at a tick (ns): its head, and the pressure file of these totals
 -- (ns) and averages
 abbrev pub report_text : ℕ → List ℕ → Res → Bool → List ℕ → List (List ℕ) → List ℕ
 report_text at path res is_root totals averages =
     report_head at path res ++ file_text res is_root totals averages
+
+-- a report on interrupts of a group at a tick (ns): its head, and the pressure file of these averages and total (ns)
+abbrev pub irq_report : ℕ → List ℕ → List ℕ → ℕ → List ℕ
+irq_report at path averages total = head_line at path (codes "irq") ++ irq_text averages total
 
 -- the last line of a replay: the end moment (ns), and how many ticks, signals and kills there were
 abbrev pub end_line : ℕ → ℕ → ℕ → ℕ → List ℕ

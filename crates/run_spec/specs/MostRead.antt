@@ -1,7 +1,7 @@
 -- How many bytes a command reads at most.
 use Rattle.std.specs.Prelude.{ℕ, ◌+◌, ◌*◌, List, Option, None, Some}
 use Rattle.run_spec.specs.declared.command.Command.{Command}
-use Rattle.run_spec.specs.Outputs.{import_name, rules_name, trace_name}
+use Rattle.run_spec.specs.Outputs.{drop_in_name, import_name, rules_name, trace_name}
 
 -- the most lines of a trace: the header, and 4,000,000 events
 abbrev pub most_lines : ℕ
@@ -24,7 +24,7 @@ most_of_trace = most_lines * longest_line + most_held
 abbrev pub most_of_import : ℕ
 most_of_import = 16000001 * longest_line + most_held
 
--- the most bytes that are read of a rules file: one more than it may have, so that a longer one is refused
+-- the most bytes that are read of a rules file or of a drop-in file: one more than it may have, so that a longer one is refused
 abbrev pub most_of_rules : ℕ
 most_of_rules = 1048577
 
@@ -33,8 +33,9 @@ abbrev pub most_if_named : ℕ → Option (List ℕ) → ℕ
 most_if_named most None = 0
 most_if_named most (Some name) = most
 
--- the most bytes that a command reads, of its rules file and of its trace, or of a text of ftrace
+-- the most bytes that a command reads, of its rules file, of the drop-in file over that and of its trace, or of a text of ftrace
 abbrev pub most_read : Command → ℕ
 most_read command =
-    most_if_named most_of_rules (rules_name command) + most_if_named most_of_trace (trace_name command)
+    most_if_named most_of_rules (rules_name command) + most_if_named most_of_rules (drop_in_name command)
+    + most_if_named most_of_trace (trace_name command)
     + most_if_named most_of_import (import_name command)

@@ -1,23 +1,25 @@
 -- What `replay` prints: at each tick live lines, the signals of triggers, where an evaluation is due the kills of rules, and
 -- where a report is due the pressure files of all live groups.
-use Rattle.std.specs.Prelude.{◌≡◌, ℕ, ◌-◌, ◌≤◌, List, [], ◌++◌, length, sum_by, ◌==◌, Option, None, Some, if◌then◌else◌, slice_get, codes}
+use Rattle.std.specs.Prelude.{◌≡◌, ℕ, ◌-◌, ◌≤◌, List, [], ◌++◌, length, sum_by, ◌==◌, Option, None, Some, if◌then◌else◌, slice_get, slice_index, slice_index_or, codes}
 use Rattle.std.specs.List.{flat_map, range_with_len}
 use Rattle.psi_base.specs.declared.event.Event.{Event}
 use Rattle.psi_base.specs.declared.event.Res.{Res}
 use Rattle.psi_base.specs.declared.event.TriggerSpec.{TriggerSpec}
 use Rattle.psi_spec.specs.declared.machine.GroupLife.{GroupLife}
 use Rattle.psi_spec.specs.Fields.{resources}
+use Rattle.psi_spec.specs.Grammar.{One, Two, Version}
 use Rattle.psi_spec.specs.World.{after, up_to}
 use Rattle.psi_spec.specs.Groups.{live_groups, path_at}
 use Rattle.psi_spec.specs.Told.{triggers_of}
 use Rattle.psi_spec.specs.Trace.{Trace}
+use Rattle.pressure_spec.specs.Share.{irq_quantity}
 use Rattle.pressure_spec.specs.Ticks.{is_evaluation, is_report, tick_moment, tick_of, ticks_of, ticks_until}
 use Rattle.pressure_spec.specs.Samples.{fired_at, group_averages, totals_after}
 use Rattle.ruleset_json.specs.declared.types.Rule.{Rule}
 use Rattle.kill_spec.specs.declared.kill.Kill.{Kill}
 use Rattle.kill_spec.specs.Kills as deciding
 use Rattle.kill_spec.specs.Evaluations.{reading_at, readings_until}
-use Rattle.run_spec.specs.Lines.{end_line, event_line, kill_line, report_text}
+use Rattle.run_spec.specs.Lines.{end_line, event_line, irq_report, kill_line, report_text}
 use Rattle.run_spec.specs.Text.{end_of}
 use Rattle.run_spec.specs.Live.{IsLiveText, Watch}
 
@@ -87,14 +89,24 @@ kills_until trace pace rules count = sum_by (λ i. length (kills_in trace pace r
 
 -- ---- reports
 
--- the pressure files of a group at a moment (ns), by its totals (ns) and averages
-abbrev pub files_text : ℕ → List ℕ → ℕ → List ℕ → List (List ℕ) → List ℕ
-files_text at path slot totals averages = flat_map (λ res. report_text at path res (slot == 0) totals averages) resources
+-- the reports on the resources of a group at a moment (ns), by its totals (ns) and averages
+abbrev pub resource_files : ℕ → List ℕ → ℕ → List ℕ → List (List ℕ) → List ℕ
+resource_files at path slot totals averages = flat_map (λ res. report_text at path res (slot == 0) totals averages) resources
+
+-- its report on interrupts, in a version that tells of them
+abbrev pub irq_files : Version → ℕ → List ℕ → List ℕ → List (List ℕ) → List ℕ
+irq_files One at path totals averages = []
+irq_files Two at path totals averages = irq_report at path (slice_index_or averages irq_quantity []) (slice_index totals irq_quantity)
+
+-- its reports in a trace of a version: on the resources, and in version 2 on interrupts
+abbrev pub files_text : Version → ℕ → List ℕ → ℕ → List ℕ → List (List ℕ) → List ℕ
+files_text version at path slot totals averages =
+    resource_files at path slot totals averages ++ irq_files version at path totals averages
 
 -- the report of a group at a tick
 abbrev pub group_report : Trace → Pace → ℕ → List ℕ × ℕ → List ℕ
 group_report trace pace i group =
-    files_text (tick_moment pace.length i) group.0 group.1
+    files_text trace.version (tick_moment pace.length i) group.0 group.1
     (totals_after trace.cpus (lives_of trace) (ticks_of trace.cpus trace.events pace.length i) group.1)
     (group_averages trace.cpus (lives_of trace) (ticks_of trace.cpus trace.events pace.length i) group.1).averages
 

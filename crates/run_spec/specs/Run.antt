@@ -1,20 +1,23 @@
 -- What a run of a command promises: what each status says of the files and of the output, and which counts of failures rose.
-use Rattle.std.specs.Prelude.{◌≡◌, ◌⊎◌, ℕ, List, [], Option, None, Some, IsSome, MatchOption, Ok, Err, ⊤}
+use Rattle.std.specs.Prelude.{◌≡◌, ◌⊎◌, ℕ, List, [], Option, None, Some, IsSome, MatchOption, option_map, Ok, Err, ⊤}
 use Rattle.std.specs.Io.KnownBytes.{Appends, Keeps}
 use Rattle.psi_base.specs.Gives.{no_memory}
 use Rattle.psi_base.specs.Outside.{Files, told, Lacks, Rose, AppendsFront, ShelfCounts, counts_of}
 use Rattle.psi_spec.specs.Fields.{IsAmong}
 use Rattle.psi_spec.specs.Trace.{AreKnown, IsAccepted, IsCpuCount, Trace, limits_of}
 use Rattle.run_spec.specs.declared.command.Command.{Command}
+use Rattle.run_spec.specs.declared.command.Command.TheVariants as words
 use Rattle.run_spec.specs.declared.status.Status.{Status}
 use Rattle.run_spec.specs.declared.status.Status.TheVariants as status
 use Rattle.run_spec.specs.declared.status.Which.{Which}
-use Rattle.run_spec.specs.declared.status.Which.TheVariants.{ImportFile, RulesFile, TraceFile}
+use Rattle.run_spec.specs.declared.status.Which.TheVariants.{DropInFile, ImportFile, RulesFile, TraceFile}
 use Rattle.ruleset_json.specs.declared.fault.RulesFault.{RulesFault}
 use Rattle.ruleset_json.specs.declared.types.Rule.{Rule}
+use Rattle.ruleset_json.specs.declared.types.Rules.{Rules}
 use Rattle.ruleset_json.specs.RuleRanges.{FitsRules}
 use Rattle.ruleset_json.specs.Rules.{rules_of}
-use Rattle.run_spec.specs.Outputs.{IsOutput, accepts_of, file_of, rules_name, source_name, source_of, taken_of}
+use Rattle.dropin_rules.specs.declared.fault.DropFault.{DropFault}
+use Rattle.run_spec.specs.Outputs.{IsOutput, accepts_of, drop_in_name, file_of, rules_from, rules_name, source_name, source_of, taken_of}
 
 -- ---- counts
 
@@ -48,6 +51,20 @@ pub record FailuresAreCounted (before now : RunCounts) (result : Status) : Type 
 abbrev pub IsTold : Command → Which → Option Files → List ℕ → Type 0
 IsTold command which files bytes = (name : List ℕ) × (file_of command which ≡ Some name) × (told files name ≡ Some bytes)
 
+-- the bytes of a file that may be named: that none is named is told as well
+abbrev pub told_if_named : Option Files → Option (List ℕ) → Option (Option (List ℕ))
+told_if_named files None = Some None
+told_if_named files (Some name) = option_map (λ bytes. Some bytes) (told files name)
+
+-- the bytes of a command's drop-in file are told to be these, or it reads no such file, and there are none
+abbrev pub DropInTold : Command → Option Files → Option (List ℕ) → Type 0
+DropInTold command files drop_in = told_if_named files (drop_in_name command) ≡ Some drop_in
+
+-- a command has a trace, which it reads, imports or makes: each but `rules`
+abbrev pub HasTrace : Command → Type 0
+HasTrace (words.Rules file drop_in) = ⊥
+HasTrace _ = ⊤
+
 -- A command takes a trace: its version and the verbs of its events are accepted, the events make up a trace, and it is the one
 -- that the command takes from its file's bytes, where these are told.
 pub record TakesTrace (command : Command) (files : Option Files) (trace : Trace) : Type 0 where
@@ -57,17 +74,24 @@ pub record TakesTrace (command : Command) (files : Option Files) (trace : Trace)
   pub accepted : IsAccepted (limits_of (accepts_of command).tick trace.cpus) trace.events
   pub read : (bytes : List ℕ) → IsTold command (source_of command) files bytes → taken_of command bytes ≡ Ok trace
 
--- A command takes rulesets: each in its ranges, those of its rules file's bytes, where these are told, and none where it reads
--- no rules file.
+-- A command takes rulesets: each in its ranges, those of the bytes of its rules file and of the drop-in file over it, where these
+-- are told, and none where it reads no rules file.
 pub record TakesRules (command : Command) (files : Option Files) (rules : List Rule) : Type 0 where
   pub fit : FitsRules rules
   pub none : rules_name command ≡ None → rules ≡ []
-  pub read : (bytes : List ℕ) → IsTold command RulesFile files bytes → rules_of bytes ≡ Ok (record { rules = rules })
+  pub read : (bytes : List ℕ) (drop_in : Option (List ℕ)) → IsTold command RulesFile files bytes → DropInTold command files drop_in
+      → rules_from bytes drop_in ≡ Ok (record { rules = rules })
 
--- the rulesets of a command are told to be these: those of its rules file, or none where it reads no rules file
+-- a command takes these rules from its rules file, before a drop-in file is put over them
+abbrev pub TakesBase : Command → Option Files → Rules → Type 0
+TakesBase command files base = (bytes : List ℕ) → IsTold command RulesFile files bytes → rules_of bytes ≡ Ok base
+
+-- the rulesets of a command are told to be these: those of its rules file with the drop-in file over it, if it reads one, or none
+-- where it reads no rules file
 abbrev pub RulesTold : Command → Option Files → List Rule → Type 0
 RulesTold command files rules = MatchOption (rules_name command) (rules ≡ [])
-    (λ name. (bytes : List ℕ) × (told files name ≡ Some bytes) × (rules_of bytes ≡ Ok (record { rules = rules })))
+    (λ name. (bytes : List ℕ) × (drop_in : Option (List ℕ)) × (told files name ≡ Some bytes) × DropInTold command files drop_in
+    × (rules_from bytes drop_in ≡ Ok (record { rules = rules })))
 
 -- ---- statuses
 
@@ -75,21 +99,28 @@ RulesTold command files rules = MatchOption (rules_name command) (rules ≡ [])
 abbrev pub IsThere : Command → Option Files → Which → Type 0
 IsThere command files which = (name : List ℕ) → file_of command which ≡ Some name → Lacks files name → ⊥
 
--- a command's whole output for an accepted trace and rulesets has some property, and no file of it is missing
+-- neither the rules file of a command nor the drop-in file over it is told to be missing
+abbrev pub RulesAreThere : Command → Option Files → Type 0
+RulesAreThere command files = IsThere command files RulesFile × IsThere command files DropInFile
+
+-- A command's whole output for an accepted trace and rulesets has some property, and no file of it is missing. Where a command has
+-- no trace, its output says nothing of one.
 abbrev pub HasOutput : Command → Option Files → (List ℕ → Type 0) → Type 0
 HasOutput command files IsSo =
-    (trace : Trace) × (rules : List Rule) × TakesTrace command files trace × TakesRules command files rules
-    × IsThere command files RulesFile × IsThere command files (source_of command)
+    (trace : Trace) × (rules : List Rule) × (HasTrace command → TakesTrace command files trace) × TakesRules command files rules
+    × RulesAreThere command files × IsThere command files (source_of command)
     × ((text : List ℕ) × IsOutput command trace rules text × IsSo text)
 
--- what comes before a command reads its file of this kind is in order: rules come before any other, and their file is there
+-- What comes before a command reads its file of this kind is in order: the rules file comes first, then the drop-in file over it,
+-- then any other. The files before it are there.
 abbrev pub IsPassed : Command → Option Files → Which → Type 0
 IsPassed command files RulesFile = ⊤
-IsPassed command files _ = (rules : List Rule) × TakesRules command files rules × IsThere command files RulesFile
+IsPassed command files DropInFile = (base : Rules) × IsSome (rules_name command) × TakesBase command files base × IsThere command files RulesFile
+IsPassed command files _ = (rules : List Rule) × TakesRules command files rules × RulesAreThere command files
 
--- a command reads files, among them the one that it takes its trace from
+-- a command reads a file of some kind
 abbrev pub ReadsFiles : Command → Type 0
-ReadsFiles command = IsSome (source_name command)
+ReadsFiles command = (which : Which) × IsSome (file_of command which)
 
 -- Nothing was written, and a status tells of the first refused line of a command's file of this kind, behind what comes before it.
 abbrev pub Refuses : Command → Option Files → Option (List ℕ) → Option (List ℕ) → Which → Status → Type 0
@@ -98,14 +129,19 @@ Refuses command files old new which result =
     × ((bytes : List ℕ) → IsTold command which files bytes → taken_of command bytes ≡ Err result)
 
 -- What a status says of a command, whose files the shelf may tell, and of what the sink held before and holds now: the whole
--- output or a front of it, for an accepted trace and rulesets; the first fault of the rules file; behind the rules the first
--- refused line of the trace, or of a text of ftrace; or a name that isn't there. Where it isn't Done or WriteFault, the sink is as it was.
+-- output or a front of it, for an accepted trace and rulesets; the first fault of the rules file, or of the drop-in file over it;
+-- behind the rules the first refused line of the trace, or of a text of ftrace; or a name that isn't there. Where it isn't Done or
+-- WriteFault, the sink is as it was.
 abbrev pub Ends : Command → Option Files → Option (List ℕ) → Option (List ℕ) → Status → Type 0
 Ends command files old new status.Done = HasOutput command files (λ text. Appends old new text)
 Ends command files old new status.WriteFault = HasOutput command files (λ text. AppendsFront old new text)
 Ends command files old new (status.Rules fault) =
     Keeps old new × IsThere command files RulesFile × ((name : List ℕ) × (rules_name command ≡ Some name)
     × ((bytes : List ℕ) → told files name ≡ Some bytes → rules_of bytes ≡ Err fault))
+Ends command files old new (status.DropIn fault) =
+    Keeps old new × IsSome (file_of command DropInFile) × IsPassed command files DropInFile × IsThere command files DropInFile
+    × ((bytes drop_in : List ℕ) → IsTold command RulesFile files bytes → IsTold command DropInFile files drop_in
+    → rules_from bytes (Some drop_in) ≡ Err (status.DropIn fault))
 Ends command files old new (status.Trace line why) = Refuses command files old new TraceFile (status.Trace line why)
 Ends command files old new (status.Import line why) = Refuses command files old new ImportFile (status.Import line why)
 Ends command files old new (status.NoFile which) =
@@ -127,10 +163,18 @@ MissingRulesTell = (command : Command) (files : Option Files) (old new : Option 
     → Ends command files old new result → rules_name command ≡ Some name → Lacks files name
     → (result ≡ status.NoFile RulesFile) ⊎ (result ≡ status.ReadFault) ⊎ (result ≡ status.NoMemory no_memory)
 
--- where the file is that it takes its trace from, a run says that a file is, or tells of a failure, or of a fault of the rules,
--- which come first
+-- where the drop-in file over it is, a run says that one of the two is, or tells of a failure, or of a fault of the rules file,
+-- which comes first
+abbrev pub MissingDropInTells : Type 0
+MissingDropInTells = (command : Command) (files : Option Files) (old new : Option (List ℕ)) (result : Status) (name : List ℕ)
+    → Ends command files old new result → drop_in_name command ≡ Some name → Lacks files name
+    → (result ≡ status.NoFile RulesFile) ⊎ (result ≡ status.NoFile DropInFile) ⊎ (result ≡ status.ReadFault)
+    ⊎ (result ≡ status.NoMemory no_memory) ⊎ ((fault : RulesFault) × (result ≡ status.Rules fault))
+
+-- where the file is that it takes its trace from, a run says that a file is, or tells of a failure, or of a fault of the rules or of
+-- the drop-in file over them, which come first
 abbrev pub MissingSourceTells : Type 0
 MissingSourceTells = (command : Command) (files : Option Files) (old new : Option (List ℕ)) (result : Status) (name : List ℕ)
     → Ends command files old new result → source_name command ≡ Some name → Lacks files name
     → IsNoFile result ⊎ (result ≡ status.ReadFault) ⊎ (result ≡ status.NoMemory no_memory)
-    ⊎ ((fault : RulesFault) × (result ≡ status.Rules fault))
+    ⊎ ((fault : RulesFault) × (result ≡ status.Rules fault)) ⊎ ((fault : DropFault) × (result ≡ status.DropIn fault))

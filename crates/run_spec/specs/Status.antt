@@ -7,6 +7,7 @@ use Rattle.run_spec.specs.declared.status.Status.{Status}
 use Rattle.run_spec.specs.declared.status.Status.TheVariants as status
 use Rattle.run_spec.specs.declared.status.Which.{Which}
 use Rattle.ruleset_json.specs.FaultText.{fault_text}
+use Rattle.dropin_rules.specs.FaultText.{drop_fault_text}
 use Rattle.run_spec.specs.Outputs.{file_of}
 use Rattle.run_spec.specs.Text.{cause_text, import_cause_text}
 
@@ -21,6 +22,7 @@ code_of status.ReadFault = 5
 code_of status.WriteFault = 6
 code_of (status.NoMemory _) = 7
 code_of (status.Import line why) = 8
+code_of (status.DropIn fault) = 9
 
 -- a name, if there is one
 abbrev pub name_or_none : Option (List ℕ) → List ℕ
@@ -43,7 +45,7 @@ import_refusal_text line why = codes "import line " ++ (decimal line ++ (codes "
 -- the line that tells of a status, with its newline; of Done nothing is told
 abbrev pub status_text : Option Command → Status → List ℕ
 status_text command status.Done = []
-status_text command status.Usage = codes "usage: psi_oomd stall or check or replay or gen or stress or import\n"
+status_text command status.Usage = codes "usage: psi_oomd stall or check or replay or gen or stress or import or rules\n"
 status_text command (status.Trace line why) = refusal_text line why
 status_text command (status.Rules fault) = fault_text fault ++ codes "\n"
 status_text command (status.NoFile which) = codes "no file: " ++ (name_text command which ++ codes "\n")
@@ -51,3 +53,4 @@ status_text command status.ReadFault = codes "read fault\n"
 status_text command status.WriteFault = codes "write fault\n"
 status_text command (status.NoMemory _) = codes "out of memory\n"
 status_text command (status.Import line why) = import_refusal_text line why
+status_text command (status.DropIn fault) = drop_fault_text fault ++ codes "\n"

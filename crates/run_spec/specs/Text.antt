@@ -1,12 +1,13 @@
 -- What `stall` and `check` print as a whole, byte for byte, and how causes are told.
-use Rattle.std.specs.Prelude.{ℕ, List, [], ◌++◌, length, map, Option, None, Some, codes, decimal}
+use Rattle.std.specs.Prelude.{ℕ, List, [], ◌∷◌, ◌++◌, length, map, Option, None, Some, codes, decimal}
 use Rattle.std.specs.List.{flat_map, range_with_len}
 use Rattle.psi_base.specs.declared.event.Event.{Event}
 use Rattle.psi_base.specs.declared.event.Cause.{Cause}
 use Rattle.psi_base.specs.declared.event.Cause.TheVariants as cause
+use Rattle.psi_spec.specs.Grammar.{One, Two, Version}
 use Rattle.psi_spec.specs.World.{after}
 use Rattle.psi_spec.specs.Groups.{live_groups}
-use Rattle.psi_spec.specs.Stall.{stall, states}
+use Rattle.psi_spec.specs.Stall.{irq_time, stall, states}
 use Rattle.psi_spec.specs.Trace.{Trace}
 use Rattle.import_spec.specs.declared.cause.ImportCause.{ImportCause}
 use Rattle.import_spec.specs.declared.cause.ImportCause.TheVariants as import_cause
@@ -22,13 +23,18 @@ end_of events = (after events).last
 abbrev pub stall_times : ℕ → ℕ → List Event → List ℕ
 stall_times cpu slot events = map (λ state. stall state cpu slot events (end_of events)) states
 
+-- the times (ns) that are told of a group on a processor: the stall times and, in version 2, behind them the interrupt time
+abbrev pub told_times : Version → ℕ → ℕ → List Event → List ℕ
+told_times One cpu slot events = stall_times cpu slot events
+told_times Two cpu slot events = stall_times cpu slot events ++ irq_time cpu slot events ∷ []
+
 -- the lines of a processor
-abbrev pub stall_lines : ℕ → List Event → List ℕ
-stall_lines cpu events = flat_map (λ (pair : List ℕ × ℕ). stall_line cpu pair.0 (stall_times cpu pair.1 events)) (live_groups (after events).groups)
+abbrev pub stall_lines : Version → ℕ → List Event → List ℕ
+stall_lines version cpu events = flat_map (λ (pair : List ℕ × ℕ). stall_line cpu pair.0 (told_times version cpu pair.1 events)) (live_groups (after events).groups)
 
 -- the text of `stall`: the lines of all processors
 unfoldable pub stall_text : Trace → List ℕ
-stall_text trace = flat_map (λ cpu. stall_lines cpu trace.events) (range_with_len 0 trace.cpus)
+stall_text trace = flat_map (λ cpu. stall_lines trace.version cpu trace.events) (range_with_len 0 trace.cpus)
 
 -- ---- checks
 

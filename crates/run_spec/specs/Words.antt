@@ -9,7 +9,7 @@ use Rattle.std.specs.Str.{bytes_eq}
 use Rattle.psi_base.specs.Number.{number_of}
 use Rattle.psi_base.specs.Path.{is_path}
 use Rattle.run_spec.specs.declared.command.Command.{Command}
-use Rattle.run_spec.specs.declared.command.Command.TheVariants.{Stall, Check, Replay, Gen, Stress, Import}
+use Rattle.run_spec.specs.declared.command.Command.TheVariants.{Stall, Check, Replay, Gen, Stress, Import, Rules}
 use Rattle.run_spec.specs.declared.command.Options.{Options}
 use Rattle.run_spec.specs.declared.command.Shape.{Shape}
 
@@ -145,11 +145,17 @@ trace_given given = do
   name ← given.positional
   if is_name name then Some name else None
 
--- the name of the rules file, which isn't `-`, or that there is none
+-- the name of a rules file or a drop-in file, which isn't `-`, or that there is none
 abbrev pub rules_given : Option (List ℕ) → Option (Option (List ℕ))
 rules_given None = Some None
 rules_given (Some name) =
     if is_name name && not (bytes_eq name (codes "-")) then Some (Some name) else None
+
+-- the name of the drop-in file over a rules file, or that there is none: without rules there is nothing that it could change
+abbrev pub drop_in_given : Option (List ℕ) → Option (List ℕ) → Option (Option (List ℕ))
+drop_in_given rules None = Some None
+drop_in_given None (Some name) = None
+drop_in_given (Some rules) (Some name) = rules_given (Some name)
 
 -- a group's path, or that there is none
 abbrev pub live_given : Option (List ℕ) → Option (Option (List ℕ))
@@ -183,6 +189,7 @@ check_of given = do
 unfoldable pub options_of : Given → Option Options
 options_of given = do
   rules ← rules_given (value_given (codes "rules") given)
+  drop_in ← drop_in_given rules (value_given (codes "drop-in") given)
   tick_ms ← tick_given given
   interval_s ← number_or 5 1 3600 (value_given (codes "interval-s") given)
   report_s ← number_or 10 0 3600 (value_given (codes "report-s") given)
@@ -191,6 +198,7 @@ options_of given = do
   live_count ← number_or 1 1 16 (value_given (codes "live-count") given)
   Some (record {
     rules = rules;
+    drop_in = drop_in;
     tick_ms = tick_ms;
     interval_s = interval_s;
     report_s = report_s;
@@ -236,6 +244,13 @@ import_of given = do
   cpus ← needed 1 64 (value_given (codes "cpus") given)
   Some (Import file cpus)
 
+-- `rules` needs a rules file, and may have a drop-in file over it
+unfoldable pub rules_command_of : Given → Option Command
+rules_command_of given = do
+  file ← trace_given given
+  drop_in ← rules_given (value_given (codes "drop-in") given)
+  Some (Rules file drop_in)
+
 -- how a command is spelled: its own word, the names of its options, and its table, which gives the
 -- command by what the words behind its own say
 pub record CommandForm : Type 0 where
@@ -254,7 +269,7 @@ check_form = record { word = codes "check"; options = codes "tick-ms" ∷ []; co
 -- the names of the options of `replay`
 abbrev pub replay_names : List (List ℕ)
 replay_names =
-    codes "rules" ∷ codes "tick-ms" ∷ codes "interval-s" ∷ codes "report-s"
+    codes "rules" ∷ codes "drop-in" ∷ codes "tick-ms" ∷ codes "interval-s" ∷ codes "report-s"
     ∷ codes "workers" ∷ codes "live" ∷ codes "live-count" ∷ []
 
 -- `replay TRACE`, with options
@@ -281,9 +296,13 @@ stress_form = record { word = codes "stress"; options = stress_names; command = 
 abbrev pub import_form : CommandForm
 import_form = record { word = codes "import"; options = codes "cpus" ∷ []; command = import_of }
 
+-- `rules FILE`, with one option
+abbrev pub rules_form : CommandForm
+rules_form = record { word = codes "rules"; options = codes "drop-in" ∷ []; command = rules_command_of }
+
 -- all commands
 abbrev pub forms : List CommandForm
-forms = stall_form ∷ check_form ∷ replay_form ∷ gen_form ∷ stress_form ∷ import_form ∷ []
+forms = stall_form ∷ check_form ∷ replay_form ∷ gen_form ∷ stress_form ∷ import_form ∷ rules_form ∷ []
 
 -- the command of this form that the words behind its own spell
 abbrev pub spelled : CommandForm → List (List ℕ) → Option Command
@@ -304,9 +323,15 @@ command_of (first ∷ words) = do
 abbrev pub IsWithin : ℕ → ℕ → ℕ → Type 0
 IsWithin least most number = (least ≤ number) × (number ≤ most)
 
+-- the name of a file that an option gives is one, and not that of standard input
+abbrev pub IsOptionName : Option (List ℕ) → Type 0
+IsOptionName named = IfSome named (λ name. (name ≢ []) × (name ≢ codes "-"))
+
 -- what the options of `replay` say is in range
 pub record AreOptions (options : Options) : Type 0 where
-  pub rules : IfSome options.rules (λ name. (name ≢ []) × (name ≢ codes "-"))
+  pub rules : IsOptionName options.rules
+  pub drop_in : IsOptionName options.drop_in
+  pub over : options.rules ≡ None → options.drop_in ≡ None
   pub tick_ms : IsWithin 1 60000 options.tick_ms
   pub interval_s : IsWithin 1 3600 options.interval_s
   pub report_s : options.report_s ≤ 3600
@@ -329,6 +354,7 @@ IsCommand (Replay trace options) = (trace ≢ []) × AreOptions options
 IsCommand (Gen shape) = IsShape shape
 IsCommand (Stress shape workers) = IsShape shape × IsWithin 1 64 workers
 IsCommand (Import file cpus) = (file ≢ []) × IsWithin 1 64 cpus
+IsCommand (Rules file drop_in) = (file ≢ []) × IsOptionName drop_in
 
 -- ---- laws
 

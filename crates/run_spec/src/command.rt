@@ -45,6 +45,13 @@ pub enum Command {
         /// How many processors the machine has: 1 to 64.
         cpus: u32,
     },
+    /// Print rules as one line of JSON, with every default filled in.
+    Rules {
+        /// The name of the rules file, or `-` for standard input.
+        file: Text,
+        /// The name of the drop-in file over it, by default none.
+        drop_in: Option<Text>,
+    },
 }
 
 /// What the options of `replay` say.
@@ -52,6 +59,8 @@ pub enum Command {
 pub struct Options {
     /// The name of the rules file, by default none.
     pub rules: Option<Text>,
+    /// The name of the drop-in file over the rules file, by default none.
+    pub drop_in: Option<Text>,
     /// The length of a tick in ms: 1 to 60,000, by default 2,000.
     pub tick_ms: u32,
     /// The interval of evaluations in seconds: one comes at the first tick at or after each multiple. 1 to 3,600, by default 5.

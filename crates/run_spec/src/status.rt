@@ -1,8 +1,9 @@
 //! How a run ends.
 ghost use Rattle.std.specs.Prelude.{◌≡◌};
-ghost use Rattle.run_spec.specs.Run.{MissingRulesTell, MissingSourceTells};
+ghost use Rattle.run_spec.specs.Run.{MissingDropInTells, MissingRulesTell, MissingSourceTells};
 ghost use Rattle.run_spec.specs.Status.{code_of};
 
+use dropin_rules::DropFault;
 use import_spec::ImportCause;
 use psi_base::{Cause, NoMemory};
 use ruleset_json::RulesFault;
@@ -16,6 +17,8 @@ pub enum Which {
     TraceFile,
     /// The text of ftrace that is imported.
     ImportFile,
+    /// The drop-in file over the rules.
+    DropInFile,
 }
 
 /// How a run ended.
@@ -39,6 +42,8 @@ pub enum Status {
     NoMemory(NoMemory),
     /// The text of ftrace is refused at this line, counted from 1, for this cause.
     Import { line: u32, cause: ImportCause },
+    /// The drop-in file is refused, for this fault at its place.
+    DropIn { fault: DropFault },
 }
 
 impl Status {
@@ -56,13 +61,16 @@ impl Status {
             Status::WriteFault => 6,
             Status::NoMemory(_) => 7,
             Status::Import { .. } => 8,
+            Status::DropIn { .. } => 9,
         }
     }
 }
 
 /// Where a file of a command is told to be missing, a run says so, or tells of a failure. Where it is the one that the trace is
-/// taken from, a run may also tell of a fault of the rules, which come first.
+/// taken from, a run may also tell of a fault of the rules, or of the drop-in file over them, which come first; and where it is
+/// the drop-in file, of one of the rules.
 pub fn law_missing_files()
     ensures rules { MissingRulesTell }
+    ensures drop_in { MissingDropInTells }
     ensures source { MissingSourceTells }
 {}

@@ -1,8 +1,11 @@
-use Rattle.run_spec.proofs.Missing.{missing_rules, missing_source}
+use Rattle.run_spec.proofs.Missing.{missing_drop_in, missing_rules, missing_source}
 use Rattle.run_spec.proofs.status.law_missing_files.Goals as goal
 
 pub returns-clause-rules : goal.returns-clause-rules
 returns-clause-rules c = missing_rules
+
+pub returns-clause-drop_in : goal.returns-clause-drop_in
+returns-clause-drop_in c = missing_drop_in
 
 pub returns-clause-source : goal.returns-clause-source
 returns-clause-source c = missing_source
