@@ -4,7 +4,7 @@ ghost use Rattle.psi_words.specs.Reads.{Finds, HasTextNames, ReadsWord};
 ghost use Rattle.run_spec.specs.Words as spec;
 
 use crate::given::Parsed;
-use crate::values::{live, needed, number_or, rules};
+use crate::values::{drop_in, live, needed, number_or, rules};
 use crate::words::BadWords;
 use psi_base::{Fault, Text};
 use run_spec::{Command, Options, Shape};
@@ -40,8 +40,10 @@ fn workers(given: &Parsed) -> Result<u32, BadWords>
 fn options(alloc: Global, given: &Parsed) -> Result<Options, Fault<BadWords>>
     ensures exact { ReadsWord result (spec.options_of given.now) }
     ensures text { IfOk result (λ options. IfSome options.rules IsUtf8) }
+    ensures drop_in { IfOk result (λ options. IfSome options.drop_in IsUtf8) }
 {
     let rules = rules(alloc, given.value("rules"))?;
+    let drop_in = drop_in(alloc, &rules, given.value("drop-in"))?;
     let tick_ms = tick_ms(given)?;
     let interval_s = number_or(5, 1, 3_600, given.value("interval-s"))?;
     let report_s = number_or(10, 0, 3_600, given.value("report-s"))?;
@@ -50,6 +52,7 @@ fn options(alloc: Global, given: &Parsed) -> Result<Options, Fault<BadWords>>
     let live_count = number_or(1, 1, 16, given.value("live-count"))?;
     Ok(Options {
         rules,
+        drop_in,
         tick_ms,
         interval_s,
         report_s,
@@ -110,6 +113,7 @@ pub(crate) fn read_replay(alloc: Global, words: &[String]) -> Result<Command, Fa
 {
     let names = [
         "rules",
+        "drop-in",
         "tick-ms",
         "interval-s",
         "report-s",
@@ -157,4 +161,16 @@ pub(crate) fn read_import(alloc: Global, words: &[String]) -> Result<Command, Fa
     let file = trace(alloc, &given)?;
     let cpus = needed(1, 64, given.value("cpus"))? as u32;
     Ok(Command::Import { file, cpus })
+}
+
+/// The words behind `rules`.
+#[tactic(auto, unfolding(run_spec::specs::Words::rules_command_of))]
+pub(crate) fn read_rules(alloc: Global, words: &[String]) -> Result<Command, Fault<BadWords>>
+    ensures exact { ReadsWord result (spec.spelled spec.rules_form (map string_bytes words.now)) }
+    ensures texts { IfOk result HasTextNames }
+{
+    let given = Parsed::read(alloc, &["drop-in"], words)?;
+    let file = trace(alloc, &given)?;
+    let drop_in = rules(alloc, given.value("drop-in"))?;
+    Ok(Command::Rules { file, drop_in })
 }

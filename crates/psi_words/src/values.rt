@@ -47,7 +47,7 @@ pub(crate) fn number_or(
     }
 }
 
-/// The name of a rules file, which isn't standard input, or that there is none.
+/// The name of a rules file or a drop-in file, which isn't standard input, or that there is none.
 pub(crate) fn rules(alloc: Global, given: Option<&str>) -> Result<Option<Text>, Fault<BadWords>>
     ensures exact { ReadsWord result (spec.rules_given (option_copied given.entry)) }
     ensures text { IfOk result (λ name. IfSome name IsUtf8) }
@@ -61,6 +61,21 @@ pub(crate) fn rules(alloc: Global, given: Option<&str>) -> Result<Option<Text>, 
             Ok(Some(Text::make(alloc, name.as_bytes())?))
         }
     }
+}
+
+/// The name of the drop-in file over a rules file, or that there is none: without rules there is nothing that it could change.
+pub(crate) fn drop_in(
+    alloc: Global,
+    rules_named: &Option<Text>,
+    given: Option<&str>,
+) -> Result<Option<Text>, Fault<BadWords>>
+    ensures exact { ReadsWord result (spec.drop_in_given rules_named.now (option_copied given.entry)) }
+    ensures text { IfOk result (λ name. IfSome name IsUtf8) }
+{
+    if given.is_some() && rules_named.is_none() {
+        return Err(Fault::Refused(BadWords));
+    }
+    rules(alloc, given)
 }
 
 /// The path of a group, or that there is none.

@@ -3,7 +3,9 @@ ghost use Rattle.std.specs.Prelude.{IfOk, map, string_bytes};
 ghost use Rattle.psi_words.specs.Reads.{HasTextNames, ReadsWord};
 ghost use Rattle.run_spec.specs.Words.{command_of, IsCommand};
 
-use crate::tables::{read_check, read_gen, read_import, read_replay, read_stall, read_stress};
+use crate::tables::{
+    read_check, read_gen, read_import, read_replay, read_rules, read_stall, read_stress,
+};
 use psi_base::Fault;
 use run_spec::Command;
 use std::alloc::Global;
@@ -46,6 +48,8 @@ pub fn read_words(alloc: Global, words: &[String]) -> Result<Command, Fault<BadW
         read_stress(alloc, words)
     } else if first == "import" {
         read_import(alloc, words)
+    } else if first == "rules" {
+        read_rules(alloc, words)
     } else {
         Err(Fault::Refused(BadWords))
     }

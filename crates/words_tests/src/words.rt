@@ -5,10 +5,10 @@ use run_spec::{Command, Options, Shape};
 use std::alloc::{AllocError, Global};
 use std::test::Fail;
 
-// Words, and behind `=>` the command: its trace, and of `replay` the rules, the numbers of
+// Words, and behind `=>` the command: its trace, and of `replay` the rules with the drop-in file behind `+`, the numbers of
 // `--tick-ms`, `--interval-s`, `--report-s` and `--workers`, the path and the number of
 // `--live-count`; of `gen` and `stress` the numbers of `--seed`, `--cpus`, `--groups` and `--events`,
-// and of `stress` that of `--workers`; of `import` its file and the number of `--cpus`.
+// and of `stress` that of `--workers`; of `import` its file and the number of `--cpus`; of `rules` its file with the drop-in file.
 const ACCEPTED: &str = "stall|X => stall X
 stall|- => stall -
 stall|help => stall help
@@ -66,7 +66,17 @@ stress|--workers|1|--seed|7|--cpus|8|--groups|12|--events|9 => stress 7 8 12 9 1
 import|X|--cpus=1 => import X 1
 import|--cpus|64|X => import X 64
 import|-|--cpus|4 => import - 4
-import|--cpus=2|--|--cpus => import --cpus 2";
+import|--cpus=2|--|--cpus => import --cpus 2
+rules|X => rules X
+rules|- => rules -
+rules|rules => rules rules
+rules|X|--drop-in|Y => rules X+Y
+rules|--drop-in=Y|- => rules -+Y
+rules|--drop-in|X|X => rules X+X
+rules|--drop-in=a=b|--|--drop-in => rules --drop-in+a=b
+replay|X|--rules|R|--drop-in|D => replay X R+D 2000 5 10 64 none 1
+replay|--drop-in=D|X|--rules=R => replay X R+D 2000 5 10 64 none 1
+replay|X|--rules|R|--drop-in|R|--tick-ms|5 => replay X R+R 5 5 10 64 none 1";
 
 // The first row has no word.
 const REFUSED: &str = "(none)
@@ -251,7 +261,30 @@ import|X|--cpus=1|--cpus=1
 import|X|--cpus=1|--tick-ms=5
 import|X|--cpus=1|--workers=2
 Import|X|--cpus=1
-rules|X
+rules
+rules|
+rules|X|Y
+rules|X|--drop-in
+rules|X|--drop-in=
+rules|X|--drop-in|-
+rules|X|--drop-in=-
+rules|-|--drop-in=-
+rules|X|--drop-in|--drop-in
+rules|X|--drop-in=Y|--drop-in=Y
+rules|--drop-in=Y
+rules|X|--rules=Y
+rules|X|--tick-ms=5
+rules|X|--dropin=Y
+Rules|X
+replay|X|--drop-in=D
+replay|X|--drop-in|D|--tick-ms|5
+replay|X|--rules=R|--drop-in=
+replay|X|--rules=R|--drop-in=-
+replay|X|--rules=R|--drop-in
+replay|X|--rules=R|--drop-in=D|--drop-in=D
+replay|X|--rules=-|--drop-in=D
+stall|X|--drop-in=D
+check|X|--drop-in=D
 whatif|X";
 
 // The bytes as text.
@@ -266,6 +299,14 @@ fn name_shown(name: &Option<Text>) -> &str {
     }
 }
 
+// A drop-in file and what stands before it, if there is one.
+fn over_shown(drop_in: &Option<Text>) -> (&str, &str) {
+    match drop_in {
+        Some(name) => ("+", shown(name.bytes())),
+        None => ("", ""),
+    }
+}
+
 fn path_shown(path: &Option<Path>) -> &str {
     match path {
         Some(path) => path.text(),
@@ -276,8 +317,9 @@ fn path_shown(path: &Option<Path>) -> &str {
 fn options_shown(alloc: Global, options: &Options) -> Result<String, AllocError> {
     let rules = name_shown(&options.rules);
     let live = path_shown(&options.live);
+    let (plus, drop_in) = over_shown(&options.drop_in);
     format!(in alloc;
-        "{rules} {} {} {} {} {live} {}",
+        "{rules}{plus}{drop_in} {} {} {} {} {live} {}",
         options.tick_ms, options.interval_s, options.report_s, options.workers, options.live_count
     )
 }
@@ -310,6 +352,10 @@ fn command_shown(alloc: Global, command: &Command) -> Result<String, AllocError>
         }
         Command::Import { file, cpus } => {
             format!(in alloc; "import {} {cpus}", shown(file.bytes()))
+        }
+        Command::Rules { file, drop_in } => {
+            let (plus, drop_in) = over_shown(drop_in);
+            format!(in alloc; "rules {}{plus}{drop_in}", shown(file.bytes()))
         }
     }
 }
