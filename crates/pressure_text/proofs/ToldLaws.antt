@@ -17,9 +17,10 @@ use Rattle.pressure_spec.specs.File.{told_line}
 use Rattle.pressure_spec.specs.Samples.{state_of}
 use Rattle.pressure_text.specs.declared.read.PressureFile.{PressureFile}
 use Rattle.pressure_text.specs.declared.read.PressureLine.{PressureLine}
-use Rattle.pressure_text.specs.FileRead.{average_at, behind, file_at, if_end, line_at, number_at}
+use Rattle.pressure_text.specs.FileRead.{average_at, behind, file_at, if_end, irq_at, line_at, number_at}
 use Rattle.pressure_text.specs.FileRead.{past}
-use Rattle.pressure_text.specs.Told.{IsTellable, ReadsAgain, Tells, numbers_told, spelled_line}
+use Rattle.pressure_text.specs.Told.{IrqReadsAgain, IsTellable, ReadsAgain, Tells, TellsIrq}
+use Rattle.pressure_text.specs.Told.{numbers_told, spelled_line}
 use Rattle.pressure_text.proofs.Taken.{average_again, average_is, behind_again, behind_is, bind_some}
 use Rattle.pressure_text.proofs.Taken.{found_same, number_again, number_is, past_is}
 
@@ -160,10 +161,10 @@ file_again bytes file tells =
     let full_read = told_again FullStalled file.full_line [] tells.full_line in
     rw (whole, some_read, full_read) refl
 
-end_is : (rest : List ℕ) (made file : PressureFile) → if_end rest made ≡ Some file →
-    (rest ≡ []) × (made ≡ file)
-end_is [] made file is = (refl, cc)
-end_is (byte ∷ rest) made file is = absurd cc
+end_is : {A : Type 0} (rest : List ℕ) (made read : A) → if_end rest made ≡ Some read →
+    (rest ≡ []) × (made ≡ read)
+end_is [] made read is = (refl, cc)
+end_is (byte ∷ rest) made read is = absurd cc
 
 file_is : (bytes : List ℕ) (file : PressureFile) → file_at bytes ≡ Some file → Tells bytes file
 unfolding file_at
@@ -192,6 +193,33 @@ file_is bytes file is =
 -- a file is read exactly where the bytes tell it
 pub reads_told : (bytes : List ℕ) (file : PressureFile) → (file_at bytes ≡ Some file) ↔ Tells bytes file
 reads_told bytes file = (file_is bytes file, file_again bytes file)
+
+-- ---- a file of one line
+
+irq_again : (bytes : List ℕ) (line : PressureLine) → TellsIrq bytes line → irq_at bytes ≡ Some line
+unfolding irq_at
+irq_again bytes line tells =
+    let only : List ℕ = spelled_line FullStalled line in
+    let whole : bytes ≡ only ++ [] = tells.spelled ∙ sym (append-nil only) in
+    rw (whole, told_again FullStalled line [] tells.full_line) refl
+
+irq_is : (bytes : List ℕ) (line : PressureLine) → irq_at bytes ≡ Some line → TellsIrq bytes line
+unfolding irq_at
+irq_is bytes line is =
+    let found = bind_some (line_at FullStalled bytes) _ line is in
+    let end = end_is found.0.1 found.0.0 line found.2 in
+    let read =
+    line_of FullStalled bytes line found.0.0 found.0.1 end.1
+    (line_is FullStalled bytes found.0.0 found.0.1 found.1) in
+    let only : List ℕ = spelled_line FullStalled line in
+    record {
+      full_line = read.can;
+      spelled = read.spelled ∙ ap (λ xs. only ++ xs) end.0 ∙ append-nil only;
+    }
+
+-- and so is a file of one line
+pub irq_told : (bytes : List ℕ) (line : PressureLine) → (irq_at bytes ≡ Some line) ↔ TellsIrq bytes line
+irq_told bytes line = (irq_is bytes line, irq_again bytes line)
 
 -- ---- what was written
 
@@ -285,26 +313,46 @@ reads_again res is_root totals averages fit rows =
           ∙ ap (λ xs. spelled_line SomeStalled (numbers_told some_row some_total) ++ xs) second;
     }
 
+pub irq_reads_again : IrqReadsAgain
+irq_reads_again averages total fits row = record {
+  full_line =
+      can_tell averages total (λ k below. row.most k 0 (omega (arith, row.three, below)), fits);
+  spelled = line_told FullStalled averages total;
+}
+
 -- ---- what a call returns that reads as the definition does
 
-pub read_exact : (bytes : List ℕ) (result : Option PressureFile) → result ≡ file_at bytes →
-    (file : PressureFile) → (result ≡ Some file) ↔ Tells bytes file
-read_exact bytes result is file = rw is (reads_told bytes file)
+-- the call found what the bytes tell
+abbrev pub IsExact : {A : Type 0} → Option A → (A → Type 0) → Type 0
+IsExact {A} result Told = (read : A) → (result ≡ Some read) ↔ Told read
 
-none_of : (bytes : List ℕ) (result : Option PressureFile) →
-    ((file : PressureFile) → (result ≡ Some file) ↔ Tells bytes file) →
-    ((file : PressureFile) → ¬ Tells bytes file) → IsNone result
-none_of bytes None exact none = refl
-none_of bytes (Some file) exact none = absurd (none file ((exact file).0 refl))
+none_of : {A : Type 0} (Told : A → Type 0) (result : Option A) → IsExact result Told →
+    ((read : A) → ¬ Told read) → IsNone result
+none_of Told None exact none = refl
+none_of Told (Some read) exact none = absurd (none read ((exact read).0 refl))
 
-none_told : (bytes : List ℕ) (result : Option PressureFile) →
-    ((file : PressureFile) → (result ≡ Some file) ↔ Tells bytes file) → IsNone result →
-    (file : PressureFile) → ¬ Tells bytes file
-none_told bytes None exact none file tells = let found = (exact file).1 tells in absurd cc
-none_told bytes (Some other) exact none file tells = absurd cc
+none_told : {A : Type 0} (Told : A → Type 0) (result : Option A) → IsExact result Told → IsNone result →
+    (read : A) → ¬ Told read
+none_told Told None exact none read told = let found = (exact read).1 told in absurd cc
+none_told Told (Some other) exact none read told = absurd cc
 
-pub read_none : (bytes : List ℕ) (result : Option PressureFile) → result ≡ file_at bytes →
+-- it found nothing exactly where they tell nothing
+read_none : {A : Type 0} (Told : A → Type 0) (result : Option A) → IsExact result Told →
+    IsNone result ↔ ((read : A) → ¬ Told read)
+read_none Told result exact = (none_told Told result exact, none_of Told result exact)
+
+pub file_exact : (bytes : List ℕ) (result : Option PressureFile) → result ≡ file_at bytes →
+    IsExact result (Tells bytes)
+file_exact bytes result is file = rw is (reads_told bytes file)
+
+pub file_none : (bytes : List ℕ) (result : Option PressureFile) → result ≡ file_at bytes →
     IsNone result ↔ ((file : PressureFile) → ¬ Tells bytes file)
-read_none bytes result is =
-    let exact = read_exact bytes result is in
-    (none_told bytes result exact, none_of bytes result exact)
+file_none bytes result is = read_none (Tells bytes) result (file_exact bytes result is)
+
+pub irq_exact : (bytes : List ℕ) (result : Option PressureLine) → result ≡ irq_at bytes →
+    IsExact result (TellsIrq bytes)
+irq_exact bytes result is line = rw is (irq_told bytes line)
+
+pub irq_none : (bytes : List ℕ) (result : Option PressureLine) → result ≡ irq_at bytes →
+    IsNone result ↔ ((line : PressureLine) → ¬ TellsIrq bytes line)
+irq_none bytes result is = read_none (TellsIrq bytes) result (irq_exact bytes result is)

@@ -59,10 +59,10 @@ line_at level bytes = do
   end ← behind (codes "\n") total.1
   Some (record { hundredths = short.0 ∷ middle.0 ∷ long.0 ∷ []; total_us = total.0 }, end)
 
--- the file where nothing is left
-abbrev pub if_end : List ℕ → PressureFile → Option PressureFile
-if_end [] file = Some file
-if_end (byte ∷ bytes) file = None
+-- what was read, where nothing is left
+abbrev pub if_end : {A : Type 0} → List ℕ → A → Option A
+if_end [] read = Some read
+if_end (byte ∷ bytes) read = None
 
 -- the pressure file that all the bytes are
 unfoldable pub file_at : List ℕ → Option PressureFile
@@ -70,6 +70,12 @@ file_at bytes = do
   first ← line_at SomeStalled bytes
   second ← line_at FullStalled first.1
   if_end second.1 (record { some_line = first.0; full_line = second.0 })
+
+-- the line on all tasks that all the bytes are: the pressure file of interrupts
+unfoldable pub irq_at : List ℕ → Option PressureLine
+irq_at bytes = do
+  line ← line_at FullStalled bytes
+  if_end line.1 line.0
 
 -- the call found what the definition finds, and this is left
 abbrev pub TakesPiece : {A : Type 0} → Option A → List ℕ → Option (A × List ℕ) → Type 0

@@ -6,7 +6,7 @@ use Rattle.psi_base.specs.declared.event.Level.{Level}
 use Rattle.psi_base.specs.declared.event.Level.TheVariants.{SomeStalled, FullStalled}
 use Rattle.psi_spec.specs.Stall.{state_number}
 use Rattle.pressure_spec.specs.Average.{IsRow}
-use Rattle.pressure_spec.specs.File.{CanTell, file_text, in_hundredths, is_cpu, told_line}
+use Rattle.pressure_spec.specs.File.{CanTell, file_text, in_hundredths, irq_text, is_cpu, told_line}
 use Rattle.pressure_spec.specs.Samples.{state_of}
 use Rattle.pressure_text.specs.declared.read.PressureLine.{PressureLine}
 use Rattle.pressure_text.specs.declared.read.PressureFile.{PressureFile}
@@ -25,6 +25,12 @@ pub record Tells (bytes : List ℕ) (file : PressureFile) : Type 0 where
   pub some_line : IsTellable file.some_line
   pub full_line : IsTellable file.full_line
   pub spelled : bytes ≡ spelled_line SomeStalled file.some_line ++ spelled_line FullStalled file.full_line
+
+-- The bytes are the pressure file of interrupts that tells these numbers: the line on all tasks, and
+-- nothing else.
+pub record TellsIrq (bytes : List ℕ) (line : PressureLine) : Type 0 where
+  pub full_line : IsTellable line
+  pub spelled : bytes ≡ spelled_line FullStalled line
 
 -- three averages in hundredths of a percent
 abbrev pub three_hundredths : List ℕ → List ℕ
@@ -56,3 +62,8 @@ abbrev pub ReadsAgain : Type 0
 ReadsAgain = (res : Res) (is_root : Bool) (totals : List ℕ) (averages : List (List ℕ)) →
     All (λ total. total < 2 ^ 64) totals → All (λ row. IsRow row) averages →
     Tells (file_text res is_root totals averages) (told_file res is_root totals averages)
+
+-- And so is what is written of interrupts.
+abbrev pub IrqReadsAgain : Type 0
+IrqReadsAgain = (averages : List ℕ) (total : ℕ) → total < 2 ^ 64 → IsRow averages →
+    TellsIrq (irq_text averages total) (numbers_told averages total)

@@ -1,12 +1,14 @@
 //! Pressure files, and reports of them.
-ghost use Rattle.std.specs.Prelude.{◌≡◌};
+ghost use Rattle.std.specs.Prelude.{◌≡◌, [], slice_index_or};
 ghost use Rattle.psi_base.specs.Outside.{HasCause, PutsAll, StaysOver};
 ghost use Rattle.pressure_spec.specs.File.{file_line, file_text, full_line, state_line};
+ghost use Rattle.pressure_spec.specs.Share.{irq_quantity};
 ghost use Rattle.pressure_spec.specs.Samples as samples;
-ghost use Rattle.run_spec.specs.Lines.{report_head, report_text};
+ghost use Rattle.run_spec.specs.Lines.{head_line, irq_report, report_head, report_text};
 
 use crate::pieces::{Piece, level_word, put_pieces, resource_word};
 use fixed_average::Averages;
+use pressure_spec::Amounts;
 use psi_base::{Level, Ns, Path, Res, Sink, State, WriteFailed};
 
 // A line of a pressure file: three averages, and a total (ns).
@@ -57,7 +59,7 @@ fn put_state<K: Sink>(
     out: &mut K,
     res: Res,
     level: Level,
-    totals: &[u64; 6],
+    totals: &Amounts,
     averages: &Averages,
 ) -> Result<(), WriteFailed>
     ensures bytes { PutsAll (K.has out.old) (K.has out.new) result
@@ -74,7 +76,7 @@ fn put_full<K: Sink>(
     out: &mut K,
     res: Res,
     root: bool,
-    totals: &[u64; 6],
+    totals: &Amounts,
     averages: &Averages,
 ) -> Result<(), WriteFailed>
     ensures bytes { PutsAll (K.has out.old) (K.has out.new) result
@@ -90,13 +92,13 @@ fn put_full<K: Sink>(
 
 /// Writes the pressure file of a resource of a group, as `Documentation/accounting/psi.rst` has it: the
 /// line on some and the line on all of its tasks, by the group's totals (ns) of all states but nonidle, in
-/// their order, and its averages. The processor's line on all tasks of the root has zeros, as the kernel's
-/// has.
+/// their order, and of interrupts, and its averages. The processor's line on all tasks of the root has
+/// zeros, as the kernel's has.
 pub fn write_file<K: Sink>(
     out: &mut K,
     res: Res,
     root: bool,
-    totals: [u64; 6],
+    totals: Amounts,
     averages: &Averages,
 ) -> Result<(), WriteFailed>
     ensures bytes { PutsAll (K.has out.old) (K.has out.new) result
@@ -108,15 +110,16 @@ pub fn write_file<K: Sink>(
     put_full(out, res, root, &totals, averages)
 }
 
-/// Writes the line ahead of a pressure file: the tick (ns), the group's path and the resource.
+// The line ahead of a pressure file: the tick (ns), the group's path and the word of what the file tells.
 #[tactic(auto, using(psi_base::proofs::Grows::chain))]
-pub fn write_report_head<K: Sink>(
+fn put_head<'a, K: Sink>(
     out: &mut K,
     at: Ns,
-    path: &Path,
-    res: Res,
+    path: &'a Path,
+    word: &'a [u8],
 ) -> Result<(), WriteFailed>
-    ensures bytes { PutsAll (K.has out.old) (K.has out.new) result (report_head at path.now res) }
+    ensures bytes { PutsAll (K.has out.old) (K.has out.new) result
+        (head_line at path.now word.now) }
     ensures cause { HasCause (K.faults out.old) (K.faults out.new) result }
     ensures below { StaysOver (K.below out.old) (K.below out.new) }
 {
@@ -128,10 +131,25 @@ pub fn write_report_head<K: Sink>(
             Piece::Text(b" "),
             Piece::Text(path.bytes()),
             Piece::Text(b" "),
-            Piece::Text(resource_word(res)),
+            Piece::Text(word),
             Piece::Text(b"\n"),
         ],
     )
+}
+
+/// Writes the line ahead of the pressure file of a resource: the tick (ns), the group's path and the
+/// resource.
+pub fn write_report_head<K: Sink>(
+    out: &mut K,
+    at: Ns,
+    path: &Path,
+    res: Res,
+) -> Result<(), WriteFailed>
+    ensures bytes { PutsAll (K.has out.old) (K.has out.new) result (report_head at path.now res) }
+    ensures cause { HasCause (K.faults out.old) (K.faults out.new) result }
+    ensures below { StaysOver (K.below out.old) (K.below out.new) }
+{
+    put_head(out, at, path, resource_word(res))
 }
 
 /// Writes a report on a resource of a group at a tick (ns): its head, as [`write_report_head`], and its
@@ -143,7 +161,7 @@ pub fn write_report<K: Sink>(
     path: &Path,
     res: Res,
     root: bool,
-    totals: [u64; 6],
+    totals: Amounts,
     averages: &Averages,
 ) -> Result<(), WriteFailed>
     ensures bytes { PutsAll (K.has out.old) (K.has out.new) result
@@ -153,4 +171,23 @@ pub fn write_report<K: Sink>(
 {
     write_report_head(out, at, path, res)?;
     write_file(out, res, root, totals, averages)
+}
+
+/// Writes the report on interrupts of a group at a tick (ns): the line ahead of it, and the line on all
+/// tasks, by the total of interrupts (ns) and their averages. Interrupts have no line on some tasks.
+#[tactic(auto, using(psi_base::proofs::Grows::chain))]
+pub fn write_irq<K: Sink>(
+    out: &mut K,
+    at: Ns,
+    path: &Path,
+    total: u64,
+    averages: &Averages,
+) -> Result<(), WriteFailed>
+    ensures bytes { PutsAll (K.has out.old) (K.has out.new) result
+        (irq_report at path.now (slice_index_or averages.now.averages irq_quantity []) total) }
+    ensures cause { HasCause (K.faults out.old) (K.faults out.new) result }
+    ensures below { StaysOver (K.below out.old) (K.below out.new) }
+{
+    put_head(out, at, path, b"irq")?;
+    put_line(out, Level::FullStalled, averages.irq(), total)
 }

@@ -6,6 +6,8 @@ mod lines;
 mod pieces;
 mod read;
 
-pub use file::{write_file, write_report, write_report_head};
-pub use lines::{write_check, write_end, write_fired, write_kill, write_live, write_stall};
-pub use read::{PressureFile, PressureLine, law_read_again, read_file};
+pub use file::{write_file, write_irq, write_report, write_report_head};
+pub use lines::{
+    write_check, write_end, write_fired, write_kill, write_live, write_stall, write_stall_irq,
+};
+pub use read::{PressureFile, PressureLine, law_read_again, read_file, read_irq};

@@ -7,31 +7,27 @@ ghost use Rattle.run_spec.specs.Lines.{live_line, stall_line};
 ghost use Rattle.pressure_text.specs.Pieces.{with_numbers};
 
 use crate::pieces::{Piece, level_word, put_numbers, put_pieces, resource_word};
+use pressure_spec::Times;
 use psi_base::{Cpu, Ns, Path, Sink, TriggerSpec, WriteFailed, put_all};
 
-// A line that ends with the times (ns) in the seven states.
+// A line that ends with times (ns).
 #[tactic(auto, using(psi_base::proofs::Grows::chain))]
-fn put_timed<K: Sink>(out: &mut K, head: &[Piece], seven: &[Ns; 7]) -> Result<(), WriteFailed>
+fn put_timed<K: Sink>(out: &mut K, head: &[Piece], times: &[Ns]) -> Result<(), WriteFailed>
     ensures bytes { PutsAll (K.has out.old) (K.has out.new) result
-        (with_numbers head.now seven.now) }
+        (with_numbers head.now times.now) }
     ensures cause { HasCause (K.faults out.old) (K.faults out.new) result }
     ensures below { StaysOver (K.below out.old) (K.below out.new) }
 {
     put_pieces(out, head)?;
-    put_numbers(out, seven)?;
+    put_numbers(out, times)?;
     put_all(out, b"\n")
 }
 
-/// Writes the line of a group on a processor: its times (ns) in the seven states, in their order.
+// The line of a group on a processor, with its times (ns).
 #[tactic(auto, using(crate::proofs::Puts::times))]
-pub fn write_stall<K: Sink>(
-    out: &mut K,
-    cpu: Cpu,
-    path: &Path,
-    seven: [Ns; 7],
-) -> Result<(), WriteFailed>
+fn put_stall<K: Sink>(out: &mut K, cpu: Cpu, path: &Path, times: &[Ns]) -> Result<(), WriteFailed>
     ensures bytes { PutsAll (K.has out.old) (K.has out.new) result
-        (stall_line cpu.0 path.now seven) }
+        (stall_line cpu.0 path.now times.now) }
     ensures cause { HasCause (K.faults out.old) (K.faults out.new) result }
     ensures below { StaysOver (K.below out.old) (K.below out.new) }
 {
@@ -43,8 +39,39 @@ pub fn write_stall<K: Sink>(
             Piece::Text(b" "),
             Piece::Text(path.bytes()),
         ],
-        &seven,
+        times,
     )
+}
+
+/// Writes the line of a group on a processor: its times (ns) in the seven states, in their order.
+pub fn write_stall<K: Sink>(
+    out: &mut K,
+    cpu: Cpu,
+    path: &Path,
+    seven: [Ns; 7],
+) -> Result<(), WriteFailed>
+    ensures bytes { PutsAll (K.has out.old) (K.has out.new) result
+        (stall_line cpu.0 path.now seven) }
+    ensures cause { HasCause (K.faults out.old) (K.faults out.new) result }
+    ensures below { StaysOver (K.below out.old) (K.below out.new) }
+{
+    put_stall(out, cpu, path, &seven)
+}
+
+/// Writes the line of a group on a processor where interrupts are told: its times (ns) in the seven states,
+/// in their order, and then what interrupts took.
+pub fn write_stall_irq<K: Sink>(
+    out: &mut K,
+    cpu: Cpu,
+    path: &Path,
+    eight: Times,
+) -> Result<(), WriteFailed>
+    ensures bytes { PutsAll (K.has out.old) (K.has out.new) result
+        (stall_line cpu.0 path.now eight) }
+    ensures cause { HasCause (K.faults out.old) (K.faults out.new) result }
+    ensures below { StaysOver (K.below out.old) (K.below out.new) }
+{
+    put_stall(out, cpu, path, &eight)
 }
 
 /// Writes the line of an accepted trace: how many events it has, the end among them, and its end moment

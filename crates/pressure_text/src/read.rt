@@ -3,10 +3,11 @@ ghost use Rattle.std.specs.Prelude.{◌≡◌, ◌↔◌, ◌≤◌, ◌<◌, If
 ghost use Rattle.std.specs.Prelude.{length};
 ghost use Rattle.std.specs.Char.{is_ascii_digit};
 ghost use Rattle.std.specs.List.{prefix_len};
-ghost use Rattle.pressure_text.specs.FileRead.{TakesPiece, average_at, behind, file_at, line_at};
-ghost use Rattle.pressure_text.specs.FileRead.{number_at, past, two_at};
-ghost use Rattle.pressure_text.specs.Told.{ReadsAgain, Tells};
+ghost use Rattle.pressure_text.specs.FileRead.{TakesPiece, average_at, behind, file_at, irq_at};
+ghost use Rattle.pressure_text.specs.FileRead.{line_at, number_at, past, two_at};
+ghost use Rattle.pressure_text.specs.Told.{IrqReadsAgain, ReadsAgain, Tells, TellsIrq};
 ghost use Rattle.pressure_text.specs.declared.read.PressureFile.{PressureFile};
+ghost use Rattle.pressure_text.specs.declared.read.PressureLine.{PressureLine};
 
 use crate::pieces::level_word;
 use psi_base::{Level, read_number};
@@ -171,6 +172,19 @@ fn file_of(bytes: &[u8]) -> Option<PressureFile>
     })
 }
 
+// The line on all tasks that the whole file is.
+#[tactic(auto, unfolding(crate::specs::FileRead::irq_at))]
+fn irq_of(bytes: &[u8]) -> Option<PressureLine>
+    ensures { result ≡ irq_at bytes.now }
+{
+    let mut rest = Rest { bytes };
+    let line = rest.line(Level::FullStalled)?;
+    if !rest.bytes.is_empty() {
+        return None;
+    }
+    Some(line)
+}
+
 /// Reads a pressure file: the line on some tasks and the line on all, each with its newline, and nothing
 /// behind them. Averages are from 0.00 to 100.00 percent with two digits behind the point, totals are below
 /// 2^64 us, and numbers have no leading zeros. None exactly where the bytes are no such file.
@@ -181,8 +195,19 @@ pub fn read_file(bytes: &[u8]) -> Option<PressureFile>
     file_of(bytes)
 }
 
-/// What [`write_file`](crate::write_file) writes of totals of 64 bits is read again by [`read_file`], as
-/// whole microseconds and hundredths of a percent.
+/// Reads the pressure file of interrupts: the line on all tasks with its newline, and nothing behind it, its
+/// numbers as [`read_file`] has them. None exactly where the bytes are no such file.
+pub fn read_irq(bytes: &[u8]) -> Option<PressureLine>
+    ensures exact { (line : PressureLine) → (result ≡ Some line) ↔ TellsIrq bytes.now line }
+    ensures none { IsNone result ↔ ((line : PressureLine) → ¬ TellsIrq bytes.now line) }
+{
+    irq_of(bytes)
+}
+
+/// What is written of totals of 64 bits is read again, as whole microseconds and hundredths of a percent:
+/// what [`write_file`](crate::write_file) writes by [`read_file`], and the file that
+/// [`write_irq`](crate::write_irq) writes behind its head by [`read_irq`].
 pub fn law_read_again()
-    ensures { ReadsAgain }
+    ensures file { ReadsAgain }
+    ensures irq { IrqReadsAgain }
 {}

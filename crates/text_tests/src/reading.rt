@@ -1,5 +1,5 @@
 //! Pressure files at the borders of what is read.
-use pressure_text::{PressureFile, PressureLine, read_file};
+use pressure_text::{PressureFile, PressureLine, read_file, read_irq};
 use std::test::Fail;
 
 /// A line of zeros on all tasks.
@@ -143,6 +143,48 @@ fn files_at_their_borders(rt: HostRuntime) -> Result<(), Fail> {
             full_line: ZEROS,
         });
         assert_eq!(rt; read_file(text.as_bytes()), file, "{text}");
+    }
+    Ok(())
+}
+
+// Each row: a file of interrupts, and what it tells if it is read.
+#[test]
+fn files_of_interrupts(rt: HostRuntime) -> Result<(), Fail> {
+    let rows = [
+        (FULL, told([0; 3], 0)),
+        (
+            "full avg10=9.05 avg60=1.63 avg300=0.34 total=1000000\n",
+            told([905, 163, 34], 1_000_000),
+        ),
+        (
+            "full avg10=100.00 avg60=99.99 avg300=0.09 total=18446744073709551615\n",
+            told([10_000, 9999, 9], u64::MAX),
+        ),
+        ("full avg10=100.01 avg60=0.00 avg300=0.00 total=0\n", None),
+        (
+            "full avg10=0.00 avg60=0.00 avg300=0.00 total=18446744073709551616\n",
+            None,
+        ),
+        ("some avg10=0.00 avg60=0.00 avg300=0.00 total=0\n", None),
+        ("full avg10=0.00 avg60=0.00 avg300=0.00 total=0", None),
+        ("full avg10=0.00 avg60=0.00 avg300=0.00 total=0\n\n", None),
+        (
+            "full avg10=0.00 avg60=0.00 avg300=0.00 total=0\nfull avg10=0.00 avg60=0.00 avg300=0.00 total=0\n",
+            None,
+        ),
+        (
+            "some avg10=0.00 avg60=0.00 avg300=0.00 total=0\nfull avg10=0.00 avg60=0.00 avg300=0.00 total=0\n",
+            None,
+        ),
+        (
+            "report 2000000000 / irq\nfull avg10=0.00 avg60=0.00 avg300=0.00 total=0\n",
+            None,
+        ),
+        ("full avg10=0.00 avg60=0.00 total=0\n", None),
+        ("", None),
+    ];
+    for (text, line) in rows {
+        assert_eq!(rt; read_irq(text.as_bytes()), line, "{text}");
     }
     Ok(())
 }

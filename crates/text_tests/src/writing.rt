@@ -1,8 +1,9 @@
 //! Each line with its exact text.
 use fixed_average::Averages;
 use pressure_text::{
-    PressureFile, PressureLine, read_file, write_check, write_end, write_file, write_fired,
-    write_kill, write_live, write_report, write_report_head, write_stall,
+    PressureFile, PressureLine, read_file, read_irq, write_check, write_end, write_file,
+    write_fired, write_irq, write_kill, write_live, write_report, write_report_head, write_stall,
+    write_stall_irq,
 };
 use psi_base::{Cpu, HonestSink, Level, MemSink, Path, Res, Slot, TriggerSpec, WriteFailed};
 use std::test::Fail;
@@ -10,10 +11,10 @@ use std::test::Fail;
 /// Two seconds (ns).
 const TICK: u64 = 2_000_000_000;
 
-// The averages of a group that was in all its states from the start to the first update.
+// The averages of a group that was in all its states, and interrupted, from the start to the first update.
 fn stalled_averages() -> Averages {
     let mut averages = Averages::new(0);
-    averages.update(TICK, [TICK; 6]);
+    averages.update(TICK, [TICK; 7]);
     averages
 }
 
@@ -32,6 +33,8 @@ fn lines(rt: HostRuntime) -> Result<(), Fail> {
     };
     let seven = [1, 2, 3, 4, 5, 6, u64::MAX];
     assert_eq!(rt; write_stall(&mut out, Cpu(63), &root, seven), Ok(()));
+    let eight = [1, 2, 3, 4, 5, 6, TICK, u64::MAX];
+    assert_eq!(rt; write_stall_irq(&mut out, Cpu(0), &root, eight), Ok(()));
     assert_eq!(rt; write_check(&mut out, 4, TICK), Ok(()));
     assert_eq!(rt; write_live(&mut out, TICK, Cpu(1), 12, [0; 7]), Ok(()));
     assert_eq!(rt; write_fired(&mut out, TICK, 3, &root, &spec), Ok(()));
@@ -39,6 +42,7 @@ fn lines(rt: HostRuntime) -> Result<(), Fail> {
     assert_eq!(rt; write_report_head(&mut out, TICK, &root, Res::Cpu), Ok(()));
     assert_eq!(rt; write_end(&mut out, 7, 1, 2, 3), Ok(()));
     let text = b"stall cpu=63 / 1 2 3 4 5 6 18446744073709551615
+stall cpu=0 / 1 2 3 4 5 6 2000000000 18446744073709551615
 ok lines=5 events=4 end=2000000000
 live 2000000000 cpu=1 count=12 0 0 0 0 0 0 0
 event 2000000000 trigger=3 / memory full 150000 1000000
@@ -54,7 +58,7 @@ end 7 ticks=1 events=2 kills=3
 fn files(rt: HostRuntime) -> Result<(), Fail> {
     let alloc = rt.alloc();
     let averages = stalled_averages();
-    let totals = [1_000, 2_000, 3_999, 4_000, TICK, 999];
+    let totals = [1_000, 2_000, 3_999, 4_000, TICK, 999, 5_000];
     let numbers = b"some avg10=18.11 avg60=3.27 avg300=0.68 total=1
 full avg10=18.11 avg60=3.27 avg300=0.68 total=2
 "
@@ -91,7 +95,7 @@ fn reports_are_read_again(rt: HostRuntime) -> Result<(), Fail> {
     let root = Path::root(alloc)?;
     let averages = stalled_averages();
     let mut out = HonestSink::new(alloc, 256)?;
-    let wrote = write_report(&mut out, TICK, &root, Res::Io, true, [TICK; 6], &averages);
+    let wrote = write_report(&mut out, TICK, &root, Res::Io, true, [TICK; 7], &averages);
     assert_eq!(rt; wrote, Ok(()));
     let head = b"report 2000000000 / io\n".as_slice();
     let line = PressureLine {
@@ -104,6 +108,38 @@ fn reports_are_read_again(rt: HostRuntime) -> Result<(), Fail> {
     };
     match out.bytes.as_slice().strip_prefix(head) {
         Some(bytes) => assert_eq!(rt; read_file(bytes), Some(file)),
+        None => assert!(rt; false, "a head"),
+    }
+    Ok(())
+}
+
+// Interrupts took half of the first interval.
+#[test]
+fn a_report_on_interrupts_is_read_again(rt: HostRuntime) -> Result<(), Fail> {
+    let alloc = rt.alloc();
+    let root = Path::root(alloc)?;
+    let mut averages = Averages::new(0);
+    averages.update(TICK, [0, 0, 0, 0, 0, 0, TICK / 2]);
+    let mut out = HonestSink::new(alloc, 256)?;
+    assert_eq!(rt;
+        write_irq(&mut out, TICK, &root, TICK / 2, &averages),
+        Ok(())
+    );
+    let text = b"report 2000000000 / irq
+full avg10=9.05 avg60=1.63 avg300=0.34 total=1000000
+"
+        .as_slice();
+    assert_eq!(rt; out.bytes.as_slice(), text);
+    let line = PressureLine {
+        hundredths: [905, 163, 34],
+        total_us: 1_000_000,
+    };
+    match out
+        .bytes
+        .as_slice()
+        .strip_prefix(b"report 2000000000 / irq\n".as_slice())
+    {
+        Some(bytes) => assert_eq!(rt; read_irq(bytes), Some(line)),
         None => assert!(rt; false, "a head"),
     }
     Ok(())
