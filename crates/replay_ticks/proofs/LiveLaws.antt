@@ -1,11 +1,10 @@
 -- What the samples of a crew tell of a trace: their lines are live lines that the tick may have.
-use Rattle.std.proofs.Common.{◌≡◌, ℕ, zero, suc, ◌+◌, ◌-◌, ◌*◌, ◌<◌, ◌≤◌, List, [], ◌∷◌, ◌++◌, drop, length, map, get_or, refl, sym, ap, ◌∙◌, subst, arith, Option, None, Some}
+use Rattle.std.proofs.Common.{◌≡◌, ℕ, zero, suc, ◌+◌, ◌-◌, ◌<◌, ◌≤◌, List, [], ◌∷◌, ◌++◌, length, get_or, refl, sym, ap, ◌∙◌, subst, arith, Option, None, Some}
 use Rattle.std.specs.Prelude.{nat_le}
 use Rattle.std.specs.List.{All, flat_map, range_with_len}
 use Rattle.std.proofs.lemmas.List.{length-drop}
 use Rattle.std.proofs.lemmas.List.Sums.{count_by-le-length, length-filter}
 use Rattle.psi_base.specs.declared.event.Slot.{Slot}
-use Rattle.psi_base.specs.declared.event.Event.{Event}
 use Rattle.psi_spec.specs.Changes.{RiseWithin, changes_of, count_at, times_after}
 use Rattle.psi_spec.specs.declared.machine.GroupLife.{GroupLife}
 use Rattle.psi_spec.specs.Stall.{number_of_slot}
@@ -29,7 +28,7 @@ use Rattle.clock_row.specs.declared.reader.Sample.{Sample}
 use Rattle.replay_workers.specs.Crew.{AreAt, AreSampled, CrewView, IsSampled, WatchView, clocks_at, counts_sampled, watch_at}
 use Rattle.replay_rules.specs.Planned.{IsPlanned}
 use Rattle.replay_ticks.specs.declared.pacing.Pacing.{Pacing}
-use Rattle.replay_ticks.specs.Replays.{AreIdle, AreInTime, GoesByTick, IsAhead, IsLiveTick, IsPaced, IsReached, IsWatching, asked_by, watched_path, handed, samples_text, watched_at, watches_text}
+use Rattle.replay_ticks.specs.Replays.{AreIdle, AreInTime, GoesByTick, IsLiveTick, IsPaced, IsReached, IsWatching, asked_by, watched_path, handed, samples_text, watched_at, watches_text}
 
 -- ---- numbers that never fall
 

@@ -12,6 +12,7 @@ use Rattle.psi_base.specs.Outside.{AppendsFront, PutsAll}
 use Rattle.psi_base.specs.declared.event.Slot.{Slot}
 use Rattle.psi_base.specs.declared.event.TriggerSpec.{TriggerSpec}
 use Rattle.psi_spec.specs.declared.machine.GroupLife.{GroupLife}
+use Rattle.psi_spec.specs.Grammar.{Version, version_of}
 use Rattle.psi_spec.specs.Groups.{IsPathOrder}
 use Rattle.psi_spec.specs.Told.{triggers_of}
 use Rattle.psi_spec.specs.Trace.{Trace, last_moment, limits_of}
@@ -119,23 +120,24 @@ same_pieces f g n (x ∷ xs) same below =
     let rest = same_pieces f g n xs same (λ k d inside. below (suc k) d (omega (arith, inside))) in
     ap (λ t. t ++ flat_map f xs) (same x first) ∙ ap (λ t. g x ++ t) rest
 
-report_same : (at : ℕ) (lives : List GroupLife) (t u : ℕ → List ℕ) (a b : ℕ → AverageState) (slot : ℕ) → t slot ≡ u slot → a slot ≡ b slot → slot_report at lives t a slot ≡ slot_report at lives u b slot
-report_same at lives t u a b slot totals averages = rw (totals, averages) refl
+report_same : (version : Version) (at : ℕ) (lives : List GroupLife) (t u : ℕ → List ℕ) (a b : ℕ → AverageState) (slot : ℕ) → t slot ≡ u slot → a slot ≡ b slot → slot_report version at lives t a slot ≡ slot_report version at lives u b slot
+report_same version at lives t u a b slot totals averages = rw (totals, averages) refl
 
 -- the reports by an engine that stands for ticks are those at the last of them
 pub reports_are : (plans : PlansView) (engine : EngineView) (order : List Slot) (pacing : Pacing) (trace : Trace) (pace : Pace) (number : ℕ) →
     IsToPut plans engine order pacing trace pace number →
-    slot_reports (tick_moment pacing.length number) plans.lives (totals_in engine) (averages_in engine) (numbers_of order) ≡ reports trace pace number
+    slot_reports (version_of pacing.version) (tick_moment pacing.length number) plans.lives (totals_in engine) (averages_in engine) (numbers_of order) ≡ reports trace pace number
 reports_are plans engine order pacing trace pace number is =
     let at = tick_moment pace.length number in
     let lives = lives_of trace in
     let ordered : IsPathOrder lives (numbers_of order) = subst (λ lives. IsPathOrder lives (numbers_of order)) is.planned.stand.lives is.by_path in
-    let same : (slot : ℕ) → slot < length lives → slot_report at lives (totals_in engine) (averages_in engine) slot ≡ slot_report at lives (totals_at trace pace number) (average_state_at trace pace number) slot = λ slot below.
-    report_same at lives (totals_in engine) (totals_at trace pace number) (averages_in engine) (average_state_at trace pace number) slot
+    let same : (slot : ℕ) → slot < length lives → slot_report trace.version at lives (totals_in engine) (averages_in engine) slot ≡ slot_report trace.version at lives (totals_at trace pace number) (average_state_at trace pace number) slot = λ slot below.
+    report_same trace.version at lives (totals_in engine) (totals_at trace pace number) (averages_in engine) (average_state_at trace pace number) slot
     (ap (λ (group : Group). group.totals) (is.ticked.groups slot below)) (ap (λ (group : Group). group.averages) (is.ticked.groups slot below)) in
-    ap (λ n. slot_reports (tick_moment n number) plans.lives (totals_in engine) (averages_in engine) (numbers_of order)) is.paced.length
-    ∙ ap (λ lives. slot_reports at lives (totals_in engine) (averages_in engine) (numbers_of order)) is.planned.stand.lives
-    ∙ same_pieces (slot_report at lives (totals_in engine) (averages_in engine)) (slot_report at lives (totals_at trace pace number) (average_state_at trace pace number)) (length lives) (numbers_of order) same (order_below lives (numbers_of order) ordered)
+    ap (λ version. slot_reports version (tick_moment pacing.length number) plans.lives (totals_in engine) (averages_in engine) (numbers_of order)) is.paced.version
+    ∙ ap (λ n. slot_reports trace.version (tick_moment n number) plans.lives (totals_in engine) (averages_in engine) (numbers_of order)) is.paced.length
+    ∙ ap (λ lives. slot_reports trace.version at lives (totals_in engine) (averages_in engine) (numbers_of order)) is.planned.stand.lives
+    ∙ same_pieces (slot_report trace.version at lives (totals_in engine) (averages_in engine)) (slot_report trace.version at lives (totals_at trace pace number) (average_state_at trace pace number)) (length lives) (numbers_of order) same (order_below lives (numbers_of order) ordered)
     ∙ sym (reports_by_order (limits_of pace.length trace.cpus) trace pace number (numbers_of order) is.planned.accepted.legal ordered)
 
 -- ---- the whole text
@@ -189,7 +191,7 @@ signals_put plans engine order pacing trace pace number is at lives triggers fir
 pub reports_put : (plans : PlansView) (engine : EngineView) (order : List Slot) (pacing : Pacing) (trace : Trace) (pace : Pace) (number : ℕ) →
     IsToPut plans engine order pacing trace pace number → (at : ℕ) (lives : List GroupLife) →
     at ≡ tick_moment pacing.length number → lives ≡ plans.lives →
-    slot_reports at lives (totals_in engine) (averages_in engine) (numbers_of order) ≡ reports trace pace number
+    slot_reports (version_of pacing.version) at lives (totals_in engine) (averages_in engine) (numbers_of order) ≡ reports trace pace number
 reports_put plans engine order pacing trace pace number is at lives at_is lives_are =
     rw (at_is, lives_are) (reports_are plans engine order pacing trace pace number is)
 

@@ -1,5 +1,5 @@
 -- What one tick more makes of a replay.
-use Rattle.std.proofs.Common.{◌≡◌, ℕ, zero, suc, ◌+◌, ◌-◌, ◌*◌, ◌<◌, ◌≤◌, ◌^◌, List, [], ◌∷◌, ◌++◌, length, refl, sym, ap, ◌∙◌, subst, arith}
+use Rattle.std.proofs.Common.{◌≡◌, ℕ, zero, suc, ◌+◌, ◌-◌, ◌*◌, ◌<◌, ◌≤◌, ◌^◌, List, [], ◌∷◌, ◌++◌, length, sym, ap, ◌∙◌, subst, arith}
 use Rattle.std.specs.Prelude.{Bool, Err, IsErr, true, Ok, Option, Result}
 use Rattle.std.specs.List.{range_with_len}
 use Rattle.std.proofs.Math.Nat.{mul-le-mul_left}
@@ -51,7 +51,7 @@ pub tick_next : (plans : PlansView) (engine : EngineView) (trace : Trace) (pace 
 tick_next plans engine trace pace i at table planned left moment stands is =
     let same = tick_is plans trace pace (i + 1) at table planned moment is in
     let early = moment_early plans trace pace (i + 1) planned (omega (arith, left)) in
-    let next = ticks_follow (limits_of pace.length trace.cpus) trace.cpus trace.events pace.length i planned.accepted.legal planned.some planned.short early in
+    let next = ticks_follow (limits_of pace.length trace.cpus) trace.cpus trace.events pace.length i planned.accepted.legal planned.counted.1 planned.some planned.short early in
     rw (stands.last, same) next
 
 -- the table has the sizes of the engine

@@ -4,15 +4,15 @@ use Rattle.std.specs.List.{All, flat_map, range_with_len}
 use Rattle.std.specs.Io.KnownBytes.{Appends, Keeps}
 use Rattle.psi_base.specs.Outside.{AppendsFront}
 use Rattle.psi_base.specs.declared.event.Slot.{Slot}
+use Rattle.psi_spec.specs.Grammar.{version_of}
 use Rattle.psi_spec.specs.Groups.{IsPathOrder}
 use Rattle.psi_spec.specs.Stall.{number_of_slot}
 use Rattle.psi_spec.specs.Trace.{Trace}
-use Rattle.psi_spec.specs.World.{root}
 use Rattle.psi_counts.specs.Clock.{IsInTime, opened}
 use Rattle.pressure_spec.specs.Ticks.{is_report, tick_moment}
 use Rattle.run_spec.specs.Lines.{live_line}
 use Rattle.run_spec.specs.Live.{IsLiveText, Watch, changes_until, live_slot_at}
-use Rattle.run_spec.specs.Replay.{Pace, group_report, kills_until, reports, root_group, signals_until, tick_count, tick_text, with_rules}
+use Rattle.run_spec.specs.Replay.{Pace, group_report, kills_until, reports, root_group, signals_until, tick_count, tick_text}
 use Rattle.ruleset_json.specs.declared.types.Rule.{Rule}
 use Rattle.ruleset_json.specs.RuleRanges.{FitsRules}
 use Rattle.group_tree.specs.Tree.{numbers_of}
@@ -42,8 +42,9 @@ pub record ReplayView : Type 0 where
   pub signals : ℕ
   pub kills : ℕ
 
--- a replay is paced so
+-- a replay of a trace is paced so
 pub record IsPaced (pacing : Pacing) (trace : Trace) (pace : Pace) : Type 0 where
+  pub version : version_of pacing.version ≡ trace.version
   pub length : pacing.length ≡ pace.length
   pub report : pacing.report ≡ pace.report
   pub last : pacing.last ≡ tick_count trace pace

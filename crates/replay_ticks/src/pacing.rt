@@ -8,6 +8,8 @@ use replay_rules::is_due;
 /// How a trace is replayed.
 #[derive(Clone, Copy, Debug, PartialEq, Eq)]
 pub(crate) struct Pacing {
+    /// The version of the trace: in version 2 reports tell of interrupts.
+    pub(crate) version: u32,
     /// The length of a tick (ns).
     pub(crate) length: Ns,
     /// The period of reports (ns), 0 for none.

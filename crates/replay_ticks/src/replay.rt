@@ -1,6 +1,7 @@
 //! A trace that is replayed tick by tick.
 ghost use Rattle.std.specs.Prelude.{◌≡◌, ◌+◌, ◌≤◌, ◌<◌, ℕ, List, IfOk};
 ghost use Rattle.psi_base.specs.Outside.{HasCause, PutsAll, StaysOver};
+ghost use Rattle.psi_spec.specs.Grammar.{IsVersion, version_of};
 ghost use Rattle.psi_spec.specs.Trace.{Trace};
 ghost use Rattle.run_spec.specs.Outputs.{pace_of, watch_of};
 ghost use Rattle.run_spec.specs.Words.{IsWithin};
@@ -169,7 +170,7 @@ fn put_due<K: Sink>(
 {
     if pacing.is_report(tick) {
         let at = tick_moment(pacing.length, tick);
-        return put_reports(out, at, plans.lives(), order, engine);
+        return put_reports(out, pacing.version, at, plans.lives(), order, engine);
     }
     Ok(())
 }
@@ -222,7 +223,8 @@ fn put_root<K: Sink>(
     let at = tick_moment(pacing.length, tick);
     let path = &plans.lives()[0].path;
     let totals = engine.totals(ROOT);
-    put_files(out, at, path, ROOT, totals, engine.averages(ROOT))
+    let averages = engine.averages(ROOT);
+    put_files(out, pacing.version, at, path, ROOT, totals, averages)
 }
 
 // The path that options have watched, if they name one, and how many samples they have taken of a processor in an interval.
@@ -236,21 +238,23 @@ fn watched(alloc: Global, options: &Options) -> Result<(Option<Path>, u32), NoMe
     }
 }
 
-/// A replay of the trace that the plans stand for, with rules if there are some, before its first tick: a trace that is
-/// accepted at the options' length of a tick. It takes all memory that the replay needs.
+/// A replay of the trace that the plans stand for, with rules if there are some, before its first tick: a trace of this version
+/// that is accepted at the options' length of a tick. It takes all memory that the replay needs.
 pub fn prepare<'a>(
     alloc: Global,
+    version: u32,
     plans: &'a Plans,
     rules: Option<Rules>,
     options: &Options,
 ) -> Result<Replay<'a>, NoMemory>
+    requires version { IsVersion version }
     requires planned { (trace : Trace) × IsPlanned plans.now trace (pace_of options.now) }
     requires fit { FitsRules (given_rules rules) }
     requires often { options.now.interval_s ≤ 3600 }
     requires workers { IsWithin 1 64 options.now.workers }
     ensures { IfOk result (λ replay.
         (trace : Trace) → IsPlanned plans.now trace (pace_of options.now) →
-        IsReplay replay trace (pace_of options.now) (given_rules rules) 0) }
+        version_of version ≡ trace.version → IsReplay replay trace (pace_of options.now) (given_rules rules) 0) }
 {
     let slots = plans.groups().len() as u32;
     let length = Ns::from(options.tick_ms) * MILLISECOND;
@@ -267,6 +271,7 @@ pub fn prepare<'a>(
         judge: Judge::make(alloc, plans, rules, length, interval)?,
         order: plans.groups().path_order(alloc)?,
         pacing: Pacing {
+            version,
             length,
             report: Ns::from(options.report_s) * SECOND,
             last,

@@ -3,7 +3,8 @@ ghost use Rattle.std.specs.Prelude.{◌≡◌, ◌<◌, ◌≤◌, ℕ, length, 
 ghost use Rattle.std.specs.List.{All};
 ghost use Rattle.psi_base.specs.Outside.{HasCause, PutsAll, StaysOver};
 ghost use Rattle.psi_base.specs.declared.event.TriggerSpec.{TriggerSpec};
-ghost use Rattle.run_spec.specs.Replay.{files_text, signal_lines};
+ghost use Rattle.psi_spec.specs.Grammar.{version_of};
+ghost use Rattle.run_spec.specs.Replay.{files_text, irq_files, resource_files, signal_lines};
 ghost use Rattle.run_laws.specs.Reports.{slot_report, slot_reports};
 ghost use Rattle.tick_engine.specs.Engine.{averages_in, totals_in};
 ghost use Rattle.kill_spec.specs.declared.kill.Kill.{Kill};
@@ -11,11 +12,18 @@ ghost use Rattle.run_spec.specs.Replay.{kill_lines};
 ghost use Rattle.group_tree.specs.Tree.{numbers_of};
 
 use fixed_average::Averages;
-use pressure_text::{write_fired, write_kill, write_report};
+use pressure_spec::{Amounts, QUANTITIES};
+use pressure_text::{write_fired, write_irq, write_kill, write_report};
 use psi_base::{Ns, Path, Res, Sink, Slot, TriggerSpec, WriteFailed};
 use psi_spec::GroupLife;
 use replay_rules::{Kill, is_live_at};
 use tick_engine::Engine;
+
+/// The version of traces that tell of interrupts.
+const WITH_IRQ: u32 = 2;
+
+/// Where interrupts stand among the quantities of pressure.
+const IRQ: usize = QUANTITIES - 1;
 
 /// Writes the lines of the triggers that signalled at a tick (ns), by their numbers.
 #[tactic(auto, using(psi_base::proofs::Grows::growth))]
@@ -62,18 +70,18 @@ pub(crate) fn put_kills<K: Sink>(
     Ok(())
 }
 
-/// Writes the pressure files of a group at a moment (ns).
+// Writes the reports on the resources of a group at a moment (ns).
 #[tactic(auto, using(psi_base::proofs::Grows::growth))]
-pub(crate) fn put_files<K: Sink>(
+fn put_resources<K: Sink>(
     out: &mut K,
     at: Ns,
     path: &Path,
     slot: Slot,
-    totals: [u64; 6],
+    totals: Amounts,
     averages: &Averages,
 ) -> Result<(), WriteFailed>
     ensures bytes { PutsAll (K.has out.old) (K.has out.new) result
-        (files_text at path.now slot.0 totals averages.now.averages) }
+        (resource_files at path.now slot.0 totals averages.now.averages) }
     ensures cause { HasCause (K.faults out.old) (K.faults out.new) result }
     ensures below { StaysOver (K.below out.old) (K.below out.new) }
 {
@@ -83,9 +91,50 @@ pub(crate) fn put_files<K: Sink>(
     write_report(out, at, path, Res::Cpu, is_root, totals, averages)
 }
 
+// Writes the report on interrupts of a group at a moment (ns), where the version of the trace tells of them.
+fn put_irq<K: Sink>(
+    out: &mut K,
+    version: u32,
+    at: Ns,
+    path: &Path,
+    totals: Amounts,
+    averages: &Averages,
+) -> Result<(), WriteFailed>
+    ensures bytes { PutsAll (K.has out.old) (K.has out.new) result
+        (irq_files (version_of version) at path.now totals averages.now.averages) }
+    ensures cause { HasCause (K.faults out.old) (K.faults out.new) result }
+    ensures below { StaysOver (K.below out.old) (K.below out.new) }
+{
+    if version == WITH_IRQ {
+        return write_irq(out, at, path, totals[IRQ], averages);
+    }
+    Ok(())
+}
+
+/// Writes the reports of a group at a moment (ns) of a trace of this version.
+#[tactic(auto, using(psi_base::proofs::Grows::growth))]
+pub(crate) fn put_files<K: Sink>(
+    out: &mut K,
+    version: u32,
+    at: Ns,
+    path: &Path,
+    slot: Slot,
+    totals: Amounts,
+    averages: &Averages,
+) -> Result<(), WriteFailed>
+    ensures bytes { PutsAll (K.has out.old) (K.has out.new) result
+        (files_text (version_of version) at path.now slot.0 totals averages.now.averages) }
+    ensures cause { HasCause (K.faults out.old) (K.faults out.new) result }
+    ensures below { StaysOver (K.below out.old) (K.below out.new) }
+{
+    put_resources(out, at, path, slot, totals, averages)?;
+    put_irq(out, version, at, path, totals, averages)
+}
+
 // Writes the report of a group at a tick (ns), where it is live then.
 fn put_report<K: Sink>(
     out: &mut K,
+    version: u32,
     at: Ns,
     lives: &[GroupLife],
     slot: Slot,
@@ -94,7 +143,8 @@ fn put_report<K: Sink>(
     requires made { slot.0 < length lives.now }
     requires kept { length engine.now.groups ≡ length lives.now }
     ensures bytes { PutsAll (K.has out.old) (K.has out.new) result
-        (slot_report at lives.now (totals_in engine.now) (averages_in engine.now) slot.0) }
+        (slot_report (version_of version) at lives.now (totals_in engine.now)
+        (averages_in engine.now) slot.0) }
     ensures cause { HasCause (K.faults out.old) (K.faults out.new) result }
     ensures below { StaysOver (K.below out.old) (K.below out.new) }
 {
@@ -104,6 +154,7 @@ fn put_report<K: Sink>(
     }
     put_files(
         out,
+        version,
         at,
         &life.path,
         slot,
@@ -112,10 +163,12 @@ fn put_report<K: Sink>(
     )
 }
 
-/// Writes the reports of all groups that are live at a tick (ns), in this order of slots.
+/// Writes the reports of all groups that are live at a tick (ns) of a trace of a version, in this order of
+/// slots.
 #[tactic(auto, using(psi_base::proofs::Grows::growth))]
 pub(crate) fn put_reports<K: Sink>(
     out: &mut K,
+    version: u32,
     at: Ns,
     lives: &[GroupLife],
     order: &[Slot],
@@ -124,13 +177,13 @@ pub(crate) fn put_reports<K: Sink>(
     requires made { All (λ (slot : Slot). slot.0 < length lives.now) order.now }
     requires kept { length engine.now.groups ≡ length lives.now }
     ensures bytes { PutsAll (K.has out.old) (K.has out.new) result
-        (slot_reports at lives.now (totals_in engine.now) (averages_in engine.now)
-        (numbers_of order.now)) }
+        (slot_reports (version_of version) at lives.now (totals_in engine.now)
+        (averages_in engine.now) (numbers_of order.now)) }
     ensures cause { HasCause (K.faults out.old) (K.faults out.new) result }
     ensures below { StaysOver (K.below out.old) (K.below out.new) }
 {
     'slots: for slot in order {
-        put_report(out, at, lives, *slot, engine)?;
+        put_report(out, version, at, lives, *slot, engine)?;
     }
     Ok(())
 }

@@ -1,5 +1,4 @@
-use Rattle.std.proofs.Common.{◌≡◌, ◌+◌, ◌-◌, ℕ, List, ◌++◌, arith, refl, subst, sym, ◌∙◌}
-use Rattle.std.specs.List.{flat_map, range_with_len}
+use Rattle.std.proofs.Common.{◌+◌, ℕ, List, arith, refl, subst, sym, ◌∙◌}
 use Rattle.std.specs.Io.KnownBytes.{Appends}
 use Rattle.psi_base.proofs.Grows.{Appends-then, AppendsFront-then, PutsAll-failed}
 use Rattle.replay_workers.specs.Crew.{watch_at}

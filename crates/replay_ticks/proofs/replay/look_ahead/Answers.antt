@@ -1,4 +1,4 @@
-use Rattle.std.proofs.Common.{◌≡◌, ◌≤◌, ◌<◌, ◌-◌, ap, arith, length, refl, subst, sym, ◌∙◌}
+use Rattle.std.proofs.Common.{◌≡◌, ◌≤◌, ◌<◌, ◌-◌, ap, arith, length, refl, subst, ◌∙◌}
 use Rattle.std.specs.Prelude.{min}
 use Rattle.replay_workers.specs.declared.ticks.Ticks.{Ticks}
 use Rattle.replay_ticks.proofs.AheadLaws.{AreNext, next_behind, next_early, next_fits, next_ready, tick_behind, tick_early, tick_ready}

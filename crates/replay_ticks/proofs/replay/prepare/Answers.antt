@@ -18,7 +18,7 @@ pub make-requires-3-clause-triggers : goal.make-requires-3-clause-triggers
 make-requires-3-clause-triggers c = rw (c.lives.ensures.lives, c.triggers.ensures) (triggers_within c.args.plans.now c.requires.planned.0 (pace_of c.args.options.now) c.requires.planned.1)
 
 pub returns : goal.returns
-returns c = λ trace planned.
+returns c = λ trace planned version.
     let plans = c.args.plans.now in
     let engine : StandsFor c.in_ok-make-3.field-0 (length plans.plans) plans.lives plans.triggers [] = rw (← c.cpus-2.ensures.cpus, ← c.lives.ensures.lives, ← c.triggers.ensures) c.in_ok-make-3.ensures in
     let slots : c.len-slots.result ≡ length plans.lives = c.len-slots.ensures.len ∙ ap length c.groups.ensures.lives in
@@ -29,7 +29,7 @@ returns c = λ trace planned.
     let judged = c.in_ok-make-4.ensures.judged trace (pace_of c.args.options.now) begins in
     let watching = watching_new c.in_ok-make.field-0 c.in_ok-live.live trace (pace_of c.args.options.now) c.in_ok-live.ensures.path (c.in_ok-make.ensures.asked ∙ c.in_ok-live.ensures.asked) c.in_ok-make.ensures.none c.in_ok-make.ensures.unwatched
     (λ cpu below. c.in_ok-make.ensures.fresh cpu (let many = ap (λ (p : PlansView). length p.plans) c.in_ok-make.ensures.plans in omega (arith, below, many, planned.stand.each))) in
-    replay_new _ trace (pace_of c.args.options.now) (given_rules c.args.rules) planned c.in_ok-make.ensures.plans c.in_ok-make.ensures.on c.in_ok-make.ensures.none c.in_ok-make.ensures.fresh rows engine order (record { length = rw c.from-length.ensures refl; report = rw c.from.ensures refl; last = last }) judged c.requires.fit watching refl refl refl
+    replay_new _ trace (pace_of c.args.options.now) (given_rules c.args.rules) planned c.in_ok-make.ensures.plans c.in_ok-make.ensures.on c.in_ok-make.ensures.none c.in_ok-make.ensures.fresh rows engine order (record { version = version; length = rw c.from-length.ensures refl; report = rw c.from.ensures refl; last = last }) judged c.requires.fit watching refl refl refl
 
 pub overflow_mul-interval : goal.overflow_mul-interval
 overflow_mul-interval c = grind (arith, c.from-interval.ensures, c.requires.often)
