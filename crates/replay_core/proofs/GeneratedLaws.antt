@@ -11,17 +11,15 @@ use Rattle.psi_spec.specs.Trace.{AllFit, IsAccepted, Trace, limits_of}
 use Rattle.psi_spec.specs.World.{Limits, World, after, after_event, after_from, first_world}
 use Rattle.proc_plan.specs.Plans.{HasTaken, PlannerView, PlansView, StandForTaken}
 use Rattle.run_spec.specs.declared.command.Command.{Command}
-use Rattle.run_spec.specs.declared.command.Command.TheVariants as words
 use Rattle.run_spec.specs.declared.command.Shape.{Shape}
 use Rattle.run_spec.specs.declared.status.Status.{Status}
 use Rattle.run_spec.specs.declared.status.Status.TheVariants as status
 use Rattle.run_spec.specs.declared.status.Which.{Which}
-use Rattle.run_spec.specs.declared.status.Which.TheVariants.{ImportFile, RulesFile, TraceFile}
+use Rattle.run_spec.specs.declared.status.Which.TheVariants.{DropInFile, ImportFile, RulesFile, TraceFile}
 use Rattle.run_spec.specs.Generated.{generated}
 use Rattle.kill_spec.specs.Detectors.{of_seconds}
-use Rattle.run_spec.specs.Outputs.{IsOutput, file_of, pace_of, rules_name, source_name, source_of, stress_options, tick_length, versions_of}
+use Rattle.run_spec.specs.Outputs.{IsOutput, drop_in_name, file_of, pace_of, rules_name, source_name, source_of, stress_options, tick_length, versions_of}
 use Rattle.run_spec.specs.Run.{IsThere, ReadsFiles, RunCounts, Runs, TakesTrace}
-use Rattle.run_spec.proofs.Missing.{from_import, from_trace}
 use Rattle.run_spec.specs.Words.{IsShape, IsWithin}
 use Rattle.replay_rules.specs.Planned.{IsPlanned}
 use Rattle.trace_gen.proofs.Accepting.{generated_is_trace}
@@ -29,7 +27,7 @@ use Rattle.run_spec.specs.Replay.{Pace, group_report, last_line, root_group, str
 use Rattle.replay_ticks.specs.Replays.{IsReplay, Passes, ReplayView}
 use Rattle.replay_core.specs.Writes.{WritesText}
 use Rattle.replay_core.proofs.ReplayLaws.{planned}
-use Rattle.replay_core.proofs.RunLaws.{counts_written, none_given, stays, takes_given}
+use Rattle.replay_core.proofs.RunLaws.{counts_written, is_named, none_given, stays, takes_given}
 
 -- ---- the events of a generated trace, one by one
 
@@ -194,7 +192,7 @@ pub planned_generated : (planner : PlannerView) (plans : PlansView) (shape : Sha
     → StandForTaken planner plans
     → IsPlanned plans (generated shape) (pace_of (stress_options workers))
 planned_generated planner plans shape workers is within taken stand =
-    planned planner plans (stress_options workers) (limits_of (of_seconds 2) shape.cpus) (generated shape).events
+    planned One planner plans (stress_options workers) (limits_of (of_seconds 2) shape.cpus) (generated shape).events
     (record {
       taken = taken;
       ended = (generated_is_trace shape is).accepted;
@@ -209,34 +207,6 @@ planned_generated planner plans shape workers is within taken stand =
 
 -- ---- a command that reads no file
 
--- it has no file of any kind
-no_source : (command : Command) (which : Which) (name : List ℕ) → source_name command ≡ None
-    → source_of command ≡ which → file_of command which ≡ Some name → ⊥
-no_source command which name unnamed from is =
-    let none = sym (ap (file_of command) from) ∙ unnamed in cc (none, is)
-
-no_file : (command : Command) (which : Which) (name : List ℕ) → source_name command ≡ None
-    → rules_name command ≡ None → file_of command which ≡ Some name → ⊥
-no_file command RulesFile name unnamed unruled is = cc (unruled, is)
-no_file command TraceFile name unnamed unruled is =
-    no_source command TraceFile name unnamed (from_trace command (ap is_some is)) is
-no_file command ImportFile name unnamed unruled is =
-    no_source command ImportFile name unnamed (from_import command (ap is_some is)) is
-
--- nor has it rules, since a command that reads rules reads a trace
-pub without_rules : (command : Command) → source_name command ≡ None → rules_name command ≡ None
-without_rules (words.Stall trace) unnamed = refl
-without_rules (words.Check trace tick_ms) unnamed = refl
-without_rules (words.Replay trace options) unnamed = absurd (let no : ⊥ = cc unnamed in no)
-without_rules (words.Gen shape) unnamed = refl
-without_rules (words.Stress shape workers) unnamed = refl
-without_rules (words.Import file cpus) unnamed = refl
-
--- a name that is there
-named_some : (named : Option (List ℕ)) → is_some named ≡ true → (name : List ℕ) × (named ≡ Some name)
-named_some None is = absurd (true≢false (sym is))
-named_some (Some name) is = (name, refl)
-
 -- it takes the trace that is generated
 pub takes_generated : (command : Command) (shape : Shape) (files : Option Files)
     → source_name command ≡ None → versions_of command ≡ One ∷ [] → tick_length command ≡ of_seconds 2 → IsShape shape
@@ -250,73 +220,65 @@ takes_generated command shape files unnamed first tick is =
       read = λ bytes known. absurd (let no : ⊥ = cc (unnamed, known.1) in no);
     }
 
--- no file of a command that reads none is told to be missing
-none_there : (command : Command) (files : Option Files) (which : Which)
-    → source_name command ≡ None → rules_name command ≡ None → IsThere command files which
-none_there command files which unnamed unruled = λ name is lacks. no_file command which name unnamed unruled is
+-- a file that it doesn't name isn't told to be missing
+not_named : (command : Command) (files : Option Files) (which : Which) → file_of command which ≡ None → IsThere command files which
+not_named command files which none = λ name is lacks. cc (none, is)
 
 -- a text that was written of a generated trace
 pub runs_generated : (command : Command) (files : Option Files) (before now : RunCounts)
     (had has : Option (List ℕ)) (trace : Trace) (text : List ℕ) (result : Status)
-    → source_name command ≡ None → rules_name command ≡ None → TakesTrace command files trace
-    → IsOutput command trace [] text → now.shelf ≡ before.shelf
+    → source_name command ≡ None → rules_name command ≡ None → drop_in_name command ≡ None
+    → TakesTrace command files trace → IsOutput command trace [] text → now.shelf ≡ before.shelf
     → WritesText text before.writes now.writes had has result
     → Runs command files before now had has result
-runs_generated command files before now had has trace text status.Done unnamed unruled takes output shelf wrote = record {
+runs_generated command files before now had has trace text status.Done unnamed unruled alone takes output shelf wrote = record {
   ends = (
     trace,
     [],
-    takes,
-    takes_given command None files [] unruled (none_given files),
-    none_there command files RulesFile unnamed unruled,
-    none_there command files (source_of command) unnamed unruled,
+    λ _. takes,
+    takes_given command None None files [] unruled alone (none_given files),
+    (not_named command files RulesFile unruled, not_named command files DropInFile alone),
+    not_named command files (source_of command) unnamed,
     (text, output, wrote.0),
   );
   counts = counts_written before now status.Done (ap (λ s. s.faults) shelf) (ap (λ s. s.absent) shelf)
       (λ is. cc is) (λ is. cc is.1) (stays _ before.writes now.writes (λ is. cc is) wrote.1);
 }
-runs_generated command files before now had has trace text status.WriteFault unnamed unruled takes output shelf wrote = record {
+runs_generated command files before now had has trace text status.WriteFault unnamed unruled alone takes output shelf wrote = record {
   ends = (
     trace,
     [],
-    takes,
-    takes_given command None files [] unruled (none_given files),
-    none_there command files RulesFile unnamed unruled,
-    none_there command files (source_of command) unnamed unruled,
+    λ _. takes,
+    takes_given command None None files [] unruled alone (none_given files),
+    (not_named command files RulesFile unruled, not_named command files DropInFile alone),
+    not_named command files (source_of command) unnamed,
     (text, output, wrote.0),
   );
   counts = counts_written before now status.WriteFault (ap (λ s. s.faults) shelf) (ap (λ s. s.absent) shelf)
       (λ is. cc is) (λ is. cc is.1) (record { rose = λ _. wrote.1; same = λ not. absurd (not refl) });
 }
-runs_generated command files before now had has trace text (status.NoMemory _) unnamed unruled takes output shelf wrote = record {
+runs_generated command files before now had has trace text (status.NoMemory _) unnamed unruled alone takes output shelf wrote = record {
   ends = wrote.0;
   counts = counts_written before now (status.NoMemory no_memory) (ap (λ s. s.faults) shelf) (ap (λ s. s.absent) shelf)
       (λ is. cc is) (λ is. cc is.1) (stays _ before.writes now.writes (λ is. cc is) wrote.1);
 }
-runs_generated command files before now had has trace text _ unnamed unruled takes output shelf wrote = absurd wrote
-
-no_reads : (command : Command) → source_name command ≡ None → ReadsFiles command → ⊥
-no_reads command unnamed reads = true≢false (sym reads ∙ ap is_some unnamed)
+runs_generated command files before now had has trace text _ unnamed unruled alone takes output shelf wrote = absurd wrote
 
 -- such a run is done, where no write failed and memory was there
 pub makes : (command : Command) (files : Option Files) (before now : RunCounts)
     (had has : Option (List ℕ)) (result : Status) → Runs command files before now had has result
-    → source_name command ≡ None → rules_name command ≡ None
+    → (ReadsFiles command → ⊥)
     → (Rose before.writes now.writes → ⊥) → (result ≡ status.Done) ⊎ (result ≡ status.NoMemory no_memory)
-makes command files before now had has status.Done runs unnamed unruled writes = inl refl
-makes command files before now had has (status.NoMemory _) runs unnamed unruled writes = inr refl
-makes command files before now had has status.WriteFault runs unnamed unruled writes =
+makes command files before now had has status.Done runs none writes = inl refl
+makes command files before now had has (status.NoMemory _) runs none writes = inr refl
+makes command files before now had has status.WriteFault runs none writes =
     absurd (writes (runs.counts.writes.rose refl))
-makes command files before now had has status.ReadFault runs unnamed unruled writes =
-    absurd (no_reads command unnamed runs.ends.1)
-makes command files before now had has status.Usage runs unnamed unruled writes = absurd runs.ends
-makes command files before now had has (status.Rules fault) runs unnamed unruled writes =
-    let named = runs.ends.2.1 in absurd (let no : ⊥ = cc (unruled, named) in no)
-makes command files before now had has (status.Trace line why) runs unnamed unruled writes =
-    let named = named_some (file_of command TraceFile) runs.ends.1 in
-    absurd (no_source command TraceFile named.0 unnamed (from_trace command runs.ends.1) named.1)
-makes command files before now had has (status.Import line why) runs unnamed unruled writes =
-    let named = named_some (file_of command ImportFile) runs.ends.1 in
-    absurd (no_source command ImportFile named.0 unnamed (from_import command runs.ends.1) named.1)
-makes command files before now had has (status.NoFile which) runs unnamed unruled writes =
-    let named = runs.ends.2.1 in absurd (no_file command which runs.ends.2.0 unnamed unruled named)
+makes command files before now had has status.ReadFault runs none writes = absurd (none runs.ends.1)
+makes command files before now had has status.Usage runs none writes = absurd runs.ends
+makes command files before now had has (status.Rules fault) runs none writes =
+    absurd (none (RulesFile, is_named command RulesFile runs.ends.2.0 runs.ends.2.1))
+makes command files before now had has (status.DropIn fault) runs none writes = absurd (none (DropInFile, runs.ends.1))
+makes command files before now had has (status.Trace line why) runs none writes = absurd (none (TraceFile, runs.ends.1))
+makes command files before now had has (status.Import line why) runs none writes = absurd (none (ImportFile, runs.ends.1))
+makes command files before now had has (status.NoFile which) runs none writes =
+    absurd (none (which, is_named command which runs.ends.2.0 runs.ends.2.1))

@@ -40,17 +40,17 @@ pub not_imported : {T : Type 0} → (name : List ℕ) (cpus : ℕ) (files : Opti
 not_imported name cpus files before now had (fault.Refused line why) result refused lacking missed causes writes is =
     let command = Import name cpus in
     subst (Runs command files before now had had) (sym is) (record {
-      ends = (keeps_same had, is_named command ImportFile name refl, ([], takes_given command None files [] refl (none_given files), rules_there command files [] (none_given files)), file_there command ImportFile name files refl lacking, λ bytes known. ap (or_not_imported cpus) (refused bytes (subst (λ n. told files n ≡ Some bytes) (same_name command ImportFile name known.0 refl known.1) known.2)));
+      ends = (keeps_same had, is_named command ImportFile name refl, ([], takes_given command None None files [] refl refl (none_given files), rules_there command files [] (none_given files)), file_there command ImportFile name files refl lacking, λ bytes known. ap (or_not_imported cpus) (refused bytes (subst (λ n. told files n ≡ Some bytes) (same_name command ImportFile name known.0 refl known.1) known.2)));
       counts = counts_written before now (status.Import line why) (causes.faults_same (λ is. cc is)) (causes.absent_same (λ is. cc is)) (λ is. cc is) (λ is. cc is.1) (stays _ before.writes now.writes (λ is. cc is) writes);
     })
 not_imported name cpus files before now had fault.NoFile result refused lacking missed causes writes is =
     let command = Import name cpus in
     subst (Runs command files before now had had) (sym is) (record {
-      ends = (keeps_same had, ([], takes_given command None files [] refl (none_given files), rules_there command files [] (none_given files)), (name, refl, missed refl));
+      ends = (keeps_same had, ([], takes_given command None None files [] refl refl (none_given files), rules_there command files [] (none_given files)), (name, refl, missed refl));
       counts = missed_counts ImportFile before now (causes.faults_same (λ is. cc is)) (causes.missed refl) writes;
     })
 not_imported name cpus files before now had fault.ReadFault result refused lacking missed causes writes is =
     let command = Import name cpus in
-    subst (Runs command files before now had had) (sym is) (read_failed command files before now had (is_named command ImportFile name refl) (causes.failed refl) (causes.absent_same (λ is. cc is)) writes)
+    subst (Runs command files before now had had) (sym is) (read_failed command files before now had (ImportFile, is_named command ImportFile name refl) (causes.failed refl) (causes.absent_same (λ is. cc is)) writes)
 not_imported name cpus files before now had (fault.NoMemory _) result refused lacking missed causes writes is =
     subst (Runs (Import name cpus) files before now had had) (sym is) (memory_wanting (Import name cpus) files before now had (causes.faults_same (λ is. cc is)) (causes.absent_same (λ is. cc is)) writes)

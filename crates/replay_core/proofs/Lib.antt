@@ -7,5 +7,6 @@ pub mod Pieces
 pub mod PlayLaws
 pub mod ReplayLaws
 pub mod RulesLaws
+pub mod RulesRuns
 pub mod RunEnds
 pub mod RunLaws

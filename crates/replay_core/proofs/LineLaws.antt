@@ -18,7 +18,7 @@ use Rattle.trace_laws.proofs.GrammarReads.{known_still, reads_spelled, spelled_i
 use Rattle.psi_spec.specs.World.{World, Limits, after, after_event, first_world}
 use Rattle.psi_spec.specs.Refusal.{cause_of}
 use Rattle.psi_spec.specs.Fields.{IsAmong}
-use Rattle.psi_spec.specs.Grammar.{Fits, IsKnown, Verb, Version, event_of, spelling, verbs_of}
+use Rattle.psi_spec.specs.Grammar.{Fits, IsKnown, IsVersion, Verb, Version, event_of, header_with, spelling, verbs_of, versions}
 use Rattle.psi_spec.specs.Trace.{AllFit, AreKnown, IsCpuCount, accepts_with, line_event, rest_cause, then_legal, at_end, or_refused, followed, refused, with_events, trace_of, limits_of}
 use Rattle.trace_laws.proofs.Splitting.{Cut, cut}
 use Rattle.trace_laws.proofs.Reading.{Events, rest_from-line, rest_from-rest, nothing_left, followed-followed}
@@ -26,7 +26,7 @@ use Rattle.psi_spec.proofs.Following.{last_end}
 use Rattle.proc_plan.proofs.Taking.{legal_push}
 use Rattle.plan_laws.proofs.PlanLaws.{after-push}
 use Rattle.psi_base.specs.Gives.{Gives}
-use Rattle.replay_core.specs.Reads.{Legally, rest_from, RefusalOf, IsTraceFault, NextGives, Plays, RestGives, TailGives, PlayerTakes, TakesLine, TakesRead, TracePlayed, trace_fault}
+use Rattle.replay_core.specs.Reads.{Legally, rest_from, RefusalOf, IsTraceFault, NextGives, Plays, RestGives, TailGives, PlayerTakes, TakesLine, TakesRead, TracePlayed, trace_fault, verbs_in}
 use Rattle.replay_core.specs.declared.trace.TraceFault.{TraceFault}
 use Rattle.replay_core.specs.declared.trace.TraceFault.TheVariants.{Refused, NoFile, ReadFault, NoMemory}
 
@@ -306,12 +306,11 @@ faults_here verbs Before After Whole limits line before behind later known found
 
 -- ---- the trace
 
-pub trace_played : (versions : List Version) (version : Version) (Played : Plays) (tick cpus : ℕ) (named behind : List ℕ → List ℕ) (known : Option (List ℕ)) (x : Unit {0}) → IsAmong version versions → IsCpuCount cpus
-    → ((bytes : List ℕ) → known ≡ Some bytes → trace_of (accepts_with versions tick) bytes ≡ with_events (record { version = version; cpus = cpus }) (rest_from (verbs_of version) (limits_of tick cpus) first_world 2 (behind bytes)))
-    → RestGives (verbs_of version) (Legally (verbs_of version) Played) (limits_of tick cpus) behind known (Ok x) → TracePlayed Played versions tick known
-trace_played versions version Played tick cpus named behind known x among counted headed rest = record {
-  version = version;
-  among = among;
+pub trace_played : (number : ℕ) (Played : Plays) (tick cpus : ℕ) (named behind : List ℕ → List ℕ) (known : Option (List ℕ)) (x : Unit {0}) → IsVersion number → IsCpuCount cpus
+    → ((bytes : List ℕ) → known ≡ Some bytes → trace_of (accepts_with versions tick) bytes ≡ with_events (header_with number cpus) (rest_from (verbs_in number) (limits_of tick cpus) first_world 2 (behind bytes)))
+    → RestGives (verbs_in number) (Legally (verbs_in number) Played) (limits_of tick cpus) behind known (Ok x) → TracePlayed Played number tick known
+trace_played number Played tick cpus named behind known x numbered counted headed rest = record {
+  numbered = numbered;
   cpus = cpus;
   counted = counted;
   events = rest.events;
@@ -322,7 +321,7 @@ trace_played versions version Played tick cpus named behind known x among counte
     legal = rest.played.3;
     ends = last_end (limits_of tick cpus) first_world rest.events refl rest.played.3 rest.ended;
   };
-  read = λ bytes tells. headed bytes tells ∙ ap (with_events (record { version = version; cpus = cpus })) (rest.read bytes tells);
+  read = λ bytes tells. headed bytes tells ∙ ap (with_events (header_with number cpus)) (rest.read bytes tells);
 }
 
 -- ---- what players of legal events read

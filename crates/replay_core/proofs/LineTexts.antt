@@ -15,15 +15,15 @@ use Rattle.std.proofs.lemmas.Map.Text.{is_eq-slice_cmp}
 use Rattle.psi_base.specs.declared.event.Event.{Event}
 use Rattle.psi_base.specs.declared.event.Slot.{Slot}
 use Rattle.psi_spec.specs.declared.machine.GroupLife.{GroupLife}
-use Rattle.psi_spec.specs.Grammar.{One}
+use Rattle.psi_spec.specs.Grammar.{One, Two, Version}
 use Rattle.psi_spec.specs.World.{Limits, after, first_world, is_live}
 use Rattle.psi_spec.specs.Refusal.{AreLegal}
-use Rattle.psi_spec.specs.Stall.{stall}
+use Rattle.psi_spec.specs.Stall.{irq_time, stall}
 use Rattle.psi_spec.specs.Groups.{path_at}
 use Rattle.psi_counts.specs.Clock.{ClockView, opened}
-use Rattle.plan_laws.specs.Plan.{IsClock, PlanView, last_change, plan_of, planned, planned_time}
+use Rattle.plan_laws.specs.Plan.{IsClock, PlanView, last_change, plan_of, planned, planned_irq, planned_time}
 use Rattle.psi_spec.specs.Changes.{until_change}
-use Rattle.run_spec.specs.Text.{end_of, stall_lines, stall_text, stall_times}
+use Rattle.run_spec.specs.Text.{end_of, stall_lines, stall_text, stall_times, told_times}
 use Rattle.run_spec.specs.Lines.{stall_line}
 use Rattle.psi_spec.specs.Groups.{in_order, live_from, live_groups}
 use Rattle.psi_counts.proofs.ClockLaws.{map_states}
@@ -31,11 +31,14 @@ use Rattle.plan_laws.proofs.PlanClocks.{clock_tells_planned}
 use Rattle.psi_spec.proofs.GroupLaws.{same_bytes}
 use Rattle.plan_laws.proofs.PlanLaws.{as_many}
 use Rattle.plan_laws.proofs.PlanStalls as stalls
-use Rattle.plan_laws.proofs.PlanStalls.{planned_is_stall, stall_by_own_changes}
+use Rattle.plan_laws.proofs.MomentsEvents.{up_to_all}
+use Rattle.plan_laws.proofs.PlanIrqs.{planned_irq_until}
+use Rattle.plan_laws.proofs.PlanStalls.{plan_is_in_order, planned_is_stall, stall_by_own_changes}
+use Rattle.plan_laws.proofs.PlanSteps.{place_of_moment}
 use Rattle.group_tree.specs.Tree.{live_slots, slot_at}
 use Rattle.proc_plan.specs.Plans.{PlansView, StandFor, plan_at}
 use Rattle.proc_plan.proofs.Finishing.{standing_plans}
-use Rattle.replay_core.specs.Lines.{all_lines, plan_line, plan_lines, plan_times}
+use Rattle.replay_core.specs.Lines.{all_lines, plan_line, plan_lines, plan_times, plan_told}
 
 -- ---- texts in pieces
 
@@ -114,23 +117,37 @@ times_are limits events cpu slot legal =
     ∙ ap (λ k. stall state cpu slot (until_change cpu events k) (end_of events)) many
     ∙ sym (stall_by_own_changes limits events legal state cpu slot (end_of events) (omega arith)))
 
+-- planned interrupt time by all changes is the interrupt time at the end
+irq_is : (limits : Limits) (events : List Event) (cpu slot : ℕ) → AreLegal limits first_world events → planned_irq (plan_of cpu events) slot (length (plan_of cpu events).changes) ≡ irq_time cpu slot events
+irq_is limits events cpu slot legal =
+    let plan = plan_of cpu events in
+    let all = place_of_moment plan (plan_is_in_order limits events legal cpu) (length plan.changes) (end_of events) (omega arith) (last_within limits events cpu legal) (λ more. absurd (omega (arith, more))) in
+    ap (planned_irq plan slot) (sym all) ∙ planned_irq_until limits events legal cpu slot (end_of events) ∙ ap (irq_time cpu slot) (up_to_all limits events legal (end_of events) (omega arith))
+
+-- so what a version tells by a plan is what it tells of the events
+told_are : (limits : Limits) (version : Version) (events : List Event) (cpu slot : ℕ) → AreLegal limits first_world events → plan_told version (plan_of cpu events) slot (end_of events) ≡ told_times version cpu slot events
+told_are limits One events cpu slot legal = times_are limits events cpu slot legal
+told_are limits Two events cpu slot legal =
+    ap (λ times. times ++ planned_irq (plan_of cpu events) slot (length (plan_of cpu events).changes) ∷ []) (times_are limits events cpu slot legal)
+    ∙ ap (λ irq. stall_times cpu slot events ++ irq ∷ []) (irq_is limits events cpu slot legal)
+
 joined_same : {first other : List ℕ} {rest more : List ℕ} → first ≡ other → rest ≡ more → first ++ rest ≡ other ++ more
 joined_same first rest = rw (first, rest) refl
 
-lines_of_pairs : (limits : Limits) (events : List Event) (cpu : ℕ) (groups : List GroupLife) (pairs : List (List ℕ × ℕ)) → AreLegal limits first_world events → AreOf groups pairs
-    → flat_map (λ (pair : List ℕ × ℕ). plan_line cpu groups (plan_of cpu events) (end_of events) (slot_at pair.1)) pairs ≡ flat_map (λ (pair : List ℕ × ℕ). stall_line cpu pair.0 (stall_times cpu pair.1 events)) pairs
-lines_of_pairs limits events cpu groups [] legal each = refl
-lines_of_pairs limits events cpu groups (pair ∷ pairs) legal each =
-    let line : plan_line cpu groups (plan_of cpu events) (end_of events) (slot_at pair.1) ≡ stall_line cpu pair.0 (stall_times cpu pair.1 events) =
-    ap (λ path. stall_line cpu path (plan_times (plan_of cpu events) pair.1 (end_of events))) each.1 ∙ ap (stall_line cpu pair.0) (times_are limits events cpu pair.1 legal) in
-    let rest = lines_of_pairs limits events cpu groups pairs legal each.2 in
+lines_of_pairs : (limits : Limits) (version : Version) (events : List Event) (cpu : ℕ) (groups : List GroupLife) (pairs : List (List ℕ × ℕ)) → AreLegal limits first_world events → AreOf groups pairs
+    → flat_map (λ (pair : List ℕ × ℕ). plan_line version cpu groups (plan_of cpu events) (end_of events) (slot_at pair.1)) pairs ≡ flat_map (λ (pair : List ℕ × ℕ). stall_line cpu pair.0 (told_times version cpu pair.1 events)) pairs
+lines_of_pairs limits version events cpu groups [] legal each = refl
+lines_of_pairs limits version events cpu groups (pair ∷ pairs) legal each =
+    let line : plan_line version cpu groups (plan_of cpu events) (end_of events) (slot_at pair.1) ≡ stall_line cpu pair.0 (told_times version cpu pair.1 events) =
+    ap (λ path. stall_line cpu path (plan_told version (plan_of cpu events) pair.1 (end_of events))) each.1 ∙ ap (stall_line cpu pair.0) (told_are limits version events cpu pair.1 legal) in
+    let rest = lines_of_pairs limits version events cpu groups pairs legal each.2 in
     joined_same line rest
 
 -- the lines of a processor by its plan are those of its stall times
-lines_are : (limits : Limits) (events : List Event) (cpu : ℕ) → AreLegal limits first_world events → plan_lines (after events).groups (live_slots (after events).groups) (end_of events) (plan_of cpu events) cpu ≡ stall_lines cpu events
-lines_are limits events cpu legal =
-    flat_map-map (plan_line cpu (after events).groups (plan_of cpu events) (end_of events)) (λ (pair : List ℕ × ℕ). slot_at pair.1) (live_groups (after events).groups)
-    ∙ lines_of_pairs limits events cpu (after events).groups (live_groups (after events).groups) legal (live_groups_of (after events).groups)
+lines_are : (limits : Limits) (version : Version) (events : List Event) (cpu : ℕ) → AreLegal limits first_world events → plan_lines version (after events).groups (live_slots (after events).groups) (end_of events) (plan_of cpu events) cpu ≡ stall_lines version cpu events
+lines_are limits version events cpu legal =
+    flat_map-map (plan_line version cpu (after events).groups (plan_of cpu events) (end_of events)) (λ (pair : List ℕ × ℕ). slot_at pair.1) (live_groups (after events).groups)
+    ∙ lines_of_pairs limits version events cpu (after events).groups (live_groups (after events).groups) legal (live_groups_of (after events).groups)
 
 flat_same : (f g : ℕ → List ℕ) (from n : ℕ) → ((i : ℕ) → from ≤ i → i < from + n → f i ≡ g i) → flat_map f (range_with_len from n) ≡ flat_map g (range_with_len from n)
 flat_same f g from zero same = refl
@@ -140,18 +157,18 @@ flat_same f g from (suc n) same =
     flat_map-cons f from (range_with_len (from + 1) n) ∙ ap (λ xs. xs ++ flat_map f (range_with_len (from + 1) n)) here ∙ ap (λ ys. g from ++ ys) rest ∙ sym (flat_map-cons g from (range_with_len (from + 1) n))
 
 -- the lines of all processors by plans that stand for events are the text of the trace
-pub printed_text : (limits : Limits) (plans : PlansView) (events : List Event) (order : List Slot) (last : ℕ) → AreLegal limits first_world events → StandFor plans limits.cpus events → order ≡ live_slots plans.lives → last ≡ plans.finish
-    → all_lines plans.lives order last plans.plans ≡ stall_text (record { version = One; cpus = limits.cpus; events = events })
+pub printed_text : (limits : Limits) (version : Version) (plans : PlansView) (events : List Event) (order : List Slot) (last : ℕ) → AreLegal limits first_world events → StandFor plans limits.cpus events → order ≡ live_slots plans.lives → last ≡ plans.finish
+    → all_lines version plans.lives order last plans.plans ≡ stall_text (record { version = version; cpus = limits.cpus; events = events })
 unfolding stall_text
-printed_text limits plans events order last legal stand ordered ended =
+printed_text limits version plans events order last legal stand ordered ended =
     let slots : order ≡ live_slots (after events).groups = ordered ∙ ap live_slots stand.lives in
-    ap (λ gs. all_lines gs order last plans.plans) stand.lives
-    ∙ ap (λ slots. all_lines (after events).groups slots last plans.plans) slots
-    ∙ ap (λ at. all_lines (after events).groups (live_slots (after events).groups) at plans.plans) (ended ∙ stand.finish)
-    ∙ ap (λ n. flat_map (λ cpu. plan_lines (after events).groups (live_slots (after events).groups) (end_of events) (plan_at plans cpu) cpu) (range_with_len 0 n)) stand.each
-    ∙ flat_same (λ cpu. plan_lines (after events).groups (live_slots (after events).groups) (end_of events) (plan_at plans cpu) cpu) (λ cpu. stall_lines cpu events) 0 limits.cpus
+    ap (λ gs. all_lines version gs order last plans.plans) stand.lives
+    ∙ ap (λ slots. all_lines version (after events).groups slots last plans.plans) slots
+    ∙ ap (λ at. all_lines version (after events).groups (live_slots (after events).groups) at plans.plans) (ended ∙ stand.finish)
+    ∙ ap (λ n. flat_map (λ cpu. plan_lines version (after events).groups (live_slots (after events).groups) (end_of events) (plan_at plans cpu) cpu) (range_with_len 0 n)) stand.each
+    ∙ flat_same (λ cpu. plan_lines version (after events).groups (live_slots (after events).groups) (end_of events) (plan_at plans cpu) cpu) (λ cpu. stall_lines version cpu events) 0 limits.cpus
     (λ cpu low high.
-    ap (λ plan. plan_lines (after events).groups (live_slots (after events).groups) (end_of events) plan cpu) (standing_plans plans limits.cpus events stand cpu (omega (arith, high))) ∙ lines_are limits events cpu legal)
+    ap (λ plan. plan_lines version (after events).groups (live_slots (after events).groups) (end_of events) plan cpu) (standing_plans plans limits.cpus events stand cpu (omega (arith, high))) ∙ lines_are limits version events cpu legal)
 
 -- ---- times by clocks
 

@@ -5,6 +5,7 @@ use Rattle.std.specs.Io.KnownBytes.{Appends, Keeps}
 use Rattle.psi_base.proofs.Grows.{Appends-none, Appends-then, AppendsFront-then}
 use Rattle.psi_base.specs.Outside.{AppendsFront, PutsAll}
 use Rattle.psi_base.specs.declared.event.Event.{Event}
+use Rattle.psi_spec.specs.Grammar.{Version}
 use Rattle.psi_spec.specs.Trace.{IsAccepted, Trace, limits_of}
 use Rattle.pressure_spec.specs.Ticks.{tick_moment}
 use Rattle.psi_spec.specs.World.{Limits}
@@ -18,7 +19,7 @@ use Rattle.run_laws.proofs.LiveTexts.{no_text_at_first, one_text_more, texts_go_
 use Rattle.replay_rules.specs.Planned.{IsPlanned}
 use Rattle.replay_ticks.specs.Replays.{IsReplay, ReplayView, TickGives, tick_lines, watches_text}
 use Rattle.replay_ticks.specs.declared.replay.TickFault.{TickFault}
-use Rattle.replay_core.specs.Reads.{plain_trace}
+use Rattle.replay_core.specs.Reads.{trace_with}
 use Rattle.replay_core.specs.Writes.{IsToReplay, PutsSome}
 use Rattle.replay_ticks.proofs.Pieces.{puts_then}
 
@@ -95,16 +96,16 @@ tick_failed old new trace pace rules had mid has fault so given =
     )
 
 -- a trace that is to be replayed has some text
-pub some_text : (planner : PlannerView) (options : Options) (limits : Limits) (events : List Event) (rules : List Rule) → IsToReplay planner options limits events → (text : List ℕ) × IsReplayText (plain_trace limits.cpus events) (pace_of options) rules text
-some_text planner options limits events rules is =
-    let trace = plain_trace limits.cpus events in
+pub some_text : (version : Version) (planner : PlannerView) (options : Options) (limits : Limits) (events : List Event) (rules : List Rule) → IsToReplay planner options limits events → (text : List ℕ) × IsReplayText (trace_with version limits.cpus events) (pace_of options) rules text
+some_text version planner options limits events rules is =
+    let trace = trace_with version limits.cpus events in
     let pace = pace_of options in
     let rest = texts_go_on limits trace pace rules 0 [] is.ended.legal (omega arith) (no_text_at_first trace pace rules) in
     ([] ++ rest.0, rest.1)
 
 -- the plans of a trace that was taken apart stand for it
-pub planned : (planner : PlannerView) (plans : PlansView) (options : Options) (limits : Limits) (events : List Event) → IsToReplay planner options limits events → StandForTaken planner plans → IsPlanned plans (plain_trace limits.cpus events) (pace_of options)
-planned planner plans options limits events to_replay stand = record {
+pub planned : (version : Version) (planner : PlannerView) (plans : PlansView) (options : Options) (limits : Limits) (events : List Event) → IsToReplay planner options limits events → StandForTaken planner plans → IsPlanned plans (trace_with version limits.cpus events) (pace_of options)
+planned version planner plans options limits events to_replay stand = record {
   counted = to_replay.taken.counted;
   stand = stand limits events to_replay.taken;
   accepted = subst (λ l. IsAccepted l events) to_replay.latest to_replay.ended;

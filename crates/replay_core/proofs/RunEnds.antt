@@ -1,31 +1,35 @@
 -- What a run over a buffered sink comes to, and what its status tells of its files.
-use Rattle.std.proofs.Common.{◌≡◌, ◌≢◌, ◌⊎◌, inl, inr, ℕ, ◌≤◌, List, [], ◌++◌, length, refl, sym, ap, ◌∙◌, subst, arith, Option, None, Some}
-use Rattle.std.specs.Prelude.{MatchOption, Result, Ok, Err, is_some}
+use Rattle.std.proofs.Common.{◌≡◌, ◌≢◌, ◌⊎◌, inl, inr, ℕ, ◌≤◌, List, [], ◌++◌, length, refl, sym, ap, ◌∙◌, subst, arith, Option, None, Some, true, true≢false}
+use Rattle.std.specs.Prelude.{MatchOption, Result, Ok, Err, codes, is_some, option_map}
 use Rattle.std.specs.Io.KnownBytes.{Appends, Keeps, append_known}
 use Rattle.std.proofs.lemmas.List.{append-nil, length-append, nil_from_length}
 use Rattle.psi_base.specs.Gives.{no_memory}
-use Rattle.psi_base.specs.Outside.{Files, Rose, known_count, told}
+use Rattle.psi_base.specs.Outside.{Files, Lacks, Rose, bytes_of, known_count, told}
 use Rattle.psi_base.specs.declared.event.Refusal.{Refusal}
 use Rattle.psi_base.specs.declared.event.Event.{Event}
 use Rattle.psi_base.proofs.Buffered.{flush_failed, flushed, put_failed}
 use Rattle.psi_spec.specs.Trace.{Trace, text_of, trace_of}
 use Rattle.import_spec.specs.Import.{Refused, import_of, import_trace}
-use Rattle.run_spec.proofs.Missing.{from_import, from_trace}
+use Rattle.run_spec.proofs.Missing.{from_import, from_trace, has_trace}
 use Rattle.run_spec.specs.declared.command.Command.{Command}
 use Rattle.run_spec.specs.declared.status.Status.{Status}
 use Rattle.run_spec.specs.declared.status.Status.TheVariants as status
 use Rattle.run_spec.specs.declared.command.Command.TheVariants.{Import, Replay}
+use Rattle.run_spec.specs.declared.command.Command.TheVariants as words
 use Rattle.run_spec.specs.declared.command.Options.{Options}
 use Rattle.run_spec.specs.declared.status.Which.{Which}
-use Rattle.run_spec.specs.declared.status.Which.TheVariants.{ImportFile, RulesFile, TraceFile}
-use Rattle.run_spec.specs.Outputs.{accepts_of, file_of, or_not_imported, or_refused, pace_of, rules_name, source_of, taken_of, watch_of_path}
+use Rattle.run_spec.specs.declared.status.Which.TheVariants.{DropInFile, ImportFile, RulesFile, TraceFile}
+use Rattle.run_spec.specs.Outputs.{accepts_of, drop_in_name, file_of, or_not_imported, or_refused, or_rules_fault, pace_of, rules_from, rules_name, source_of, taken_of, watch_of_path, with_drop_in}
 use Rattle.run_spec.specs.Replay.{IsReplayText, replay_text, with_rules}
 use Rattle.run_laws.proofs.LiveTexts.{one_text_unwatched}
-use Rattle.run_spec.specs.Run.{Ends, FailuresAreCounted, IsTold, Refuses, RulesTold, RunCounts, Runs, TakesRules}
+use Rattle.run_spec.specs.Run.{DropInTold, Ends, FailuresAreCounted, HasTrace, IsTold, IsThere, Refuses, RulesTold, RunCounts, Runs, TakesBase, TakesRules, told_if_named}
 use Rattle.ruleset_json.specs.Rules.{rules_of}
 use Rattle.ruleset_json.specs.declared.fault.RulesFault.{RulesFault}
 use Rattle.ruleset_json.specs.declared.types.Rule.{Rule}
 use Rattle.ruleset_json.specs.declared.types.Rules.{Rules}
+use Rattle.dropin_rules.specs.declared.fault.DropFault.{DropFault}
+use Rattle.dropin_rules.specs.RulesText.{rules_text}
+use Rattle.replay_core.proofs.RulesRuns.{named_bytes}
 use Rattle.replay_core.proofs.RunLaws.{stays}
 
 -- ---- over a buffered sink
@@ -42,6 +46,7 @@ ends_below : (command : Command) (files : Option Files) (had below : Option (Lis
 ends_below command files had below pending status.Done not ends more = absurd (not refl)
 ends_below command files had below pending status.WriteFault not ends more = (ends.0, ends.1, ends.2, ends.3, ends.4, ends.5, (ends.6.0, ends.6.1, put_failed had below pending ends.6.0 ends.6.2 more))
 ends_below command files had below pending (status.Rules fault) not ends more = (kept_below had below pending ends.0 more, ends.1, ends.2)
+ends_below command files had below pending (status.DropIn fault) not ends more = (kept_below had below pending ends.0 more, ends.1, ends.2, ends.3, ends.4)
 ends_below command files had below pending (status.Trace line why) not ends more = (kept_below had below pending ends.0 more, ends.1, ends.2, ends.3, ends.4)
 ends_below command files had below pending (status.Import line why) not ends more = (kept_below had below pending ends.0 more, ends.1, ends.2, ends.3, ends.4)
 ends_below command files had below pending (status.NoFile which) not ends more = (kept_below had below pending ends.0 more, ends.1, ends.2)
@@ -84,18 +89,24 @@ runs_unsent command files before mid now had sent below pending left runs kept m
 one_told : (files : Option Files) (name other bytes : List ℕ) (found : Option (List ℕ)) → found ≡ Some name → found ≡ Some other → told files name ≡ Some bytes → told files other ≡ None → ⊥
 one_told files name other bytes found is also tells none = cc (is, also, tells, none)
 
+-- rulesets are those of a rules file with this name, and of the drop-in file over it, as these are told
+abbrev pub AreTold : Command → Option Files → List Rule → List ℕ → Type 0
+AreTold command files rules name =
+    (bytes : List ℕ) × (drop_in : Option (List ℕ)) × (told files name ≡ Some bytes) × DropInTold command files drop_in
+    × (rules_from bytes drop_in ≡ Ok (record { rules = rules }))
+
 -- rulesets that are told are those of the rules file's bytes, where one is named
 told_bytes : (command : Command) (files : Option Files) (rules : List Rule) (name : List ℕ) → rules_name command ≡ Some name → RulesTold command files rules
-    → (bytes : List ℕ) × (told files name ≡ Some bytes) × (rules_of bytes ≡ Ok (record { rules = rules }))
+    → AreTold command files rules name
 told_bytes command files rules name named tells =
-    subst (λ n. MatchOption n (rules ≡ []) (λ name. (bytes : List ℕ) × (told files name ≡ Some bytes) × (rules_of bytes ≡ Ok (record { rules = rules })))) named tells
+    subst (λ n. MatchOption n (rules ≡ []) (AreTold command files rules)) named tells
 
 -- rulesets that are told are none, where no rules file is named
 told_none : (command : Command) (files : Option Files) (rules : List Rule) → rules_name command ≡ None → RulesTold command files rules → rules ≡ []
 told_none command files rules named tells =
-    subst (λ n. MatchOption n (rules ≡ []) (λ name. (bytes : List ℕ) × (told files name ≡ Some bytes) × (rules_of bytes ≡ Ok (record { rules = rules })))) named tells
+    subst (λ n. MatchOption n (rules ≡ []) (AreTold command files rules)) named tells
 
-of_rules : (one other : List Rule) (read : Result Rules RulesFault) → read ≡ Ok (record { rules = one }) → read ≡ Ok (record { rules = other }) → one ≡ other
+of_rules : (one other : List Rule) (read : Result Rules Status) → read ≡ Ok (record { rules = one }) → read ≡ Ok (record { rules = other }) → one ≡ other
 of_rules one other read is also = let same : record { rules = one } ≡ record { rules = other } = cc (is, also) in ap (λ (r : Rules). r.rules) same
 
 -- a command takes the rulesets that are told
@@ -103,24 +114,57 @@ by_name : (command : Command) (files : Option Files) (taken rules : List Rule) (
 by_name command files taken rules None is takes tells = takes.none is ∙ sym (told_none command files rules is tells)
 by_name command files taken rules (Some name) is takes tells =
     let found = told_bytes command files rules name is tells in
-    of_rules taken rules (rules_of found.0) (takes.read found.0 (name, is, found.1)) found.2
+    of_rules taken rules (rules_from found.0 found.1) (takes.read found.0 found.1 (name, is, found.2) found.3) found.4
 
 pub same_rules : (command : Command) (files : Option Files) (taken rules : List Rule) → TakesRules command files taken → RulesTold command files rules → taken ≡ rules
 same_rules command files taken rules takes tells = by_name command files taken rules (rules_name command) refl takes tells
+
+-- a fault of a rules file is one whatever drop-in file is over it
+fault_first : (bytes : List ℕ) (drop_in : Option (List ℕ)) (fault : RulesFault) → rules_of bytes ≡ Err fault → rules_from bytes drop_in ≡ Err (status.Rules fault)
+fault_first bytes drop_in fault is = ap (λ read. with_drop_in drop_in (or_rules_fault read)) is
 
 -- a run never finds a fault in rules that are told
 no_fault : (command : Command) (files : Option Files) (rules : List Rule) (fault : RulesFault) (had has : Option (List ℕ)) → RulesTold command files rules → Ends command files had has (status.Rules fault) → ⊥
 no_fault command files rules fault had has tells ends =
     let found = told_bytes command files rules ends.2.0 ends.2.1 tells in
-    let other = ends.2.2 found.0 found.1 in
-    cc (found.2, other)
+    let good = found.4 in
+    let other = fault_first found.0 found.1 fault (ends.2.2 found.0 found.2) in
+    cc (good, other)
 
 -- nor misses their file
 no_missed : (command : Command) (files : Option Files) (rules : List Rule) (had has : Option (List ℕ)) → RulesTold command files rules → Ends command files had has (status.NoFile RulesFile) → ⊥
 no_missed command files rules had has tells ends =
     let found = told_bytes command files rules ends.2.0 ends.2.1 tells in
+    let here = found.2 in
     let none = ends.2.2 in
-    cc (found.1, none)
+    cc (here, none)
+
+-- a name that is there
+pub named_some : (named : Option (List ℕ)) → is_some named ≡ true → (name : List ℕ) × (named ≡ Some name)
+named_some None is = absurd (true≢false (sym is))
+named_some (Some name) is = (name, refl)
+
+-- nor finds one in the drop-in file over them
+no_drop_fault : (command : Command) (files : Option Files) (rules : List Rule) (fault : DropFault) (had has : Option (List ℕ)) → RulesTold command files rules → Ends command files had has (status.DropIn fault) → ⊥
+no_drop_fault command files rules fault had has tells ends =
+    let named = named_some (rules_name command) ends.2.1 in
+    let over = named_some (drop_in_name command) ends.1 in
+    let found = told_bytes command files rules named.0 named.1 tells in
+    let here = named_bytes files (drop_in_name command) over.0 found.1 over.1 found.3 in
+    let bad = ends.4 found.0 here.0 (named.0, named.1, found.2) (over.0, over.1, here.1) in
+    let same = here.2 in
+    let good = found.4 in
+    cc (same, good, bad)
+
+-- nor misses that
+no_missed_drop_in : (command : Command) (files : Option Files) (rules : List Rule) (had has : Option (List ℕ)) → RulesTold command files rules → Ends command files had has (status.NoFile DropInFile) → ⊥
+no_missed_drop_in command files rules had has tells ends =
+    let named = named_some (rules_name command) ends.1.1 in
+    let found = told_bytes command files rules named.0 named.1 tells in
+    let here = named_bytes files (drop_in_name command) ends.2.0 found.1 ends.2.1 found.3 in
+    let some = here.1 in
+    let none = ends.2.2 in
+    cc (some, none)
 
 -- nor the file that its trace is taken from, where that is told
 none_told : (command : Command) (files : Option Files) (bytes : List ℕ) (which : Which) (had has : Option (List ℕ)) → source_of command ≡ which → IsTold command (source_of command) files bytes → Ends command files had has (status.NoFile which) → ⊥
@@ -161,7 +205,7 @@ pub headlined : (name : List ℕ) (options : Options) (files : Option Files) (be
 headlined name options files before now had has runs bytes rules tells rules_told =
     let ends = runs.ends in
     let same = same_rules (Replay name options) files ends.1 rules ends.3 rules_told in
-    (ends.0, of_read (trace_of (accepts_of (Replay name options)) bytes) ends.0 (ends.2.read bytes tells), (ends.6.0, subst (λ r. IsReplayText ends.0 (pace_of options) r ends.6.0) same ends.6.1, ends.6.2))
+    (ends.0, of_read (trace_of (accepts_of (Replay name options)) bytes) ends.0 ((ends.2 tt).read bytes tells), (ends.6.0, subst (λ r. IsReplayText ends.0 (pace_of options) r ends.6.0) same ends.6.1, ends.6.2))
 
 -- events that were imported are those of a trace that was taken
 of_import : (cpus : ℕ) (read : Result (List Event) Refused) (trace : Trace) → or_not_imported cpus read ≡ Ok trace → (events : List Event) × (read ≡ Ok events) × (trace ≡ import_trace cpus events)
@@ -174,7 +218,7 @@ pub imports : (name : List ℕ) (cpus : ℕ) (files : Option Files) (before now 
     → (events : List Event) × (import_of cpus bytes ≡ Ok events) × Appends had has (text_of (import_trace cpus events))
 imports name cpus files before now had has runs bytes tells =
     let ends = runs.ends in
-    let found = of_import cpus (import_of cpus bytes) ends.0 (ends.2.read bytes tells) in
+    let found = of_import cpus (import_of cpus bytes) ends.0 ((ends.2 tt).read bytes tells) in
     (found.0, found.1, subst (λ trace. Appends had has (text_of trace)) found.2 (subst (Appends had has) ends.6.1.1 ends.6.2))
 
 -- and where no group is watched there is one
@@ -196,6 +240,8 @@ completes command files before now had has status.WriteFault runs rules bytes tr
 completes command files before now had has status.ReadFault runs rules bytes trace given tells is reads writes = absurd (reads (runs.counts.faults.rose refl))
 completes command files before now had has status.Usage runs rules bytes trace given tells is reads writes = absurd runs.ends
 completes command files before now had has (status.Rules fault) runs rules bytes trace given tells is reads writes = absurd (no_fault command files rules fault had has given runs.ends)
+completes command files before now had has (status.DropIn fault) runs rules bytes trace given tells is reads writes = absurd (no_drop_fault command files rules fault had has given runs.ends)
+completes command files before now had has (status.NoFile DropInFile) runs rules bytes trace given tells is reads writes = absurd (no_missed_drop_in command files rules had has given runs.ends)
 completes command files before now had has (status.Trace line why) runs rules bytes trace given tells is reads writes = let other = trace_told command files bytes had has (status.Trace line why) tells runs.ends in absurd (let no : ⊥ = cc (is, other) in no)
 completes command files before now had has (status.Import line why) runs rules bytes trace given tells is reads writes = let other = import_told command files bytes had has (status.Import line why) tells runs.ends in absurd (let no : ⊥ = cc (is, other) in no)
 completes command files before now had has (status.NoFile RulesFile) runs rules bytes trace given tells is reads writes = absurd (no_missed command files rules had has given runs.ends)
@@ -206,12 +252,14 @@ completes command files before now had has (status.NoFile ImportFile) runs rules
 pub refuses : (command : Command) (files : Option Files) (before now : RunCounts) (had has : Option (List ℕ)) (result : Status) → Runs command files before now had has result
     → (rules : List Rule) (bytes : List ℕ) (why : Status) → RulesTold command files rules → IsTold command (source_of command) files bytes → taken_of command bytes ≡ Err why
     → (Rose before.shelf.faults now.shelf.faults → ⊥) → (result ≡ why) ⊎ (result ≡ status.NoMemory no_memory)
-refuses command files before now had has status.Done runs rules bytes why given tells is reads = let other = runs.ends.2.read bytes tells in absurd (let no : ⊥ = cc (is, other) in no)
+refuses command files before now had has status.Done runs rules bytes why given tells is reads = let other = (runs.ends.2 (has_trace command tells.0 tells.1)).read bytes tells in absurd (let no : ⊥ = cc (is, other) in no)
 refuses command files before now had has (status.NoMemory _) runs rules bytes why given tells is reads = inr refl
-refuses command files before now had has status.WriteFault runs rules bytes why given tells is reads = let other = runs.ends.2.read bytes tells in absurd (let no : ⊥ = cc (is, other) in no)
+refuses command files before now had has status.WriteFault runs rules bytes why given tells is reads = let other = (runs.ends.2 (has_trace command tells.0 tells.1)).read bytes tells in absurd (let no : ⊥ = cc (is, other) in no)
 refuses command files before now had has status.ReadFault runs rules bytes why given tells is reads = absurd (reads (runs.counts.faults.rose refl))
 refuses command files before now had has status.Usage runs rules bytes why given tells is reads = absurd runs.ends
 refuses command files before now had has (status.Rules fault) runs rules bytes why given tells is reads = absurd (no_fault command files rules fault had has given runs.ends)
+refuses command files before now had has (status.DropIn fault) runs rules bytes why given tells is reads = absurd (no_drop_fault command files rules fault had has given runs.ends)
+refuses command files before now had has (status.NoFile DropInFile) runs rules bytes why given tells is reads = absurd (no_missed_drop_in command files rules had has given runs.ends)
 refuses command files before now had has (status.Trace at cause) runs rules bytes why given tells is reads =
     let other = trace_told command files bytes had has (status.Trace at cause) tells runs.ends in
     inl (cc (is, other))
@@ -222,9 +270,28 @@ refuses command files before now had has (status.NoFile RulesFile) runs rules by
 refuses command files before now had has (status.NoFile TraceFile) runs rules bytes why given tells is reads = absurd (no_trace command files bytes had has tells runs.ends)
 refuses command files before now had has (status.NoFile ImportFile) runs rules bytes why given tells is reads = absurd (no_import command files bytes had has tells runs.ends)
 
+-- a drop-in file that isn't missing is told where the rules file is, since a shelf tells of all its names or of none
+known_drop_in : (files : Option Files) (named : Option (List ℕ)) (name bytes : List ℕ) → told files name ≡ Some bytes → ((other : List ℕ) → named ≡ Some other → Lacks files other → ⊥)
+    → (found : Option (List ℕ)) × (told_if_named files named ≡ Some found)
+known_drop_in None named name bytes tells there = absurd (true≢false (sym (ap is_some tells)))
+known_drop_in (Some held) None name bytes tells there = (None, refl)
+known_drop_in (Some held) (Some over) name bytes tells there = go (bytes_of held over) refl
+  where
+    go : (found : Option (List ℕ)) → bytes_of held over ≡ found → (drop_in : Option (List ℕ)) × (told_if_named (Some held) (Some over) ≡ Some drop_in)
+    go None is = absurd (there over refl is)
+    go (Some here) is = (Some here, ap (option_map (λ b. Some b)) is)
+
 -- a command never takes rulesets from bytes that have a fault
-none_taken : (command : Command) (files : Option Files) (taken : List Rule) (name bytes : List ℕ) (fault : RulesFault) → TakesRules command files taken → rules_name command ≡ Some name → told files name ≡ Some bytes → rules_of bytes ≡ Err fault → ⊥
-none_taken command files taken name bytes fault takes named tells is = let other = takes.read bytes (name, named, tells) in cc (is, other)
+none_taken : (command : Command) (files : Option Files) (taken : List Rule) (name bytes : List ℕ) (fault : RulesFault) → TakesRules command files taken → IsThere command files DropInFile → rules_name command ≡ Some name → told files name ≡ Some bytes → rules_of bytes ≡ Err fault → ⊥
+none_taken command files taken name bytes fault takes there named tells is =
+    let over = known_drop_in files (drop_in_name command) name bytes tells there in
+    let good = takes.read bytes over.0 (name, named, tells) over.1 in
+    let bad = fault_first bytes over.0 fault is in
+    cc (good, bad)
+
+-- nor as what a drop-in file is put over
+no_base : (command : Command) (files : Option Files) (base : Rules) (name bytes : List ℕ) (fault : RulesFault) → TakesBase command files base → rules_name command ≡ Some name → told files name ≡ Some bytes → rules_of bytes ≡ Err fault → ⊥
+no_base command files base name bytes fault takes named tells is = let good = takes bytes (name, named, tells) in cc (good, is)
 
 found_fault : (command : Command) (files : Option Files) (had has : Option (List ℕ)) (name bytes : List ℕ) (found fault : RulesFault) → Ends command files had has (status.Rules found) → rules_name command ≡ Some name → told files name ≡ Some bytes
     → rules_of bytes ≡ Err fault → found ≡ fault
@@ -237,14 +304,87 @@ found_fault command files had has name bytes found fault ends named tells is =
 pub faults : (command : Command) (files : Option Files) (before now : RunCounts) (had has : Option (List ℕ)) (result : Status) → Runs command files before now had has result
     → (name bytes : List ℕ) (fault : RulesFault) → rules_name command ≡ Some name → told files name ≡ Some bytes → rules_of bytes ≡ Err fault
     → (Rose before.shelf.faults now.shelf.faults → ⊥) → (result ≡ status.Rules fault) ⊎ (result ≡ status.NoMemory no_memory)
-faults command files before now had has status.Done runs name bytes fault named tells is reads = absurd (none_taken command files runs.ends.1 name bytes fault runs.ends.3 named tells is)
+faults command files before now had has status.Done runs name bytes fault named tells is reads = absurd (none_taken command files runs.ends.1 name bytes fault runs.ends.3 runs.ends.4.1 named tells is)
 faults command files before now had has (status.NoMemory _) runs name bytes fault named tells is reads = inr refl
-faults command files before now had has status.WriteFault runs name bytes fault named tells is reads = absurd (none_taken command files runs.ends.1 name bytes fault runs.ends.3 named tells is)
+faults command files before now had has status.WriteFault runs name bytes fault named tells is reads = absurd (none_taken command files runs.ends.1 name bytes fault runs.ends.3 runs.ends.4.1 named tells is)
 faults command files before now had has status.ReadFault runs name bytes fault named tells is reads = absurd (reads (runs.counts.faults.rose refl))
 faults command files before now had has status.Usage runs name bytes fault named tells is reads = absurd runs.ends
 faults command files before now had has (status.Rules found) runs name bytes fault named tells is reads = inl (ap status.Rules (found_fault command files had has name bytes found fault runs.ends named tells is))
-faults command files before now had has (status.Trace line why) runs name bytes fault named tells is reads = absurd (none_taken command files runs.ends.2.0 name bytes fault runs.ends.2.1 named tells is)
-faults command files before now had has (status.Import line why) runs name bytes fault named tells is reads = absurd (none_taken command files runs.ends.2.0 name bytes fault runs.ends.2.1 named tells is)
+faults command files before now had has (status.DropIn found) runs name bytes fault named tells is reads = absurd (no_base command files runs.ends.2.0 name bytes fault runs.ends.2.2 named tells is)
+faults command files before now had has (status.NoFile DropInFile) runs name bytes fault named tells is reads = absurd (no_base command files runs.ends.1.0 name bytes fault runs.ends.1.2 named tells is)
+faults command files before now had has (status.Trace line why) runs name bytes fault named tells is reads = absurd (none_taken command files runs.ends.2.0 name bytes fault runs.ends.2.1 runs.ends.2.2.1 named tells is)
+faults command files before now had has (status.Import line why) runs name bytes fault named tells is reads = absurd (none_taken command files runs.ends.2.0 name bytes fault runs.ends.2.1 runs.ends.2.2.1 named tells is)
 faults command files before now had has (status.NoFile RulesFile) runs name bytes fault named tells is reads = absurd (one_told files name runs.ends.2.0 bytes (rules_name command) named runs.ends.2.1 tells runs.ends.2.2)
-faults command files before now had has (status.NoFile TraceFile) runs name bytes fault named tells is reads = absurd (none_taken command files runs.ends.1.0 name bytes fault runs.ends.1.1 named tells is)
-faults command files before now had has (status.NoFile ImportFile) runs name bytes fault named tells is reads = absurd (none_taken command files runs.ends.1.0 name bytes fault runs.ends.1.1 named tells is)
+faults command files before now had has (status.NoFile TraceFile) runs name bytes fault named tells is reads = absurd (none_taken command files runs.ends.1.0 name bytes fault runs.ends.1.1 runs.ends.1.2.1 named tells is)
+faults command files before now had has (status.NoFile ImportFile) runs name bytes fault named tells is reads = absurd (none_taken command files runs.ends.1.0 name bytes fault runs.ends.1.1 runs.ends.1.2.1 named tells is)
+
+-- ---- refused drop-in files
+
+-- the bytes of a drop-in file are told
+over_told : (command : Command) (files : Option Files) (drop_in : List ℕ) → IsTold command DropInFile files drop_in → DropInTold command files (Some drop_in)
+over_told command files drop_in over =
+    subst (λ named. told_if_named files named ≡ Some (Some drop_in)) (sym over.1) (ap (option_map (λ b. Some b)) over.2)
+
+-- a command never takes rulesets from files of which the drop-in file has a fault
+none_joined : (command : Command) (files : Option Files) (taken : List Rule) (bytes drop_in : List ℕ) (fault : DropFault) → TakesRules command files taken → IsTold command RulesFile files bytes → IsTold command DropInFile files drop_in
+    → rules_from bytes (Some drop_in) ≡ Err (status.DropIn fault) → ⊥
+none_joined command files taken bytes drop_in fault takes known over is =
+    let good = takes.read bytes (Some drop_in) known (over_told command files drop_in over) in cc (good, is)
+
+-- nor finds one of the rules file there
+no_rules_fault : (command : Command) (files : Option Files) (had has : Option (List ℕ)) (bytes drop_in : List ℕ) (found : RulesFault) (fault : DropFault) → Ends command files had has (status.Rules found) → IsTold command RulesFile files bytes
+    → rules_from bytes (Some drop_in) ≡ Err (status.DropIn fault) → ⊥
+no_rules_fault command files had has bytes drop_in found fault ends known is =
+    let same : ends.2.0 ≡ known.0 = let one = ends.2.1 in let other = known.1 in cc (one, other) in
+    let first = fault_first bytes (Some drop_in) found (ends.2.2 bytes (subst (λ n. told files n ≡ Some bytes) (sym same) known.2)) in
+    cc (first, is)
+
+-- a file that is told isn't missed
+not_missed : (command : Command) (files : Option Files) (which : Which) (had has : Option (List ℕ)) (bytes : List ℕ) → IsTold command which files bytes → Ends command files had has (status.NoFile which) → ⊥
+not_missed command files which had has bytes known ends = one_told files known.0 ends.2.0 bytes (file_of command which) known.1 ends.2.1 known.2 ends.2.2
+
+-- a refused drop-in file tells of its first fault, where no read failed and memory was there
+pub drop_faults : (command : Command) (files : Option Files) (before now : RunCounts) (had has : Option (List ℕ)) (result : Status) → Runs command files before now had has result
+    → (bytes drop_in : List ℕ) (fault : DropFault) → IsTold command RulesFile files bytes → IsTold command DropInFile files drop_in → rules_from bytes (Some drop_in) ≡ Err (status.DropIn fault)
+    → (Rose before.shelf.faults now.shelf.faults → ⊥) → (result ≡ status.DropIn fault) ⊎ (result ≡ status.NoMemory no_memory)
+drop_faults command files before now had has status.Done runs bytes drop_in fault known over is reads = absurd (none_joined command files runs.ends.1 bytes drop_in fault runs.ends.3 known over is)
+drop_faults command files before now had has status.WriteFault runs bytes drop_in fault known over is reads = absurd (none_joined command files runs.ends.1 bytes drop_in fault runs.ends.3 known over is)
+drop_faults command files before now had has (status.NoMemory _) runs bytes drop_in fault known over is reads = inr refl
+drop_faults command files before now had has status.ReadFault runs bytes drop_in fault known over is reads = absurd (reads (runs.counts.faults.rose refl))
+drop_faults command files before now had has status.Usage runs bytes drop_in fault known over is reads = absurd runs.ends
+drop_faults command files before now had has (status.Rules found) runs bytes drop_in fault known over is reads = absurd (no_rules_fault command files had has bytes drop_in found fault runs.ends known is)
+drop_faults command files before now had has (status.DropIn found) runs bytes drop_in fault known over is reads = let other = runs.ends.4 bytes drop_in known over in inl (cc (is, other))
+drop_faults command files before now had has (status.Trace line why) runs bytes drop_in fault known over is reads = absurd (none_joined command files runs.ends.2.0 bytes drop_in fault runs.ends.2.1 known over is)
+drop_faults command files before now had has (status.Import line why) runs bytes drop_in fault known over is reads = absurd (none_joined command files runs.ends.2.0 bytes drop_in fault runs.ends.2.1 known over is)
+drop_faults command files before now had has (status.NoFile RulesFile) runs bytes drop_in fault known over is reads = absurd (not_missed command files RulesFile had has bytes known runs.ends)
+drop_faults command files before now had has (status.NoFile DropInFile) runs bytes drop_in fault known over is reads = absurd (not_missed command files DropInFile had has drop_in over runs.ends)
+drop_faults command files before now had has (status.NoFile TraceFile) runs bytes drop_in fault known over is reads = absurd (none_joined command files runs.ends.1.0 bytes drop_in fault runs.ends.1.1 known over is)
+drop_faults command files before now had has (status.NoFile ImportFile) runs bytes drop_in fault known over is reads = absurd (none_joined command files runs.ends.1.0 bytes drop_in fault runs.ends.1.1 known over is)
+
+-- ---- `rules`
+
+-- where it is done, its output is the text of its rules
+pub prints : (name : List ℕ) (drop_in : Option (List ℕ)) (files : Option Files) (before now : RunCounts) (had has : Option (List ℕ)) → Runs (words.Rules name drop_in) files before now had has status.Done
+    → (rules : List Rule) → RulesTold (words.Rules name drop_in) files rules → Appends had has (rules_text rules ++ codes "\n")
+prints name drop_in files before now had has runs rules tells =
+    let ends = runs.ends in
+    let same = same_rules (words.Rules name drop_in) files ends.1 rules ends.3 tells in
+    subst (λ (r : List Rule). Appends had has (rules_text r ++ codes "\n")) same (subst (Appends had has) ends.6.1 ends.6.2)
+
+-- and it is done, where its rules are accepted, nothing failed and memory was there
+pub prints_all : (name : List ℕ) (drop_in : Option (List ℕ)) (files : Option Files) (before now : RunCounts) (had has : Option (List ℕ)) (result : Status) → Runs (words.Rules name drop_in) files before now had has result
+    → (rules : List Rule) → RulesTold (words.Rules name drop_in) files rules
+    → (Rose before.shelf.faults now.shelf.faults → ⊥) → (Rose before.writes now.writes → ⊥) → (result ≡ status.Done) ⊎ (result ≡ status.NoMemory no_memory)
+prints_all name drop_in files before now had has status.Done runs rules given reads writes = inl refl
+prints_all name drop_in files before now had has (status.NoMemory _) runs rules given reads writes = inr refl
+prints_all name drop_in files before now had has status.WriteFault runs rules given reads writes = absurd (writes (runs.counts.writes.rose refl))
+prints_all name drop_in files before now had has status.ReadFault runs rules given reads writes = absurd (reads (runs.counts.faults.rose refl))
+prints_all name drop_in files before now had has status.Usage runs rules given reads writes = absurd runs.ends
+prints_all name drop_in files before now had has (status.Rules fault) runs rules given reads writes = absurd (no_fault (words.Rules name drop_in) files rules fault had has given runs.ends)
+prints_all name drop_in files before now had has (status.DropIn fault) runs rules given reads writes = absurd (no_drop_fault (words.Rules name drop_in) files rules fault had has given runs.ends)
+prints_all name drop_in files before now had has (status.Trace line why) runs rules given reads writes = absurd (true≢false (sym runs.ends.1))
+prints_all name drop_in files before now had has (status.Import line why) runs rules given reads writes = absurd (true≢false (sym runs.ends.1))
+prints_all name drop_in files before now had has (status.NoFile RulesFile) runs rules given reads writes = absurd (no_missed (words.Rules name drop_in) files rules had has given runs.ends)
+prints_all name drop_in files before now had has (status.NoFile DropInFile) runs rules given reads writes = absurd (no_missed_drop_in (words.Rules name drop_in) files rules had has given runs.ends)
+prints_all name drop_in files before now had has (status.NoFile TraceFile) runs rules given reads writes = absurd (true≢false (sym (ap is_some runs.ends.2.1)))
+prints_all name drop_in files before now had has (status.NoFile ImportFile) runs rules given reads writes = absurd (true≢false (sym (ap is_some runs.ends.2.1)))

@@ -1,29 +1,25 @@
 -- What reading a trace and writing a text come to as a run.
-use Rattle.std.proofs.Common.{◌≡◌, ℕ, List, [], ◌∷◌, arith, refl, sym, ap, ◌∙◌, subst, Option, None, Some, Ok, Err, ⊎_elim}
+use Rattle.std.proofs.Common.{◌≡◌, ℕ, List, [], ◌∷◌, arith, refl, sym, ap, ◌∙◌, subst, inl, inr, Option, None, Some, Ok, Err}
 use Rattle.std.specs.Prelude.{IsErrOf, IsSome}
 use Rattle.std.specs.Io.KnownBytes.{Keeps}
 use Rattle.psi_base.specs.Gives.{no_memory}
 use Rattle.psi_base.specs.Outside.{Files, Lacks, Rose, told}
 use Rattle.psi_base.specs.declared.event.Event.{Event}
 use Rattle.psi_spec.specs.Fields.{IsAmong}
-use Rattle.psi_spec.specs.Grammar.{One, Version, verbs_of}
+use Rattle.psi_spec.specs.Grammar.{One, Two, Version, verbs_of, versions}
 use Rattle.psi_spec.specs.Trace.{AreKnown, IsAccepted, IsCpuCount, Trace, limits_of, trace_of}
-use Rattle.run_spec.proofs.Missing.{from_trace}
 use Rattle.run_spec.specs.declared.command.Command.{Command}
-use Rattle.run_spec.specs.declared.command.Command.TheVariants as words
 use Rattle.run_spec.specs.declared.status.Status.{Status}
 use Rattle.run_spec.specs.declared.status.Status.TheVariants as status
 use Rattle.run_spec.specs.declared.status.Which.{Which}
-use Rattle.run_spec.specs.declared.status.Which.TheVariants.{RulesFile, TraceFile}
-use Rattle.run_spec.specs.Outputs.{IsOutput, accepts_of, file_of, or_refused, rules_name, source_name, source_of, taken_of, tick_length, trace_name, versions_of}
-use Rattle.run_spec.specs.Run.{FailuresAreCounted, IsThere, ReadsFiles, RisesWhere, RunCounts, Runs, TakesRules, TakesTrace}
+use Rattle.run_spec.specs.declared.status.Which.TheVariants.{TraceFile}
+use Rattle.run_spec.specs.Outputs.{IsOutput, accepts_of, drop_in_name, file_of, or_refused, rules_name, source_name, source_of, taken_of, tick_length, trace_name, versions_of}
+use Rattle.run_spec.specs.Run.{FailuresAreCounted, IsThere, ReadsFiles, RisesWhere, RulesAreThere, RunCounts, Runs, TakesRules, TakesTrace, told_if_named}
 use Rattle.std.proofs.lemmas.List.Elements.{All-nil}
 use Rattle.ruleset_json.specs.RuleRanges.{FitsRule}
 use Rattle.ruleset_json.specs.declared.types.Rule.{Rule}
-use Rattle.replay_core.specs.Rules.{CausesRulesError, IsStatusOfRules, RulesFailed, RulesGiven}
-use Rattle.replay_core.specs.declared.rules.RulesError.{RulesError}
-use Rattle.replay_core.specs.declared.rules.RulesError.TheVariants as error
-use Rattle.replay_core.specs.Reads.{CausesTraceFault, TellsNothing, TraceRefused, plain_trace, trace_with}
+use Rattle.replay_core.specs.Rules.{RulesGiven}
+use Rattle.replay_core.specs.Reads.{CausesTraceFault, RefusalOf, TellsNothing, trace_with}
 use Rattle.replay_core.specs.Writes.{IsStatusOf, WritesText}
 use Rattle.replay_core.specs.declared.trace.TraceFault.{TraceFault}
 use Rattle.replay_core.specs.declared.trace.TraceFault.TheVariants as fault
@@ -61,15 +57,18 @@ takes_trace command name files version cpus events reads named among counted kno
   read = λ bytes known. reads bytes ∙ ap or_refused (read bytes (subst (λ n. told files n ≡ Some bytes) (same_name command (source_of command) name known.0 named known.1) known.2));
 }
 
--- one of the first version, where it takes no other
-pub takes_plain : (command : Command) (name : List ℕ) (files : Option Files) (version : Version) (cpus : ℕ) (events : List Event) → Reads command → source_name command ≡ Some name → versions_of command ≡ One ∷ [] → IsAmong version (One ∷ []) → IsCpuCount cpus
+-- each version is among all
+every : (version : Version) → IsAmong version versions
+every One = inl refl
+every Two = inr (inl refl)
+
+-- one of any version, where it takes all
+pub takes_any : (command : Command) (name : List ℕ) (files : Option Files) (version : Version) (cpus : ℕ) (events : List Event) → Reads command → source_name command ≡ Some name → versions_of command ≡ versions → IsCpuCount cpus
     → AreKnown (verbs_of version) events → IsAccepted (limits_of (tick_length command) cpus) events
     → ((bytes : List ℕ) → told files name ≡ Some bytes → trace_of (accepts_of command) bytes ≡ Ok (trace_with version cpus events))
-    → TakesTrace command files (plain_trace cpus events)
-takes_plain command name files version cpus events reads named first among counted known accepted read =
-    let one : version ≡ One = ⊎_elim (λ same. same) (λ none. absurd none) among in
-    subst (λ v. TakesTrace command files (trace_with v cpus events)) one
-    (takes_trace command name files version cpus events reads named (subst (IsAmong version) (sym first) among) counted known accepted read)
+    → TakesTrace command files (trace_with version cpus events)
+takes_any command name files version cpus events reads named all counted known accepted read =
+    takes_trace command name files version cpus events reads named (subst (IsAmong version) (sym all) (every version)) counted known accepted read
 
 -- counts of a shelf stay where nothing failed, and the count of writes rose where one did
 pub counts_written : (before now : RunCounts) (result : Status) → now.shelf.faults ≡ before.shelf.faults → now.shelf.absent ≡ before.shelf.absent
@@ -82,45 +81,46 @@ counts_written before now result faults absent no_read no_file writes = record {
 
 -- ---- the rules came first
 
--- rulesets that were given are those of a command that names the same rules file
-pub takes_given : (command : Command) (named : Option (List ℕ)) (files : Option Files) (rules : List Rule) → rules_name command ≡ named → RulesGiven named files rules → TakesRules command files rules
-takes_given command named files rules is given = record {
+-- rulesets that were given are those of a command that names the same files of rules
+pub takes_given : (command : Command) (named drop_in : Option (List ℕ)) (files : Option Files) (rules : List Rule) → rules_name command ≡ named → drop_in_name command ≡ drop_in → RulesGiven named drop_in files rules → TakesRules command files rules
+takes_given command named drop_in files rules is over given = record {
   fit = given.fit;
   none = λ none. given.none (sym is ∙ none);
-  read = λ bytes known. given.read known.0 bytes (sym is ∙ known.1) known.2;
+  read = λ bytes found known tells. given.read known.0 bytes found (sym is ∙ known.1) known.2 (subst (λ n. told_if_named files n ≡ Some found) over tells);
 }
 
 -- a command that names no rules file is given no rulesets
-pub none_given : (files : Option Files) → RulesGiven None files []
+pub none_given : (files : Option Files) → RulesGiven None None files []
 none_given files = record {
   fit = record { few = omega arith; each = All-nil FitsRule };
   none = λ _. refl;
-  read = λ name bytes is. absurd (let no : ⊥ = cc is in no);
+  read = λ name bytes over is. absurd (let no : ⊥ = cc is in no);
   held = λ name is. absurd (let no : ⊥ = cc is in no);
+  drop_in_held = λ name is. absurd (let no : ⊥ = cc is in no);
 }
 
--- the rules file of a command isn't told to be missing, where its rules were given
-pub rules_there : (command : Command) (files : Option Files) (rules : List Rule) → RulesGiven (rules_name command) files rules → IsThere command files RulesFile
-rules_there command files rules given = λ other is lacks. given.held other is lacks
+-- so it is where the options of a replay name none
+pub empty_given : (named drop_in : Option (List ℕ)) (files : Option Files) → named ≡ None → drop_in ≡ None → RulesGiven named drop_in files []
+empty_given named drop_in files none over = subst (λ n. RulesGiven n drop_in files []) (sym none) (subst (λ d. RulesGiven None d files []) (sym over) (none_given files))
 
--- nor where the file of its name isn't
-named_there : (command : Command) (name : List ℕ) (files : Option Files) → rules_name command ≡ Some name → (Lacks files name → ⊥) → IsThere command files RulesFile
-named_there command name files named held = λ other is lacks. held (subst (Lacks files) (same_name command RulesFile name other named is) lacks)
+-- the files of rules of a command aren't told to be missing, where its rules were given
+pub rules_there : (command : Command) (files : Option Files) (rules : List Rule) → RulesGiven (rules_name command) (drop_in_name command) files rules → RulesAreThere command files
+rules_there command files rules given = (λ other is lacks. given.held other is lacks, λ other is lacks. given.drop_in_held other is lacks)
 
--- nor is one of another kind, where the file of its name isn't
+-- a file of a kind isn't told to be missing, where the one of its name isn't
 pub file_there : (command : Command) (which : Which) (name : List ℕ) (files : Option Files) → file_of command which ≡ Some name → (Lacks files name → ⊥) → IsThere command files which
 file_there command which name files named held = λ other is lacks. held (subst (Lacks files) (same_name command which name other named is) lacks)
 
 pub runs_written : (command : Command) (name : List ℕ) (files : Option Files) (before now : RunCounts) (had has : Option (List ℕ)) (trace : Trace) (rules : List Rule) (text : List ℕ) (result : Status)
-    → source_name command ≡ Some name → TakesTrace command files trace → RulesGiven (rules_name command) files rules → (Lacks files name → ⊥) → IsOutput command trace rules text
+    → source_name command ≡ Some name → TakesTrace command files trace → RulesGiven (rules_name command) (drop_in_name command) files rules → (Lacks files name → ⊥) → IsOutput command trace rules text
     → now.shelf.faults ≡ before.shelf.faults → now.shelf.absent ≡ before.shelf.absent
     → WritesText text before.writes now.writes had has result → Runs command files before now had has result
 runs_written command name files before now had has trace rules text status.Done named takes given held output faults absent wrote = record {
-  ends = (trace, rules, takes, takes_given command _ files rules refl given, rules_there command files rules given, file_there command (source_of command) name files named held, (text, output, wrote.0));
+  ends = (trace, rules, λ _. takes, takes_given command _ _ files rules refl refl given, rules_there command files rules given, file_there command (source_of command) name files named held, (text, output, wrote.0));
   counts = counts_written before now status.Done faults absent (λ is. cc is) (λ is. cc is.1) (stays _ before.writes now.writes (λ is. cc is) wrote.1);
 }
 runs_written command name files before now had has trace rules text status.WriteFault named takes given held output faults absent wrote = record {
-  ends = (trace, rules, takes, takes_given command _ files rules refl given, rules_there command files rules given, file_there command (source_of command) name files named held, (text, output, wrote.0));
+  ends = (trace, rules, λ _. takes, takes_given command _ _ files rules refl refl given, rules_there command files rules given, file_there command (source_of command) name files named held, (text, output, wrote.0));
   counts = counts_written before now status.WriteFault faults absent (λ is. cc is) (λ is. cc is.1) (record { rose = λ _. wrote.1; same = λ not. absurd (not refl) });
 }
 runs_written command name files before now had has trace rules text (status.NoMemory _) named takes given held output faults absent wrote = record {
@@ -141,12 +141,6 @@ runs_lacking command files counts had = record {
 -- a file of a kind has a name
 pub is_named : (command : Command) (which : Which) (name : List ℕ) → file_of command which ≡ Some name → IsSome (file_of command which)
 is_named command which name named = subst IsSome (sym named) refl
-
--- a command with a name of its trace reads files
-reads_files : (command : Command) (name : List ℕ) → trace_name command ≡ Some name → ReadsFiles command
-reads_files command name named =
-    let some : IsSome (file_of command TraceFile) = is_named command TraceFile name named in
-    subst (λ which. IsSome (file_of command which)) (sym (from_trace command some)) some
 
 -- a read failed
 pub read_failed : (command : Command) (files : Option Files) (before now : RunCounts) (had : Option (List ℕ)) → ReadsFiles command → Rose before.shelf.faults now.shelf.faults → now.shelf.absent ≡ before.shelf.absent → now.writes ≡ before.writes
@@ -178,50 +172,21 @@ missed_counts which before now faults rose writes = record {
 
 -- a trace that can't be read, behind rules that were
 pub runs_refused : {T : Type 0} → (command : Command) (name : List ℕ) (files : Option Files) (before now : RunCounts) (had : Option (List ℕ)) (rules : List Rule) (found : TraceFault) (result : Status)
-    → Reads command → trace_name command ≡ Some name → RulesGiven (rules_name command) files rules → TraceRefused found (versions_of command) (tick_length command) (told files name) → (Lacks files name → TellsNothing {A = Unit {0}} (Err found))
+    → Reads command → trace_name command ≡ Some name → RulesGiven (rules_name command) (drop_in_name command) files rules → ((bytes : List ℕ) → told files name ≡ Some bytes → RefusalOf found (trace_of (accepts_of command) bytes)) → (Lacks files name → TellsNothing {A = Unit {0}} (Err found))
     → (IsErrOf {T = T} (Err found) fault.NoFile → told files name ≡ None)
     → CausesTraceFault {A = T} before.shelf now.shelf (Err found) → now.writes ≡ before.writes
     → IsStatusOf found result → Runs command files before now had had result
 runs_refused command name files before now had rules (fault.Refused refusal) result reads named given refused lacking missed causes writes is =
     subst (Runs command files before now had had) (sym is) (record {
-      ends = (keeps_same had, is_named command TraceFile name named, (rules, takes_given command _ files rules refl given, rules_there command files rules given), file_there command TraceFile name files named lacking, λ bytes known. reads bytes ∙ ap or_refused (refused bytes (subst (λ n. told files n ≡ Some bytes) (same_name command TraceFile name known.0 named known.1) known.2)));
+      ends = (keeps_same had, is_named command TraceFile name named, (rules, takes_given command _ _ files rules refl refl given, rules_there command files rules given), file_there command TraceFile name files named lacking, λ bytes known. reads bytes ∙ ap or_refused (refused bytes (subst (λ n. told files n ≡ Some bytes) (same_name command TraceFile name known.0 named known.1) known.2)));
       counts = counts_written before now (status.Trace refusal.line refusal.cause) (causes.faults_same (λ is. cc is)) (causes.absent_same (λ is. cc is)) (λ is. cc is) (λ is. cc is.1) (stays _ before.writes now.writes (λ is. cc is) writes);
     })
 runs_refused command name files before now had rules fault.NoFile result reads named given refused lacking missed causes writes is =
     subst (Runs command files before now had had) (sym is) (record {
-      ends = (keeps_same had, (rules, takes_given command _ files rules refl given, rules_there command files rules given), (name, named, missed refl));
+      ends = (keeps_same had, (rules, takes_given command _ _ files rules refl refl given, rules_there command files rules given), (name, named, missed refl));
       counts = missed_counts TraceFile before now (causes.faults_same (λ is. cc is)) (causes.missed refl) writes;
     })
 runs_refused command name files before now had rules fault.ReadFault result reads named given refused lacking missed causes writes is =
-    subst (Runs command files before now had had) (sym is) (read_failed command files before now had (reads_files command name named) (causes.failed refl) (causes.absent_same (λ is. cc is)) writes)
+    subst (Runs command files before now had had) (sym is) (read_failed command files before now had (TraceFile, is_named command TraceFile name named) (causes.failed refl) (causes.absent_same (λ is. cc is)) writes)
 runs_refused command name files before now had rules (fault.NoMemory _) result reads named given refused lacking missed causes writes is =
-    subst (Runs command files before now had had) (sym is) (memory_wanting command files before now had (causes.faults_same (λ is. cc is)) (causes.absent_same (λ is. cc is)) writes)
-
--- a command that names a rules file reads a trace too
-rules_read : (command : Command) (name : List ℕ) → rules_name command ≡ Some name → ReadsFiles command
-rules_read (words.Stall trace) name named = refl
-rules_read (words.Check trace tick_ms) name named = refl
-rules_read (words.Replay trace options) name named = refl
-rules_read (words.Gen shape) name named = absurd (let no : ⊥ = cc named in no)
-rules_read (words.Stress shape workers) name named = absurd (let no : ⊥ = cc named in no)
-rules_read (words.Import file cpus) name named = absurd (let no : ⊥ = cc named in no)
-
--- rules that can't be read
-pub rules_refused : {T : Type 0} → (command : Command) (name : List ℕ) (files : Option Files) (before now : RunCounts) (had : Option (List ℕ)) (found : RulesError) (result : Status)
-    → rules_name command ≡ Some name → RulesFailed found files name
-    → CausesRulesError {A = T} before.shelf now.shelf (Err found) → now.writes ≡ before.writes
-    → IsStatusOfRules found result → Runs command files before now had had result
-rules_refused command name files before now had (error.Refused refusal) result named failed causes writes is =
-    subst (Runs command files before now had had) (sym is) (record {
-      ends = (keeps_same had, named_there command name files named failed.lacking, (name, named, failed.refused));
-      counts = counts_written before now (status.Rules refusal) (causes.faults_same (λ is. cc is)) (causes.absent_same (λ is. cc is)) (λ is. cc is) (λ is. cc is.1) (stays _ before.writes now.writes (λ is. cc is) writes);
-    })
-rules_refused command name files before now had error.NoFile result named failed causes writes is =
-    subst (Runs command files before now had had) (sym is) (record {
-      ends = (keeps_same had, tt, (name, named, failed.missed refl));
-      counts = missed_counts RulesFile before now (causes.faults_same (λ is. cc is)) (causes.missed refl) writes;
-    })
-rules_refused command name files before now had error.ReadFault result named failed causes writes is =
-    subst (Runs command files before now had had) (sym is) (read_failed command files before now had (rules_read command name named) (causes.failed refl) (causes.absent_same (λ is. cc is)) writes)
-rules_refused command name files before now had (error.NoMemory _) result named failed causes writes is =
     subst (Runs command files before now had had) (sym is) (memory_wanting command files before now had (causes.faults_same (λ is. cc is)) (causes.absent_same (λ is. cc is)) writes)

@@ -11,15 +11,13 @@ use Rattle.psi_base.specs.declared.event.Fault.TheVariants as fault
 use Rattle.psi_spec.specs.World.{World, Limits, after, first_world, most_events}
 use Rattle.psi_spec.specs.Refusal.{AreLegal, cause_of}
 use Rattle.psi_spec.specs.Fields.{IsAmong}
-use Rattle.psi_spec.specs.Grammar.{IsVersion, One, Verb, Version, header_with, verbs_of, version_of, versions as all_versions}
+use Rattle.psi_spec.specs.Grammar.{IsVersion, One, Verb, Version, header_with, verbs_of, version_of, versions}
 use Rattle.psi_spec.specs.Trace.{AllFit, AreKnown, IsAccepted, IsCpuCount, Trace, accepts_with, events_from, followed, limits_of, line_event, refused, trace_of, with_events}
 use Rattle.psi_lines.specs.Lines.{Reader}
 use Rattle.psi_lines.specs.Next.{furthest}
 use Rattle.psi_lines.specs.declared.lines.LineFault.{LineFault}
 use Rattle.psi_lines.specs.declared.lines.LineFault.TheVariants as lines
 use Rattle.psi_trace.specs.declared.header.Header.{Header}
-use Rattle.replay_core.specs.declared.trace.Taken.{Taken}
-use Rattle.replay_core.specs.declared.trace.Taken.TheVariants.{EveryVersion, FirstVersion}
 use Rattle.replay_core.specs.declared.trace.TraceFault.{TraceFault}
 use Rattle.replay_core.specs.declared.trace.TraceFault.TheVariants.{Refused, NoFile, ReadFault, NoMemory}
 
@@ -121,26 +119,15 @@ RestGives verbs Played limits before known (Err fault) = (bytes : List ℕ) → 
 abbrev pub verbs_in : ℕ → List Verb
 verbs_in number = verbs_of (version_of number)
 
--- the versions that a command takes
-abbrev pub versions_in : Taken → List Version
-versions_in FirstVersion = One ∷ []
-versions_in EveryVersion = all_versions
-
--- a command takes the version with a number
-abbrev pub is_taken : Taken → ℕ → Bool
-is_taken FirstVersion number = number == 1
-is_taken EveryVersion number = true
-
--- a header of one of these versions was read from the bytes before, and those after are left
-abbrev pub HeadGives : List Version → ℕ → List ℕ → List ℕ → Result Header TraceFault → Type 0
-HeadGives versions tick before after (Ok head) =
+-- a header was read from the bytes before, and those after are left
+abbrev pub HeadGives : ℕ → List ℕ → List ℕ → Result Header TraceFault → Type 0
+HeadGives tick before after (Ok head) =
     trace_of (accepts_with versions tick) before ≡ with_events (header_with head.version head.cpus) (rest_from (verbs_in head.version) (limits_of tick head.cpus) first_world 2 after)
-HeadGives versions tick before after (Err fault) = RefusalOf fault (trace_of (accepts_with versions tick) before)
+HeadGives tick before after (Err fault) = RefusalOf fault (trace_of (accepts_with versions tick) before)
 
--- a header that was read has the number of one of these versions, and as many processors as there may be
-pub record IsHead (versions : List Version) (head : Header) : Type 0 where
+-- a header that was read has the number of a version, and as many processors as there may be
+pub record IsHead (head : Header) : Type 0 where
   pub numbered : IsVersion head.version
-  pub among : IsAmong (version_of head.version) versions
   pub counted : IsCpuCount head.cpus
 
 -- a trace of a version
@@ -151,21 +138,21 @@ trace_with version cpus events = record { version = version; cpus = cpus; events
 abbrev pub plain_trace : ℕ → List Event → Trace
 plain_trace cpus events = trace_with One cpus events
 
--- A player has played all events of an accepted trace of one of these versions, which is that of the bytes where they are told.
-pub record TracePlayed (Played : Plays) (versions : List Version) (tick : ℕ) (known : Option (List ℕ)) : Type 0 where
-  pub version : Version
-  pub among : IsAmong version versions
+-- A player has played all events of an accepted trace of the version with a number, which is that of the bytes where they are
+-- told.
+pub record TracePlayed (Played : Plays) (number tick : ℕ) (known : Option (List ℕ)) : Type 0 where
+  pub numbered : IsVersion number
   pub cpus : ℕ
   pub counted : IsCpuCount cpus
   pub events : List Event
   pub played : Played (limits_of tick cpus) events
-  pub told : AreKnown (verbs_of version) events
+  pub told : AreKnown (verbs_in number) events
   pub accepted : IsAccepted (limits_of tick cpus) events
-  pub read : (bytes : List ℕ) → known ≡ Some bytes → trace_of (accepts_with versions tick) bytes ≡ Ok (trace_with version cpus events)
+  pub read : (bytes : List ℕ) → known ≡ Some bytes → trace_of (accepts_with versions tick) bytes ≡ Ok (trace_with (version_of number) cpus events)
 
--- a trace that can't be read as one of these versions has its first refusal
-abbrev pub TraceRefused : TraceFault → List Version → ℕ → Option (List ℕ) → Type 0
-TraceRefused fault versions tick known = (bytes : List ℕ) → known ≡ Some bytes → RefusalOf fault (trace_of (accepts_with versions tick) bytes)
+-- a trace that can't be read has its first refusal
+abbrev pub TraceRefused : TraceFault → ℕ → Option (List ℕ) → Type 0
+TraceRefused fault tick known = (bytes : List ℕ) → known ≡ Some bytes → RefusalOf fault (trace_of (accepts_with versions tick) bytes)
 
 -- A shelf counted this fault of a trace and nothing else: a failed read, or a name that it hasn't.
 abbrev pub CausesTraceFault : {A : Type 0} → ShelfCounts → ShelfCounts → Result A TraceFault → Type 0

@@ -1,53 +1,87 @@
--- What reading the rules of a replay gives, where the bytes of its rules file are told.
-use Rattle.std.specs.Prelude.{◌≡◌, ℕ, List, [], Option, None, Some, Result, Ok, Err, IsErrOf, ⊤}
-use Rattle.psi_base.specs.Outside.{Files, HasCauses, Lacks, ShelfCounts, told}
+-- What reading the rules of a command gives, where the bytes of its rules file, and of the drop-in file over it, are told.
+use Rattle.std.specs.Prelude.{◌≡◌, ℕ, List, [], Option, None, Some, Ok, Err, take}
+use Rattle.psi_base.specs.Outside.{Files, Lacks, Rose, ShelfCounts, told}
 use Rattle.ruleset_json.specs.declared.types.Rule.{Rule}
-use Rattle.ruleset_json.specs.declared.fault.RulesFault.{RulesFault}
 use Rattle.ruleset_json.specs.declared.types.Rules.{Rules}
 use Rattle.ruleset_json.specs.RuleRanges.{FitsRules}
 use Rattle.ruleset_json.specs.Rules.{rules_of}
+use Rattle.dropin_rules.specs.Joined.{dropped_in}
+use Rattle.run_spec.specs.declared.command.Command.{Command}
 use Rattle.run_spec.specs.declared.status.Status.{Status}
 use Rattle.run_spec.specs.declared.status.Status.TheVariants as status
-use Rattle.run_spec.specs.declared.status.Which.TheVariants.{RulesFile}
-use Rattle.replay_core.specs.declared.rules.RulesError.{RulesError}
-use Rattle.replay_core.specs.declared.rules.RulesError.TheVariants as error
+use Rattle.run_spec.specs.declared.status.Which.{Which}
+use Rattle.run_spec.specs.declared.status.Which.TheVariants.{DropInFile, RulesFile}
+use Rattle.run_spec.specs.Outputs.{drop_in_name, rules_from, rules_name}
+use Rattle.run_spec.specs.Run.{RunCounts, Runs, told_if_named}
+use Rattle.run_spec.specs.MostRead.{most_of_rules}
 
--- Rulesets are those of the rules file with a name, if one is named: each is in its ranges; where none is named there are
--- none; they are those of the file's bytes, where these are told; and the file isn't known to be missing.
-pub record RulesGiven (named : Option (List ℕ)) (files : Option Files) (rules : List Rule) : Type 0 where
+-- ---- one file
+
+-- counts of a shelf stayed
+pub record Stays (before now : ShelfCounts) : Type 0 where
+  pub faults : now.faults ≡ before.faults
+  pub absent : now.absent ≡ before.absent
+
+-- bytes were read of a name, with no fault: as many of its bytes as are looked at, where these are told, and the name isn't known to
+-- be missing
+pub record IsFront (bytes name : List ℕ) (files : Option Files) (before now : ShelfCounts) : Type 0 where
+  pub front : (whole : List ℕ) → told files name ≡ Some whole → bytes ≡ take most_of_rules whole
+  pub held : Lacks files name → ⊥
+  pub stays : Stays before now
+
+-- a status tells why nothing was read of a name, which is that of a file of some kind
+abbrev pub Unread : Which → List ℕ → Option Files → ShelfCounts → ShelfCounts → Status → Type 0
+Unread which name files before now (status.NoFile kind) =
+    (kind ≡ which) × (told files name ≡ None) × (now.faults ≡ before.faults) × Rose before.absent now.absent
+Unread which name files before now status.ReadFault = Rose before.faults now.faults × (now.absent ≡ before.absent)
+Unread which name files before now (status.NoMemory _) = Stays before now
+Unread which name files before now _ = ⊥
+
+-- rules are those of the rules file with a name, each ruleset in its ranges
+pub record BaseGiven (name : List ℕ) (files : Option Files) (before now : ShelfCounts) (base : Rules) : Type 0 where
+  pub fit : FitsRules base.rules
+  pub read : (bytes : List ℕ) → told files name ≡ Some bytes → rules_of bytes ≡ Ok base
+  pub held : Lacks files name → ⊥
+  pub stays : Stays before now
+
+-- a status tells why the rules file with a name gives no rules
+abbrev pub BaseFails : List ℕ → Option Files → ShelfCounts → ShelfCounts → Status → Type 0
+BaseFails name files before now (status.Rules fault) =
+    ((bytes : List ℕ) → told files name ≡ Some bytes → rules_of bytes ≡ Err fault) × (Lacks files name → ⊥) × Stays before now
+BaseFails name files before now result = Unread RulesFile name files before now result
+
+-- rules are others with the drop-in file with a name over them, each ruleset in its ranges
+pub record OverGiven (base : Rules) (name : List ℕ) (files : Option Files) (before now : ShelfCounts) (rules : Rules) : Type 0 where
+  pub fit : FitsRules rules.rules
+  pub read : (bytes : List ℕ) → told files name ≡ Some bytes → dropped_in base bytes ≡ Ok rules
+  pub held : Lacks files name → ⊥
+  pub stays : Stays before now
+
+-- a status tells why rules can't have the drop-in file with a name over them
+abbrev pub OverFails : Rules → List ℕ → Option Files → ShelfCounts → ShelfCounts → Status → Type 0
+OverFails base name files before now (status.DropIn fault) =
+    ((bytes : List ℕ) → told files name ≡ Some bytes → dropped_in base bytes ≡ Err fault) × (Lacks files name → ⊥) × Stays before now
+OverFails base name files before now result = Unread DropInFile name files before now result
+
+-- ---- both
+
+-- Rulesets are those of the rules file with a name, if one is named, with the drop-in file over it, if that is: each is in its
+-- ranges; where no rules file is named there are none; they are those of the files' bytes, where these are told; and neither file is
+-- known to be missing.
+pub record RulesGiven (named drop_in : Option (List ℕ)) (files : Option Files) (rules : List Rule) : Type 0 where
   pub fit : FitsRules rules
   pub none : named ≡ None → rules ≡ []
-  pub read : (name bytes : List ℕ) → named ≡ Some name → told files name ≡ Some bytes → rules_of bytes ≡ Ok (record { rules = rules })
+  pub read : (name bytes : List ℕ) (over : Option (List ℕ)) → named ≡ Some name → told files name ≡ Some bytes
+      → told_if_named files drop_in ≡ Some over → rules_from bytes over ≡ Ok (record { rules = rules })
   pub held : (name : List ℕ) → named ≡ Some name → Lacks files name → ⊥
+  pub drop_in_held : (name : List ℕ) → drop_in ≡ Some name → Lacks files name → ⊥
 
--- a fault is the definition's; the other errors have clauses of their own
-abbrev pub IsRulesFault : RulesError → Result Rules RulesFault → Type 0
-IsRulesFault (error.Refused fault) read = read ≡ Err fault
-IsRulesFault error.NoFile read = ⊤
-IsRulesFault error.ReadFault read = ⊤
-IsRulesFault (error.NoMemory _) read = ⊤
+-- the counts of a run, of its shelf and of failed writes
+abbrev pub counts_with : ShelfCounts → ℕ → RunCounts
+counts_with shelf writes = record { shelf = shelf; writes = writes }
 
--- nothing is said of any bytes
-abbrev pub TellsNoFault : RulesError → Type 0
-TellsNoFault (error.Refused fault) = ⊥
-TellsNoFault error.NoFile = ⊤
-TellsNoFault error.ReadFault = ⊤
-TellsNoFault (error.NoMemory _) = ⊤
-
--- rules can't be read of a file: a fault is the first one of the file's bytes, where these are told; it isn't said of a file
--- that is known to be missing; and a file that is missed isn't told
-pub record RulesFailed (found : RulesError) (files : Option Files) (name : List ℕ) : Type 0 where
-  pub refused : (bytes : List ℕ) → told files name ≡ Some bytes → IsRulesFault found (rules_of bytes)
-  pub lacking : Lacks files name → TellsNoFault found
-  pub missed : found ≡ error.NoFile → told files name ≡ None
-
--- A shelf counted this error of a rules file and nothing else: a failed read, or a name that it hasn't.
-abbrev pub CausesRulesError : {A : Type 0} → ShelfCounts → ShelfCounts → Result A RulesError → Type 0
-CausesRulesError before now result = HasCauses before now (IsErrOf result error.ReadFault) (IsErrOf result error.NoFile)
-
--- the status of rules that can't be read
-abbrev pub IsStatusOfRules : RulesError → Status → Type 0
-IsStatusOfRules (error.Refused fault) result = result ≡ status.Rules fault
-IsStatusOfRules error.NoFile result = result ≡ status.NoFile RulesFile
-IsStatusOfRules error.ReadFault result = result ≡ status.ReadFault
-IsStatusOfRules (error.NoMemory none) result = result ≡ status.NoMemory none
+-- a run of any command that names these files of rules ends with this status, as things stand, and with nothing written
+abbrev pub EndsRun : Option (List ℕ) → Option (List ℕ) → Option Files → ShelfCounts → ShelfCounts → Status → Type 0
+EndsRun named drop_in files before now result =
+    (command : Command) (writes : ℕ) (had : Option (List ℕ)) → rules_name command ≡ named → drop_in_name command ≡ drop_in
+    → Runs command files (counts_with before writes) (counts_with now writes) had had result

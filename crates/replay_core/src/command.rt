@@ -1,5 +1,5 @@
-//! The commands, each over its trace.
-ghost use Rattle.std.specs.Prelude.{◌≡◌, ◌+◌, ◌≤◌, ℕ, List, IfSome, IsUtf8};
+//! The commands, each over its files.
+ghost use Rattle.std.specs.Prelude.{◌≡◌, ◌+◌, ◌≤◌, ℕ, List, None, IfSome, IsUtf8};
 ghost use Rattle.psi_base.specs.Outside.{StaysOver};
 ghost use Rattle.psi_base.specs.declared.event.Event.{Event};
 ghost use Rattle.psi_spec.specs.World.{Limits};
@@ -9,16 +9,16 @@ ghost use Rattle.run_spec.specs.Run.{Runs, run_counts};
 ghost use Rattle.run_spec.specs.Words.{IsCommand, IsWithin};
 ghost use Rattle.psi_words.specs.Reads.{HasTextNames};
 ghost use Rattle.replay_core.specs.Reads.{IsPlayed, plain_trace};
-ghost use Rattle.replay_core.specs.Rules.{IsStatusOfRules};
 ghost use Rattle.replay_core.specs.Writes.{IsStatusOf, WritesText};
 
 use crate::generated::{write_generated, write_stress};
 use crate::import::run_import;
 use crate::lines::put_check;
+use crate::printed::run_rules;
 use crate::replay::write_replay;
-use crate::rules::{RulesError, read_rules};
+use crate::rules::read_rules;
 use crate::stalls::write_stalls;
-use crate::trace::{Taken, TraceFault, play_trace};
+use crate::trace::{TraceFault, play_trace};
 use proc_plan::Planner;
 use psi_base::{Gate, Ns, Shelf, Sink, Text, WriteFailed};
 use run_spec::{Command, Options, Status, Which};
@@ -49,20 +49,6 @@ fn fault_status(fault: TraceFault) -> Status
     }
 }
 
-// The status of rules that can't be read.
-fn rules_status(error: RulesError) -> Status
-    ensures { IsStatusOfRules error result }
-{
-    match error {
-        RulesError::Refused(fault) => Status::Rules { fault },
-        RulesError::NoFile => Status::NoFile {
-            which: Which::RulesFile,
-        },
-        RulesError::ReadFault => Status::ReadFault,
-        RulesError::NoMemory(none) => Status::NoMemory(none),
-    }
-}
-
 // Runs `stall` over a trace.
 fn run_stall<R: Threads + Sync, S: Shelf, K: Sink>(
     rt: &R,
@@ -79,8 +65,8 @@ fn run_stall<R: Threads + Sync, S: Shelf, K: Sink>(
     ensures reads { S.given shelf.new ≤ S.given shelf.old + most_read (Command.Stall name.now) }
     ensures below { StaysOver (K.below out.old) (K.below out.new) }
 {
-    match play_trace::<S, Planner>(alloc, name, shelf, Taken::FirstVersion, TICK) {
-        Ok(planner) => write_stalls(rt, alloc, planner, out),
+    match play_trace::<S, Planner>(alloc, name, shelf, TICK) {
+        Ok((version, planner)) => write_stalls(rt, alloc, version, planner, out),
         Err(fault) => fault_status(fault),
     }
 }
@@ -118,13 +104,13 @@ fn run_check<S: Shelf, K: Sink>(
     ensures below { StaysOver (K.below out.old) (K.below out.new) }
 {
     let tick = Ns::from(tick_ms) * MILLISECOND;
-    match play_trace::<S, Table>(alloc, name, shelf, Taken::EveryVersion, tick) {
-        Ok(table) => write_line(&table, out),
+    match play_trace::<S, Table>(alloc, name, shelf, tick) {
+        Ok((_, table)) => write_line(&table, out),
         Err(fault) => fault_status(fault),
     }
 }
 
-// Runs `replay` over a trace, with the rules of its rules file if it names one.
+// Runs `replay` over a trace, with the rules of its rules file and of the drop-in file over it, if it names them.
 fn run_replay<R: Threads + Sync, S: Shelf, K: Sink, G: Gate>(
     rt: &R,
     alloc: Global,
@@ -140,6 +126,8 @@ fn run_replay<R: Threads + Sync, S: Shelf, K: Sink, G: Gate>(
     requires interval { 1 ≤ options.now.interval_s }
     requires often { options.now.interval_s ≤ 3600 }
     requires text { IfSome options.now.rules IsUtf8 }
+    requires drop_in { IfSome options.now.drop_in IsUtf8 }
+    requires over { options.now.rules ≡ None → options.now.drop_in ≡ None }
     ensures kept { S.holds shelf.new ≡ S.holds shelf.old }
     ensures runs { Runs (Command.Replay name.now options.now) (S.holds shelf.old)
         (run_counts (S.faults shelf.old) (S.absent shelf.old) (K.faults out.old))
@@ -149,13 +137,15 @@ fn run_replay<R: Threads + Sync, S: Shelf, K: Sink, G: Gate>(
         ≤ S.given shelf.old + most_read (Command.Replay name.now options.now) }
     ensures below { StaysOver (K.below out.old) (K.below out.new) }
 {
-    let rules = match read_rules(alloc, options.rules.as_ref(), shelf) {
+    let rules = match read_rules(alloc, options, shelf) {
         Ok(rules) => rules,
-        Err(error) => return rules_status(error),
+        Err(status) => return status,
     };
     let tick = Ns::from(options.tick_ms) * MILLISECOND;
-    match play_trace::<S, Planner>(alloc, name, shelf, Taken::FirstVersion, tick) {
-        Ok(planner) => write_replay(rt, alloc, planner, rules, options, out, gate),
+    match play_trace::<S, Planner>(alloc, name, shelf, tick) {
+        Ok((version, planner)) => {
+            write_replay(rt, alloc, version, planner, rules, options, out, gate)
+        }
         Err(fault) => fault_status(fault),
     }
 }
@@ -171,7 +161,7 @@ pub(crate) fn name_of(text: &Text) -> &str
     }
 }
 
-/// Runs a command over its trace.
+/// Runs a command over its files.
 pub(crate) fn run_command<R: Threads + Sync, S: Shelf, K: Sink, G: Gate>(
     rt: &R,
     alloc: Global,
@@ -203,5 +193,6 @@ pub(crate) fn run_command<R: Threads + Sync, S: Shelf, K: Sink, G: Gate>(
             write_stress(rt, alloc, *shape, *workers, out, gate)
         }
         Command::Import { file, cpus } => run_import(alloc, name_of(file), *cpus, shelf, out),
+        Command::Rules { file, drop_in } => { run_rules(alloc, name_of(file), drop_in, shelf, out) }
     }
 }

@@ -1,5 +1,5 @@
 //! The top call.
-ghost use Rattle.std.specs.Prelude.{◌≡◌, ◌⊎◌, ◌≢◌, ◌+◌, ◌≤◌, ℕ, List, Some, None, Ok, Err, map, string_bytes};
+ghost use Rattle.std.specs.Prelude.{◌≡◌, ◌⊎◌, ◌≢◌, ◌+◌, ◌≤◌, ◌++◌, ℕ, List, Option, Some, None, Ok, Err, codes, map, string_bytes};
 ghost use Rattle.std.specs.Io.KnownBytes.{Appends, Keeps};
 ghost use Rattle.psi_base.specs.Gives.{no_memory};
 ghost use Rattle.psi_base.specs.Outside.{AppendsFront, Rose, told};
@@ -10,11 +10,13 @@ ghost use Rattle.psi_words.specs.Reads.{HasTextNames};
 ghost use Rattle.run_spec.specs.declared.command.Command.{Command};
 ghost use Rattle.run_spec.specs.declared.command.Options.{Options};
 ghost use Rattle.run_spec.specs.declared.status.Status.{Status};
-ghost use Rattle.run_spec.specs.Outputs.{accepts_of, pace_of, rules_name, source_name, source_of, taken_of};
+ghost use Rattle.run_spec.specs.Outputs.{accepts_of, pace_of, rules_from, rules_name, source_of, taken_of};
 ghost use Rattle.run_spec.specs.MostRead.{most_read};
 ghost use Rattle.run_spec.specs.Replay.{IsReplayText, replay_text, with_rules};
-ghost use Rattle.run_spec.specs.Run.{FailuresAreCounted, IsTold, RulesTold, Runs, run_counts};
-ghost use Rattle.run_spec.specs.declared.status.Which.TheVariants.{ImportFile, TraceFile};
+ghost use Rattle.run_spec.specs.Run.{FailuresAreCounted, IsTold, ReadsFiles, RulesTold, Runs, run_counts};
+ghost use Rattle.run_spec.specs.declared.status.Which.TheVariants.{DropInFile, ImportFile, RulesFile, TraceFile};
+ghost use Rattle.dropin_rules.specs.RulesText.{rules_text};
+ghost use Rattle.dropin_rules.specs.declared.fault.DropFault.{DropFault};
 ghost use Rattle.ruleset_json.specs.Rules.{rules_of};
 ghost use Rattle.ruleset_json.specs.declared.fault.RulesFault.{RulesFault};
 ghost use Rattle.ruleset_json.specs.declared.types.Rule.{Rule};
@@ -90,7 +92,8 @@ pub fn run<R: Threads + Sync, S: Shelf, K: Sink, N: Sink, G: Gate>(
         (K.has out.old) (K.has out.new) result }
 
     // The headline: where a replay is done, the output grew by exactly a text that the definitions give for its trace and its
-    // rules. With `--live` each live line may be of any of its processor's changes in the interval.
+    // rules, those of its rules file with the drop-in file over it. With `--live` each live line may be of any of its processor's
+    // changes in the interval.
     ensures headline { (name bytes : List ℕ) (options : Options) (rules : List Rule) →
         command_of (map string_bytes words.now) ≡ Some (Command.Replay name options) →
         IsTold (Command.Replay name options) TraceFile (S.holds shelf.old) bytes →
@@ -119,6 +122,21 @@ pub fn run<R: Threads + Sync, S: Shelf, K: Sink, N: Sink, G: Gate>(
         (events : List Event) × (import_of cpus bytes ≡ Ok events)
         × Appends (K.has out.old) (K.has out.new) (text_of (import_trace cpus events)) }
 
+    // The rules: where `rules` is done, the output grew by exactly the text of the rules, and a newline.
+    ensures printed { (name : List ℕ) (drop_in : Option (List ℕ)) (rules : List Rule) →
+        command_of (map string_bytes words.now) ≡ Some (Command.Rules name drop_in) →
+        RulesTold (Command.Rules name drop_in) (S.holds shelf.old) rules →
+        result ≡ Status.Done →
+        Appends (K.has out.old) (K.has out.new) (rules_text rules ++ codes "\n") }
+
+    // Accepted rules are printed, unless a count of faults rose or memory was wanting.
+    ensures prints { (name : List ℕ) (drop_in : Option (List ℕ)) (rules : List Rule) →
+        command_of (map string_bytes words.now) ≡ Some (Command.Rules name drop_in) →
+        RulesTold (Command.Rules name drop_in) (S.holds shelf.old) rules →
+        (Rose (S.faults shelf.old) (S.faults shelf.new) → ⊥) →
+        (Rose (K.faults out.old) (K.faults out.new) → ⊥) →
+        (result ≡ Status.Done) ⊎ (result ≡ Status.NoMemory no_memory) }
+
     // An accepted file, with accepted rules, gives the whole output, unless a count of faults rose or memory was wanting.
     ensures complete { (command : Command) (rules : List Rule) (bytes : List ℕ)
         (trace : Trace) →
@@ -137,6 +155,16 @@ pub fn run<R: Threads + Sync, S: Shelf, K: Sink, N: Sink, G: Gate>(
         (Rose (S.faults shelf.old) (S.faults shelf.new) → ⊥) →
         (result ≡ Status.Rules fault) ⊎ (result ≡ Status.NoMemory no_memory) }
 
+    // A refused drop-in file over accepted rules gives its first fault with its place, unless a fault of reading rose or memory was
+    // wanting.
+    ensures dropped { (command : Command) (bytes drop_in : List ℕ) (fault : DropFault) →
+        command_of (map string_bytes words.now) ≡ Some command →
+        IsTold command RulesFile (S.holds shelf.old) bytes →
+        IsTold command DropInFile (S.holds shelf.old) drop_in →
+        rules_from bytes (Some drop_in) ≡ Err (Status.DropIn fault) →
+        (Rose (S.faults shelf.old) (S.faults shelf.new) → ⊥) →
+        (result ≡ Status.DropIn fault) ⊎ (result ≡ Status.NoMemory no_memory) }
+
     // Behind accepted rules a refused file gives the status of its first refused line with its cause, unless a fault of reading
     // rose or memory was wanting.
     ensures refuses { (command : Command) (rules : List Rule) (bytes : List ℕ)
@@ -151,7 +179,7 @@ pub fn run<R: Threads + Sync, S: Shelf, K: Sink, N: Sink, G: Gate>(
     // A command that reads no file ends with its whole output, unless a count of failed writes rose or memory was wanting.
     ensures made { (command : Command) →
         command_of (map string_bytes words.now) ≡ Some command →
-        source_name command ≡ None →
+        (ReadsFiles command → ⊥) →
         (Rose (K.faults out.old) (K.faults out.new) → ⊥) →
         (result ≡ Status.Done) ⊎ (result ≡ Status.NoMemory no_memory) }
 

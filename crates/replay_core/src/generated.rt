@@ -109,6 +109,7 @@ fn stress_options(workers: u32) -> Options
 {
     Options {
         rules: None,
+        drop_in: None,
         tick_ms: 2_000,
         interval_s: 5,
         report_s: 0,
@@ -143,7 +144,7 @@ pub(crate) fn write_stress<R: Threads + Sync, K: Sink, G: Gate>(
         Err(none) => return Status::NoMemory(none),
     };
     let options = stress_options(workers);
-    let mut replay = match prepare(alloc, &plans, None, &options) {
+    let mut replay = match prepare(alloc, 1, &plans, None, &options) {
         Ok(replay) => replay,
         Err(none) => return Status::NoMemory(none),
     };

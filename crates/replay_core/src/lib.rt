@@ -8,6 +8,7 @@ mod import;
 mod lines;
 mod note;
 mod player;
+mod printed;
 mod replay;
 mod rules;
 mod stalls;

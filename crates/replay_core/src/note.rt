@@ -1,10 +1,12 @@
 //! What tells of a status.
 ghost use Rattle.std.specs.Prelude.{◌≡◌, ◌++◌, codes, option_map};
+ghost use Rattle.dropin_rules.specs.FaultText.{drop_fault_text};
 ghost use Rattle.ruleset_json.specs.FaultText.{fault_text};
 ghost use Rattle.psi_base.specs.Outside.{PutsAll, HasCause};
 ghost use Rattle.run_spec.specs.Text.{cause_name, cause_text, field_number, import_cause_text};
 ghost use Rattle.run_spec.specs.Status.{import_refusal_text, status_text, name_text, refusal_text};
 
+use dropin_rules::{DropFault, put_drop_fault};
 use import_spec::ImportCause;
 use itoa::Buffer;
 use psi_base::{Cause, Sink, WriteFailed, put_all, put_each};
@@ -145,6 +147,16 @@ fn put_rules_fault<N: Sink>(note: &mut N, fault: RulesFault) -> Result<(), Write
     put_all(note, b"\n")
 }
 
+// Tells of a fault of a drop-in file.
+fn put_drop_in_fault<N: Sink>(note: &mut N, fault: DropFault) -> Result<(), WriteFailed>
+    ensures bytes { PutsAll (N.has note.old) (N.has note.new) result
+        (drop_fault_text fault ++ codes "\n") }
+    ensures cause { HasCause (N.faults note.old) (N.faults note.new) result }
+{
+    put_drop_fault(note, fault)?;
+    put_all(note, b"\n")
+}
+
 // The name of a command's file of a kind.
 fn file_name(command: Option<&Command>, which: Which) -> &[u8]
     ensures { result.now ≡ name_text (option_map (λ command. command.now) command.entry) which }
@@ -154,6 +166,9 @@ fn file_name(command: Option<&Command>, which: Which) -> &[u8]
         | (Which::TraceFile, Some(Command::Check { trace, .. }))
         | (Which::TraceFile, Some(Command::Replay { trace, .. })) => Some(trace),
         (Which::RulesFile, Some(Command::Replay { options, .. })) => options.rules.as_ref(),
+        (Which::RulesFile, Some(Command::Rules { file, .. })) => Some(file),
+        (Which::DropInFile, Some(Command::Replay { options, .. })) => options.drop_in.as_ref(),
+        (Which::DropInFile, Some(Command::Rules { drop_in, .. })) => drop_in.as_ref(),
         (Which::ImportFile, Some(Command::Import { file, .. })) => Some(file),
         _ => None,
     };
@@ -177,7 +192,7 @@ pub(crate) fn put_status<N: Sink>(
         Status::Done => put_all(note, b""),
         Status::Usage => put_all(
             note,
-            b"usage: psi_oomd stall or check or replay or gen or stress or import\n",
+            b"usage: psi_oomd stall or check or replay or gen or stress or import or rules\n",
         ),
         Status::Trace { line, cause } => put_refusal(note, line, cause),
         Status::Rules { fault } => put_rules_fault(note, fault),
@@ -193,5 +208,6 @@ pub(crate) fn put_status<N: Sink>(
         Status::WriteFault => put_all(note, b"write fault\n"),
         Status::NoMemory(_) => put_all(note, b"out of memory\n"),
         Status::Import { line, cause } => put_import_refusal(note, line, cause),
+        Status::DropIn { fault } => put_drop_in_fault(note, fault),
     }
 }

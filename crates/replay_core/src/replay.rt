@@ -9,7 +9,8 @@ ghost use Rattle.ruleset_json.specs.declared.types.Rule.{Rule};
 ghost use Rattle.ruleset_json.specs.RuleRanges.{FitsRules};
 ghost use Rattle.run_spec.specs.Replay.{IsReplayText, Pace};
 ghost use Rattle.replay_ticks.specs.Replays.{IsReplay};
-ghost use Rattle.replay_core.specs.Reads.{plain_trace};
+ghost use Rattle.psi_spec.specs.Grammar.{IsVersion, version_of};
+ghost use Rattle.replay_core.specs.Reads.{trace_with};
 ghost use Rattle.replay_rules.specs.Judged.{given_rules};
 ghost use Rattle.replay_core.specs.Writes.{IsToReplay, PutsSome, WritesSome};
 
@@ -45,11 +46,12 @@ fn put_replay<R: Threads + Sync, K: Sink, G: Gate>(
     }
 }
 
-/// Writes the output of `replay` for a trace that was taken apart, with rules if there are some. Where memory is wanting,
+/// Writes the output of `replay` for a trace of a version that was taken apart, with rules if there are some. Where memory is wanting,
 /// nothing is written.
 pub(crate) fn write_replay<R: Threads + Sync, K: Sink, G: Gate>(
     rt: &R,
     alloc: Global,
+    version: u32,
     planner: Planner,
     rules: Option<Rules>,
     options: &Options,
@@ -59,10 +61,11 @@ pub(crate) fn write_replay<R: Threads + Sync, K: Sink, G: Gate>(
     requires taken { (limits : Limits) × (events : List Event)
         × IsToReplay planner options.now limits events }
     requires fit { FitsRules (given_rules rules) }
+    requires version { IsVersion version }
     ensures writes { (limits : Limits) (events : List Event) →
         IsToReplay planner options.now limits events →
-        WritesSome (IsReplayText (plain_trace limits.cpus events) (pace_of options.now)
-        (given_rules rules)) (K.faults out.old) (K.faults out.new)
+        WritesSome (IsReplayText (trace_with (version_of version) limits.cpus events)
+        (pace_of options.now) (given_rules rules)) (K.faults out.old) (K.faults out.new)
         (K.has out.old) (K.has out.new) result }
     ensures below { StaysOver (K.below out.old) (K.below out.new) }
 {
@@ -70,7 +73,7 @@ pub(crate) fn write_replay<R: Threads + Sync, K: Sink, G: Gate>(
         Ok(plans) => plans,
         Err(none) => return Status::NoMemory(none),
     };
-    let mut replay = match prepare(alloc, &plans, rules, options) {
+    let mut replay = match prepare(alloc, version, &plans, rules, options) {
         Ok(replay) => replay,
         Err(none) => return Status::NoMemory(none),
     };

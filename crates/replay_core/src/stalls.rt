@@ -3,7 +3,8 @@ ghost use Rattle.std.specs.Prelude.{◌≡◌, ℕ, ◌<◌, ◌≤◌, List, le
 ghost use Rattle.psi_base.specs.declared.event.Event.{Event};
 ghost use Rattle.psi_base.specs.Outside.{StaysOver};
 ghost use Rattle.run_spec.specs.Text.{stall_text};
-ghost use Rattle.replay_core.specs.Reads.{plain_trace};
+ghost use Rattle.psi_spec.specs.Grammar.{IsVersion, version_of};
+ghost use Rattle.replay_core.specs.Reads.{trace_with};
 ghost use Rattle.psi_spec.specs.World.{Limits};
 ghost use Rattle.proc_plan.specs.Plans.{HasTaken, HasTrace, plan_at};
 ghost use Rattle.replay_core.specs.Lines.{HasMadeAll};
@@ -49,16 +50,18 @@ fn make_each<R: Threads + Sync>(rt: &R, plans: &Plans, clocks: &mut [PlainClocks
     );
 }
 
-/// Writes the stall sums of a trace that was taken apart. Where memory is wanting, nothing is written.
+/// Writes the stall sums of a trace of a version that was taken apart. Where memory is wanting, nothing is written.
 pub(crate) fn write_stalls<R: Threads + Sync, K: Sink>(
     rt: &R,
     alloc: Global,
+    version: u32,
     planner: Planner,
     out: &mut K,
 ) -> Status
-    requires { HasTrace planner }
+    requires trace { HasTrace planner }
+    requires version { IsVersion version }
     ensures writes { (limits : Limits) (events : List Event) → HasTaken planner limits events →
-        WritesText (stall_text (plain_trace limits.cpus events))
+        WritesText (stall_text (trace_with (version_of version) limits.cpus events))
         (K.faults out.old) (K.faults out.new) (K.has out.old) (K.has out.new) result }
     ensures below { StaysOver (K.below out.old) (K.below out.new) }
 {
@@ -75,7 +78,7 @@ pub(crate) fn write_stalls<R: Threads + Sync, K: Sink>(
         Err(none) => return Status::NoMemory(none),
     };
     make_each(rt, &plans, &mut clocks);
-    match put_lines(out, &plans, &mut clocks, &order, plans.finish()) {
+    match put_lines(out, version, &plans, &mut clocks, &order, plans.finish()) {
         Ok(()) => Status::Done,
         Err(WriteFailed) => Status::WriteFault,
     }

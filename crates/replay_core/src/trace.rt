@@ -1,29 +1,20 @@
 //! Traces from a shelf.
-ghost use Rattle.std.specs.Prelude.{◌≡◌, ◌+◌, ◌*◌, ◌<◌, ◌≤◌, ◌^◌, ℕ, List, [], Option, IfOk, IfSome, IsErrOf, Some, None, Ok, MatchOption, MatchResult, false, length};
+ghost use Rattle.std.specs.Prelude.{◌≡◌, ◌+◌, ◌*◌, ◌<◌, ◌≤◌, ◌^◌, ℕ, List, [], Option, IfOk, IsErrOf, Some, None, Ok, MatchResult, false, length};
 ghost use Rattle.psi_base.specs.Outside.{told, Lacks, ShelfCounts, counts_of};
 ghost use Rattle.psi_base.specs.declared.event.Cause.TheVariants as cause;
 ghost use Rattle.psi_lines.specs.Lines.{left};
 ghost use Rattle.psi_lines.specs.Next.{furthest};
-ghost use Rattle.psi_spec.specs.Grammar.{Fits, IsVersion, Version, header_of, header_with, verbs_of};
+ghost use Rattle.psi_spec.specs.Grammar.{Fits, IsVersion, Version, verbs_of};
 ghost use Rattle.psi_spec.specs.Trace.{limits_of, refused};
 ghost use Rattle.psi_trace.specs.Front.{HasInFront};
 ghost use Rattle.run_spec.specs.MostRead.{most_of_trace};
-ghost use Rattle.replay_core.specs.Reads.{CausesTraceFault, HeadGives, IsHead, IsTraceFault, Legally, NextGives, ReadsLine, RestGives, TailGives, TakesLine, TakesRead, TellsNothing, TracePlayed, TraceRefused, is_taken, trace_fault, verbs_in, versions_in};
+ghost use Rattle.replay_core.specs.Reads.{CausesTraceFault, HeadGives, IsHead, IsTraceFault, Legally, NextGives, ReadsLine, RestGives, TailGives, TakesLine, TakesRead, TellsNothing, TracePlayed, TraceRefused, trace_fault, verbs_in};
 
 use crate::player::Player;
 use psi_base::{Cause, Event, Fault, NoMemory, Ns, Refusal, Shelf};
 use psi_lines::{LineFault, Lines};
 use psi_trace::{Header, front_event, read_event, read_header};
 use std::alloc::Global;
-
-/// Which versions of traces a command takes.
-#[derive(Clone, Copy, Debug, PartialEq, Eq)]
-pub(crate) enum Taken {
-    /// The first alone.
-    FirstVersion,
-    /// Each that there is.
-    EveryVersion,
-}
 
 /// Why there is no trace.
 #[derive(Clone, Copy, Debug, PartialEq, Eq)]
@@ -246,45 +237,14 @@ fn play_events<S: Shelf, P: Player>(
     }
 }
 
-// A command takes a version.
-fn is_taken(taken: Taken, version: u32) -> bool
-    ensures { result ≡ is_taken taken version }
-{
-    match taken {
-        Taken::FirstVersion => version == 1,
-        Taken::EveryVersion => true,
-    }
-}
-
-// What a header line tells, if it is one of a version that is taken.
-fn taken_header(taken: Taken, line: &[u8]) -> Option<Header>
-    ensures head { IfSome result (λ head. IsHead (versions_in taken) head) }
-    ensures exact { MatchOption result (header_of (versions_in taken) line.now ≡ None)
-        (λ head. header_of (versions_in taken) line.now
-        ≡ Some (header_with head.version head.cpus)) }
-{
-    let Ok(head) = read_header(line) else {
-        return None;
-    };
-    if is_taken(taken, head.version) {
-        return Some(head);
-    }
-    None
-}
-
 // Reads the header line.
-fn read_head<S: Shelf>(
-    lines: &mut Lines,
-    shelf: &mut S,
-    taken: Taken,
-    tick: Ns,
-) -> Result<Header, TraceFault>
+fn read_head<S: Shelf>(lines: &mut Lines, shelf: &mut S, tick: Ns) -> Result<Header, TraceFault>
     requires { lines.old.number ≡ 1 }
     ensures kept { S.holds shelf.new ≡ S.holds shelf.old }
-    ensures head { IfOk result (λ head. IsHead (versions_in taken) head) }
+    ensures head { IfOk result IsHead }
     ensures content { (bytes : List ℕ) →
         told (S.holds shelf.old) lines.old.name ≡ Some bytes →
-        HeadGives (versions_in taken) tick (left lines.old bytes) (left lines.new bytes) result }
+        HeadGives tick (left lines.old bytes) (left lines.new bytes) result }
     ensures missing { lines.old.held ≡ [] → Lacks (S.holds shelf.old) lines.old.name →
         TellsNothing result }
     ensures reads { ReadsLine (told (S.holds shelf.old) lines.old.name) lines.old lines.new
@@ -293,30 +253,29 @@ fn read_head<S: Shelf>(
         (S.given shelf.old) (S.given shelf.new) result }
 {
     match lines.next_bytes(shelf) {
-        Ok(Some(bytes)) => match taken_header(taken, bytes) {
-            Some(head) => Ok(head),
-            None => Err(refused(1, Cause::BadHeader)),
+        Ok(Some(bytes)) => match read_header(bytes) {
+            Ok(head) => Ok(head),
+            Err(cause) => Err(refused(1, cause)),
         },
         Ok(None) => Err(refused(1, Cause::BadHeader)),
         Err(fault) => Err(trace_fault(fault, Cause::BadHeader)),
     }
 }
 
-/// Reads a trace of a version that is taken, and plays its events on a new player. No event is later than a million ticks (ns).
+/// Reads a trace, and plays its events on a new player: the number of its version, and the player. No event is later than a
+/// million ticks (ns).
 pub(crate) fn play_trace<S: Shelf, P: Player + Drop>(
     alloc: Global,
     name: &str,
     shelf: &mut S,
-    taken: Taken,
     tick: Ns,
-) -> Result<P, TraceFault>
+) -> Result<(u32, P), TraceFault>
     requires { tick ≤ 60000000000 }
     ensures kept { S.holds shelf.new ≡ S.holds shelf.old }
     ensures content { MatchResult result
-        (λ player. TracePlayed (P.Played player) (versions_in taken) tick
+        (λ played. TracePlayed (P.Played played.1) played.0 tick
         (told (S.holds shelf.old) name.now))
-        (λ fault. TraceRefused fault (versions_in taken) tick
-        (told (S.holds shelf.old) name.now)) }
+        (λ fault. TraceRefused fault tick (told (S.holds shelf.old) name.now)) }
     ensures missing { Lacks (S.holds shelf.old) name.now → TellsNothing result }
     ensures missed { IsErrOf result TraceFault.NoFile →
         told (S.holds shelf.old) name.now ≡ None }
@@ -325,13 +284,13 @@ pub(crate) fn play_trace<S: Shelf, P: Player + Drop>(
     ensures given { S.given shelf.new ≤ S.given shelf.old + most_of_trace }
 {
     let mut lines = Lines::new(alloc, name)?;
-    let head = match read_head(&mut lines, shelf, taken, tick) {
+    let head = match read_head(&mut lines, shelf, tick) {
         Ok(head) => head,
         Err(fault) => return Err(fault),
     };
     let mut player = P::start(alloc, head.cpus, 1_000_000 * tick)?;
     match play_events(alloc, &mut lines, shelf, &mut player, tick, head) {
-        Ok(()) => Ok(player),
+        Ok(()) => Ok((head.version, player)),
         Err(fault) => Err(fault),
     }
 }

@@ -135,6 +135,7 @@ fn one_wait(rt: HostRuntime) -> Result<(), Fail> {
         files: Files {
             trace: ONE_WAIT.as_bytes(),
             rules: "",
+            drop_in: "",
         },
         outputs: vec![in alloc; Vec::from_slice(alloc, REPLAYED.as_bytes())?]?,
     };
@@ -150,6 +151,7 @@ fn one_kill(rt: HostRuntime) -> Result<(), Fail> {
     let files = Files {
         trace: LOADED.as_bytes(),
         rules: RULES,
+        drop_in: "",
     };
     let whole = run_files(&rt, line, files, 65536, NO_FAULT)?.output;
     assert!(rt;
@@ -172,6 +174,7 @@ fn one_live_line(rt: HostRuntime) -> Result<(), Fail> {
     let files = Files {
         trace: ONE_PROCESSOR.as_bytes(),
         rules: "",
+        drop_in: "",
     };
     let plain = run_files(&rt, "replay t", files, 65536, NO_FAULT)?.output;
     assert!(rt; plain.ends_with(b"\nend 2000000000 ticks=1 events=0 kills=0\n"));

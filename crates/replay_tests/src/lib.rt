@@ -1,9 +1,11 @@
 //! Tests of the top call over shelves and sinks in memory: traces and outputs in pieces, words, faults at each call, traces that
-//! are cut anywhere, and traces at their limits.
+//! are cut anywhere, traces at their limits, and drop-in files over rules.
 #![tactic(auto)]
 
 #[cfg(test)]
 mod cuts;
+#[cfg(test)]
+mod drop_ins;
 #[cfg(test)]
 mod each_call;
 #[cfg(test)]

@@ -1,4 +1,4 @@
-//! Running words over one trace, and at most one rules file, in memory.
+//! Running words over one trace, and at most one rules file and one drop-in file, in memory.
 
 use psi_base::{Cause, Gate, MemShelf, MemSink, OpenGate, Text};
 use replay_core::{Status, run};
@@ -48,11 +48,12 @@ pub const ONE_WAIT: &str = "psitrace 1 cpus=1\n\
     0 switch 0 0 iowait\n\
     2000000000 end\n";
 
-/// What the shelf holds: a trace by the name `t`, and rules by the name `r`.
+/// What the shelf holds: a trace by the name `t`, rules by the name `r`, and a drop-in file over them by the name `d`.
 #[derive(Clone, Copy)]
 pub struct Files<'a> {
     pub trace: &'a [u8],
     pub rules: &'a str,
+    pub drop_in: &'a str,
 }
 
 /// Runs a command line over a shelf, where some calls fail, and threads are held by a gate. The shelf and both sinks move at most
@@ -72,6 +73,10 @@ fn run_over<R: Threads + AllocGlobal + Sync, G: Gate>(
         (
             Text::make(alloc, b"r")?,
             Text::make(alloc, files.rules.as_bytes())?
+        ),
+        (
+            Text::make(alloc, b"d")?,
+            Text::make(alloc, files.drop_in.as_bytes())?
         ),
     ]?;
     let most = most.max(1);
@@ -109,6 +114,7 @@ pub fn run_gated<R: Threads + AllocGlobal + Sync, G: Gate>(
     let files = Files {
         trace: trace.as_bytes(),
         rules: "",
+        drop_in: "",
     };
     run_over(rt, line, files, most, failing, gate)
 }
@@ -191,7 +197,11 @@ pub fn is_refused<R: Threads + AllocGlobal + Sync>(
     cause: Cause,
     name: &str,
 ) -> Result<bool, Fail> {
-    let files = Files { trace, rules: "" };
+    let files = Files {
+        trace,
+        rules: "",
+        drop_in: "",
+    };
     let ran = run_files(rt, line, files, 65536, NO_FAULT)?;
     let status = Status::Trace {
         line: number,

@@ -1,9 +1,11 @@
 //! Words that are no command, names that aren't held, and statuses.
 
 use crate::runs::{NONE, ONE_WAIT, prints_nothing};
+use dropin_rules::{DropCause, DropFault};
 use import_spec::ImportCause;
 use psi_base::{Cause, NoMemory};
 use replay_core::{Status, Which};
+use ruleset_json::Place;
 use std::alloc::Global;
 use std::process::Abort;
 use std::test::Fail;
@@ -15,7 +17,7 @@ const NO_FILE: Status = Status::NoFile {
 // The shelf in memory holds nothing by the names `u` and `-`.
 #[test]
 fn words_and_names(rt: HostRuntime) -> Result<(), Fail> {
-    let usage = "usage: psi_oomd stall or check or replay or gen or stress or import\n";
+    let usage = "usage: psi_oomd stall or check or replay or gen or stress or import or rules\n";
     assert!(rt; prints_nothing(&rt, "stall", ONE_WAIT, 7, NONE, Status::Usage, usage)?);
     assert!(rt; prints_nothing(&rt, "stall u", ONE_WAIT, 7, NONE, NO_FILE, "no file: u\n")?);
     assert!(rt; prints_nothing(&rt, "check u", ONE_WAIT, 7, NONE, NO_FILE, "no file: u\n")?);
@@ -47,6 +49,13 @@ fn codes_of_statuses(rt: HostRuntime) {
             cause: ImportCause::Cut,
         }
         .code(),
+        Status::DropIn {
+            fault: DropFault {
+                place: Place::Whole,
+                what: DropCause::NoParts,
+            },
+        }
+        .code(),
     ];
-    assert!(rt; codes == [0, 1, 2, 4, 5, 6, 7, 8]);
+    assert!(rt; codes == [0, 1, 2, 4, 5, 6, 7, 8, 9]);
 }

@@ -1,8 +1,9 @@
 use Rattle.std.proofs.Common.{refl, []}
+use Rattle.psi_spec.specs.Grammar.{version_of}
 use Rattle.run_spec.specs.Text.{check_text}
 use Rattle.run_spec.specs.declared.command.Command.TheVariants.{Check}
 use Rattle.replay_core.specs.Reads.{trace_with}
-use Rattle.replay_core.proofs.RunLaws.{none_given, runs_refused, runs_written, takes_trace}
+use Rattle.replay_core.proofs.RunLaws.{none_given, runs_refused, runs_written, takes_any}
 use Rattle.replay_core.proofs.command.run_check.Goals as goal
 
 pub returns-in-Ok-clause-runs : goal.returns-in-Ok-clause-runs
@@ -10,8 +11,9 @@ returns-in-Ok-clause-runs g c =
     let command = Check c.args.name.now c.args.tick_ms in
     let read = rw c.from-tick.ensures at c.in-Ok.ensures.content in
     let causes = c.in-Ok.ensures.cause in
-    runs_written command c.args.name.now (g.S.Shelf.holds c.args.shelf.now) _ _ _ _ (trace_with read.version read.cpus read.events) [] (check_text (trace_with read.version read.cpus read.events)) c.write_line.result refl
-    (takes_trace command c.args.name.now (g.S.Shelf.holds c.args.shelf.now) read.version read.cpus read.events (λ bytes. refl) refl read.among read.counted read.told read.accepted read.read)
+    let trace = trace_with (version_of c.in-Ok.field-0-0) read.cpus read.events in
+    runs_written command c.args.name.now (g.S.Shelf.holds c.args.shelf.now) _ _ _ _ trace [] (check_text trace) c.write_line.result refl
+    (takes_any command c.args.name.now (g.S.Shelf.holds c.args.shelf.now) (version_of c.in-Ok.field-0-0) read.cpus read.events (λ bytes. refl) refl refl read.counted read.told read.accepted read.read)
     (none_given (g.S.Shelf.holds c.args.shelf.now)) c.in-Ok.ensures.missing refl (causes.faults_same (λ is. cc is)) (causes.absent_same (λ is. cc is)) (c.write_line.ensures.writes _ read.events read.played)
 
 pub returns-in-Err-clause-runs : goal.returns-in-Err-clause-runs

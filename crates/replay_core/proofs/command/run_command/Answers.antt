@@ -12,7 +12,7 @@ returns-in-Gen-clause-runs g c =
     let files = g.S.Shelf.holds c.args.shelf.now in
     let is = rw c.in-Gen.is at c.requires.ranges in
     rw c.in-Gen.is
-    (runs_generated (Gen shape) files _ _ _ _ (generated shape) (gen_text shape) c.write_generated.result refl refl
+    (runs_generated (Gen shape) files _ _ _ _ (generated shape) (gen_text shape) c.write_generated.result refl refl refl
     (takes_generated (Gen shape) shape files refl refl refl is) (refl, refl) refl c.write_generated.ensures.writes)
 
 pub returns-in-Stress-clause-runs : goal.returns-in-Stress-clause-runs
@@ -22,5 +22,5 @@ returns-in-Stress-clause-runs g c =
     let files = g.S.Shelf.holds c.args.shelf.now in
     let is = rw c.in-Stress.is at c.requires.ranges in
     rw c.in-Stress.is
-    (runs_generated (Stress shape workers) files _ _ _ _ (generated shape) (stress_text (generated shape) (pace_of (stress_options workers))) c.write_stress.result refl refl
+    (runs_generated (Stress shape workers) files _ _ _ _ (generated shape) (stress_text (generated shape) (pace_of (stress_options workers))) c.write_stress.result refl refl refl
     (takes_generated (Stress shape workers) shape files refl refl refl is.0) (refl, refl) refl c.write_stress.ensures.writes)

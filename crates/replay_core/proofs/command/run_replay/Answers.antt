@@ -3,9 +3,10 @@ use Rattle.psi_spec.specs.Trace.{limits_of}
 use Rattle.run_spec.specs.Outputs.{of_ms}
 use Rattle.run_spec.specs.declared.command.Command.TheVariants.{Replay}
 use Rattle.replay_rules.specs.Judged.{given_rules}
-use Rattle.replay_core.specs.Reads.{plain_trace}
+use Rattle.psi_spec.specs.Grammar.{version_of}
+use Rattle.replay_core.specs.Reads.{trace_with}
 use Rattle.replay_core.specs.Writes.{IsToReplay}
-use Rattle.replay_core.proofs.RunLaws.{runs_written, takes_plain}
+use Rattle.replay_core.proofs.RunLaws.{runs_written, takes_any}
 use Rattle.replay_core.proofs.command.run_replay.Goals as goal
 
 pub returns-in-Ok-play_trace-clause-runs : goal.returns-in-Ok-play_trace-clause-runs
@@ -13,7 +14,7 @@ returns-in-Ok-play_trace-clause-runs g c =
     let options = c.args.options.now in
     let command = Replay c.args.name.now options in
     let files = g.S.Shelf.holds c.args.shelf.now in
-    let given = rw c.as_ref.ensures.value at c.in-Ok.ensures.content in
+    let given = c.in-Ok.ensures.answer in
     let read = rw (c.from-tick.ensures, c.in-Ok.ensures.kept) at c.in-Ok-play_trace.ensures.content in
     let limits = limits_of (of_ms options.tick_ms) read.cpus in
     let to_replay : IsToReplay c.in-Ok-play_trace.planner options limits read.events = record {
@@ -28,6 +29,9 @@ returns-in-Ok-play_trace-clause-runs g c =
     } in
     let wrote = c.write_replay.ensures.writes limits read.events to_replay in
     let causes = c.in-Ok-play_trace.ensures.cause in
-    runs_written command c.args.name.now files _ _ _ _ (plain_trace read.cpus read.events) (given_rules c.in-Ok.rules) wrote.0 c.write_replay.result refl
-    (takes_plain command c.args.name.now files read.version read.cpus read.events (λ bytes. refl) refl refl read.among read.counted read.told read.accepted read.read)
-    given (rw c.in-Ok.ensures.kept at c.in-Ok-play_trace.ensures.missing) wrote.1 (causes.faults_same (λ is. cc is) ∙ c.in-Ok.ensures.cause.faults_same (λ is. cc is)) (causes.absent_same (λ is. cc is) ∙ c.in-Ok.ensures.cause.absent_same (λ is. cc is)) wrote.2
+    runs_written command c.args.name.now files _ _ _ _ (trace_with (version_of c.in-Ok-play_trace.version) read.cpus read.events) (given_rules c.in-Ok.rules) wrote.0 c.write_replay.result refl
+    (takes_any command c.args.name.now files (version_of c.in-Ok-play_trace.version) read.cpus read.events (λ bytes. refl) refl refl read.counted read.told read.accepted read.read)
+    given.0 (rw c.in-Ok.ensures.kept at c.in-Ok-play_trace.ensures.missing) wrote.1 (causes.faults_same (λ is. cc is) ∙ given.1.faults) (causes.absent_same (λ is. cc is) ∙ given.1.absent) wrote.2
+
+pub returns-in-Err-clause-runs : goal.returns-in-Err-clause-runs
+returns-in-Err-clause-runs g c = c.in-Err.ensures.answer (Replay c.args.name.now c.args.options.now) _ _ refl refl

@@ -1,8 +1,9 @@
 use Rattle.std.proofs.Common.{refl, []}
 use Rattle.run_spec.specs.Text.{stall_text}
 use Rattle.run_spec.specs.declared.command.Command.TheVariants.{Stall}
-use Rattle.replay_core.specs.Reads.{plain_trace}
-use Rattle.replay_core.proofs.RunLaws.{none_given, runs_refused, runs_written, takes_plain}
+use Rattle.psi_spec.specs.Grammar.{version_of}
+use Rattle.replay_core.specs.Reads.{trace_with}
+use Rattle.replay_core.proofs.RunLaws.{none_given, runs_refused, runs_written, takes_any}
 use Rattle.replay_core.proofs.command.run_stall.Goals as goal
 
 pub returns-in-Ok-clause-runs : goal.returns-in-Ok-clause-runs
@@ -11,9 +12,9 @@ returns-in-Ok-clause-runs g c =
     let files = g.S.Shelf.holds c.args.shelf.now in
     let read = c.in-Ok.ensures.content in
     let causes = c.in-Ok.ensures.cause in
-    let trace = plain_trace read.cpus read.events in
+    let trace = trace_with (version_of c.in-Ok.version) read.cpus read.events in
     runs_written command c.args.name.now files _ _ _ _ trace [] (stall_text trace) c.write_stalls.result refl
-    (takes_plain command c.args.name.now files read.version read.cpus read.events (λ bytes. refl) refl refl read.among read.counted read.told read.accepted read.read)
+    (takes_any command c.args.name.now files (version_of c.in-Ok.version) read.cpus read.events (λ bytes. refl) refl refl read.counted read.told read.accepted read.read)
     (none_given files) c.in-Ok.ensures.missing refl (causes.faults_same (λ is. cc is)) (causes.absent_same (λ is. cc is)) (c.write_stalls.ensures.writes _ read.events read.played)
 
 pub returns-in-Err-clause-runs : goal.returns-in-Err-clause-runs

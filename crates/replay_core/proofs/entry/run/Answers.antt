@@ -1,9 +1,9 @@
-use Rattle.std.proofs.Common.{◌≡◌, None}
-use Rattle.run_spec.specs.Outputs.{source_name}
-use Rattle.run_spec.specs.declared.command.Command.TheVariants.{Import, Replay}
-use Rattle.replay_core.proofs.GeneratedLaws.{makes, without_rules}
+use Rattle.std.proofs.Common.{◌≡◌}
+use Rattle.run_spec.specs.Run.{ReadsFiles}
+use Rattle.run_spec.specs.declared.command.Command.TheVariants.{Import, Replay, Rules}
+use Rattle.replay_core.proofs.GeneratedLaws.{makes}
 use Rattle.replay_core.proofs.Pieces.{front_of_puts}
-use Rattle.replay_core.proofs.RunEnds.{completes, faults, headlined, headlined_alone, imports, refuses}
+use Rattle.replay_core.proofs.RunEnds.{completes, drop_faults, faults, headlined, headlined_alone, imports, prints, prints_all, refuses}
 use Rattle.replay_core.proofs.entry.run.Goals as goal
 
 pub returns-in-Ok-clause-headline : goal.returns-in-Ok-clause-headline
@@ -24,6 +24,23 @@ returns-in-Ok-clause-imported g c = λ name bytes cpus is tells done.
     let runs = rw (same, done) at c.run_buffered-status.ensures.runs in
     imports name cpus (g.S.Shelf.holds c.args.shelf.now) _ _ _ _ runs bytes tells
 
+pub returns-in-Ok-clause-printed : goal.returns-in-Ok-clause-printed
+returns-in-Ok-clause-printed g c = λ name drop_in rules is tells done.
+    let same : c.in-Ok.command ≡ Rules name drop_in = cc (c.in-Ok.ensures.exact, is) in
+    let runs = rw (same, done) at c.run_buffered-status.ensures.runs in
+    prints name drop_in (g.S.Shelf.holds c.args.shelf.now) _ _ _ _ runs rules tells
+
+pub returns-in-Ok-clause-prints : goal.returns-in-Ok-clause-prints
+returns-in-Ok-clause-prints g c = λ name drop_in rules is tells.
+    let same : c.in-Ok.command ≡ Rules name drop_in = cc (c.in-Ok.ensures.exact, is) in
+    let runs = rw same at c.run_buffered-status.ensures.runs in
+    prints_all name drop_in (g.S.Shelf.holds c.args.shelf.now) _ _ _ _ c.run_buffered-status.result runs rules tells
+
+pub returns-in-Ok-clause-dropped : goal.returns-in-Ok-clause-dropped
+returns-in-Ok-clause-dropped g c = λ command bytes drop_in fault is.
+    let same : c.in-Ok.command ≡ command = cc (c.in-Ok.ensures.exact, is) in
+    rw (← same) (drop_faults c.in-Ok.command (g.S.Shelf.holds c.args.shelf.now) _ _ _ _ c.run_buffered-status.result c.run_buffered-status.ensures.runs bytes drop_in fault)
+
 pub returns-in-Ok-clause-complete : goal.returns-in-Ok-clause-complete
 returns-in-Ok-clause-complete g c = λ command rules bytes trace is.
     let same : c.in-Ok.command ≡ command = cc (c.in-Ok.ensures.exact, is) in
@@ -40,10 +57,10 @@ returns-in-Ok-clause-refuses g c = λ command rules bytes why is.
     rw (← same) (refuses c.in-Ok.command (g.S.Shelf.holds c.args.shelf.now) _ _ _ _ c.run_buffered-status.result c.run_buffered-status.ensures.runs rules bytes why)
 
 pub returns-in-Ok-clause-made : goal.returns-in-Ok-clause-made
-returns-in-Ok-clause-made g c = λ command is unnamed.
+returns-in-Ok-clause-made g c = λ command is unread.
     let same : c.in-Ok.command ≡ command = cc (c.in-Ok.ensures.exact, is) in
-    let none : source_name c.in-Ok.command ≡ None = rw same unnamed in
-    makes c.in-Ok.command (g.S.Shelf.holds c.args.shelf.now) _ _ _ _ c.run_buffered-status.result c.run_buffered-status.ensures.runs none (without_rules c.in-Ok.command none)
+    let none : ReadsFiles c.in-Ok.command → ⊥ = rw same unread in
+    makes c.in-Ok.command (g.S.Shelf.holds c.args.shelf.now) _ _ _ _ c.run_buffered-status.result c.run_buffered-status.ensures.runs none
 
 pub returns-in-Ok-clause-reads : goal.returns-in-Ok-clause-reads
 returns-in-Ok-clause-reads g c = λ command is.

@@ -2,6 +2,7 @@ use Rattle.std.proofs.Common.{ℕ, List, ◌+◌, refl, arith, ap, length, subst
 use Rattle.std.specs.List.{flat_map, range_with_len}
 use Rattle.std.specs.Io.KnownBytes.{Appends}
 use Rattle.std.proofs.lemmas.List.{get_or_default, get_or-set_other, length-set}
+use Rattle.psi_spec.specs.Grammar.{version_of}
 use Rattle.psi_base.proofs.Grows.{Appends-then, AppendsFront-then, PutsAll-failed}
 use Rattle.psi_base.specs.Outside.{AppendsFront}
 use Rattle.plan_laws.specs.Plan.{IsPlan, no_plan}
@@ -19,18 +20,18 @@ put_processor-requires-clause-whole g c =
 
 pub returns-in_err-put_processor-clause-bytes : goal.returns-in_err-put_processor-clause-bytes
 returns-in_err-put_processor-clause-bytes g c =
-    let lines : ℕ → List ℕ = λ cpu. plan_lines c.args.plans.now.lives c.args.order.now c.args.last (plan_at c.args.plans.now cpu) cpu in
+    let lines : ℕ → List ℕ = λ cpu. plan_lines (version_of c.args.version) c.args.plans.now.lives c.args.order.now c.args.last (plan_at c.args.plans.now cpu) cpu in
     let facts = rw c.lives-groups.ensures.lives at c.in_err-put_processor.ensures.bytes in
     let here = get_or_default c.cpus.clocks c.cpus.place (record { plan = no_plan; made = 0 }) c.index-clocks-place.result (omega (arith, c.cpus-test.true, c.cpus.invariant.each)) in
     let view = ap (λ (on : OnPlan). on.plan) (sym here) ∙ (c.cpus.invariant.all c.cpus.place (omega arith) (omega (arith, c.cpus-test.true, c.cpus.invariant.each))).same in
     PutsAll-failed _ _ _ _ c.from_residual.ensures.0
     (subst (AppendsFront (g.K.Sink.has c.args.out.now) (g.K.Sink.has c.put_processor.new.out)) (sym (ap (λ n. flat_map lines (range_with_len 0 n)) (sym c.requires.each) ∙ pieces_at lines (length c.args.clocks.now) c.cpus.place (omega (arith, c.cpus-test.true))))
     (AppendsFront-then _ _ _ _ _ _ c.cpus.invariant.sent
-    (subst (λ plan. AppendsFront (g.K.Sink.has c.cpus.out) (g.K.Sink.has c.put_processor.new.out) (plan_lines c.args.plans.now.lives c.args.order.now c.args.last plan c.cpus.place)) view facts)))
+    (subst (λ plan. AppendsFront (g.K.Sink.has c.cpus.out) (g.K.Sink.has c.put_processor.new.out) (plan_lines (version_of c.args.version) c.args.plans.now.lives c.args.order.now c.args.last plan c.cpus.place)) view facts)))
 
 pub cpus-preserved : goal.cpus-preserved
 cpus-preserved g c =
-    let lines : ℕ → List ℕ = λ cpu. plan_lines c.args.plans.now.lives c.args.order.now c.args.last (plan_at c.args.plans.now cpu) cpu in
+    let lines : ℕ → List ℕ = λ cpu. plan_lines (version_of c.args.version) c.args.plans.now.lives c.args.order.now c.args.last (plan_at c.args.plans.now cpu) cpu in
     let facts = rw c.lives-groups.ensures.lives at c.in_ok-put_processor.ensures.bytes in
     let here = get_or_default c.cpus.clocks c.cpus.place (record { plan = no_plan; made = 0 }) c.index-clocks-place.result (omega (arith, c.cpus-test.true, c.cpus.invariant.each)) in
     let view = ap (λ (on : OnPlan). on.plan) (sym here) ∙ (c.cpus.invariant.all c.cpus.place (omega arith) (omega (arith, c.cpus-test.true, c.cpus.invariant.each))).same in
@@ -40,7 +41,7 @@ cpus-preserved g c =
       all = λ cpu from below. subst (HasMadeAll (plan_at c.args.plans.now cpu)) (sym (get_or-set_other c.cpus.clocks c.cpus.place cpu c.put_processor.new.clocks (record { plan = no_plan; made = 0 }) (λ same. omega (arith, same, from)))) (c.cpus.invariant.all cpu (omega (arith, from)) (omega (arith, below, many)));
       sent = subst (Appends (g.K.Sink.has c.args.out.now) (g.K.Sink.has c.put_processor.new.out)) (sym (piece_more lines c.cpus.place (c.cpus.place + 1) refl))
           (Appends-then _ _ _ _ _ c.cpus.invariant.sent
-          (subst (λ plan. Appends (g.K.Sink.has c.cpus.out) (g.K.Sink.has c.put_processor.new.out) (plan_lines c.args.plans.now.lives c.args.order.now c.args.last plan c.cpus.place)) view facts));
+          (subst (λ plan. Appends (g.K.Sink.has c.cpus.out) (g.K.Sink.has c.put_processor.new.out) (plan_lines (version_of c.args.version) c.args.plans.now.lives c.args.order.now c.args.last plan c.cpus.place)) view facts));
       cause = record { later = omega (arith, c.cpus.invariant.cause.later, c.in_ok-put_processor.ensures.cause.later); failed = tt; same = omega (arith, c.cpus.invariant.cause.same, c.in_ok-put_processor.ensures.cause.same) };
       below = record { same = c.in_ok-put_processor.ensures.below.same ∙ c.cpus.invariant.below.same; more = omega (arith, c.cpus.invariant.below.more, c.in_ok-put_processor.ensures.below.more) };
     }

@@ -2,6 +2,7 @@ use Rattle.std.proofs.Common.{◌≡◌, ◌≤◌, ◌<◌, ℕ, length}
 use Rattle.std.specs.Prelude.{Ok}
 use Rattle.std.specs.List.{flat_map, range_with_len}
 use Rattle.std.specs.Io.KnownBytes.{Appends}
+use Rattle.psi_spec.specs.Grammar.{version_of}
 use Rattle.proc_plan.specs.Plans.{plan_at}
 use Rattle.psi_base.specs.Outside.{HasCause, StaysOver}
 use Rattle.replay_core.specs.Lines.{HasMadeAll, plan_lines}
@@ -12,7 +13,7 @@ abbrev pub invariant-cpus : goal.invariant-cpus
 invariant-cpus g l = record {
   each : length l.clocks ≡ length l.fn.clocks;
   all : (cpu : ℕ) → l.place ≤ cpu → cpu < length l.clocks → HasMadeAll (plan_at l.plans cpu) (clocks_at l.clocks cpu);
-  sent : Appends (g.K.Sink.has l.fn.out) (g.K.Sink.has l.out) (flat_map (λ cpu. plan_lines l.plans.lives l.order l.last (plan_at l.plans cpu) cpu) (range_with_len 0 l.place));
+  sent : Appends (g.K.Sink.has l.fn.out) (g.K.Sink.has l.out) (flat_map (λ cpu. plan_lines (version_of l.version) l.plans.lives l.order l.last (plan_at l.plans cpu) cpu) (range_with_len 0 l.place));
   cause : HasCause {T = Unit {0}} {E = Unit {0}} (g.K.Sink.faults l.fn.out) (g.K.Sink.faults l.out) (Ok tt);
   below : StaysOver (g.K.Sink.below l.fn.out) (g.K.Sink.below l.out);
 }

@@ -1,7 +1,5 @@
 use Rattle.psi_base.specs.Outside.{told}
 use Rattle.psi_lines.specs.Lines.{left}
-use Rattle.psi_spec.specs.Grammar.{version_of}
-use Rattle.replay_core.specs.Reads.{versions_in}
 use Rattle.replay_core.proofs.LineLaws as laws
 use Rattle.replay_core.proofs.trace.play_trace.Goals as goal
 
@@ -11,4 +9,4 @@ returns-in-Ok-play_events-clause-content g c =
     let is = c.in-Ok.ensures.head in
     let head = rw fresh at c.in-Ok.ensures.content in
     let rest = rw (c.in-Ok.ensures.kept, c.in-Ok.ensures.reads.name, fresh) at c.in-Ok-play_events.ensures.content in
-    laws.trace_played (versions_in c.args.taken) (version_of c.in-Ok.head.version) (g.P.Player.Played c.play_events.new.player) c.args.tick c.in-Ok.head.cpus (λ bytes. bytes) (left c.read_head.new.lines) (told (g.S.Shelf.holds c.args.shelf.now) c.args.name.now) tt is.among is.counted head rest
+    laws.trace_played c.in-Ok.head.version (g.P.Player.Played c.play_events.new.player) c.args.tick c.in-Ok.head.cpus (λ bytes. bytes) (left c.read_head.new.lines) (told (g.S.Shelf.holds c.args.shelf.now) c.args.name.now) tt is.numbered is.counted head rest
