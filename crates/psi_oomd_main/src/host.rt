@@ -1,5 +1,5 @@
 //! The system's files and streams. They tell nothing of their content: here trust begins.
-ghost use Rattle.std.specs.Prelude.{◌≡◌, ◌≢◌, ◌<◌, ◌≤◌, ℕ, List, None, Some, IfErr, IfOk, IsErrOf, OnOk, length};
+ghost use Rattle.std.specs.Prelude.{◌≡◌, ◌≢◌, ◌<◌, ◌≤◌, ℕ, List, None, Some, IfErr, IfOk, IfSome, IsErrOf, OnOk, codes, length};
 ghost use Rattle.std.specs.Io.KnownBytes.{Keeps, ReadConsumes};
 ghost use Rattle.psi_oomd_main.specs.Host.{GoesOn, LeavesFromPlace, ReadsFront, StandsAt};
 
@@ -122,7 +122,8 @@ fn read_file<R: Files>(
     at: u64,
     into: &mut [u8],
 ) -> Result<usize, ShelfFault>
-    ensures { IfOk result (λ n. n ≤ length into.new) }
+    ensures bound { IfOk result (λ n. n ≤ length into.new) }
+    ensures named { OnOk result (IfSome opened.new (λ file. file.name ≡ name.now)) }
 {
     if let Some(file) = opened {
         if file.name.is(name) {
@@ -160,6 +161,23 @@ impl<'a, R: Files, I: Read> HostShelf<'a, R, I> {
             given: Tally::new(),
         }
     }
+
+    // Reads from a place on: the input, where the name is its own, and else the file of the name.
+    fn read_named(&mut self, name: &str, at: u64, into: &mut [u8]) -> Result<usize, ShelfFault>
+        ensures bound { IfOk result (λ n. n ≤ length into.new) }
+        ensures input { name.now ≢ codes "-" →
+            I.remaining self.new.input ≡ I.remaining self.old.input }
+        ensures place { name.now ≢ codes "-" → self.new.place ≡ self.old.place }
+        ensures faults { self.new.faults ≡ self.old.faults }
+        ensures absent { self.new.absent ≡ self.old.absent }
+        ensures given { self.new.given ≡ self.old.given }
+    {
+        if name == "-" {
+            read_input(&mut self.input, &mut self.place, at, into)
+        } else {
+            read_file(self.rt, &mut self.opened, name, at, into)
+        }
+    }
 }
 
 impl<'a, R: Files, I: Read> Shelf for HostShelf<'a, R, I> {
@@ -172,12 +190,7 @@ impl<'a, R: Files, I: Read> Shelf for HostShelf<'a, R, I> {
     ghost given = { λ s. s.given.count };
 
     fn read_at(&mut self, name: &str, at: u64, into: &mut [u8]) -> Result<usize, ShelfFault> {
-        let read = if name == "-" {
-            read_input(&mut self.input, &mut self.place, at, into)
-        } else {
-            read_file(self.rt, &mut self.opened, name, at, into)
-        };
-        match read {
+        match self.read_named(name, at, into) {
             Ok(count) => {
                 self.given = self.given.and(count);
                 Ok(count)
