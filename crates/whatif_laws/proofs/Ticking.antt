@@ -1,0 +1,132 @@
+-- Up to the moment of a kill each tick prints the same without the tasks of its victim.
+use Rattle.std.proofs.Common.{◌≡◌, ℕ, zero, suc, ◌+◌, ◌*◌, ◌-◌, ◌/◌, ◌≤◌, ◌<◌, List, [], ◌∷◌, ◌++◌, refl, ap, ◌∙◌, sym, subst, arith, cond, Bool, true, false, length, map}
+use Rattle.std.specs.Prelude.{if◌then◌else◌}
+use Rattle.std.specs.List.{flat_map, range_with_len}
+use Rattle.std.proofs.Math.Nat.{mul-le-mul_right}
+use Rattle.psi_base.specs.declared.event.Event.{Event}
+use Rattle.psi_spec.specs.declared.machine.GroupLife.{GroupLife}
+use Rattle.psi_spec.specs.Groups.{live_groups}
+use Rattle.psi_spec.specs.Stall.{irq_time, stall}
+use Rattle.psi_spec.specs.Told.{triggers_of}
+use Rattle.psi_spec.specs.Trace.{IsAccepted, Trace}
+use Rattle.psi_spec.specs.World.{Limits, after, up_to}
+use Rattle.pressure_spec.specs.Ticks.{Tick, is_evaluation, is_report, tick_moment, tick_of, ticks_of, times_with}
+use Rattle.pressure_spec.specs.Samples.{fired_at, group_averages, totals_after}
+use Rattle.ruleset_json.specs.declared.types.Rule.{Rule}
+use Rattle.kill_spec.specs.declared.reading.GroupReading.{GroupReading}
+use Rattle.kill_spec.specs.Readings.{Reading}
+use Rattle.kill_spec.specs.Kills as deciding
+use Rattle.kill_spec.specs.Evaluations.{evaluations, group_seen, host_of, reading_at, readings_until}
+use Rattle.run_spec.specs.Replay.{Beside, Pace, files_text, fired_in, group_report, kill_lines, kills_in, live_groups_at, lives_of, reports, signal_lines, tick_count, tick_text}
+use Rattle.whatif_spec.specs.Without.{without}
+use Rattle.whatif_laws.specs.Until.{SameUntilKill, trace_without}
+use Rattle.whatif_laws.proofs.Same.{IsSame, is_same}
+
+-- ---- moments
+
+-- an earlier tick isn't later
+tick_before : (length j i : ℕ) → j ≤ i → tick_moment length j ≤ tick_moment length i
+tick_before length j i low = mul-le-mul_right length low
+
+-- what is the same at each number of a range
+map_same : {A : Type 0} (f g : ℕ → A) (from n : ℕ) → ((i : ℕ) → i < from + n → f i ≡ g i) → map f (range_with_len from n) ≡ map g (range_with_len from n)
+map_same f g from zero same = refl
+map_same f g from (suc n) same = rw (same from (omega arith), map_same f g (from + 1) n (λ i high. same i (omega (arith, high)))) refl
+
+-- ---- ticks
+
+-- a tick by the events up to its moment and by all groups
+abbrev tick_by : ℕ → List Event → List GroupLife → ℕ → Tick
+tick_by cpus front groups at = record {
+  at = at;
+  table = map (λ slot. map (λ cpu. times_with (λ state. stall state cpu slot front at) (irq_time cpu slot front)) (range_with_len 0 cpus)) (range_with_len 0 (length groups));
+}
+
+same_tick : (cpus : ℕ) (events other : List Event) (at length i : ℕ) → IsSame events other at → tick_moment length i ≤ at → tick_of cpus other length i ≡ tick_of cpus events length i
+same_tick cpus events other at length i same low =
+    ap (λ front. tick_by cpus front (after other).groups (tick_moment length i)) (same.early (tick_moment length i) low)
+    ∙ ap (λ groups. tick_by cpus (up_to events (tick_moment length i)) groups (tick_moment length i)) same.groups
+
+same_ticks : (cpus : ℕ) (events other : List Event) (at length i : ℕ) → IsSame events other at → tick_moment length i ≤ at → ticks_of cpus other length i ≡ ticks_of cpus events length i
+unfolding ticks_of
+same_ticks cpus events other at length i same low =
+    map_same (tick_of cpus other length) (tick_of cpus events length) 1 i (λ j high. let before = tick_before length j i (omega (arith, high)) in same_tick cpus events other at length j same (omega (arith, before, low)))
+
+one_before : (length i at : ℕ) → tick_moment length i ≤ at → tick_moment length (i - 1) ≤ at
+one_before length i at low = let before = tick_before length (i - 1) i (omega arith) in omega (arith, before, low)
+
+-- ---- signals
+
+same_fired : (trace : Trace) (events : List Event) (pace : Pace) (at i : ℕ) → IsSame trace.events events at → tick_moment pace.length i ≤ at → fired_in (record trace { events = events }) pace i ≡ fired_in trace pace i
+same_fired trace events pace at i same low =
+    ap (λ groups. fired_at trace.cpus groups (triggers_of events) (ticks_of trace.cpus events pace.length (i - 1)) (tick_of trace.cpus events pace.length i)) same.groups
+    ∙ ap (λ triggers. fired_at trace.cpus (lives_of trace) triggers (ticks_of trace.cpus events pace.length (i - 1)) (tick_of trace.cpus events pace.length i)) same.triggers
+    ∙ ap (λ ticks. fired_at trace.cpus (lives_of trace) (triggers_of trace.events) ticks (tick_of trace.cpus events pace.length i)) (same_ticks trace.cpus trace.events events at pace.length (i - 1) same (one_before pace.length i at low))
+    ∙ ap (λ tick. fired_at trace.cpus (lives_of trace) (triggers_of trace.events) (ticks_of trace.cpus trace.events pace.length (i - 1)) tick) (same_tick trace.cpus trace.events events at pace.length i same low)
+
+-- ---- readings
+
+-- a reading by the events up to its moment, by all groups and by the ticks up to it
+abbrev reading_by : ℕ → List Event → List GroupLife → List Tick → ℕ → Reading
+reading_by cpus front groups ticks at = record {
+  at = at;
+  host = host_of front;
+  groups = map (λ (group : List ℕ × ℕ). group_seen front (group_averages cpus groups ticks group.1).averages group.1) (live_groups (after front).groups);
+}
+
+same_reading : (cpus : ℕ) (events other : List Event) (at length i : ℕ) → IsSame events other at → tick_moment length i ≤ at → reading_at cpus other length i ≡ reading_at cpus events length i
+unfolding reading_at
+same_reading cpus events other at length i same low =
+    ap (λ front. reading_by cpus front (after other).groups (ticks_of cpus other length i) (tick_moment length i)) (same.early (tick_moment length i) low)
+    ∙ ap (λ groups. reading_by cpus (up_to events (tick_moment length i)) groups (ticks_of cpus other length i) (tick_moment length i)) same.groups
+    ∙ ap (λ ticks. reading_by cpus (up_to events (tick_moment length i)) (after events).groups ticks (tick_moment length i)) (same_ticks cpus events other at length i same low)
+
+same_evaluations : (cpus : ℕ) (events other : List Event) (at length interval count : ℕ) → IsSame events other at → tick_moment length count ≤ at → map (reading_at cpus other length) (evaluations interval length count) ≡ map (reading_at cpus events length) (evaluations interval length count)
+same_evaluations cpus events other at length interval zero same low = refl
+same_evaluations cpus events other at length interval (suc count) same low =
+    let before = tick_before length count (count + 1) (omega arith) in
+    let rest = same_evaluations cpus events other at length interval count same (omega (arith, before, low)) in
+    elim (is_evaluation interval length (suc count)) as (λ b. map (reading_at cpus other length) (cond b (suc count ∷ evaluations interval length count) (evaluations interval length count)) ≡ map (reading_at cpus events length) (cond b (suc count ∷ evaluations interval length count) (evaluations interval length count))) [
+      | true ↦ rw (same_reading cpus events other at length (suc count) same low, rest) refl
+      | false ↦ rest
+    ]
+
+same_readings : (cpus : ℕ) (events other : List Event) (at length interval count : ℕ) → IsSame events other at → tick_moment length count ≤ at → readings_until cpus other length interval count ≡ readings_until cpus events length interval count
+unfolding readings_until
+same_readings cpus events other at length interval count same low = same_evaluations cpus events other at length interval count same low
+
+-- ---- kills
+
+same_kills : (trace : Trace) (events : List Event) (pace : Pace) (rules : List Rule) (at i : ℕ) → IsSame trace.events events at → tick_moment pace.length i ≤ at → kills_in (record trace { events = events }) pace rules i ≡ kills_in trace pace rules i
+same_kills trace events pace rules at i same low =
+    ap (λ groups. if is_evaluation pace.interval pace.length i then deciding.kills groups rules (reading_at trace.cpus events pace.length i) (readings_until trace.cpus events pace.length pace.interval (i - 1)) else []) same.groups
+    ∙ ap (λ reading. if is_evaluation pace.interval pace.length i then deciding.kills (lives_of trace) rules reading (readings_until trace.cpus events pace.length pace.interval (i - 1)) else []) (same_reading trace.cpus trace.events events at pace.length i same low)
+    ∙ ap (λ readings. if is_evaluation pace.interval pace.length i then deciding.kills (lives_of trace) rules (reading_at trace.cpus trace.events pace.length i) readings else []) (same_readings trace.cpus trace.events events at pace.length pace.interval (i - 1) same (one_before pace.length i at low))
+
+-- ---- reports
+
+-- the reports by the events up to the moment, by all groups and by the ticks up to it
+abbrev reports_by : Trace → Pace → ℕ → List Event → List GroupLife → List Tick → List ℕ
+reports_by trace pace i front groups ticks =
+    flat_map (λ (group : List ℕ × ℕ). files_text trace.version (tick_moment pace.length i) group.0 group.1 (totals_after trace.cpus groups ticks group.1) (group_averages trace.cpus groups ticks group.1).averages) (live_groups (after front).groups)
+
+same_reports : (trace : Trace) (events : List Event) (pace : Pace) (at i : ℕ) → IsSame trace.events events at → tick_moment pace.length i ≤ at → reports (record trace { events = events }) pace i ≡ reports trace pace i
+same_reports trace events pace at i same low =
+    ap (λ front. reports_by trace pace i front (after events).groups (ticks_of trace.cpus events pace.length i)) (same.early (tick_moment pace.length i) low)
+    ∙ ap (λ groups. reports_by trace pace i (up_to trace.events (tick_moment pace.length i)) groups (ticks_of trace.cpus events pace.length i)) same.groups
+    ∙ ap (λ ticks. reports_by trace pace i (up_to trace.events (tick_moment pace.length i)) (lives_of trace) ticks) (same_ticks trace.cpus trace.events events at pace.length i same low)
+
+-- ---- a tick
+
+same_count : (trace : Trace) (events : List Event) (pace : Pace) (at : ℕ) → IsSame trace.events events at → tick_count (record trace { events = events }) pace ≡ tick_count trace pace
+same_count trace events pace at same = ap (λ end. end / pace.length) same.last
+
+same_text : (trace : Trace) (events : List Event) (pace : Pace) (beside : Beside) (at i : ℕ) → IsSame trace.events events at → tick_moment pace.length i ≤ at → tick_text (record trace { events = events }) pace beside i ≡ tick_text trace pace beside i
+unfolding tick_text
+same_text trace events pace beside at i same low =
+    rw (same_fired trace events pace at i same low, same_kills trace events pace beside.rules at i same low, same_reports trace events pace at i same low, same_count trace events pace at same, same.groups, same.triggers) refl
+
+pub same_until_kill : SameUntilKill
+same_until_kill limits trace pace beside at victim accepted few =
+    let same = is_same limits trace.events at victim accepted few in
+    (same_count trace (without trace.events at victim) pace at same, λ i low. same_text trace (without trace.events at victim) pace beside at i same low)

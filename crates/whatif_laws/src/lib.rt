@@ -1,0 +1,6 @@
+//! Laws of what is printed of a trace without the tasks of a group that is killed. In `specs/`: `Until`.
+#![tactic(auto)]
+
+mod laws;
+
+pub use laws::law_until_kill;

@@ -1,0 +1,104 @@
+-- Acts of one moment, one after the other, in a world that has room for them.
+use Rattle.std.proofs.Common.{◌≡◌, ℕ, ◌+◌, ◌≤◌, ◌<◌, List, [], ◌∷◌, ◌++◌, refl, ◌∙◌, subst, sym, arith, Bool, true, false, None}
+use Rattle.std.specs.Prelude.{◌||◌, if◌then◌else◌}
+use Rattle.psi_base.specs.declared.event.Act.{Act}
+use Rattle.psi_spec.specs.Refusal.{AreLegal, cause_of}
+use Rattle.psi_spec.specs.World.{Limits, World, after_event, after_from, ends, is_trigger}
+use Rattle.psi_counts.specs.Legal.{IsLegalWorld}
+use Rattle.psi_counts.proofs.LegalLaws.{legal_kept}
+use Rattle.task_table.proofs.CauseLaws.{first_of_act}
+use Rattle.whatif_spec.specs.Without.{events_at}
+use Rattle.whatif_trace.proofs.Steps.{IsOfTasks, NoneAgainst, event_at}
+
+-- a legal world that goes on at a moment, with room for so many more events and the end
+pub record IsReady (limits : Limits) (at room : ℕ) (v : World) : Type 0 where
+  pub world : IsLegalWorld limits v
+  pub going : v.ended ≡ false
+  pub forward : v.last ≤ at
+  pub early : at ≤ limits.latest
+  pub few : v.lines + room < 4000000
+
+-- with room for fewer
+pub ready_for : (limits : Limits) (at room less : ℕ) (v : World) → less ≤ room → IsReady limits at room v → IsReady limits at less v
+ready_for limits at room less v fewer ready = record {
+  world = ready.world;
+  going = ready.going;
+  forward = ready.forward;
+  early = ready.early;
+  few = let few = ready.few in omega (arith, few, fewer);
+}
+
+-- but for tasks, lines and the last moment a world is another
+pub record IsAside (v u : World) : Type 0 where
+  pub groups : u.groups ≡ v.groups
+  pub irqs : u.irqs ≡ v.irqs
+  pub triggers : u.triggers ≡ v.triggers
+  pub ended : u.ended ≡ v.ended
+
+-- acts of a moment are legal, and the world behind them is ready and differs in tasks alone
+pub record Does (limits : Limits) (at room : ℕ) (v : World) (acts : List Act) : Type 0 where
+  pub legal : AreLegal limits v (events_at at acts)
+  pub ready : IsReady limits at room (after_from v (events_at at acts))
+  pub aside : IsAside v (after_from v (events_at at acts))
+
+pub aside_same : (v : World) → IsAside v v
+aside_same v = record { groups = refl; irqs = refl; triggers = refl; ended = refl }
+
+pub aside_then : (v u x : World) → IsAside v u → IsAside u x → IsAside v x
+aside_then v u x first second = record {
+  groups = second.groups ∙ first.groups;
+  irqs = second.irqs ∙ first.irqs;
+  triggers = second.triggers ∙ first.triggers;
+  ended = second.ended ∙ first.ended;
+}
+
+pub does_none : (limits : Limits) (at room : ℕ) (v : World) → IsReady limits at room v → Does limits at room v []
+does_none limits at room v ready = record { legal = tt; ready = ready; aside = aside_same v }
+
+or_false : (b c : Bool) → c ≡ false → (b || c) ≡ b
+or_false true c off = refl
+or_false false c off = off
+
+plus_none : (n : ℕ) (b : Bool) → b ≡ false → n + (if b then 1 else 0) ≡ n
+plus_none n b off = rw off (omega arith)
+
+-- one act, with no cause of its own against it
+pub does_one : (limits : Limits) (at room : ℕ) (v : World) (what : Act) → IsReady limits at (room + 1) v → IsOfTasks at what → NoneAgainst limits v at what → Does limits at room v (what ∷ [])
+does_one limits at room v what ready of none =
+    let few = ready.few in
+    let legal : cause_of limits v (event_at at what) ≡ None = first_of_act limits v (event_at at what) ready.going ready.forward ready.early (omega (arith, few)) ∙ none in
+    record {
+      legal = (legal, tt);
+      ready = record {
+        world = legal_kept limits v (event_at at what) legal ready.world;
+        going = or_false v.ended (ends what) of.goes_on ∙ ready.going;
+        forward = omega arith;
+        early = ready.early;
+        few = omega (arith, few);
+      };
+      aside = record {
+        groups = of.groups v.groups;
+        irqs = of.irqs v.irqs;
+        triggers = plus_none v.triggers (is_trigger what) of.plain;
+        ended = or_false v.ended (ends what) of.goes_on;
+      };
+    }
+
+-- worlds behind acts, and those behind them
+pub behind_both : (v : World) (at : ℕ) (xs ys : List Act) → after_from v (events_at at (xs ++ ys)) ≡ after_from (after_from v (events_at at xs)) (events_at at ys)
+behind_both v at [] ys = refl
+behind_both v at (x ∷ xs) ys = behind_both (after_event v (event_at at x)) at xs ys
+
+legal_both : (limits : Limits) (at : ℕ) (v : World) (xs ys : List Act) → AreLegal limits v (events_at at xs) → AreLegal limits (after_from v (events_at at xs)) (events_at at ys) → AreLegal limits v (events_at at (xs ++ ys))
+legal_both limits at v [] ys front rest = rest
+legal_both limits at v (x ∷ xs) ys front rest = (front.0, legal_both limits at (after_event v (event_at at x)) xs ys front.1 rest)
+
+-- acts, and those behind them
+pub does_then : (limits : Limits) (at mid room : ℕ) (v : World) (xs ys : List Act) → Does limits at mid v xs → Does limits at room (after_from v (events_at at xs)) ys → Does limits at room v (xs ++ ys)
+does_then limits at mid room v xs ys front rest =
+    let same = sym (behind_both v at xs ys) in
+    record {
+      legal = legal_both limits at v xs ys front.legal rest.legal;
+      ready = subst (IsReady limits at room) same rest.ready;
+      aside = subst (IsAside v) same (aside_then v (after_from v (events_at at xs)) (after_from (after_from v (events_at at xs)) (events_at at ys)) front.aside rest.aside);
+    }

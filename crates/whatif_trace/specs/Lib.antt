@@ -1,0 +1,4 @@
+pub mod Rest
+pub mod Laws
+pub mod Left
+pub mod Bounded

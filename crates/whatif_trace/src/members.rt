@@ -1,0 +1,74 @@
+//! The tasks of a group that is killed.
+ghost use Rattle.std.specs.Prelude.{◌≡◌, ◌&&◌, ◌||◌, ◌==◌, ℕ, IfOk, OnOk};
+ghost use Rattle.std.specs.List.Sorted.{IsStrictlySortedBy};
+ghost use Rattle.std.specs.Ordering.{nat_cmp};
+ghost use Rattle.whatif_spec.specs.Without.{is_among, members};
+ghost use Rattle.whatif_trace.specs.Left.{AreForked, is_member, makes};
+
+use psi_base::{Act, Event, NoMemory, Pid, Slot};
+use std::alloc::Global;
+use std::collections::BTreeSet;
+use task_table::Table;
+
+/// A task with this number is live, in a group or below it.
+fn is_member(table: &Table, pid: Pid, victim: Slot) -> bool
+    ensures { result ≡ is_member table.now.world victim.0 pid.0 }
+{
+    match table.task(pid) {
+        Some(task) => table.groups().is_under(task.slot, victim),
+        None => false,
+    }
+}
+
+/// Adds a number, where this holds.
+#[tactic(auto, using(crate::proofs::Adding::none_in))]
+fn add_if(members: &mut BTreeSet<u32>, test: bool, pid: Pid) -> Result<(), NoMemory>
+    requires sorted { IsStrictlySortedBy nat_cmp members.old.keys }
+    ensures sorted { OnOk result (IsStrictlySortedBy nat_cmp members.new.keys) }
+    ensures among { OnOk result ((k : ℕ) → is_among members.new.keys k
+        ≡ (is_among members.old.keys k || (k == pid.0 && test))) }
+{
+    if test {
+        members.insert(pid.0)?;
+    }
+    Ok(())
+}
+
+/// Adds a task that was made, if it is live in a group or below it.
+#[tactic(auto, using(crate::proofs::Adding::same_member))]
+fn add_forked(
+    members: &mut BTreeSet<u32>,
+    table: &Table,
+    victim: Slot,
+    act: &Act,
+) -> Result<(), NoMemory>
+    requires sorted { IsStrictlySortedBy nat_cmp members.old.keys }
+    ensures sorted { OnOk result (IsStrictlySortedBy nat_cmp members.new.keys) }
+    ensures among { OnOk result ((k : ℕ) → is_among members.new.keys k
+        ≡ (is_among members.old.keys k
+        || (makes k act.now && is_member table.now.world victim.0 k))) }
+{
+    match act {
+        Act::Fork { pid, .. } => add_if(members, is_member(table, *pid, victim), *pid),
+        _ => Ok(()),
+    }
+}
+
+/// The numbers of the live tasks that are in a group or below it. The events are those up to the world of the table.
+pub(crate) fn members(
+    alloc: Global,
+    table: &Table,
+    events: &[Event],
+    victim: Slot,
+) -> Result<BTreeSet<u32>, NoMemory>
+    requires { AreForked table.now.world.tasks events.now }
+    ensures { IfOk result (λ pids. pids.keys ≡ members table.now.world victim.0) }
+{
+    let mut members = BTreeSet::new(alloc);
+    let mut at = 0;
+    'events: while at < events.len() {
+        add_forked(&mut members, table, victim, &events[at].act)?;
+        at += 1;
+    }
+    Ok(members)
+}

@@ -1,0 +1,191 @@
+//! A trace without the tasks of a group that is killed.
+ghost use Rattle.std.specs.Prelude.{◌≡◌, ◌<◌, ◌≤◌, IfOk, MatchResult, None, OnOk, Ok, drop, length, nat_lt, replicate, take};
+ghost use Rattle.psi_base.specs.Gives.{FaultOf};
+ghost use Rattle.psi_spec.specs.Refusal.{AreLegal, cause_of};
+ghost use Rattle.psi_spec.specs.Trace.{IsAccepted};
+ghost use Rattle.psi_spec.specs.World.{after, after_event, after_from};
+ghost use Rattle.whatif_spec.specs.Without.{without};
+ghost use Rattle.whatif_trace.specs.Left.{front_length, turned_by};
+ghost use Rattle.whatif_trace.specs.Bounded.{bounded};
+
+use crate::copies::keep_copies;
+use crate::exits::keep_exits;
+use crate::members::members;
+use crate::rest::keep_rest;
+use crate::runners::{no_runners, turn};
+use psi_base::{Event, Fault, NoMemory, Ns, Pid, Slot};
+use std::alloc::Global;
+use std::collections::BTreeSet;
+use task_table::Table;
+
+/// The most event lines that a trace may have.
+const MOST_EVENTS: usize = 4_000_000;
+
+/// What is left of a trace has more event lines than a trace may have.
+#[derive(Clone, Copy, Debug, PartialEq, Eq)]
+pub struct TooLarge {
+    /// How many it has, above 4,000,000.
+    pub events: u64,
+}
+
+/// How many events stand before the first that is later than a moment (ns).
+fn front_length(events: &[Event], at: Ns) -> usize
+    ensures length { result ≡ front_length at events.now }
+    ensures inside { result ≤ length events.now }
+{
+    let mut count = 0;
+    'events: while count < events.len() && events[count].at <= at {
+        count += 1;
+    }
+    count
+}
+
+/// The first events, so many of them.
+fn front_of(events: &[Event], count: usize) -> &[Event]
+    requires { count ≤ length events.now }
+    ensures { result.now ≡ take count events.now }
+{
+    &events[..count]
+}
+
+/// The events behind them.
+fn rest_of(events: &[Event], count: usize) -> &[Event]
+    requires { count ≤ length events.now }
+    ensures { result.now ≡ drop count events.now }
+{
+    &events[count..]
+}
+
+/// The numbers in a set, ascending.
+fn numbers_of(alloc: Global, pids: &BTreeSet<u32>) -> Result<Vec<u32>, NoMemory>
+    ensures { IfOk result (λ numbers. numbers.items ≡ pids.now.keys) }
+{
+    Ok(pids.iter().copied().collect(alloc)?)
+}
+
+/// A moment (ns) is before the end.
+#[tactic(auto, using(crate::proofs::Cutting::before_told))]
+fn is_before_end(events: &[Event], at: Ns) -> bool
+    ensures { result ≡ nat_lt at (after events.now).last }
+{
+    match events.last() {
+        Some(event) => at < event.at,
+        None => false,
+    }
+}
+
+/// Plays a legal event.
+fn play_one(table: &mut Table, event: &Event) -> Result<(), NoMemory>
+    requires { cause_of table.old.limits table.old.world event.now ≡ None }
+    ensures limits { OnOk result (table.new.limits ≡ table.old.limits) }
+    ensures world { OnOk result (table.new.world ≡ after_event table.old.world event.now) }
+{
+    match table.play(event) {
+        Ok(()) => Ok(()),
+        Err(Fault::NoMemory(none)) => Err(none),
+        Err(Fault::Refused(_)) => unreachable!(),
+    }
+}
+
+/// Plays events that are legal in their turn, and notes who runs behind them.
+fn play_all(
+    table: &mut Table,
+    runners: &mut Vec<Option<Pid>>,
+    events: &[Event],
+) -> Result<(), NoMemory>
+    requires { AreLegal table.old.limits table.old.world events.now }
+    ensures limits { OnOk result (table.new.limits ≡ table.old.limits) }
+    ensures world { OnOk result (table.new.world ≡ after_from table.old.world events.now) }
+    ensures runners { OnOk result (runners.new.items ≡ turned_by runners.old.items events.now) }
+{
+    let mut at = 0;
+    'events: while at < events.len() {
+        let event = &events[at];
+        play_one(table, event)?;
+        turn(runners, &event.act);
+        at += 1;
+    }
+    Ok(())
+}
+
+/// The events without the tasks that are in a group or below it at a moment (ns) before the end.
+fn cut_down(
+    alloc: Global,
+    cpus: u32,
+    latest: Ns,
+    events: &[Event],
+    at: Ns,
+    victim: Slot,
+) -> Result<Vec<Event>, NoMemory>
+    requires some { 1 ≤ cpus }
+    requires few { cpus ≤ 64 }
+    requires accepted { IsAccepted (record { cpus = cpus; latest = latest }) events.now }
+    requires before { at < (after events.now).last }
+    ensures { IfOk result (λ left. left.items ≡ without events.now at victim.0) }
+{
+    let count = front_length(events, at);
+    let front = front_of(events, count);
+    let rest = rest_of(events, count);
+    let mut table = Table::new(alloc, cpus, latest)?;
+    let mut runners = no_runners(alloc, cpus)?;
+    play_all(&mut table, &mut runners, front)?;
+    let dead = members(alloc, &table, front, victim)?;
+    let pids = numbers_of(alloc, &dead)?;
+    let runners_then = Vec::from_slice(alloc, &runners)?;
+    let mut kept: Vec<Event> = Vec::new(alloc);
+    keep_copies(alloc, &mut kept, front)?;
+    keep_exits(&mut kept, at + 1, &table, runners_then, &pids)?;
+    keep_rest(alloc, &mut kept, dead, runners, rest)?;
+    Ok(kept)
+}
+
+/// The events without the tasks that are in a group or below it at a moment (ns).
+fn all_left(
+    alloc: Global,
+    cpus: u32,
+    latest: Ns,
+    events: &[Event],
+    at: Ns,
+    victim: Slot,
+) -> Result<Vec<Event>, NoMemory>
+    requires some { 1 ≤ cpus }
+    requires few { cpus ≤ 64 }
+    requires accepted { IsAccepted (record { cpus = cpus; latest = latest }) events.now }
+    ensures { IfOk result (λ left. left.items ≡ without events.now at victim.0) }
+{
+    if is_before_end(events, at) {
+        return cut_down(alloc, cpus, latest, events, at, victim);
+    }
+    let mut kept: Vec<Event> = Vec::new(alloc);
+    keep_copies(alloc, &mut kept, events)?;
+    Ok(kept)
+}
+
+/// The events of a trace without the tasks that are in a group or below it at a moment (ns): those up to the moment, the
+/// exits of these tasks a nanosecond later, and the rest without them; all events where the moment isn't before the end.
+/// The trace has 1 to 64 processors, and no event is later than `latest` (ns). `TooLarge` exactly where more than
+/// 4,000,000 events are left, and else `NoMemory`.
+pub fn without(
+    alloc: Global,
+    cpus: u32,
+    latest: Ns,
+    events: &[Event],
+    at: Ns,
+    victim: Slot,
+) -> Result<Vec<Event>, Fault<TooLarge>>
+    requires some { 1 ≤ cpus }
+    requires few { cpus ≤ 64 }
+    requires accepted { IsAccepted (record { cpus = cpus; latest = latest }) events.now }
+    ensures content { MatchResult result
+        (λ left. bounded (without events.now at victim.0) ≡ Ok left.items)
+        (λ fault. FaultOf fault (bounded (without events.now at victim.0))) }
+    ensures accepted { IfOk result
+        (λ left. IsAccepted (record { cpus = cpus; latest = latest }) left.items) }
+{
+    let left = all_left(alloc, cpus, latest, events, at, victim)?;
+    if left.len() > MOST_EVENTS {
+        let events = left.len() as u64;
+        return Err(Fault::Refused(TooLarge { events }));
+    }
+    Ok(left)
+}

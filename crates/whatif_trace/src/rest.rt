@@ -1,0 +1,159 @@
+//! What is left of the events behind the exits.
+ghost use Rattle.std.specs.Prelude.{◌≡◌};
+ghost use Rattle.whatif_spec.specs.Without.{events_at, if_alive, is_alive, is_among, switch_without, without_pid};
+ghost use Rattle.whatif_trace.specs.Left.{Adds, act_left, dead_left, doer, left_if, rest_left};
+
+use crate::copies::{keep, keep_copy};
+use crate::runners::{runner_at, turn};
+use psi_base::{Act, Cpu, Event, How, NoMemory, Ns, Pid};
+use std::alloc::Global;
+use std::collections::BTreeSet;
+
+/// A number is among those of the dead tasks.
+#[tactic(auto, using(crate::proofs::Killed::among_keys))]
+fn is_dead(dead: &BTreeSet<u32>, pid: Pid) -> bool
+    ensures { result ≡ is_among dead.now.keys pid.0 }
+{
+    dead.contains(&pid.0)
+}
+
+/// A task, if there is one, isn't dead.
+fn is_alive(dead: &BTreeSet<u32>, pid: Option<Pid>) -> bool
+    ensures { result ≡ is_alive dead.now.keys pid }
+{
+    match pid {
+        Some(pid) => !is_dead(dead, pid),
+        None => false,
+    }
+}
+
+/// A task that isn't dead, and none for one that is.
+fn if_alive(dead: &BTreeSet<u32>, next: Option<Pid>) -> Option<Pid>
+    ensures { result ≡ if_alive dead.now.keys next }
+{
+    if is_alive(dead, next) { next } else { None }
+}
+
+/// The task whose act it is, but for a switch.
+fn doer(act: &Act) -> Option<Pid>
+    ensures { result ≡ doer act.now }
+{
+    match act {
+        Act::Wake { pid, .. } => Some(*pid),
+        Act::Stall { pid } => Some(*pid),
+        Act::Unstall { pid } => Some(*pid),
+        Act::Migrate { pid, .. } => Some(*pid),
+        Act::Move { pid, .. } => Some(*pid),
+        _ => None,
+    }
+}
+
+/// Keeps what is left of a switch, by the task that leaves, if one does.
+#[tactic(auto, using(crate::proofs::Kept::none_kept))]
+fn keep_switch(
+    kept: &mut Vec<Event>,
+    at: Ns,
+    dead: &BTreeSet<u32>,
+    cpu: Cpu,
+    leaving: Option<Pid>,
+    next: Option<Pid>,
+    how: How,
+) -> Result<(), NoMemory>
+    ensures { Adds kept.old.items kept.new.items result
+        (events_at at (switch_without dead.now.keys cpu leaving next how)) }
+{
+    if is_alive(dead, leaving) {
+        let next = if_alive(dead, next);
+        keep(kept, at, Act::Switch { cpu, next, how })
+    } else if is_alive(dead, next) {
+        let how = How::Idle;
+        keep(kept, at, Act::Switch { cpu, next, how })
+    } else {
+        Ok(())
+    }
+}
+
+/// Keeps an event that is no switch, unless it is an act of a dead task.
+#[tactic(auto, using(crate::proofs::Kept::none_kept))]
+fn keep_act(
+    alloc: Global,
+    kept: &mut Vec<Event>,
+    dead: &BTreeSet<u32>,
+    event: &Event,
+) -> Result<(), NoMemory>
+    ensures { Adds kept.old.items kept.new.items result
+        (events_at event.now.at (left_if dead.now.keys (doer event.now.act) event.now.act)) }
+{
+    match doer(&event.act) {
+        Some(pid) if is_dead(dead, pid) => Ok(()),
+        _ => keep_copy(alloc, kept, event),
+    }
+}
+
+/// Keeps what is left of an event.
+fn keep_left(
+    alloc: Global,
+    kept: &mut Vec<Event>,
+    dead: &BTreeSet<u32>,
+    runners: &[Option<Pid>],
+    event: &Event,
+) -> Result<(), NoMemory>
+    ensures { Adds kept.old.items kept.new.items result
+        (events_at event.now.at (act_left dead.now.keys runners.now event.now.act)) }
+{
+    match &event.act {
+        Act::Switch { cpu, next, how } => {
+            let leaving = runner_at(runners, *cpu);
+            keep_switch(kept, event.at, dead, *cpu, leaving, *next, *how)
+        }
+        _ => keep_act(alloc, kept, dead, event),
+    }
+}
+
+/// The number of a task that exits, if one does, is no dead one's any more.
+#[tactic(auto, using(crate::proofs::Killed::taken_out))]
+fn revive(dead: &mut BTreeSet<u32>, leaving: Option<Pid>)
+    ensures { dead.new.keys ≡ without_pid dead.old.keys leaving }
+{
+    if let Some(pid) = leaving {
+        let _count = dead.len();
+        dead.remove(&pid.0);
+    }
+}
+
+/// The tasks that are dead behind an act.
+fn note_exit(dead: &mut BTreeSet<u32>, runners: &[Option<Pid>], act: &Act)
+    ensures { dead.new.keys ≡ dead_left dead.old.keys runners.now act.now }
+{
+    if let Act::Switch {
+        cpu,
+        how: How::Exit,
+        ..
+    } = act
+    {
+        revive(dead, runner_at(runners, *cpu));
+    }
+}
+
+/// Keeps what is left of events without these tasks, where these run before them.
+#[tactic(auto, using(crate::proofs::Kept::none_kept, crate::proofs::Kept::part_kept))]
+pub(crate) fn keep_rest(
+    alloc: Global,
+    kept: &mut Vec<Event>,
+    mut dead: BTreeSet<u32>,
+    mut runners: Vec<Option<Pid>>,
+    events: &[Event],
+) -> Result<(), NoMemory>
+    ensures { Adds kept.old.items kept.new.items result
+        (rest_left dead.keys runners.items events.now) }
+{
+    let mut at = 0;
+    'events: while at < events.len() {
+        let event = &events[at];
+        keep_left(alloc, kept, &dead, &runners, event)?;
+        note_exit(&mut dead, &runners, &event.act);
+        turn(&mut runners, &event.act);
+        at += 1;
+    }
+    Ok(())
+}

@@ -1,0 +1,42 @@
+//! The numbers of the tasks that run on the processors.
+ghost use Rattle.std.specs.Prelude.{◌≡◌, ◌<◌, IfOk, None, length, replicate, slice_set};
+ghost use Rattle.whatif_trace.specs.Left.{runner_at, turned};
+
+use psi_base::{Act, Cpu, NoMemory, Pid};
+use std::alloc::Global;
+
+/// No task runs on any of these processors.
+pub(crate) fn no_runners(alloc: Global, cpus: u32) -> Result<Vec<Option<Pid>>, NoMemory>
+    ensures { IfOk result (λ runners. runners.items ≡ replicate cpus None) }
+{
+    Ok(vec![in alloc; None; cpus as usize]?)
+}
+
+/// The number of the task that runs on a processor, if one does.
+pub(crate) fn runner_at(runners: &[Option<Pid>], cpu: Cpu) -> Option<Pid>
+    ensures { result ≡ runner_at runners.now cpu.0 }
+{
+    match runners.get(cpu.0 as usize) {
+        Some(runner) => *runner,
+        None => None,
+    }
+}
+
+/// This task runs on a processor, or none.
+pub(crate) fn set_runner(runners: &mut Vec<Option<Pid>>, cpu: Cpu, runner: Option<Pid>)
+    ensures { runners.new.items ≡ slice_set runners.old.items cpu.0 runner }
+{
+    let place = cpu.0 as usize;
+    if place < runners.len() {
+        runners[place] = runner;
+    }
+}
+
+/// Who runs behind an act.
+pub(crate) fn turn(runners: &mut Vec<Option<Pid>>, act: &Act)
+    ensures { runners.new.items ≡ turned runners.old.items act.now }
+{
+    if let Act::Switch { cpu, next, .. } = act {
+        set_runner(runners, *cpu, *next);
+    }
+}
