@@ -1,0 +1,3 @@
+pub mod BoardSteps
+pub mod CountLaws
+pub mod Taken

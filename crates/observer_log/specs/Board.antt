@@ -1,0 +1,155 @@
+-- The tick board: what its passes know, and the rule between any two steps.
+use Rattle.std.specs.Prelude.{◌≡◌, ℕ, ◌+◌, ◌-◌, ◌<◌, ◌≤◌, max, List, [], ◌∷◌, ◌++◌, length, slice_get, Option, Some}
+use mathlib.Core.Option.{some}
+use lib.ListN.{get_elem?}
+use Rattle.atomic_table.specs.Seated.{TableId}
+use Rattle.atomic_table.specs.declared.shared.Seat.{Seat}
+use Rattle.crossbeam_utils.specs.Seq.{cell_view}
+use Rattle.crossbeam_utils.specs.declared.atomic.seq_cell.Doing.{Doing}
+use Rattle.observer_log.specs.declared.board.BoardState.{BoardState}
+use Rattle.observer_log.specs.declared.board.Publishing.{Publishing}
+use Rattle.observer_log.specs.declared.board.Watching.{Watching}
+use Rattle.observer_log.specs.declared.board.View.{View}
+use Rattle.observer_log.specs.declared.board.View.TheVariants.{Spent, Shown, Seen, Driver, Observer}
+
+-- ---- states
+
+-- the three words of a state
+abbrev pub words_of : BoardState → List ℕ
+words_of state = state.tick ∷ state.events ∷ state.kills ∷ []
+
+-- before the first tick
+abbrev pub first_state : BoardState
+first_state = record { tick = 0; events = 0; kills = 0 }
+
+-- a state is the one that was published under its tick
+abbrev pub IsPublished : List BoardState → BoardState → Type 0
+IsPublished states state = slice_get states state.tick ≡ Some state
+
+-- so are all of these
+abbrev pub ArePublished : List BoardState → List BoardState → Type 0
+ArePublished states [] = Unit {0}
+ArePublished states (state ∷ more) = IsPublished states state × ArePublished states more
+
+-- a state is the last one published
+abbrev pub IsLast : List BoardState → BoardState → Type 0
+IsLast states state = slice_get states (length states - 1) ≡ Some state
+
+-- a list begins with another
+abbrev pub Begins : List BoardState → List BoardState → Type 0
+Begins states front = (rest : List BoardState) × (states ≡ front ++ rest)
+
+-- ---- what a pass knows
+
+-- an observer that was told of these states, and has read nothing
+abbrev pub newcomer : List BoardState → Watching
+newcomer states = record { least = length states - 1; read = [] }
+
+-- an observer that read a state
+abbrev pub after_read : BoardState → Watching → Watching
+after_read state watching = record { least = state.tick; read = state ∷ watching.read }
+
+-- an observer that was told of these states
+abbrev pub after_told : List BoardState → Watching → Watching
+after_told states watching = record { least = max watching.least (length states - 1); read = watching.read }
+
+-- the driver's view of a new board
+abbrev pub first_view : View
+first_view = Driver (record { states = first_state ∷ []; heard = [] })
+
+-- the view that the driver gives to a new observer
+abbrev pub admitted : View → View
+admitted (Driver driver) = Observer (newcomer driver.states)
+admitted view = Spent
+
+-- the note of a view
+abbrev pub note_of : View → View
+note_of (Driver driver) = Shown driver.states
+note_of (Observer watching) = Seen watching.read
+note_of view = Spent
+
+-- a view that takes a note
+abbrev pub with_note : View → View → View
+with_note (Driver driver) (Seen read) = Driver (record { states = driver.states; heard = read })
+with_note (Observer watching) (Shown states) = Observer (after_told states watching)
+with_note view note = view
+
+-- ---- the rule
+
+-- What a pass knows of the board, where the driver's pass has this number and published these states.
+abbrev pub Knows : ℕ → List BoardState → ℕ → View → Type 0
+Knows seat states other Spent = Unit {0}
+Knows seat states other (Shown shown) = Begins states shown
+Knows seat states other (Seen read) = ArePublished states read
+Knows seat states other (Driver driver) = (other ≡ seat) × (driver.states ≡ states) × ArePublished states driver.heard
+Knows seat states other (Observer watching) = (watching.least < length states) × ArePublished states watching.read
+
+-- A board with this driver: its view is at its number, the board shows the last state published, under its tick, and each pass
+-- knows of the board what its view says.
+pub record IsBoard (seat : ℕ) (driver : Publishing) (value : BoardState) (views : List View) : Type 0 where
+  pub here : get_elem? views seat ≡ some (Driver driver)
+  pub last : length driver.states ≡ value.tick + 1
+  pub shown : IsPublished driver.states value
+  pub each : (other : ℕ) (view : View) → get_elem? views other ≡ some view → Knows seat driver.states other view
+
+-- The rule: it is a board with some driver.
+abbrev pub HoldsBoard : BoardState → List View → Type 0
+HoldsBoard value views = (seat : ℕ) × (driver : Publishing) × IsBoard seat driver value views
+
+-- ---- the steps
+
+-- the driver published one state more
+abbrev pub HasPublished : View → BoardState → BoardState → View → Type 0
+HasPublished before old new after = (driver : Publishing) → before ≡ Driver driver → after ≡ Driver (record { states = driver.states ++ new ∷ []; heard = driver.heard })
+
+-- an observer read the state of a tick that isn't before the least
+abbrev pub HasRead : View → BoardState → BoardState → View → Type 0
+HasRead before old new after = (watching : Watching) → before ≡ Observer watching → (after ≡ Observer (after_read new watching)) × (watching.least ≤ new.tick)
+
+-- what the driver heard of is what it published
+abbrev pub HasCompared : View → BoardState → BoardState → View → Type 0
+HasCompared before old new after = (driver : Publishing) → before ≡ Driver driver → (after ≡ before) × ArePublished driver.states driver.heard
+
+-- ---- the ends
+
+abbrev pub BoardSeat : Type 0
+BoardSeat = Seat BoardState (Doing BoardState View)
+
+-- a driver's pass: which board it is of, and the states published there
+pub record DriverEnd : Type 0 where
+  pub board : TableId
+  pub states : List BoardState
+
+-- an observer's pass: which board it is of, and what it knows
+pub record BoardEnd : Type 0 where
+  pub board : TableId
+  pub knows : Watching
+
+-- a view as the driver's; where it isn't, one that published nothing stands in for it
+abbrev pub as_driver : View → Publishing
+as_driver (Driver driver) = driver
+as_driver view = record { states = []; heard = [] }
+
+-- a view as an observer's, likewise
+abbrev pub as_observer : View → Watching
+as_observer (Observer watching) = watching
+as_observer view = newcomer []
+
+abbrev pub driver_end : BoardSeat → DriverEnd
+driver_end seat = record { board = seat.table_id; states = (as_driver (cell_view seat)).states }
+
+abbrev pub board_end : BoardSeat → BoardEnd
+board_end seat = record { board = seat.table_id; knows = as_observer (cell_view seat) }
+
+abbrev pub IsDriver : BoardSeat → Type 0
+IsDriver seat = cell_view seat ≡ Driver (as_driver (cell_view seat))
+
+abbrev pub IsObserver : BoardSeat → Type 0
+IsObserver seat = cell_view seat ≡ Observer (as_observer (cell_view seat))
+
+-- ---- a law
+
+-- Whoever was told all that was published, then read a state, and was then told all again, has read the last one.
+abbrev pub LastReadIsLast : Type 0
+LastReadIsLast = (states : List BoardState) (state : BoardState) (before : Watching) → (after_told states before).least ≤ state.tick →
+    ArePublished states (after_read state (after_told states before)).read → IsLast states state

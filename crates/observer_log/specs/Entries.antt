@@ -1,0 +1,46 @@
+-- Entries, and the lists in which observers keep their own. That an entry is a right sample of its plan stands in its type.
+use Rattle.std.specs.Prelude.{◌≡◌, ℕ, Bool, ◌&&◌, nat_eq, List, [], ◌∷◌, map, filter, slice_index_or}
+use Rattle.observer_log.specs.declared.entry.Entry.{Entry}
+
+-- what an entry says, but for the plan
+pub record Said : Type 0 where
+  pub observer : ℕ
+  pub cpu : ℕ
+  pub slot : ℕ
+  pub count : ℕ
+  pub at : ℕ
+  pub seven : List ℕ
+
+abbrev pub said : Entry → Said
+said entry = record { observer = entry.observer; cpu = entry.cpu.0; slot = entry.slot.0; count = entry.count; at = entry.at; seven = entry.seven }
+
+-- the entry is an observer's
+abbrev pub is_by : ℕ → Entry → Bool
+is_by observer entry = nat_eq entry.observer observer
+
+-- the entry is an observer's, of a processor
+abbrev pub is_of : ℕ → ℕ → Entry → Bool
+is_of observer cpu entry = nat_eq entry.observer observer && nat_eq entry.cpu.0 cpu
+
+-- an observer's entries
+abbrev pub by : ℕ → List Entry → List Entry
+by observer entries = filter (is_by observer) entries
+
+-- the counts of an observer's entries of a processor
+abbrev pub counts_of : ℕ → ℕ → List Entry → List ℕ
+counts_of observer cpu entries = map (λ (entry : Entry). entry.count) (filter (is_of observer cpu) entries)
+
+-- ---- lists of their own
+
+-- the list of an observer, by its number: of one without a list there is no entry
+abbrev pub list_of : List (List Entry) → ℕ → List Entry
+list_of lists observer = slice_index_or lists observer []
+
+-- all are an observer's
+abbrev pub AreBy : ℕ → List Entry → Type 0
+AreBy observer [] = Unit {0}
+AreBy observer (entry ∷ entries) = (entry.observer ≡ observer) × AreBy observer entries
+
+-- each list has entries of its observer alone
+abbrev pub AreOwn : List (List Entry) → Type 0
+AreOwn lists = (observer : ℕ) → AreBy observer (list_of lists observer)

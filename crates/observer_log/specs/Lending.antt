@@ -1,0 +1,16 @@
+-- A watcher lends one of its readers.
+use Rattle.std.specs.Prelude.{ℕ, [], slice_set}
+use Rattle.std.specs.Borrow.{Fml, Lends, MutBor}
+use mir.Syntax.{named}
+use Rattle.clock_row.specs.contracts.reader.ClockReader as ClockReader
+use Rattle.clock_row.specs.Ends.{ReaderEnd}
+use Rattle.observer_log.specs.contracts.watcher.Watcher as Watcher
+use Rattle.observer_log.specs.Watch.{WatcherView}
+
+-- a watcher with this reader of a processor
+abbrev pub with_reader : WatcherView → ℕ → ReaderEnd → WatcherView
+with_reader watcher cpu reader = record watcher { readers = slice_set watcher.readers cpu reader }
+
+-- A watcher ends with what is left behind the reader of a processor that it lends.
+abbrev pub LendsReader : MutBor WatcherView → ℕ → MutBor ReaderEnd → Fml
+LendsReader watcher cpu reader = Lends (Watcher.the_row (record { mir = named 1; lft = [] })) ClockReader.the_row watcher reader (with_reader watcher.now cpu)

@@ -1,0 +1,261 @@
+//! The tick board: one driver publishes, and observers read without a lock.
+ghost use Rattle.std.specs.Prelude.{◌≡◌, ◌≤◌, [], ◌∷◌, ◌++◌, length, IfOk, IsOk, Ok};
+ghost use Rattle.observer_log.specs.Board.{ArePublished, after_read, after_told, first_state, newcomer};
+
+use atomic_table::{Join, Split};
+use crossbeam_utils::atomic::seq_cell::{Pass, RuledSeqCell, Words};
+use crossbeam_utils::rule::{Outcome, Protocol};
+use psi_base::NoMemory;
+use std::alloc::Global;
+use std::marker::Model;
+use std::sync::Wait;
+
+/// What the driver tells of a tick.
+#[derive(Clone, Copy, Debug, PartialEq, Eq)]
+pub struct BoardState {
+    /// The number of the tick, from 1; 0 before the first.
+    pub tick: u64,
+    /// How many events came up to it.
+    pub events: u64,
+    /// How many kills.
+    pub kills: u64,
+}
+
+impl Words<3> for BoardState {
+    ghost use Rattle.observer_log.specs.Board.{words_of};
+
+    ghost words = { words_of };
+
+    fn to_words(self) -> [u64; 3] {
+        [self.tick, self.events, self.kills]
+    }
+
+    fn from_words(bits: &[u64; 3]) -> BoardState {
+        BoardState {
+            tick: bits[0],
+            events: bits[1],
+            kills: bits[2],
+        }
+    }
+}
+
+/// What the driver knows. A contract reads the arrays as lists of any length.
+pub struct Publishing {
+    /// All states published, the first one among them, by tick.
+    pub states: [BoardState; 0],
+    /// The states of which an observer told it last.
+    pub heard: [BoardState; 0],
+}
+
+/// What an observer knows. A contract reads the array as a list of any length.
+pub struct Watching {
+    /// The greatest tick that it saw or was told of.
+    pub least: u64,
+    /// The states that it read, the last one first.
+    pub read: [BoardState; 0],
+}
+
+/// What a pass of the board knows.
+pub enum View {
+    /// Nothing: its note was taken.
+    Spent,
+    /// It is a note of the driver's: the states published so far.
+    Shown([BoardState; 0]),
+    /// It is a note of an observer's: the states that it read.
+    Seen([BoardState; 0]),
+    /// It is the driver's.
+    Driver(Publishing),
+    /// It is an observer's.
+    Observer(Watching),
+}
+
+/// The rule of the board.
+pub struct BoardRule;
+
+impl Protocol<BoardState, View> for BoardRule {
+    ghost use Rattle.observer_log.specs.Board.{HoldsBoard, first_view};
+
+    ghost holds = { HoldsBoard };
+
+    ghost first = { first_view };
+}
+
+// 1, the swap: the driver puts a state on the board.
+struct Publishes;
+
+impl Outcome<BoardState, View> for Publishes {
+    ghost use Rattle.observer_log.specs.Board.{HasPublished};
+
+    ghost then = { HasPublished };
+}
+
+// 2, a load: an observer reads.
+struct Reads;
+
+impl Outcome<BoardState, View> for Reads {
+    ghost use Rattle.observer_log.specs.Board.{HasRead};
+
+    ghost then = { HasRead };
+}
+
+// 2, a load: the driver compares what it heard with what it published.
+struct Compares;
+
+impl Outcome<BoardState, View> for Compares {
+    ghost use Rattle.observer_log.specs.Board.{HasCompared};
+
+    ghost then = { HasCompared };
+}
+
+// 3, a split: the driver gives a new observer its pass.
+struct Admits;
+
+impl Split<View> for Admits {
+    ghost use Rattle.observer_log.specs.Board.{admitted};
+
+    ghost left = { λ view. view };
+
+    ghost right = { admitted };
+}
+
+// 3 and 4, a split and a join: one writes a note of what it knows, and the other takes it.
+struct Tells;
+
+impl Split<View> for Tells {
+    ghost use Rattle.observer_log.specs.Board.{note_of};
+
+    ghost left = { λ view. view };
+
+    ghost right = { note_of };
+}
+
+impl Join<View> for Tells {
+    ghost use Rattle.observer_log.specs.declared.board.View.TheVariants.{Spent};
+    ghost use Rattle.observer_log.specs.Board.{with_note};
+
+    ghost both = { with_note };
+
+    ghost spent = { Spent };
+}
+
+type Cell = RuledSeqCell<BoardState, View, BoardRule, 3>;
+
+type Seat = Pass<BoardState, View>;
+
+/// The board. Contracts see which one it is.
+#[derive(Drop)]
+pub struct Board {
+    cell: Cell,
+}
+
+impl Model for Board {
+    ghost use Rattle.atomic_table.specs.Seated.{TableId};
+
+    ghost Value = { TableId };
+
+    ghost view = { λ board. board.cell.table.shared.table_id };
+}
+
+/// The driver's pass of a board. Contracts see which board it is, and the states that were published on it.
+#[derive(Drop)]
+pub struct DriverPass {
+    seat: Seat,
+}
+
+impl Model for DriverPass {
+    ghost use Rattle.observer_log.specs.Board.{DriverEnd, IsDriver, driver_end};
+
+    ghost Value = { DriverEnd };
+
+    ghost view = { λ pass. driver_end pass.seat };
+
+    ghost invariant = { λ pass. IsDriver pass.seat };
+}
+
+/// An observer's pass of a board. It may go to another thread. Contracts see which board it is, and what it knows.
+#[derive(Drop)]
+pub struct BoardPass {
+    seat: Seat,
+}
+
+impl Model for BoardPass {
+    ghost use Rattle.observer_log.specs.Board.{BoardEnd, IsObserver, board_end};
+
+    ghost Value = { BoardEnd };
+
+    ghost view = { λ pass. board_end pass.seat };
+
+    ghost invariant = { λ pass. IsObserver pass.seat };
+}
+
+impl Board {
+    /// A board that shows tick 0, and its driver's pass.
+    pub fn make(alloc: Global) -> Result<(Board, DriverPass), NoMemory>
+        ensures board { IfOk result (λ made. made.1.board ≡ made.0) }
+        ensures first { IfOk result (λ made. made.1.states ≡ first_state ∷ []) }
+    {
+        let first = BoardState {
+            tick: 0,
+            events: 0,
+            kills: 0,
+        };
+        let (cell, seat) = Cell::ruled(alloc, first)?;
+        Ok((Board { cell }, DriverPass { seat }))
+    }
+
+    /// Shows the state of the next tick.
+    pub fn publish<R: Wait>(&self, rt: &R, pass: &mut DriverPass, state: BoardState)
+        requires board { pass.old.board ≡ self.now }
+        requires next { state.tick ≡ length pass.old.states }
+        ensures board { pass.new.board ≡ pass.old.board }
+        ensures shown { pass.new.states ≡ pass.old.states ++ state ∷ [] }
+    {
+        self.cell.swap_as::<Publishes, R>(rt, &mut pass.seat, state);
+    }
+
+    /// A pass for an observer, who has been told what was published so far, and has read nothing.
+    pub fn pass<R: Wait>(&self, _rt: &R, driver: &mut DriverPass) -> Result<BoardPass, NoMemory>
+        requires board { driver.old.board ≡ self.now }
+        ensures ok { IsOk result }
+        ensures same { driver.new ≡ driver.old }
+        ensures board { IfOk result (λ pass. pass.board ≡ self.now) }
+        ensures new { IfOk result (λ pass. pass.knows ≡ newcomer driver.old.states) }
+    {
+        Ok(BoardPass {
+            seat: self.cell.split_pass::<Admits>(&mut driver.seat),
+        })
+    }
+
+    /// The state that the board shows: of no earlier tick than the pass saw or was told of.
+    pub fn read<R: Wait>(&self, rt: &R, pass: &mut BoardPass) -> BoardState
+        requires board { pass.old.board ≡ self.now }
+        ensures board { pass.new.board ≡ pass.old.board }
+        ensures later { pass.old.knows.least ≤ result.tick }
+        ensures read { pass.new.knows ≡ after_read result pass.old.knows }
+    {
+        self.cell.load_as::<Reads, R>(rt, &mut pass.seat)
+    }
+
+    /// Tells a pass all that was published: each state that it read is the one that was published under its tick.
+    pub fn tell<R: Wait>(
+        &self,
+        rt: &R,
+        driver: &mut DriverPass,
+        pass: &mut BoardPass,
+    ) -> Result<(), NoMemory>
+        requires driver { driver.old.board ≡ self.now }
+        requires board { pass.old.board ≡ self.now }
+        ensures ok { result ≡ Ok tt }
+        ensures same { driver.new ≡ driver.old }
+        ensures board { pass.new.board ≡ pass.old.board }
+        ensures told { pass.new.knows ≡ after_told driver.old.states pass.old.knows }
+        ensures read { ArePublished driver.old.states pass.old.knows.read }
+    {
+        let seen = self.cell.split_pass::<Tells>(&mut pass.seat);
+        self.cell.join_pass::<Tells>(&mut driver.seat, seen);
+        self.cell.load_as::<Compares, R>(rt, &mut driver.seat);
+        let shown = self.cell.split_pass::<Tells>(&mut driver.seat);
+        self.cell.join_pass::<Tells>(&mut pass.seat, shown);
+        Ok(())
+    }
+}

@@ -1,0 +1,22 @@
+//! Observers of a replay: a journal under a lock to which they add what they saw, the watchers by which they see it, and a board
+//! of ticks that they read without a lock.
+//!
+//! An observer takes samples with a [`Watcher`], which keeps an [`Entry`] of each in a list of its own ([`Own`]), and adds them
+//! to the [`Journal`]. Once all have ended, [`Journal::order`] puts the entries of their own lists into the journal's order.
+//! The driver of the replay publishes each tick on the [`Board`].
+#![tactic(auto)]
+
+mod board;
+mod entry;
+mod journal;
+mod laws;
+mod order;
+mod own;
+mod watcher;
+
+pub use board::{Board, BoardPass, BoardState, DriverPass};
+pub use entry::Entry;
+pub use journal::{AddFault, Journal};
+pub use laws::law_last_read;
+pub use own::Own;
+pub use watcher::Watcher;

@@ -1,0 +1,74 @@
+//! The entries of the observers' own lists, in the order of the journal where it agrees with them.
+ghost use Rattle.std.specs.Prelude.{◌≡◌, ◌↔◌, ℕ, length, map, true, IfOk, None, Ok, Some};
+ghost use Rattle.observer_log.specs.Entries.{AreOwn, by, list_of, said};
+ghost use Rattle.observer_log.specs.Journal.{Agrees, AreInOrder, joined};
+
+use crate::entry::Entry;
+use crate::own::Own;
+use psi_base::NoMemory;
+use std::alloc::Global;
+
+// Whether two entries say the same, but for the plan.
+fn say_same(one: &Entry<'_>, other: &Entry<'_>) -> bool
+    ensures { (result ≡ true) ↔ (said one.now ≡ said other.now) }
+{
+    one.observer == other.observer
+        && one.cpu.0 == other.cpu.0
+        && one.slot.0 == other.slot.0
+        && one.count == other.count
+        && one.at == other.at
+        && one.seven == other.seven
+}
+
+/// The entries of the lists in the order of the journal, each for the journal's own at its place. None where the two don't
+/// agree.
+pub(crate) fn in_order<'a>(
+    alloc: Global,
+    journal: &[Entry<'_>],
+    own: &[Own<'a>],
+) -> Result<Option<Vec<Entry<'a>>>, NoMemory>
+    requires { AreOwn own.now }
+    ensures some { (entries : _) → result ≡ Ok (Some entries) →
+        AreInOrder journal.now own.now entries.items }
+    ensures none { result ≡ Ok None → Agrees journal.now own.now → ⊥ }
+{
+    let mut places = vec![in alloc; 0usize; own.len()]?;
+    let mut taken = Vec::new(alloc);
+    'entries: for entry in journal {
+        let observer = entry.observer as usize;
+        if observer >= own.len() {
+            return Ok(None);
+        }
+        let list = own[observer].entries();
+        let place = places[observer];
+        if place >= list.len() {
+            return Ok(None);
+        }
+        let next = list[place];
+        if !say_same(entry, &next) {
+            return Ok(None);
+        }
+        taken.push(next)?;
+        places[observer] = place + 1;
+    }
+    'lists: for observer in 0..own.len() {
+        if places[observer] != own[observer].entries().len() {
+            return Ok(None);
+        }
+    }
+    Ok(Some(taken))
+}
+
+/// The entries of the lists, one list after the other.
+pub(crate) fn joined<'a>(alloc: Global, own: &[Own<'a>]) -> Result<Vec<Entry<'a>>, NoMemory>
+    requires { AreOwn own.now }
+    ensures joined { IfOk result (λ entries. entries.items ≡ joined own.now) }
+    ensures own { IfOk result (λ entries. (observer : ℕ) →
+        by observer entries.items ≡ list_of own.now observer) }
+{
+    let mut entries = Vec::new(alloc);
+    'lists: for list in own {
+        entries.extend_from_slice(list.entries())?;
+    }
+    Ok(entries)
+}

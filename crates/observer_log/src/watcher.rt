@@ -1,0 +1,146 @@
+//! A watcher, which takes samples for one observer.
+ghost use Rattle.std.specs.Prelude.{◌≡◌, ◌<◌, length, IfErr, IfOk};
+ghost use Rattle.std.specs.Borrow.{sem};
+ghost use Rattle.plan_laws.specs.Plan.{IsClock};
+ghost use Rattle.observer_log.specs.Lending.{LendsReader};
+ghost use Rattle.observer_log.specs.Watch.{AreReaders, HasLooked, HasSampled, IsTakenBy, named_by, new_watcher, reader_at};
+ghost use Rattle.proc_plan.specs.Plans.{plan_at};
+
+use crate::entry::Entry;
+use crate::own::Own;
+use clock_row::{ClockReader, Sample};
+use proc_plan::Plans;
+use psi_base::{Cpu, Gate, NoMemory, Slot};
+use std::alloc::Global;
+use std::marker::Model;
+
+/// Takes samples of all processors for one observer, with a reader for each, and keeps the entries. It may go to another thread.
+/// Contracts see the observer, the plans, what the readers know, and the entries.
+#[derive(Drop)]
+pub struct Watcher<'a> {
+    observer: u32,
+    plans: &'a Plans,
+    /// By processor.
+    readers: Vec<ClockReader>,
+    own: Own<'a>,
+}
+
+impl<'a> Model for Watcher<'a> {
+    ghost use Rattle.std.specs.Prelude.{◌≡◌, length};
+    ghost use Rattle.observer_log.specs.Watch.{WatcherView};
+
+    ghost Value = { WatcherView };
+
+    ghost view = { λ w. record {
+      observer = w.observer;
+      plans = w.plans.now;
+      readers = w.readers.items;
+      own = w.own;
+    } };
+
+    ghost invariant = { λ w. length w.readers.items ≡ length w.plans.now.plans };
+}
+
+// Calls the gate and takes one sample, which becomes an entry.
+fn take_one<'a, G: Gate>(
+    observer: u32,
+    plans: &'a Plans,
+    readers: &mut Vec<ClockReader>,
+    cpu: Cpu,
+    slot: Slot,
+    last: &Sample,
+    gate: &G,
+) -> Entry<'a>
+    requires each { length readers.old.items ≡ length plans.now.plans }
+    requires cpu { cpu.0 < length plans.now.plans }
+    requires plan { named_by readers.old.items cpu.0 ≡ plan_at plans.now cpu.0 }
+    requires slot { slot.0 < length (named_by readers.old.items cpu.0).parents }
+    requires last { IsClock last.now.clock (named_by readers.old.items cpu.0)
+        slot.0 last.now.count }
+    requires seen { last.now.count ≡ (reader_at readers.old.items cpu.0).knows.seen }
+    ensures entry { IsTakenBy observer plans.now cpu.0 slot.0 last.now.count result }
+    ensures sampled { HasSampled cpu.0 last.now.count result.count
+        readers.old.items readers.new.items }
+{
+    gate.before_sample(cpu, observer);
+    let sample = readers[cpu.0 as usize].sample_or(slot, last);
+    Entry::take(observer, plans.plan(cpu), cpu, slot, &sample)
+}
+
+impl<'a> Watcher<'a> {
+    /// A watcher with no entry. There is one reader for each processor, in their order. It takes no memory.
+    pub fn make(
+        alloc: Global,
+        observer: u32,
+        plans: &'a Plans,
+        readers: Vec<ClockReader>,
+    ) -> Watcher<'a>
+        requires { AreReaders plans.now readers.items }
+        ensures { result ≡ new_watcher observer plans.now readers.items }
+    {
+        Watcher {
+            observer,
+            plans,
+            readers,
+            own: Own::new(alloc),
+        }
+    }
+
+    /// Takes one sample of a slot on a processor, after at least as many changes as the last one, and adds its entry to the list.
+    /// Before it calls the gate, with the number of the observer. NoMemory comes before the call, and leaves all as it was.
+    pub fn look<G: Gate>(
+        &mut self,
+        cpu: Cpu,
+        slot: Slot,
+        last: &Sample,
+        gate: &G,
+    ) -> Result<(), NoMemory>
+        requires cpu { cpu.0 < length self.old.plans.plans }
+        requires plan { named_by self.old.readers cpu.0 ≡ plan_at self.old.plans cpu.0 }
+        requires slot { slot.0 < length (named_by self.old.readers cpu.0).parents }
+        requires last { IsClock last.now.clock (named_by self.old.readers cpu.0)
+            slot.0 last.now.count }
+        requires seen { last.now.count ≡ (reader_at self.old.readers cpu.0).knows.seen }
+        ensures looked { IfOk result (λ _.
+            HasLooked cpu.0 slot.0 last.now.count self.old self.new) }
+        ensures kept { IfErr result (λ _. self.new ≡ self.old) }
+    {
+        self.own.entries.reserve(1)?;
+        let entry = take_one(
+            self.observer,
+            self.plans,
+            &mut self.readers,
+            cpu,
+            slot,
+            last,
+            gate,
+        );
+        let Ok(()) = self.own.entries.push(entry) else {
+            unreachable!()
+        };
+        Ok(())
+    }
+
+    /// The reader of a processor, which the writer of its row may meet and settle with. The list stays.
+    pub fn reader(&mut self, cpu: Cpu) -> &mut ClockReader
+        requires { cpu.0 < length self.old.plans.plans }
+        ensures* writes_back { sem 𝓛 (LendsReader self.entry cpu.0 result) }
+        ensures value { result.now ≡ reader_at self.old.readers cpu.0 }
+    {
+        &mut self.readers[cpu.0 as usize]
+    }
+
+    /// Its list.
+    pub fn own(&self) -> &Own<'a>
+        ensures { result.now ≡ self.now.own }
+    {
+        &self.own
+    }
+
+    /// Gives the list up, and ends the watcher.
+    pub fn into_own(self) -> Own<'a>
+        ensures { result ≡ self.entry.own }
+    {
+        self.own
+    }
+}
