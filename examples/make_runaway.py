@@ -5,32 +5,37 @@ A web server answers on processor 0. On processor 1 an index is kept, and from 6
 memory: more and more of its time goes into getting pages back, and the index loses its own pages and waits for the disk. At
 220 s somebody ends the import by hand, its group is removed, and the pressure falls.
 """
+from __future__ import annotations
+
 import heapq
 import itertools
 import random
+from collections.abc import Callable, Generator
 
 MS = 10**6
 SECOND = 1000 * MS
 GROUPS = ("/web", "/batch", "/batch/import", "/batch/index")
 BEGIN, MOST, STOP, END = (second * SECOND for second in (60, 150, 220, 300))
 
+# What a task does: steps of a kind and a length (ns), each asked for with the moment (ns). `stall` and `unstall` take no time.
+Step = tuple[str, int]
+Plan = Generator[Step, int, None]
+
 draw = random.Random(5)
 
 
-def about(ms):
-    """A time near so many ms."""
+def about(ms: float) -> int:
+    """A time (ns) near so many ms."""
     return max(1, round(ms * (0.7 + 0.6 * draw.random()))) * MS
 
 
-def need(now):
-    """How far the import has outgrown the memory, from 0 to 1."""
+def need(now: int) -> float:
+    """How far the import has outgrown the memory at a moment (ns), from 0 to 1."""
     return min(1, max(0, (now - BEGIN) / (MOST - BEGIN))) if now < STOP else 0
 
 
-# What a task does: steps of a kind and a length. The length of `stall` and `unstall` is nothing.
-
-
-def web():
+def web() -> Plan:
+    """A server: it waits for the disk the longer the less memory is left."""
     while True:
         now = yield "sleep", about(1500)
         now = yield "run", about(250)
@@ -38,7 +43,8 @@ def web():
         yield "run", about(250)
 
 
-def index():
+def index() -> Plan:
+    """A task that keeps an index, of which ever less is in memory."""
     while True:
         now = yield "sleep", about(1200)
         yield "run", about(300)
@@ -50,7 +56,8 @@ def index():
         yield "run", about(200)
 
 
-def loader():
+def loader() -> Plan:
+    """The import: it sleeps until it begins, needs more and more, and is ended by hand."""
     now = yield "sleep", BEGIN
     while now < STOP:
         now = yield "run", about(500 - 250 * need(now))
@@ -66,18 +73,21 @@ def loader():
 class Machine:
     """Two processors, on which a task runs until it waits, sleeps or exits."""
 
-    def __init__(self):
-        self.running = [None, None]
-        self.ready = [[], []]
-        self.due = []
+    def __init__(self) -> None:
+        self.running: list[int | None] = [None, None]
+        self.ready: list[list[int]] = [[], []]
+        self.due: list[tuple[int, int, Callable[..., None], tuple[int, ...]]] = []
         self.order = itertools.count()
-        self.plans, self.first = {}, {}
+        self.plans: dict[int, tuple[int, Plan]] = {}
+        self.first: dict[int, Step] = {}
         self.groups = set(GROUPS)
 
-    def at(self, moment, call, *given):
+    def at(self, moment: int, call: Callable[..., None], *given: int) -> None:
+        """Calls this at a moment (ns), with the moment first."""
         heapq.heappush(self.due, (moment, next(self.order), call, given))
 
-    def fork(self, pid, group, cpu, plan):
+    def fork(self, pid: int, group: str, cpu: int, plan: Plan) -> None:
+        """Makes a task at 0, which runs at once where the processor is free."""
         print(f"0 fork {pid} {group} {cpu}")
         self.plans[pid] = cpu, plan
         self.first[pid] = next(plan)
@@ -85,13 +95,14 @@ class Machine:
         if not self.running[cpu]:
             self.switch(0, cpu, "idle")
 
-    def switch(self, now, cpu, how):
+    def switch(self, now: int, cpu: int, how: str) -> None:
+        """The running task leaves, and the next that is ready runs, if one is."""
         pid = self.running[cpu] = self.ready[cpu].pop(0) if self.ready[cpu] else None
         print(f"{now} switch {cpu} {pid or 0} {how}")
         if pid:
             self.go_on(now, pid, self.first.pop(pid, None))
 
-    def go_on(self, now, pid, first=None):
+    def go_on(self, now: int, pid: int, first: Step | None = None) -> None:
         """Takes the steps of the running task up to one that takes time: from this one on, or from its plan's next."""
         cpu, plan = self.plans[pid]
         kind, length = first or plan.send(now)
@@ -108,14 +119,15 @@ class Machine:
         else:
             self.at(now + length, self.wake, pid)
 
-    def wake(self, now, pid):
+    def wake(self, now: int, pid: int) -> None:
+        """The task is ready where it was, and runs at once where that processor is free."""
         cpu, _ = self.plans[pid]
         print(f"{now} wake {pid} {cpu}")
         self.ready[cpu].append(pid)
         if not self.running[cpu]:
             self.switch(now, cpu, "idle")
 
-    def sample(self, now):
+    def sample(self, now: int) -> None:
         """Memory in bytes, and pages scanned: the import's grow, and the others give way."""
         grown = need(now)
         scanned = round(max(0, min(now, STOP) - BEGIN) / SECOND) * 4000
@@ -129,14 +141,16 @@ class Machine:
                 print(f"{now} mem {group} {round(size) << 20} 0 {pages}")
         self.at(now + 10 * SECOND, self.sample)
 
-    def run(self):
+    def run(self) -> None:
+        """Does what is due, in the order of time, up to the end."""
         self.at(0, self.sample)
         while self.due[0][0] < END:
             now, _, call, given = heapq.heappop(self.due)
             call(now, *given)
 
 
-def main():
+def main() -> None:
+    """Prints the trace."""
     print("psitrace 1 cpus=2")
     print(f"0 host {2 << 30} 0 0")
     for group in GROUPS:
@@ -152,4 +166,5 @@ def main():
     print(f"{END} end")
 
 
-main()
+if __name__ == "__main__":
+    main()

@@ -198,13 +198,14 @@ def play(player: Player, source: Source, places: range, window: Window) -> str |
 
 
 class Wanted(NamedTuple):
-    """What is to be made of a recording: of which part, by what waits for IO are told, with how many levels of groups, and
-    with which lines once a group is there."""
+    """What is to be made of a recording: of which part, by what waits for IO are told, with how many levels of groups,
+    with which lines once a group is there, and whether with interrupts, which a trace of version 2 has."""
 
     window: Window
     method: Method
     deepest: int | None
     upon: dict[str, list[str]]
+    has_interrupts: bool = False
 
 
 def convert(source: Source, wanted: Wanted) -> Converted:
@@ -214,7 +215,7 @@ def convert(source: Source, wanted: Wanted) -> Converted:
     is_sound = not any(gap.start < window.start for gap in source.gaps)
     places = range(place_of(source.events, window.start), place_of(source.events, window.end + 1))
     prior = prior_of(source, places.start, waits, deepest, is_sound)
-    world = World(source.processors, Groups(deepest))
+    world = World(source.processors, Groups(deepest), wanted.has_interrupts)
     world.upon = wanted.upon
     world.mended.update(prior.mended)
     begin(world, prior, beginning_of(source.events[places.start : places.stop], tells_of_births(source.events)))
@@ -223,7 +224,7 @@ def convert(source: Source, wanted: Wanted) -> Converted:
     if world.groups.leaving:
         world.mended["removed group that a task never left"] += len(world.groups.leaving)
     counts = Counter(NAMES[type(event)] for event in source.events[places.start : places.stop])
-    lines = [f"psitrace 1 cpus={source.processors}", *world.lines, f"{world.now} end"]
+    lines = [f"psitrace {2 if wanted.has_interrupts else 1} cpus={source.processors}", *world.lines, f"{world.now} end"]
     uninterruptible = waits_for_io(source.events, Method.STATE)
     return Converted(lines, world, counts, count_in(waits, places), count_in(uninterruptible, places), player.victims, limit)
 

@@ -6,8 +6,8 @@ from collections import Counter, defaultdict
 from collections.abc import Callable, Sequence
 
 from .events import (
-    CLONE_INTO_CGROUP, CLONE_THREAD, GONE, Attach, Event, Exec, FirstWakeup, GroupMade, GroupRemoved, Marker, Migration,
-    NewTask, StallBegins, StallEnds, Switch, Victim, Wakeup,
+    CLONE_INTO_CGROUP, CLONE_THREAD, GONE, Attach, Event, Exec, FirstWakeup, GroupMade, GroupRemoved, Interrupts, Marker,
+    Migration, NewTask, StallBegins, StallEnds, Switch, Victim, Wakeup,
 )  # fmt: skip
 from .groups import ROOT
 from .layout import MARK, escaped_path
@@ -53,6 +53,8 @@ class Player:
             self.migrate(event)
         elif isinstance(event, (StallBegins, StallEnds)):
             self.stall(event)
+        elif isinstance(event, Interrupts):
+            self.world.interrupt(event.processor, event.delta)
         elif isinstance(event, Marker):
             self.mark(event)
         elif isinstance(event, NewTask):

@@ -19,7 +19,7 @@ from collections.abc import Callable
 from typing import NamedTuple
 
 from .convert import MOST_PROCESSORS, Converted, Wanted, convert
-from .events import SwitchProbe, WaitEnds
+from .events import Interrupts, SwitchProbe, WaitEnds
 from .layout import RESOURCES, escaped_path
 from .recording import read_recording
 from .source import Faulty, Source, Unreadable
@@ -48,6 +48,7 @@ class Options(NamedTuple):
     end: int | None
     deepest: int | None
     triggers: list[str]
+    has_interrupts: bool
     is_forced: bool
 
 
@@ -92,6 +93,9 @@ def parser() -> Parser:
                        action="append", default=[],
                        help="put a trigger into the trace, times in us, such as '/ memory full 100000 1000000'; also more"
                        " than once")  # fmt: skip
+    words.add_argument("--interrupts", dest="has_interrupts", action="store_true",
+                       help="write for how long interrupts held up who ran, where the recorder's machine accounted them: a trace of"
+                       " version 2")  # fmt: skip
     words.add_argument("--force", dest="is_forced", action="store_true",
                        help="write what is sound, though something was lost: the longest stretch without loss")  # fmt: skip
     return words
@@ -145,6 +149,12 @@ def method_of(options: Options, source: Source) -> Method:
     return options.method or best
 
 
+def check_interrupts(options: Options, source: Source) -> None:
+    """Interrupts that are asked for must be in the recording."""
+    if options.has_interrupts and not any(isinstance(event, Interrupts) for event in source.events):
+        raise Faulty("--interrupts: the recording has no such events: its kernel doesn't account interrupts, or is newer than 6.9")
+
+
 def upon_of(options: Options, source: Source) -> dict[str, list[str]]:
     """What is to be written once a group is there: its preference, and its triggers."""
     upon: dict[str, list[str]] = {}
@@ -189,7 +199,8 @@ def run(options: Options) -> int:
         window = longest_stretch(overlapping(source.gaps, window), window)
     upon = upon_of(options, source)
     method = method_of(options, source)
-    converted = convert(source, Wanted(window, method, options.deepest, upon))
+    check_interrupts(options, source)
+    converted = convert(source, Wanted(window, method, options.deepest, upon, options.has_interrupts))
     never_made = [path for path, words in upon.items() if any(it.startswith("trigger") for it in words)]
     if never_made:
         raise Faulty(f"--trigger: there is no group {never_made[0]} in the trace")

@@ -60,8 +60,8 @@ def told_lines(source: Source, converted: Converted) -> list[str]:
         lines.append(f"omit is told as avoid: {', '.join(omitted)}")
     if source.snapshot.unaccounted:
         lines.append(f"the machine doesn't account these groups, a trace does: {', '.join(source.snapshot.unaccounted)}")
-    if converted.counts["psi_account_irqtime"]:
-        lines.append("times of interrupts are left out: a trace of version 1 has no word for them")
+    if converted.counts["psi_account_irqtime"] and not converted.world.has_interrupts:
+        lines.append("times of interrupts are left out: --interrupts writes them, into a trace of version 2")
     lines += [f"the kernel's own killer chose task {task} at {seconds(moment)} s" for moment, task in converted.victims]
     return lines
 

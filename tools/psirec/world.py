@@ -1,6 +1,6 @@
 """The machine as a trace knows it, and the lines of the trace: each act here writes lines that a reader of traces accepts.
 
-Whatever a caller asks of a world stays legal, so a trace of version 1 that it writes is never refused: a task that runs is
+Whatever a caller asks of a world stays legal, so a trace that it writes is never refused: a task that runs is
 put aside before another runs there, one that leaves for good leaves its stall first, and groups come and go in order.
 """
 from __future__ import annotations
@@ -12,6 +12,8 @@ from .groups import Groups, parent_of
 
 # A label is the kernel's number of the task, unless that is taken: then it is this much more.
 LABEL_STEP = 100_000_000
+# So long (ns) may the interrupts of one line be.
+MOST_INTERRUPTS = 10**9
 
 
 class State(Enum):
@@ -55,11 +57,14 @@ class Task:
 
 
 class World:
-    """The tasks by their numbers in the kernel, and who runs on each processor. `now` is ns since the trace's start."""
+    """The tasks by their numbers in the kernel, and who runs on each processor. `now` is ns since the trace's start.
 
-    def __init__(self, processors: int, groups: Groups) -> None:
-        self.processors, self.groups = processors, groups
+    Where it has interrupts the trace has version 2, and `interrupted` is the moment (ns) of the last line of them by processor."""
+
+    def __init__(self, processors: int, groups: Groups, has_interrupts: bool = False) -> None:
+        self.processors, self.groups, self.has_interrupts = processors, groups, has_interrupts
         self.now = 0
+        self.interrupted: dict[int, int] = {}
         self.lines: list[str] = []
         self.tasks: dict[int, Task] = {}
         self.runs: dict[int, int] = {}
@@ -111,6 +116,20 @@ class World:
         self.groups.enter(path)
         self.put(f"move {task.label} {path}")
         self.leave_group(before)
+
+    # ------------------------------------------------------------ interrupts
+
+    def interrupt(self, processor: int, length: int) -> None:
+        """Interrupts took so long (ns) from the task that runs there. A line can't tell of more than a second, nor of time that a
+        line before it told of."""
+        if not self.has_interrupts or not self.running(processor):
+            return
+        told = min(length, self.now - self.interrupted.get(processor, 0), MOST_INTERRUPTS)
+        if told < length:
+            self.mended["interrupts longer than the time since the last ones, cut off"] += 1
+        if told:
+            self.put(f"irq {processor} {told}")
+            self.interrupted[processor] = self.now
 
     # ------------------------------------------------------------ tasks
 

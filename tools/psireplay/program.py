@@ -24,13 +24,21 @@ def program_path() -> str:
     return os.path.abspath(os.environ.get("PSI_OOMD") or LAUNCHER)
 
 
+def built_program() -> str:
+    """The program of the launcher, built where it is older than its sources, which the launcher then tells on standard error.
+
+    The launcher looks at all sources at each start, so what is run more than once is run without it."""
+    done = subprocess.run([LAUNCHER, "--build"], stdout=subprocess.PIPE, encoding="utf-8")
+    if done.returncode:
+        raise Fault(f"{LAUNCHER} couldn't be built: {ADVICE}")
+    return done.stdout.rstrip("\n")
+
+
 def start(words: list[str], notes: IO[bytes]) -> subprocess.Popen[bytes]:
     """A run of the program on a pipe, whose output comes by another. What it says of faults goes into the file of notes."""
     path = program_path()
     try:
-        # Where the launcher has to build first, which takes long, it says so to the user and not into the notes.
-        if path == LAUNCHER and subprocess.run([path, "--build"]).returncode:
-            raise Fault(f"{path} couldn't be built: {ADVICE}")
+        path = built_program() if path == LAUNCHER else path
         return subprocess.Popen([path, *words], stdin=subprocess.PIPE, stdout=subprocess.PIPE, stderr=notes)
     except OSError as fault:
         raise Fault(f"{path} can't be run ({fault.strerror}): {ADVICE}") from None

@@ -9,7 +9,7 @@ from psirules.expectations import victims
 from psirules.program import Kill, Program
 from psirules.replays import Traces, accepted, no_input
 from psirules.rules_file import RulesFile
-from psirules.telling import Form, Outcome
+from psirules.telling import Outcome
 from psirules.wording import Fault, seconds
 
 ABOUT = """Replays each trace by the rules of OLD and by those of NEW, and tells of each, by the first kill that differs:
@@ -92,16 +92,18 @@ def run(given: argparse.Namespace) -> int:
         fault = next((it for it in (one, other) if isinstance(it, Fault)), None)
         compared.append(Compared(trace, fault or difference(one, other, old, new)))
     outcomes = [it.outcome() for it in compared]
-    status = telling.status_of(outcomes)
-    if given.form is Form.JSON:
+
+    def record(status: int) -> object:
         records = [it.record(old, new) for it in compared]
-        telling.tell_json({"old": given.old, "new": given.new, "status": status, "traces": records})
-    elif given.form is Form.TAP:
-        telling.tell_tap(outcomes)
-    else:
-        for outcome in outcomes:
-            if outcome.is_ok is None:
-                telling.complain(outcome.told)
-            else:
-                print(f"{outcome.name}: {outcome.told}")
-    return status
+        return {"old": given.old, "new": given.new, "status": status, "traces": records}
+
+    return telling.tell(given.form, outcomes, record, lambda: tell_lines(outcomes))
+
+
+def tell_lines(outcomes: list[Outcome]) -> None:
+    """A line for each trace; what couldn't be run is told on standard error."""
+    for outcome in outcomes:
+        if outcome.is_ok is None:
+            telling.complain(outcome.told)
+        else:
+            print(f"{outcome.name}: {outcome.told}")

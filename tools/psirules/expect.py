@@ -8,7 +8,7 @@ from psirules.expectations import Expectation
 from psirules.program import Kill, Program
 from psirules.replays import STANDARD_INPUT, Traces, accepted
 from psirules.rules_file import RulesFile, bytes_of
-from psirules.telling import Form, Outcome
+from psirules.telling import Outcome
 from psirules.wording import Fault
 
 ABOUT = """Replays each trace by the rules of FILE, and holds its kills against the lines of WANT, all against each trace:
@@ -77,16 +77,9 @@ def judge(given: argparse.Namespace, program: Program) -> list[Judged]:
 
 def run(given: argparse.Namespace) -> int:
     judged = judge(given, Program())
-    status = telling.status_of([outcome for trace in judged for outcome in trace.outcomes])
-    if given.form is Form.JSON:
-        telling.tell_json(
-            {"rules": given.rules, "want": given.want, "status": status, "traces": [it.record() for it in judged]}
-        )
-    elif given.form is Form.TAP:
-        named = [
-            Outcome(f"{it.trace}: {outcome.name}", outcome.is_ok, outcome.told) for it in judged for outcome in it.outcomes
-        ]
-        telling.tell_tap(named)
-    else:
-        tell_lines(judged, len(judged) > 1)
-    return status
+    named = [Outcome(f"{it.trace}: {outcome.name}", outcome.is_ok, outcome.told) for it in judged for outcome in it.outcomes]
+
+    def record(status: int) -> object:
+        return {"rules": given.rules, "want": given.want, "status": status, "traces": [it.record() for it in judged]}
+
+    return telling.tell(given.form, named, record, lambda: tell_lines(judged, len(judged) > 1))

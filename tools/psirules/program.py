@@ -114,12 +114,15 @@ class Program:
             ) from fault
 
     def prepare(self) -> None:
-        """Builds the program beside the tools where it isn't built yet: once, and before many would do it side by side."""
+        """Builds the program beside the tools where it isn't built yet: once, and before many would do it side by side. It is run
+        without the launcher then, which looks for newer sources at each start."""
         if not os.environ.get(VARIABLE):
             with self.started(["--build"], None) as child:
-                child.wait()
+                assert child.stdout is not None
+                built = os.fsdecode(child.stdout.read()).rstrip("\n")
             if child.returncode:
                 raise Refusal(self.path, "", child.returncode)
+            self.path = built
 
     def judge(self, rules: RulesAt) -> None:
         """Raises a fault where the program doesn't take this rules file."""

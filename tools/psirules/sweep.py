@@ -12,7 +12,7 @@ from psirules.places import Place
 from psirules.program import RULES_REFUSED, Kill, Pace, Program, Refusal, processors, side_by_side
 from psirules.replays import accepted, no_input
 from psirules.rules_file import RulesFile, kept
-from psirules.telling import Form, Outcome
+from psirules.telling import Outcome
 from psirules.wording import Fault, quoted, seconds
 
 ABOUT = """Replays TRACE by the rules of FILE once for each value of an argument, and prints a table of the kills.
@@ -138,13 +138,9 @@ def run(given: argparse.Namespace) -> int:
         rules, _ = accepted(program, given.file, files)
     axes = [axis(rules, text) for text in given.vary]
     rows = rows_of(axes, rules, given)
-    outcomes = [row.outcome(axes) for row in rows]
-    status = telling.status_of(outcomes)
-    if given.form is Form.JSON:
+
+    def record(status: int) -> object:
         records = [row.record(axes, rules) for row in rows]
-        telling.tell_json({"rules": given.file, "trace": given.trace, "status": status, "rows": records})
-    elif given.form is Form.TAP:
-        telling.tell_tap(outcomes)
-    else:
-        tell_table(axes, rows)
-    return status
+        return {"rules": given.file, "trace": given.trace, "status": status, "rows": records}
+
+    return telling.tell(given.form, [row.outcome(axes) for row in rows], record, lambda: tell_table(axes, rows))

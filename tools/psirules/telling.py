@@ -1,6 +1,7 @@
 """How outcomes are told: as lines for people, as TAP (version 13) for harnesses of tests, or as JSON."""
 import json
 import sys
+from collections.abc import Callable
 from dataclasses import dataclass
 from enum import Enum
 
@@ -46,3 +47,16 @@ def tell_tap(outcomes: list[Outcome]) -> None:
         name = outcome.name.replace("\\", "\\\\").replace("#", "\\#")
         print(f"{'ok' if outcome.is_ok else 'not ok'} {number} - {name}")
         print(f"  ---\n  message: {json.dumps(outcome.told)}\n  ...")
+
+
+def tell(form: Form, outcomes: list[Outcome], record: Callable[[int], object], tell_lines: Callable[[], None]) -> int:
+    """Tells the outcomes in one of the forms: as JSON what is made of the status, and for people what the last one prints. Answers
+    the status."""
+    status = status_of(outcomes)
+    if form is Form.JSON:
+        tell_json(record(status))
+    elif form is Form.TAP:
+        tell_tap(outcomes)
+    else:
+        tell_lines()
+    return status
