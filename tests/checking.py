@@ -1,33 +1,20 @@
-"""What checks of tools have in common: what must be, and runs of the program and of a tool."""
+"""What checks of charts and metrics have in common: what must be near, and runs of the program and of a tool."""
 from __future__ import annotations
 
 import functools
 import os
 import subprocess
 from types import ModuleType
-from typing import Any, Callable, Iterator, Sequence
+from typing import Callable, Iterator, Sequence
+
+from must import Wrong, must, must_be
 
 TOP = os.path.dirname(os.path.dirname(os.path.abspath(__file__)))
 # Places in a chart have two decimals, and so have the axes from which the scales are read.
 NEAR = 0.02
-# So many letters of what was wrong are told.
-SHOWN = 600
 
 RUNAWAY = ("replay", "examples/runaway.trace", "--rules", "examples/runaway.json", "--report-s", "2")
 Check = Callable[[str], None]
-
-
-class Wrong(Exception):
-    """What is there, and what must be."""
-
-
-def must(is_right: bool, what: str) -> None:
-    if not is_right:
-        raise Wrong(what if len(what) <= SHOWN else f"{what[:SHOWN]} ..")
-
-
-def must_be(what: str, found: Any, wanted: Any) -> None:
-    must(found == wanted, f"{what}: {found}, not {wanted}")
 
 
 def must_be_near(what: str, found: Sequence[Sequence[float]], wanted: Sequence[Sequence[float]]) -> None:

@@ -2,6 +2,10 @@
 from __future__ import annotations
 
 
+# So many letters of what was wrong are told.
+SHOWN = 2000
+
+
 class Wrong(Exception):
     """What there is, and what must be."""
 
@@ -9,7 +13,7 @@ class Wrong(Exception):
 def must(is_right: object, what: str) -> None:
     """Fails the check unless this is right."""
     if not is_right:
-        raise Wrong(what)
+        raise Wrong(what if len(what) <= SHOWN else f"{what[:SHOWN]} ..")
 
 
 def must_be(what: str, found: object, wanted: object) -> None:

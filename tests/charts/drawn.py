@@ -7,7 +7,8 @@ import subprocess
 import xml.etree.ElementTree as ElementTree
 from typing import Callable, Iterator, Optional, Sequence
 
-from checking import NEAR, TOP, Wrong, must, must_be, must_be_near, run
+from checking import NEAR, TOP, must_be_near, run
+from must import Wrong, must, must_be
 
 from .printed import AVERAGES, LEVELS, RESOURCES, Printed
 

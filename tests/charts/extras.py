@@ -5,7 +5,8 @@ import json
 import tempfile
 from typing import Any, Sequence
 
-from checking import NEAR, must, must_be, must_be_near, run, story
+from checking import NEAR, must_be_near, run, story
+from must import must, must_be
 
 from .drawn import LEFT, RIGHT, Drawn, compare, compare_paths, drawn_of, inner, scale_of
 from .printed import AVERAGES, Printed
@@ -221,6 +222,22 @@ def check_many_samples(program: str) -> None:
     scale = scale_of(marks)
     must(abs(top - scale(max(sizes))) <= NEAR and abs(bottom - scale(min(sizes))) <= NEAR, "the most and the least are drawn")
     must_be_near("its end", [points[-1]], [(RIGHT, scale(sizes[-1]))])
+
+
+def check_interrupts_of_a_replay(program: str) -> None:
+    """The last panel has what a replay of version 2 reports of each group's interrupts."""
+    given = ["replay", "examples/kernel/42-v2-irq.trace", "--report-s=2"]
+    printed = Printed(run([program, *given]))
+    for group in ("/", "/a"):
+        drawn = Drawn(drawn_of(run([program, *given]), "--group", group))
+        must_be("panels", drawn.panel_names(), [f"{it} pressure" for it in ("IO", "memory", "CPU", "interrupt")])
+        compare(printed, drawn, [group])
+        share = drawn.share_scale("irq")
+        for average in AVERAGES:
+            shares = printed.shares[group, "irq", "full", average]
+            must_be("reports of interrupts", [moment // SECOND for moment, _ in shares], [2, 4, 6])
+            (points,) = drawn.lines(drawn.panel("irq"), f"full {average}")
+            must_be_near(f"interrupts {average}", points, [(drawn.x(moment), share(it)) for moment, it in shares])
 
 
 def check_interrupts(_: str) -> None:

@@ -4,7 +4,8 @@ from __future__ import annotations
 import functools
 import tempfile
 
-from checking import fault_of, must, must_be, story
+from checking import fault_of, story
+from must import must, must_be
 
 from .drawn import CHART
 

@@ -6,7 +6,8 @@ import random
 import re
 import tempfile
 
-from checking import NEAR, RUNAWAY, TOP, must, must_be, must_be_near, run, story
+from checking import NEAR, RUNAWAY, TOP, must_be_near, run, story
+from must import must, must_be
 
 from .drawn import SVG, Drawn, compare, compare_paths, drawn_of, inner, piped
 from .printed import AVERAGES, LEVELS, RESOURCES, Printed

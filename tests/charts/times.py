@@ -3,7 +3,8 @@ from __future__ import annotations
 
 import datetime
 
-from checking import must, must_be, must_be_near, story
+from checking import must_be_near, story
+from must import must, must_be
 
 from .drawn import LEFT, RIGHT, UNITS, Drawn, compare, drawn_of
 from .printed import LEVELS, Printed

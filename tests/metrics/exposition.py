@@ -5,7 +5,7 @@ import re
 from decimal import Decimal
 from typing import NamedTuple, Optional
 
-from checking import Wrong, must, must_be
+from must import Wrong, must, must_be
 
 Labels = frozenset[tuple[str, str]]
 Point = tuple[Decimal, Decimal]

@@ -3,7 +3,8 @@ from __future__ import annotations
 
 import functools
 
-from checking import fault_of, must, must_be, story
+from checking import fault_of, story
+from must import must, must_be
 
 from .values import OPENMETRICS, START
 

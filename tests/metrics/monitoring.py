@@ -15,7 +15,8 @@ import urllib.request
 from decimal import Decimal
 from typing import Any, Iterator
 
-from checking import must, must_be, run, story
+from checking import run, story
+from must import must, must_be
 
 from .exposition import Exposition
 from .values import ODD, ODD_TRACE, OPENMETRICS, START

@@ -5,7 +5,8 @@ import collections
 import os
 from decimal import Decimal
 
-from checking import RUNAWAY, TOP, must, must_be, run, story
+from checking import RUNAWAY, TOP, run, story
+from must import must, must_be
 
 from .exposition import Exposition, Point
 
@@ -147,6 +148,15 @@ def check_interrupts(_: str) -> None:
     metrics = metrics_of(printed)
     compare_totals(printed, metrics)
     must_be("interrupts", metrics.points("node_pressure_irq_stalled_seconds_total"), [(EPOCH + 2, Decimal(1))])
+
+
+def check_interrupts_of_a_replay(program: str) -> None:
+    printed = run([program, "replay", "examples/kernel/42-v2-irq.trace", "--report-s=2"])
+    metrics = metrics_of(printed)
+    compare_totals(printed, metrics)
+    found = metrics.points("container_pressure_irq_stalled_seconds_total", id="/a")
+    totals = [(2, "0.1"), (4, "0.177777"), (6, "0.177777")]
+    must_be("interrupts of a group", found, [(EPOCH + moment, Decimal(total)) for moment, total in totals])
 
 
 def check_points_that_are_near(_: str) -> None:

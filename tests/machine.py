@@ -1,0 +1,124 @@
+"""Tasks, groups and states after each event of a trace, by the rules alone: which states hold is read off the tasks."""
+from __future__ import annotations
+
+import collections
+import dataclasses
+
+
+@dataclasses.dataclass
+class Task:
+    """A task by its group and processor: `at` is "ready", "running", "sleep" or "iowait"."""
+
+    group: int
+    cpu: int
+    at: str = "ready"
+    is_stalled: bool = False
+
+
+class Machine:
+    """What a legal trace made so far. Groups are numbers in the order in which they were made; 0 is the root.
+
+    `interrupts` has, by processor and group, how long (ns) interrupts took there while a task of the group ran."""
+
+    def __init__(self, cpus: int) -> None:
+        self.cpus = cpus
+        self.parents: list[int | None] = [None]
+        self.live = {"/": 0}
+        self.tasks: dict[str, Task] = {}
+        self.interrupts = collections.Counter[tuple[int, int]]()
+
+    def is_under(self, group: int | None, top: int) -> bool:
+        """Whether a group is this one or below it."""
+        while group is not None and group != top:
+            group = self.parents[group]
+        return group == top
+
+    def running(self, cpu: int) -> list[str]:
+        """The numbers of the tasks that run there: one or none."""
+        return [pid for pid, task in self.tasks.items() if task.cpu == cpu and task.at == "running"]
+
+    def holds(self, cpu: int, group: int) -> list[bool]:
+        """Which of the seven states hold for the group on the processor."""
+        tasks = [task for task in self.tasks.values() if task.cpu == cpu and self.is_under(task.group, group)]
+        waits = any(task.at == "iowait" for task in tasks)
+        stalled = any(task.is_stalled for task in tasks)
+        ready = [task for task in tasks if task.at == "ready"]
+        running = [task for task in tasks if task.at == "running"]
+        active = ready + running
+        is_memory_full = all(task.is_stalled for task in active) or any(task.is_stalled for task in running)
+        return [
+            waits,
+            waits and not active,
+            stalled,
+            stalled and is_memory_full,
+            bool(ready),
+            bool(ready) and not running,
+            waits or stalled or bool(active),
+        ]
+
+    def take(self, verb: str, *fields: str) -> set[int]:
+        """Makes this event, and answers which processors it changes."""
+        changed: set[int] = getattr(self, f"take_{verb}")(*fields)
+        return changed
+
+    def take_group(self, path: str) -> set[int]:
+        self.parents.append(self.live[parent_of(path)])
+        self.live[path] = len(self.parents) - 1
+        return set()
+
+    def take_rmgroup(self, path: str) -> set[int]:
+        del self.live[path]
+        return set()
+
+    def take_fork(self, pid: str, path: str, cpu: str) -> set[int]:
+        self.tasks[pid] = Task(self.live[path], int(cpu))
+        return {int(cpu)}
+
+    def take_switch(self, cpu: str, next_pid: str, how: str) -> set[int]:
+        for pid in self.running(int(cpu)):
+            self.tasks[pid].at = "ready" if how == "preempt" else how
+            if how == "exit":
+                del self.tasks[pid]
+        if next_pid != "0":
+            self.tasks[next_pid].at = "running"
+        return {int(cpu)}
+
+    def take_wake(self, pid: str, cpu: str) -> set[int]:
+        task = self.tasks[pid]
+        changed = {task.cpu, int(cpu)}
+        task.cpu, task.at = int(cpu), "ready"
+        return changed
+
+    take_migrate = take_wake
+
+    def take_stall(self, pid: str) -> set[int]:
+        self.tasks[pid].is_stalled = True
+        return {self.tasks[pid].cpu}
+
+    def take_unstall(self, pid: str) -> set[int]:
+        self.tasks[pid].is_stalled = False
+        return {self.tasks[pid].cpu}
+
+    def take_move(self, pid: str, path: str) -> set[int]:
+        self.tasks[pid].group = self.live[path]
+        return {self.tasks[pid].cpu}
+
+    def take_irq(self, cpu: str, length: str) -> set[int]:
+        """Interrupts take so long (ns) from the task that runs, so from its group and all above. It is a change in any case."""
+        for pid in self.running(int(cpu)):
+            group: int | None = self.tasks[pid].group
+            while group is not None:
+                self.interrupts[int(cpu), group] += int(length)
+                group = self.parents[group]
+        return {int(cpu)}
+
+    def take_other(self, *_: str) -> set[int]:
+        """Changes no processor."""
+        return set()
+
+    take_prefer = take_mem = take_host = take_trigger = take_end = take_other
+
+
+def parent_of(path: str) -> str:
+    """The path of the group above."""
+    return path.rpartition("/")[0] or "/"

@@ -1,0 +1,307 @@
+"""What rules files and drop-in files say, read plainly: for checks of what psi_oomd makes of them.
+
+It follows docs/FORMATS.md alone. A file's bytes become rulesets, with every argument as the text in which it is printed, or the
+first fault on the walk through the file; parts are put into rulesets; and rulesets become the line that `rules` prints.
+"""
+from __future__ import annotations
+
+import json
+import re
+from collections.abc import Callable, Iterator
+from typing import Any, NamedTuple, Optional
+
+LONGEST, DEEPEST = 1_048_576, 127
+MOST_RULESETS, MOST_ITEMS, MOST_PATTERNS = 64, 16, 16
+MOST_SECONDS, MOST_BYTES, MOST_WHOLE = 1_000_000, 2**60, 2**64 - 1
+# Every limit has fewer than 21 digits.
+NUMBER = "(0|[1-9][0-9]{0,19})"
+PART = r"(?:\.([0-9]{1,3}))?"
+UNITS = "KMGT"
+Place = tuple[tuple[str, int], ...]
+
+
+class Refused(Exception):
+    """The first fault of a file: where it is, and why."""
+
+    def __init__(self, place: Place, cause: str) -> None:
+        super().__init__(f"{''.join(f' {word} {number}' for word, number in place)}: {cause}")
+
+
+class Token(NamedTuple):
+    """A JSON number, as it is spelled."""
+
+    text: str
+
+
+class Plugin(NamedTuple):
+    """A detector or an action: its name, and each argument as it is printed."""
+
+    name: str
+    args: dict[str, str]
+
+
+class Group(NamedTuple):
+    """A group of detectors."""
+
+    name: str
+    detectors: list[Plugin]
+
+
+class Ruleset(NamedTuple):
+    """A ruleset. One of a drop-in file may lack its groups or its actions."""
+
+    name: str
+    groups: Optional[list[Group]]
+    actions: Optional[list[Plugin]]
+
+
+# ---------------------------------------------------------------- arguments
+
+Form = Callable[[str], Optional[str]]
+
+
+def number(most: int) -> Form:
+    """A decimal number up to this one, without leading zeros."""
+    return lambda text: text if re.fullmatch(NUMBER, text, re.ASCII) and int(text) <= most else None
+
+
+def ratio(text: str) -> Optional[str]:
+    """A number up to 1000 with up to three digits behind a point; it is printed with three."""
+    found = re.fullmatch(NUMBER + PART, text, re.ASCII)
+    return f"{found[1]}.{(found[2] or '').ljust(3, '0')}" if found and int(found[1]) <= 1000 else None
+
+
+def size(text: str) -> Optional[str]:
+    """Bytes, with a power of 1024 or without, printed as whole bytes; or a percentage."""
+    percent = re.fullmatch(f"{NUMBER}%", text, re.ASCII)
+    if percent:
+        return text if int(percent[1]) <= 100 else None
+    found = re.fullmatch(f"{NUMBER}(?:{PART}([{UNITS}{UNITS.lower()}]))?", text, re.ASCII)
+    if not found:
+        return None
+    thousandths = int(found[1] + (found[2] or "").ljust(3, "0"))
+    power = 1 + UNITS.index(found[3].upper()) if found[3] else 0
+    value = thousandths * 1024**power // 1000
+    return str(value) if value <= MOST_BYTES else None
+
+
+def truth(text: str) -> Optional[str]:
+    return {"true": "true", "True": "true", "1": "true", "false": "false", "False": "false", "0": "false"}.get(text)
+
+
+def resource(text: str) -> Optional[str]:
+    return text if text in ("io", "memory") else None
+
+
+def pattern(text: str) -> Optional[str]:
+    """The root, or components with slashes between; a slash at the front isn't printed."""
+    parts = text.removeprefix("/").split("/")
+    is_good = all(re.fullmatch(r"[A-Za-z0-9_.@:\\*-]+", part, re.ASCII) and part not in (".", "..") for part in parts)
+    return text if text == "/" else text.removeprefix("/") if is_good else None
+
+
+def patterns(text: str) -> Optional[str]:
+    found = [pattern(it) for it in text.split(",")]
+    return None if None in found else ",".join(filter(None, found))
+
+
+PERCENT, SECONDS = number(100), number(MOST_SECONDS)
+MATCHES = ("cgroup", patterns, None)
+WATCHED = (MATCHES, ("resource", resource, None), ("threshold", PERCENT, None), ("duration", SECONDS, None))
+Arguments = tuple[tuple[str, Form, Optional[str]], ...]
+DETECTORS: dict[str, Arguments] = {
+    "pressure_above": WATCHED,
+    "pressure_rising_beyond": (*WATCHED, ("fast_fall_ratio", ratio, "0.85")),
+    "memory_above": (MATCHES, ("threshold", size, None), ("duration", SECONDS, None)),
+    "memory_reclaim": (MATCHES, ("duration", SECONDS, None)),
+    "swap_free": (("threshold_pct", PERCENT, None),),
+    "exists": (MATCHES, ("negate", truth, "false")),
+}
+ACTIONS: dict[str, Arguments] = {
+    "kill_by_memory_size_or_growth": (
+        MATCHES, ("size_threshold", PERCENT, "50"), ("growing_size_percentile", PERCENT, "80"),
+        ("min_growth_ratio", ratio, "1.25"),
+    ),
+    "kill_by_swap_usage": (MATCHES, ("threshold", size, "1")),
+    "kill_by_pressure": (MATCHES, ("resource", resource, None)),
+    "kill_by_pg_scan": (MATCHES,),
+}  # fmt: skip
+
+
+def of_each_action(delay: str) -> Arguments:
+    """What every action has, where this is the ruleset's own delay (seconds)."""
+    truths: Arguments = tuple((name, truth, "false") for name in ("recursive", "always_continue"))
+    return (*truths, ("post_action_delay", SECONDS, delay))
+
+
+# ---------------------------------------------------------------- JSON
+
+
+def refuse(_: str) -> None:
+    raise ValueError("no JSON")
+
+
+def float_token(text: str) -> Token:
+    """A number with a point or an exponent, which must be one of 64 bits."""
+    if float(text) in (float("inf"), float("-inf")):
+        raise ValueError("no number")
+    return Token(text)
+
+
+def texts_in(value: Any) -> Iterator[str]:
+    """All texts of a JSON value, keys too."""
+    if isinstance(value, str):
+        yield value
+    elif isinstance(value, dict):
+        for key, it in value.items():
+            yield key
+            yield from texts_in(it)
+    elif isinstance(value, list):
+        for it in value:
+            yield from texts_in(it)
+
+
+def depth_of(value: Any) -> int:
+    """How many lists and objects stand within one another."""
+    if not isinstance(value, (dict, list)):
+        return 0
+    return 1 + max(map(depth_of, value.values() if isinstance(value, dict) else value), default=0)
+
+
+def json_of(data: bytes) -> Any:
+    """The JSON value of a file, whose numbers are tokens; of equal keys the last one counts."""
+    try:
+        value = json.loads(data.decode("utf-8"), parse_int=float_token, parse_float=float_token, parse_constant=refuse)
+        for text in texts_in(value):
+            text.encode("utf-8")
+    except (ValueError, RecursionError):
+        raise Refused((), "BadJson") from None
+    if depth_of(value) > DEEPEST:
+        raise Refused((), "BadJson")
+    return value
+
+
+# ---------------------------------------------------------------- the walk
+
+
+def member(value: dict[str, Any], key: str, kind: type, place: Place) -> Any:
+    """What stands under a key that is required."""
+    if key not in value:
+        raise Refused(place, "MissingKey")
+    return of_kind(value[key], kind, place)
+
+
+def of_kind(value: Any, kind: type, place: Place) -> Any:
+    if not isinstance(value, kind):
+        raise Refused(place, "WrongKind")
+    return value
+
+
+def short(items: list[Any], most: int, place: Place) -> list[Any]:
+    if len(items) > most:
+        raise Refused(place, "TooMany")
+    return items
+
+
+def argument(value: Any, form: Form, place: Place) -> str:
+    """An argument as it is printed: a text, a whole number or a truth may stand for it."""
+    if isinstance(value, bool):
+        value = "true" if value else "false"
+    if isinstance(value, Token):
+        if not re.fullmatch(NUMBER, value.text, re.ASCII) or int(value.text) > MOST_WHOLE:
+            raise Refused(place, "WrongKind")
+        value = value.text
+    found = form(of_kind(value, str, place))
+    if found is None:
+        raise Refused(place, "BadArg")
+    if form is patterns and found.count(",") >= MOST_PATTERNS:
+        raise Refused(place, "TooMany")
+    return found
+
+
+def plugin(value: Any, known: dict[str, Arguments], more: Arguments, place: Place) -> Plugin:
+    """A plugin of one of these names, with these arguments beside its own."""
+    value = of_kind(value, dict, place)
+    name = member(value, "name", str, place)
+    if name not in known:
+        raise Refused(place, "UnknownPlugin")
+    given = of_kind(value.get("args", {}), dict, place)
+    args = {}
+    for key, form, default in (*known[name], *more):
+        if key not in given and default is None:
+            raise Refused(place, "MissingKey")
+        args[key] = argument(given.get(key, default), form, place)
+    return Plugin(name, args)
+
+
+def group(value: Any, place: Place) -> Group:
+    items = short(of_kind(value, list, place), 1 + MOST_ITEMS, place)
+    if not items:
+        raise Refused(place, "MissingKey")
+    name = of_kind(items[0], str, place)
+    return Group(name, [plugin(it, DETECTORS, (), (*place, ("item", k))) for k, it in enumerate(items[1:])])
+
+
+def ruleset(value: Any, is_part: bool, place: Place) -> Ruleset:
+    """A ruleset: its name, its delay, its groups and its actions, in this order. A part may lack the last two."""
+    value = of_kind(value, dict, place)
+    name = member(value, "name", str, place)
+    delay = argument(value["post_action_delay"], SECONDS, place) if "post_action_delay" in value else "15"
+    groups = actions = None
+    if not is_part or "detectors" in value:
+        items = short(member(value, "detectors", list, place), MOST_ITEMS, place)
+        groups = [group(it, (*place, ("group", j))) for j, it in enumerate(items)]
+    if not is_part or "actions" in value:
+        items = short(member(value, "actions", list, place), MOST_ITEMS, place)
+        more = of_each_action(delay)
+        actions = [plugin(it, ACTIONS, more, (*place, ("action", k))) for k, it in enumerate(items)]
+    return Ruleset(name, groups, actions)
+
+
+def read(data: bytes, is_drop_in: bool = False) -> list[Ruleset]:
+    """The rulesets of a rules file, or the parts of a drop-in file, by its bytes."""
+    if len(data) > LONGEST:
+        raise Refused((), "TooLong")
+    rulesets = short(member(of_kind(json_of(data), dict, ()), "rulesets", list, ()), MOST_RULESETS, ())
+    return [ruleset(it, is_drop_in, (("ruleset", i),)) for i, it in enumerate(rulesets)]
+
+
+# ---------------------------------------------------------------- parts and text
+
+
+def joined(base: list[Ruleset], parts: list[Ruleset]) -> list[Ruleset]:
+    """The rulesets, each part in place of what it gives of the first ruleset of its name."""
+    rulesets = list(base)
+    for i, part in enumerate(parts):
+        if part.groups is None and part.actions is None:
+            raise Refused((("ruleset", i),), "NoParts")
+        place = next((at for at, it in enumerate(rulesets) if it.name == part.name), None)
+        if place is None:
+            raise Refused((("ruleset", i),), "UnknownRule")
+        given = {key: it for key, it in (("groups", part.groups), ("actions", part.actions)) if it is not None}
+        rulesets[place] = rulesets[place]._replace(**given)
+    return rulesets
+
+
+def value_of(it: Ruleset) -> dict[str, Any]:
+    """A ruleset as a JSON value."""
+    groups = [[group.name, *(one._asdict() for one in group.detectors)] for group in it.groups or []]
+    return {"name": it.name, "detectors": groups, "actions": [one._asdict() for one in it.actions or []]}
+
+
+def text_of(rulesets: list[Ruleset]) -> str:
+    """The line that `rules` prints, without its newline."""
+    value = {"rulesets": [value_of(it) for it in rulesets]}
+    return json.dumps(value, ensure_ascii=False, sort_keys=True, separators=(",", ":"))
+
+
+def run(rules: bytes, drop_in: Optional[bytes]) -> tuple[int, str, str]:
+    """What `rules` does with these files: its status, and what it writes on standard output and error."""
+    try:
+        base = read(rules)
+    except Refused as fault:
+        return 3, "", f"rules{fault}\n"
+    try:
+        return 0, text_of(base if drop_in is None else joined(base, read(drop_in, True))) + "\n", ""
+    except Refused as fault:
+        return 9, "", f"drop-in{fault}\n"
