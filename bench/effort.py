@@ -33,11 +33,10 @@ import subprocess
 import sys
 import tempfile
 
+from built import Fault, built_program
 from effort_runs import RUNS, Run, write_inputs
 
 HERE = os.path.dirname(os.path.abspath(__file__))
-LAUNCHER = os.path.join(HERE, "..", "psi_oomd")
-PROGRAM = os.path.join(HERE, "..", "crates", "psi_oomd_main", "out", "psi_oomd_main")
 STORED = os.path.join(HERE, "effort.json")
 TOOLS = ("valgrind", "strace", "time")
 MAY_RISE_PERCENT = 3.0
@@ -216,12 +215,9 @@ def main(given: list[str]) -> int:
     if missing:
         print(f"effort: not found: {', '.join(missing)}, which are Debian's packages of these names", file=sys.stderr)
         return 2
-    if program is None:
-        subprocess.run([LAUNCHER, "--build"], check=True)
-        program = PROGRAM
     try:
-        is_right = compare(runs, program, is_stored)
-    except (Failed, subprocess.CalledProcessError) as failed:
+        is_right = compare(runs, program or built_program(), is_stored)
+    except (Failed, Fault, subprocess.CalledProcessError) as failed:
         print(f"effort: {failed}", file=sys.stderr)
         return 2
     return 0 if is_right else 1

@@ -22,7 +22,7 @@ import time
 from collections.abc import Callable, Iterator
 from typing import IO
 
-from built import built_program_of
+from built import program_of
 from make_trace import Machine, group_paths
 
 SECONDS = 3600
@@ -155,7 +155,7 @@ def endless(table: Table) -> None:
     run = table.start("replay", table.file("trace", TRACE), "--rules", "/dev/zero").end()
     table.wants("replay: /dev/zero as rules", run, 3, "rules: TooLong")
     run = table.start("check", *["a"] * 20000).end()
-    table.wants("check: 20,000 words", run, 1, "usage: psi_oomd stall or check or replay or gen or stress or import")
+    table.wants("check: 20,000 words", run, 1, "usage: psi_oomd stall or check or replay or gen or stress or import or rules")
 
 
 def nested(table: Table) -> None:
@@ -316,7 +316,7 @@ PARTS: list[Callable[[Table], None]] = [endless, nested, outputs, files, pipes, 
 
 
 def main() -> None:
-    program, given = built_program_of(sys.argv[1:])
+    program, given = program_of(sys.argv[1:])
     events = 1_000_000
     if given[:1] == ["--events"]:
         events, given = int(given[1]), given[2:]

@@ -21,7 +21,7 @@ import tempfile
 HERE = os.path.dirname(os.path.abspath(__file__))
 sys.path.append(os.path.join(HERE, "..", "tests"))
 
-from built import built_program_of  # noqa: E402
+from built import program_of  # noqa: E402
 from effort import peak_of  # noqa: E402
 from ftrace_texts import spoiled  # noqa: E402
 from measure import once  # noqa: E402
@@ -86,7 +86,7 @@ def compare(program: str, count: int, seed: int) -> int:
 
 
 def main() -> int:
-    program, given = built_program_of(sys.argv[1:])
+    program, given = program_of(sys.argv[1:])
     count, seed = (int(word) for word in (given + ["2000", "1"][len(given) :]))
     with tempfile.TemporaryDirectory() as folder:
         measure(program, folder)

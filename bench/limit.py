@@ -11,7 +11,7 @@ import subprocess
 import sys
 import tempfile
 
-from built import built_program_of
+from built import program_of
 
 HERE = os.path.dirname(os.path.abspath(__file__))
 MOST = 4_000_000
@@ -28,7 +28,7 @@ def answer(program: str, events: int) -> tuple[int, str, str]:
 
 
 def main() -> None:
-    program, _ = built_program_of(sys.argv[1:])
+    program, _ = program_of(sys.argv[1:])
     most, more = answer(program, MOST), answer(program, MOST + 1)
     print(most, more, sep="\n")
     accepted = most[0] == 0 and most[1].startswith(f"ok lines={MOST + 1} events={MOST} end=")

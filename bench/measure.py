@@ -11,7 +11,7 @@ import sys
 import tempfile
 import time
 
-from built import built_program_of
+from built import program_of
 
 HERE = os.path.dirname(os.path.abspath(__file__))
 
@@ -34,7 +34,7 @@ def best(words: list[str]) -> tuple[float, int]:
 
 
 def main() -> None:
-    program, given = built_program_of(sys.argv[1:])
+    program, given = program_of(sys.argv[1:])
     numbers = given + ["1000000", "16", "1", "0", "1"][len(given) :]
     with tempfile.NamedTemporaryFile(suffix=".trace") as trace:
         subprocess.run([sys.executable, os.path.join(HERE, "make_trace.py"), *numbers], stdout=trace, check=True)

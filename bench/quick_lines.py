@@ -20,7 +20,7 @@ import tempfile
 import termios
 import time
 
-from built import built_program_of
+from built import program_of
 
 COMMANDS = [["check"], ["stall"], ["replay", "--report-s", "0"]]
 PIECE = 8
@@ -146,7 +146,7 @@ def whole(program: str, words: list[str], name: str) -> Ended:
 
 
 def main() -> None:
-    program, given = built_program_of(sys.argv[1:])
+    program, given = program_of(sys.argv[1:])
     count, seed = (int(word) for word in (given + ["1000", "1"][len(given) :]))
     rng = random.Random(seed)
     accepted = differ = 0

@@ -20,9 +20,10 @@ import sys
 import tempfile
 from collections.abc import Iterator
 
+from built import built_program
+
 HERE = os.path.dirname(os.path.abspath(__file__))
 CRATE = os.path.join(HERE, "..", "crates", "psi_oomd_main")
-PROGRAM = os.path.join(CRATE, "out", "psi_oomd_main")
 
 # Each call of the program's allocator counts, in a file, since the program ends without a farewell. One of them gets nothing.
 SHIM = r"""
@@ -116,12 +117,12 @@ def write(folder: str, name: str, text: str) -> str:
 
 def runs_of_built(folder: str) -> Iterator[Ended]:
     """The number, the replay, and how its run ended, for each allocation of each."""
-    subprocess.run([os.path.join(HERE, "..", "psi_oomd"), "--build"], check=True)
+    program = built_program()
     shim, count = os.path.join(folder, "shim.so"), os.path.join(folder, "count")
     subprocess.run(["cc", "-shared", "-fPIC", "-O", "-o", shim, write(folder, "shim.c", SHIM), "-ldl"], check=True)
     write(folder, "rules.json", RULES)
     for name, replay in REPLAYS.items():
-        words = [PROGRAM, "replay", write(folder, name, replay.trace), *replay.options]
+        words = [program, "replay", write(folder, name, replay.trace), *replay.options]
 
         def run(refused: int) -> tuple[int, str, bool]:
             with open(count, "wb") as file:
