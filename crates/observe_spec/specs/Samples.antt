@@ -1,0 +1,78 @@
+-- The samples that observers of one group take of a trace: who takes them, when they are due, and after how many changes.
+use Rattle.std.specs.Prelude.{◌≡◌, ℕ, ◌-◌, ◌<◌, ◌≤◌, Bool, ◌&&◌, ◌==◌, List, [], ◌∷◌, length, map, filter, slice_get, Option, None, Some}
+use Rattle.std.specs.List.{flat_map, range_with_len}
+use Rattle.psi_spec.specs.Changes.{RiseWithin, changes_of}
+use Rattle.psi_spec.specs.Trace.{Trace}
+use Rattle.pressure_spec.specs.Ticks.{tick_moment}
+use Rattle.run_spec.specs.Live.{changes_until, live_slot_at}
+use Rattle.run_spec.specs.Replay.{Pace, tick_count}
+
+-- a sample: the number of the observer that took it, the processor, the slot, and after how many changes of the processor
+pub record Look : Type 0 where
+  pub observer : ℕ
+  pub cpu : ℕ
+  pub slot : ℕ
+  pub count : ℕ
+
+-- the sample is an observer's, of a processor
+abbrev pub is_of : ℕ → ℕ → Look → Bool
+is_of observer cpu look = look.observer == observer && look.cpu == cpu
+
+-- an observer's samples
+abbrev pub looks_by : ℕ → List Look → List Look
+looks_by observer looks = filter (λ (look : Look). look.observer == observer) looks
+
+-- after how many changes an observer's samples of a processor are
+abbrev pub counts_by : ℕ → ℕ → List Look → List ℕ
+counts_by observer cpu looks = map (λ (look : Look). look.count) (filter (is_of observer cpu) looks)
+
+-- ---- when they are due
+
+-- a sample that is due of each observer: its processor, its slot, and after how many changes it is at least
+pub record Due : Type 0 where
+  pub cpu : ℕ
+  pub slot : ℕ
+  pub least : ℕ
+
+-- The samples of the interval that ends with a tick (ns its length), where the path has this slot then: one on each processor, no
+-- earlier than after the changes up to the tick before.
+abbrev pub due_at : Trace → ℕ → ℕ → Option ℕ → List Due
+due_at trace tick i None = []
+due_at trace tick i (Some slot) =
+    map (λ cpu. record { cpu = cpu; slot = slot; least = changes_until trace tick cpu (i - 1) }) (range_with_len 0 trace.cpus)
+
+-- all samples that are due of each observer: those of a tick at which the path is live, tick by tick
+abbrev pub all_due : Trace → Pace → List ℕ → List Due
+all_due trace pace path =
+    flat_map (λ i. due_at trace pace.length i (live_slot_at trace.events path (tick_moment pace.length i)))
+    (range_with_len 1 (tick_count trace pace))
+
+-- these samples are those that were due, in their order
+abbrev pub AreDone : List Due → List Look → Type 0
+AreDone [] [] = Unit {0}
+AreDone [] (look ∷ looks) = ⊥
+AreDone (due ∷ dues) [] = ⊥
+AreDone (due ∷ dues) (look ∷ looks) =
+    (look.cpu ≡ due.cpu) × (look.slot ≡ due.slot) × (due.least ≤ look.count) × AreDone dues looks
+
+-- Samples that so many observers may have taken. Each took those that were due of it, in their order, and there are no others. The
+-- counts of an observer's samples of a processor never fall, and are at most the processor's changes. In which order samples of
+-- different observers stand, and after which changes they are, is open.
+pub record AreObserved (trace : Trace) (pace : Pace) (path : List ℕ) (observers : ℕ) (looks : List Look) : Type 0 where
+  pub done : (observer : ℕ) → observer < observers → AreDone (all_due trace pace path) (looks_by observer looks)
+  pub none : (observer : ℕ) → observers ≤ observer → looks_by observer looks ≡ []
+  pub rise : (observer cpu : ℕ) → RiseWithin 0 (counts_by observer cpu looks) (length (changes_of cpu trace.events))
+
+-- ---- laws
+
+-- So each sample is after so many changes as its processor has, or fewer.
+abbrev pub CountsAreOfChanges : Type 0
+CountsAreOfChanges = (trace : Trace) (pace : Pace) (path : List ℕ) (observers : ℕ) (looks : List Look) →
+    AreObserved trace pace path observers looks → (k : ℕ) (look : Look) → slice_get looks k ≡ Some look →
+    look.count ≤ length (changes_of look.cpu trace.events)
+
+-- And each observer took as many as were due.
+abbrev pub EachTakesItsShare : Type 0
+EachTakesItsShare = (trace : Trace) (pace : Pace) (path : List ℕ) (observers : ℕ) (looks : List Look) →
+    AreObserved trace pace path observers looks → (observer : ℕ) → observer < observers →
+    length (looks_by observer looks) ≡ length (all_due trace pace path)
