@@ -1,0 +1,99 @@
+//! A board in two threads.
+
+ghost use Rattle.std.specs.Prelude.{◌≡◌, ◌+◌, length};
+ghost use Rattle.std.specs.Thread.{IsSync};
+
+use observer_log::{Board, BoardPass, BoardState, DriverPass};
+use psi_base::NoMemory;
+use std::alloc::Global;
+use std::sync::Wait;
+use std::thread::{Threads, join, yield_now};
+
+/// How often the observer reads at most, whatever the driver does meanwhile.
+const READS: u64 = 20_000_000;
+
+/// How many events there are by a tick.
+const EVENTS_OF_A_TICK: u64 = 3;
+
+/// What an observer read: the states while the driver was at work, each once, and the last one.
+#[derive(Drop)]
+pub struct Readings {
+    pub states: Vec<BoardState>,
+    pub last: BoardState,
+}
+
+// Publishes so many ticks.
+fn published<R: Wait>(rt: &R, board: &Board, mut driver: DriverPass, ticks: u32) -> DriverPass
+    requires board { driver.board ≡ board.now }
+    requires first { length driver.states ≡ 1 }
+    ensures board { result.board ≡ board.now }
+    ensures all { length result.states ≡ ticks + 1 }
+{
+    'ticks: for before in 0..ticks {
+        let tick = u64::from(before) + 1;
+        let state = BoardState {
+            tick,
+            events: EVENTS_OF_A_TICK * tick,
+            kills: 0,
+        };
+        board.publish(rt, &mut driver, state);
+        yield_now();
+    }
+    driver
+}
+
+// Reads until the tick is shown, or often enough.
+fn watched<R: Wait>(
+    rt: &R,
+    alloc: Global,
+    board: &Board,
+    mut pass: BoardPass,
+    ticks: u32,
+) -> (BoardPass, Vec<BoardState>)
+    requires { pass.board ≡ board.now }
+    ensures { result.0.board ≡ board.now }
+{
+    let mut states: Vec<BoardState> = Vec::new(alloc);
+    let mut shown = None;
+    'reads: for _ in 0..READS {
+        let state = board.read(rt, &mut pass);
+        if shown != Some(state.tick) {
+            let _ = states.push(state);
+            shown = Some(state.tick);
+        }
+        if state.tick >= u64::from(ticks) {
+            break;
+        }
+    }
+    (pass, states)
+}
+
+/// A driver publishes so many ticks, and an observer in another thread reads them meanwhile. Then the driver tells it all, and it
+/// reads the last one.
+pub fn beside<R: Threads + Wait + Sync>(
+    rt: &R,
+    alloc: Global,
+    ticks: u32,
+) -> Result<Readings, NoMemory> {
+    let (board, mut driver) = Board::make(alloc)?;
+    let pass = board.pass(rt, &mut driver)?;
+    let (mut driver, (mut pass, states)) = join(
+        rt,
+        || -> DriverPass
+            requires sync { IsSync R.row }
+            requires board { driver.board ≡ board }
+            requires first { length driver.states ≡ 1 }
+            ensures board { result.board ≡ board }
+            ensures all { length result.states ≡ ticks + 1 }
+        { published(rt, &board, driver, ticks) },
+        || -> (BoardPass, Vec<BoardState>)
+            requires sync { IsSync R.row }
+            requires board { pass.board ≡ board }
+            ensures { result.0.board ≡ board }
+        { watched(rt, alloc, &board, pass, ticks) },
+    );
+    board.tell(rt, &mut driver, &mut pass)?;
+    let last = board.read(rt, &mut pass);
+    board.tell(rt, &mut driver, &mut pass)?;
+    Ok(Readings { states, last })
+}
