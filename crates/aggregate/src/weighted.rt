@@ -2,7 +2,8 @@
 ghost use Rattle.std.specs.Prelude.{◌≡◌, ◌≤◌, ◌<◌, ◌+◌, ◌*◌, ◌/◌, ℕ, All, length, map, slice_index};
 ghost use Rattle.psi_spec.specs.Trace.{longest_tick};
 ghost use Rattle.pressure_spec.specs.Share as model;
-ghost use Rattle.pressure_spec.specs.Share.{AreTimesWithin, longest_irq, pressure_places};
+ghost use Rattle.pressure_spec.specs.Share.{AreTimesWithin, pressure_places};
+ghost use Rattle.psi_spec.specs.World.{longest_irq};
 
 use pressure_spec::{Amounts, QUANTITIES, Times};
 

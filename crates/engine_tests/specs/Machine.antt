@@ -1,6 +1,7 @@
 -- A machine whose times grow as a test tells.
 use Rattle.std.specs.Prelude.{◌≡◌, ℕ, ◌+◌, ◌<◌, ◌≤◌, List, length, slice_index}
-use Rattle.pressure_spec.specs.Share.{irq_place, longest_irq}
+use Rattle.pressure_spec.specs.Share.{irq_place}
+use Rattle.psi_spec.specs.World.{longest_irq}
 use Rattle.pressure_spec.specs.Ticks.{time_in, time_of}
 use Rattle.aggregate.specs.Table.{HasSizes}
 use Rattle.tick_engine.specs.Engine.{EngineView}

@@ -11,12 +11,12 @@ use Rattle.psi_spec.specs.declared.machine.Mode.{Mode}
 use Rattle.psi_spec.specs.declared.machine.Mode.TheVariants.{Blocked, Ready, Running, Waiting}
 use Rattle.psi_spec.specs.declared.machine.Task.{Task}
 use Rattle.psi_spec.specs.Fields.{IsPid}
-use Rattle.psi_spec.specs.World.{Tasks, World, after_event, after_from, change, change_to, is_active, is_ready, is_ready_on, is_running, is_running_on, leave, new_task, put, readied, running_on, task_of, test_task}
+use Rattle.psi_spec.specs.World.{Tasks, World, after_event, after_from, change, change_to, is_active, is_ready, is_ready_on, is_running, is_running_on, leave, new_task, put, readied, running_on, task_of, test_task, events_at}
 use Rattle.psi_spec.proofs.TaskLaws.{get_put, itself}
 use Rattle.psi_counts.specs.Touch.{RunsOnce}
 use Rattle.psi_counts.proofs.TouchCounts.{running_found}
 use Rattle.task_table.proofs.Runners.{only_runs, runs_there}
-use Rattle.import_spec.specs.Events.{arrival_acts, coming_acts, events_at, made}
+use Rattle.import_spec.specs.Events.{arrival_acts, coming_acts, made}
 use Rattle.ftrace_import.proofs.Runs.{RunsAsBefore, rests, runs_put}
 use Rattle.ftrace_import.specs.Stands.{Stands}
 use Rattle.ftrace_import.proofs.Steps.{Goes, Step, event_at, goes_none, goes_one, goes_then, stands_later, step_make, step_migrate, step_switch, step_wake}

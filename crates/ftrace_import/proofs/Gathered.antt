@@ -8,13 +8,13 @@ use Rattle.psi_base.specs.declared.event.Event.{Event}
 use Rattle.psi_spec.specs.Names.{names}
 use Rattle.psi_spec.specs.Refusal.{AreLegal, cause_of}
 use Rattle.psi_spec.specs.Trace.{IsCpuCount}
-use Rattle.psi_spec.specs.World.{Limits, World, after_event, after_from, first_world}
+use Rattle.psi_spec.specs.World.{Limits, World, after_event, after_from, first_world, events_at}
 use Rattle.psi_spec.proofs.Following.{after_from-append}
 use Rattle.import_spec.specs.declared.cause.ImportCause.{ImportCause}
 use Rattle.import_spec.specs.declared.seen.Seen.{Seen}
 use Rattle.import_spec.specs.declared.seen.Sighting.{Sighting}
 use Rattle.import_spec.specs.Marked.{read_line}
-use Rattle.import_spec.specs.Events.{Given, Reached, acts_cause, acts_of, events_at, first_time, given_at, given_by, given_of, make_task, moment_of, needed_cpu, unreached}
+use Rattle.import_spec.specs.Events.{Given, Reached, acts_cause, acts_of, first_time, given_at, given_by, given_of, make_task, moment_of, needed_cpu, unreached}
 use Rattle.import_spec.specs.Import.{end_at}
 use Rattle.ftrace_import.specs.declared.deeds.Kept.{Kept}
 use Rattle.ftrace_import.specs.declared.taking.Gathering.{Gathering}

@@ -6,8 +6,7 @@ use Rattle.std.specs.List.{drop-map}
 use Rattle.psi_base.specs.declared.event.Act.{Act}
 use Rattle.psi_base.specs.declared.event.Event.{Event}
 use Rattle.psi_spec.specs.declared.machine.Task.{Task}
-use Rattle.psi_spec.specs.World.{task_part}
-use Rattle.import_spec.specs.Events.{events_at}
+use Rattle.psi_spec.specs.World.{task_part, events_at}
 use Rattle.ftrace_import.specs.declared.deeds.Deed.{Deed}
 use Rattle.ftrace_import.specs.declared.deeds.Kept.{Kept}
 use Rattle.ftrace_import.specs.Deeds.{act_by, acts_in, event_by, events_by}

@@ -13,7 +13,7 @@ use Rattle.psi_spec.specs.Fields.{IsPid}
 use Rattle.psi_spec.specs.Grammar.{One, verbs_of}
 use Rattle.psi_spec.specs.Refusal.{AreLegal}
 use Rattle.psi_spec.specs.Trace.{AllFit, AreKnown}
-use Rattle.psi_spec.specs.World.{World, after_from, is_active, is_ready, is_ready_on, task_of, test_task}
+use Rattle.psi_spec.specs.World.{World, after_from, is_active, is_ready, is_ready_on, task_of, test_task, events_at}
 use Rattle.psi_spec.proofs.RefusalLaws.{first_true, second_true}
 use Rattle.import_spec.specs.declared.cause.ImportCause.{ImportCause}
 use Rattle.import_spec.specs.declared.cause.ImportCause.TheVariants as cause
@@ -21,7 +21,7 @@ use Rattle.import_spec.specs.declared.seen.Seen.{Seen}
 use Rattle.import_spec.specs.declared.seen.Seen.TheVariants as seen
 use Rattle.import_spec.specs.declared.seen.Sighting.{Sighting}
 use Rattle.import_spec.specs.Marked.{read_line}
-use Rattle.import_spec.specs.Events.{Given, Reached, acts_cause, acts_of, events_at, first_time, given_at, given_by, given_of, given_or, make_task, migration_acts, moment_of, needed_cpu, switch_acts, wakeup_acts}
+use Rattle.import_spec.specs.Events.{Given, Reached, acts_cause, acts_of, first_time, given_at, given_by, given_of, given_or, make_task, migration_acts, moment_of, needed_cpu, switch_acts, wakeup_acts}
 use Rattle.ftrace_import.specs.Laws.{runner}
 use Rattle.ftrace_import.specs.Stands.{IsSeen, IsUnderWay, Leaves, Stands, limits}
 use Rattle.ftrace_import.proofs.Steps.{Goes, goes_none, goes_one, stands_later, step_migrate}

@@ -17,11 +17,11 @@ use Rattle.psi_spec.specs.Fields.{IsAmong, IsPid}
 use Rattle.psi_spec.specs.Grammar.{ActFits, Fits, IsKnown, One, phrase_of, verbs_of}
 use Rattle.psi_spec.specs.Refusal.{AreLegal, cause_of, is_exit, is_wrong}
 use Rattle.psi_spec.specs.Trace.{AllFit, AreKnown, IsCpuCount}
-use Rattle.psi_spec.specs.World.{Tasks, World, after_event, after_from, ends, first_world, groups_after, is_active, is_ready, is_ready_on, readied, running_on, task_of, tasks_after, test_task}
+use Rattle.psi_spec.specs.World.{Tasks, World, after_event, after_from, ends, first_world, groups_after, is_active, is_ready, is_ready_on, readied, running_on, task_of, tasks_after, test_task, events_at}
 use Rattle.psi_counts.proofs.LegalLaws.{legal_first, legal_kept}
 use Rattle.task_table.specs.Causes.{act_cause}
 use Rattle.task_table.proofs.CauseLaws.{first_of_act}
-use Rattle.import_spec.specs.Events.{events_at, made}
+use Rattle.import_spec.specs.Events.{made}
 use Rattle.ftrace_import.specs.Stands.{IsCalm, Stands, limits}
 use Rattle.ftrace_import.proofs.Runs.{calm_change, calm_put, calm_running, calm_switch}
 

@@ -13,12 +13,12 @@ use Rattle.psi_spec.specs.declared.machine.Mode.TheVariants.{Running}
 use Rattle.psi_spec.specs.declared.machine.Task.{Task}
 use Rattle.psi_spec.specs.Fields.{IsPid}
 use Rattle.psi_spec.specs.Refusal.{is_wrong}
-use Rattle.psi_spec.specs.World.{Tasks, World, after_event, after_from, change, is_ready, is_ready_on, is_running_on, leave, put, running_on, start, task_of, test_task}
+use Rattle.psi_spec.specs.World.{Tasks, World, after_event, after_from, change, is_ready, is_ready_on, is_running_on, leave, put, running_on, start, task_of, test_task, events_at}
 use Rattle.psi_spec.proofs.Following.{after_from-append}
 use Rattle.psi_spec.proofs.RefusalLaws.{first_true}
 use Rattle.psi_spec.proofs.TaskLaws.{get_put, itself}
 use Rattle.psi_counts.proofs.TouchLaws.{ready_left}
-use Rattle.import_spec.specs.Events.{events_at, leaving, next_acts, runs_there, start_acts, switch_acts, turn_acts}
+use Rattle.import_spec.specs.Events.{leaving, next_acts, runs_there, start_acts, switch_acts, turn_acts}
 use Rattle.ftrace_import.specs.Laws.{runner}
 use Rattle.ftrace_import.proofs.Runs.{no_runner, none_runs, runner_is, same_runs}
 use Rattle.ftrace_import.specs.Stands.{Leaves, Stands}

@@ -3,7 +3,8 @@ use Rattle.std.specs.Prelude.{◌≡◌, ℕ, List, ◌++◌, map, OnOk, Result}
 use Rattle.psi_base.specs.declared.event.Act.{Act}
 use Rattle.psi_base.specs.declared.event.Act.TheVariants as act
 use Rattle.psi_base.specs.declared.event.Event.{Event}
-use Rattle.import_spec.specs.Events.{events_at, made}
+use Rattle.import_spec.specs.Events.{made}
+use Rattle.psi_spec.specs.World.{events_at}
 use Rattle.ftrace_import.specs.declared.deeds.Deed.{Deed}
 use Rattle.ftrace_import.specs.declared.deeds.Deed.TheVariants.{Fork, Migrate, Switch, Wake}
 use Rattle.ftrace_import.specs.declared.deeds.Kept.{Kept}

@@ -1,5 +1,5 @@
 -- The events of a line, in the world after those that were written so far.
-use Rattle.std.specs.Prelude.{ℕ, ◌+◌, ◌-◌, ◌*◌, max, List, [], ◌∷◌, ◌++◌, map, length, nat_lt, nat_le, ◌==◌, ◌&&◌, not, Bool, false, if◌then◌else◌, codes, Option, None, Some, is_some, unwrap_or, Result, Ok, Err}
+use Rattle.std.specs.Prelude.{ℕ, ◌+◌, ◌-◌, ◌*◌, max, List, [], ◌∷◌, ◌++◌, length, nat_lt, nat_le, ◌==◌, ◌&&◌, not, Bool, false, if◌then◌else◌, codes, Option, None, Some, is_some, unwrap_or, Result, Ok, Err}
 use Rattle.std.specs.List.{list_any}
 use Rattle.std.specs.FinMap as tasks_by
 use Rattle.psi_base.specs.declared.event.Pid.{Pid}
@@ -13,7 +13,7 @@ use Rattle.psi_spec.specs.declared.machine.Mode.{Mode}
 use Rattle.psi_spec.specs.declared.machine.Mode.TheVariants.{Blocked, Ready, Running, Waiting}
 use Rattle.psi_spec.specs.declared.machine.Task.{Task}
 use Rattle.psi_spec.specs.Names.{names}
-use Rattle.psi_spec.specs.World.{Tasks, World, after_from, first_world, is_active, is_ready, is_running_on, most_tasks, running_on, task_of, test_task}
+use Rattle.psi_spec.specs.World.{Tasks, World, after_from, events_at, first_world, is_active, is_ready, is_running_on, most_tasks, running_on, task_of, test_task}
 use Rattle.import_spec.specs.declared.cause.ImportCause.{ImportCause}
 use Rattle.import_spec.specs.declared.cause.ImportCause.TheVariants as cause
 use Rattle.import_spec.specs.declared.seen.Seen.{Seen}
@@ -146,10 +146,6 @@ acts_cause cpus w moment cpu acts =
 pub record Given : Type 0 where
   pub events : List Event
   pub reached : Reached
-
--- acts, all at one moment (ns)
-abbrev pub events_at : ℕ → List Act → List Event
-events_at moment acts = map (λ what. let event : Event = record { at = moment; act = what } in event) acts
 
 -- what a line gives at this time that does this at a moment (ns), or the cause against it
 abbrev pub given_or : Reached → ℕ → ℕ → List Act → Option ImportCause → Result Given ImportCause

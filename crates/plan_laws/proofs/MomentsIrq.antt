@@ -7,12 +7,11 @@ use Rattle.psi_base.specs.declared.event.Act.{Act}
 use Rattle.psi_base.specs.declared.event.Act.TheVariants as act
 use Rattle.psi_base.specs.declared.event.Event.{Event}
 use Rattle.psi_counts.specs.declared.changes.Change.{Change}
-use Rattle.psi_spec.specs.World.{World, Limits, after, first_world, irqs_after, most_cpus, up_to}
+use Rattle.psi_spec.specs.World.{World, Limits, after, first_world, irqs_after, most_cpus, up_to, longest_irq}
 use Rattle.psi_spec.specs.Refusal.{AreLegal, cause_of}
 use Rattle.psi_spec.specs.Stall.{has_running, irq_told, irq_time}
 use Rattle.psi_spec.specs.Changes.{until_change}
 use Rattle.psi_counts.specs.Legal.{changes_from}
-use Rattle.psi_counts.specs.Touch.{most_irq}
 use Rattle.psi_spec.proofs.RefusalLaws.{none_stands}
 use Rattle.psi_spec.proofs.StallLaws.{irq_by_event}
 use Rattle.psi_counts.proofs.IrqLaws.{at_most, not_too_long, short}
@@ -50,7 +49,7 @@ record IsQuiet (w : World) (at : ℕ) (a : Act) (cpu : ℕ) : Type 0 where
 
 -- or it tells of some since the last that did
 record Tells (w : World) (at : ℕ) (a : Act) (cpu : ℕ) : Type 0 where
-  second : irq_told cpu a ≤ most_irq
+  second : irq_told cpu a ≤ longest_irq
   since : irq_told cpu a ≤ at - last_irq w cpu
   last : slice_index_or (irqs_after at w.irqs a) cpu 0 ≡ at
 
@@ -61,7 +60,7 @@ quiet_or_tells limits w at (act.Irq named ns) legal many cpu =
     let room : named.0 < length w.irqs = grind (arith, nat_tests, there, many) in
     ⊎_elim
     (λ same. inr (subst (Tells w at (act.Irq named ns)) same.1 (record {
-      second = at_most (named.0 == named.0) ns most_irq bounds.second;
+      second = at_most (named.0 == named.0) ns longest_irq bounds.second;
       since = at_most (named.0 == named.0) ns (at - last_irq w named.0) bounds.since;
       last = get_or-set_same w.irqs named.0 at 0 room;
     })))
@@ -172,7 +171,7 @@ plan_irqs_fit limits events legal few cpu k low =
 -- A time grew since a moment: not at all, or by what interrupts took until they ended last, and a second.
 record Grew (before now at last : ℕ) : Type 0 where
   least : before ≤ now
-  most : (now ≡ before) ⊎ ((at ≤ last) × (now ≤ before + most_irq + (last - at)))
+  most : (now ≡ before) ⊎ ((at ≤ last) × (now ≤ before + longest_irq + (last - at)))
 
 grew_not : (now at last : ℕ) → Grew now now at last
 grew_not now at last = record { least = omega arith; most = inl refl }
@@ -182,7 +181,7 @@ grew_quietly : (before now next at last later : ℕ) → next ≡ now → later 
 grew_quietly before now next at last later same still grew = rw (same, still) grew
 
 -- by one that tells of some
-grew_more : (before now next told at last moment : ℕ) → Grew before now at last → now ≤ next → next ≤ now + told → told ≤ most_irq → told ≤ moment - last → last ≤ moment → at ≤ moment → Grew before next at moment
+grew_more : (before now next told at last moment : ℕ) → Grew before now at last → now ≤ next → next ≤ now + told → told ≤ longest_irq → told ≤ moment - last → last ≤ moment → at ≤ moment → Grew before next at moment
 grew_more before now next told at last moment grew rises most second since turn past = record {
   least = omega (arith, grew.least, rises);
   most = inr (

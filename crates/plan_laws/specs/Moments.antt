@@ -6,12 +6,11 @@ use Rattle.psi_base.specs.declared.event.State.{State}
 use Rattle.psi_base.specs.declared.event.Event.{Event}
 use Rattle.psi_base.specs.declared.event.TriggerSpec.{TriggerSpec}
 use Rattle.psi_spec.specs.declared.machine.GroupLife.{GroupLife}
-use Rattle.psi_spec.specs.World.{Limits, root, first_world, after, up_to, most_cpus}
+use Rattle.psi_spec.specs.World.{Limits, root, first_world, after, up_to, most_cpus, longest_irq}
 use Rattle.psi_spec.specs.Refusal.{AreLegal}
 use Rattle.psi_spec.specs.Stall.{parents_of, stall, irq_time}
 use Rattle.psi_spec.specs.Groups.{IsPathOrder, is_live_at, is_live_in, live_groups, path_at, test_life}
 use Rattle.psi_spec.specs.Told.{AreTriggersWithin, triggers_of}
-use Rattle.psi_counts.specs.Touch.{most_irq}
 
 -- ---- stall time
 
@@ -40,7 +39,7 @@ abbrev pub IrqGrows : Type 0
 IrqGrows = (limits : Limits) (events : List Event) → AreLegal limits first_world events → limits.cpus ≤ most_cpus →
     (cpu slot at later : ℕ) → at ≤ later →
     (irq_time cpu slot (up_to events at) ≤ irq_time cpu slot (up_to events later))
-    × (irq_time cpu slot (up_to events later) ≤ irq_time cpu slot (up_to events at) + (later - at) + most_irq)
+    × (irq_time cpu slot (up_to events later) ≤ irq_time cpu slot (up_to events at) + (later - at) + longest_irq)
 
 -- Interrupt time up to a moment is no longer than the time from 0 to it, since interrupts of one processor don't overlap.
 abbrev pub IrqIsWithin : Type 0

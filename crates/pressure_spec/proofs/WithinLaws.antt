@@ -9,7 +9,8 @@ use Rattle.psi_spec.specs.declared.machine.GroupLife.{GroupLife}
 use Rattle.psi_spec.specs.Groups.{is_live_at}
 use Rattle.psi_spec.specs.Trace.{last_moment}
 use Rattle.pressure_spec.specs.Ticks.{Tick, AreNextTicks, IsNextTick, last_tick, no_row, no_tick, time_in, time_of, times_with}
-use Rattle.pressure_spec.specs.Share.{AreAmountsWithin, AreTimesWithin, irq_place, irq_quantity, longest_irq, plus, shares, time_sum, totals_of, zip_with}
+use Rattle.pressure_spec.specs.Share.{AreAmountsWithin, AreTimesWithin, irq_place, irq_quantity, plus, shares, time_sum, totals_of, zip_with}
+use Rattle.psi_spec.specs.World.{longest_irq}
 use Rattle.pressure_spec.specs.Samples.{growths, life_of, row_at, samples_from, totals_after, IrqTotalBound, NextSharesWithin, TotalsWithin}
 use Rattle.pressure_spec.proofs.ShareLaws.{get_or-shares, share_within_sum, shares_within, totals_grow}
 use Rattle.pressure_spec.proofs.SampleLaws.{length-shares, no_tick_row, shares_of}

@@ -11,11 +11,11 @@ use Rattle.psi_base.specs.declared.event.Level.{Level}
 use Rattle.psi_base.specs.declared.event.Level.TheVariants.{SomeStalled, FullStalled}
 use Rattle.psi_base.specs.declared.event.TriggerSpec.{TriggerSpec}
 use Rattle.psi_spec.specs.declared.machine.GroupLife.{GroupLife}
-use Rattle.psi_spec.specs.World.{root}
+use Rattle.psi_spec.specs.World.{root, longest_irq}
 use Rattle.psi_spec.specs.Groups.{is_live_at}
 use Rattle.pressure_spec.specs.Ticks.{AreNextTicks, IsNextTick, Tick, last_tick, no_row, no_tick}
 use Rattle.pressure_spec.specs.Share.{at_state, no_totals, pressure_places, shares, totals_of, zip_with}
-use Rattle.pressure_spec.specs.Share.{AreAmountsWithin, irq_place, irq_quantity, longest_irq, most_irq_total, time_sum}
+use Rattle.pressure_spec.specs.Share.{AreAmountsWithin, irq_place, irq_quantity, most_irq_total, time_sum}
 use Rattle.pressure_spec.specs.Average.{AverageState, average_of, averages_after, last_totals}
 use Rattle.pressure_spec.specs.Signal.{TriggerState, fires, new_trigger, trigger_after}
 

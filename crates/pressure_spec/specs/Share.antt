@@ -5,6 +5,7 @@ use Rattle.std.specs.List.{range_with_len}
 use Rattle.psi_base.specs.declared.event.State.{State}
 use Rattle.psi_base.specs.declared.event.State.TheVariants.{Nonidle}
 use Rattle.psi_spec.specs.Stall.{state_number}
+use Rattle.psi_spec.specs.World.{longest_irq}
 use Rattle.psi_spec.specs.Trace.{longest_tick}
 
 -- f of the elements of two lists, place by place
@@ -67,10 +68,6 @@ abbrev pub time_sum : List (List ℕ) → ℕ → ℕ
 time_sum rows place = sum_by (λ times. slice_index times place) rows
 
 -- ---- bounds
-
--- the longest time (ns) that one line of a trace tells of interrupts, a second: all of it may have passed before the last tick
-abbrev pub longest_irq : ℕ
-longest_irq = 1000000000
 
 -- No interrupt total (ns) is above this: it is at most the interrupt times of the processors together, which are at most 64,
 -- each of them at most the last moment that a trace may reach.

@@ -4,10 +4,10 @@ use Rattle.std.specs.Prelude.{ℕ, ◌+◌, ◌++◌, ◌-◌, ◌*◌, ◌/◌,
 use Rattle.std.specs.List.{range_with_len}
 use Rattle.psi_base.specs.declared.event.Event.{Event}
 use Rattle.psi_base.specs.declared.event.State.{State}
-use Rattle.psi_spec.specs.World.{after, up_to}
+use Rattle.psi_spec.specs.World.{after, up_to, longest_irq}
 use Rattle.psi_spec.specs.Stall.{irq_time, stall, states}
 use Rattle.psi_spec.specs.Trace.{last_moment, longest_tick}
-use Rattle.pressure_spec.specs.Share.{irq_place, longest_irq}
+use Rattle.pressure_spec.specs.Share.{irq_place}
 
 -- ---- ticks
 

@@ -6,13 +6,13 @@ use Rattle.psi_base.specs.declared.event.Act.{Act}
 use Rattle.psi_base.specs.declared.event.Act.TheVariants as act
 use Rattle.psi_base.specs.declared.event.Event.{Event}
 use Rattle.psi_base.specs.declared.event.Cause.TheVariants as cause
-use Rattle.psi_spec.specs.World.{World, Limits, Tasks}
+use Rattle.psi_spec.specs.World.{World, Limits, Tasks, longest_irq}
 use Rattle.psi_spec.specs.declared.machine.GroupLife.{GroupLife}
 use Rattle.psi_spec.specs.Refusal.{applies, cause_of, cause_order, irq_too_long}
 use Rattle.psi_spec.specs.Stall.{irq_told}
 use Rattle.psi_spec.specs.Changes.{before, touched}
 use Rattle.psi_spec.proofs.RefusalLaws.{passed}
-use Rattle.psi_counts.specs.Touch.{most_irq, part, task_after}
+use Rattle.psi_counts.specs.Touch.{part, task_after}
 
 -- an act that doesn't touch a processor tells of no interrupts there
 pub untold : (tasks : Tasks) (a : Act) (cpu : ℕ) → touched a (before tasks a) cpu ≡ false → irq_told cpu a ≡ 0
@@ -28,7 +28,7 @@ told_alone groups tasks _ cpu some = absurd (omega (arith, some))
 
 -- what a test of interrupts lets through is a second at most, and no longer than the time since the last of them
 pub record AreShort (irqs : List ℕ) (at cpu ns : ℕ) : Type 0 where
-  pub second : ns ≤ most_irq
+  pub second : ns ≤ longest_irq
   pub since : ns ≤ at - slice_index_or irqs cpu 0
 
 pub short : (irqs : List ℕ) (at cpu ns : ℕ) → (nat_lt 1000000000 ns || nat_lt (at - slice_index_or irqs cpu 0) ns) ≡ false → AreShort irqs at cpu ns
@@ -38,8 +38,8 @@ pub at_most : (b : Bool) (n most : ℕ) → n ≤ most → (if b then n else 0) 
 at_most true n most low = low
 at_most false n most low = omega arith
 
-few_told : (irqs : List ℕ) (at : ℕ) (a : Act) (cpu : ℕ) → irq_too_long irqs at a ≡ false → irq_told cpu a ≤ most_irq
-few_told irqs at (act.Irq named ns) cpu off = at_most (named.0 == cpu) ns most_irq (short irqs at named.0 ns off).second
+few_told : (irqs : List ℕ) (at : ℕ) (a : Act) (cpu : ℕ) → irq_too_long irqs at a ≡ false → irq_told cpu a ≤ longest_irq
+few_told irqs at (act.Irq named ns) cpu off = at_most (named.0 == cpu) ns longest_irq (short irqs at named.0 ns off).second
 few_told irqs at _ cpu off = omega arith
 
 pub not_too_long : (limits : Limits) (w : World) (event : Event) → cause_of limits w event ≡ None → irq_too_long w.irqs event.at event.act ≡ false
@@ -47,5 +47,5 @@ unfolding cause_of
 not_too_long limits w event legal = passed (λ why. applies why limits w event) cause_order 21 cause.IrqTooLong legal refl
 
 -- a legal event tells of a second of interrupts at most
-pub told_few : (limits : Limits) (w : World) (event : Event) → cause_of limits w event ≡ None → (cpu : ℕ) → irq_told cpu event.act ≤ most_irq
+pub told_few : (limits : Limits) (w : World) (event : Event) → cause_of limits w event ≡ None → (cpu : ℕ) → irq_told cpu event.act ≤ longest_irq
 told_few limits w event legal cpu = few_told w.irqs event.at event.act cpu (not_too_long limits w event legal)

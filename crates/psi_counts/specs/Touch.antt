@@ -14,7 +14,7 @@ use Rattle.psi_counts.specs.declared.changes.Touch.{Touch}
 use Rattle.psi_spec.specs.declared.machine.GroupLife.{GroupLife}
 use Rattle.psi_spec.specs.Names.{names}
 use Rattle.psi_spec.specs.World.{Effect, forks, interrupts, moves, none, readies, stalls, switches, effect_of}
-use Rattle.psi_spec.specs.World.{World, Limits, Tasks, no_tasks, task_of, test_task, task_part, running_on, is_running_on, new_task, readied, left_by, slot_of, tasks_after, after_event}
+use Rattle.psi_spec.specs.World.{World, Limits, Tasks, no_tasks, task_of, test_task, task_part, running_on, is_running_on, new_task, readied, left_by, slot_of, tasks_after, after_event, longest_irq}
 use Rattle.psi_spec.specs.Refusal.{cause_of}
 use Rattle.psi_spec.specs.Stall.{irq_told, is_under, runs, tasks_in}
 use Rattle.psi_spec.specs.Changes.{before, is_at, touched}
@@ -116,16 +116,12 @@ pub record AreAtMost (most : ℕ) (counts : Counts) : Type 0 where
   pub running : counts.running ≤ most
   pub stalled_running : counts.stalled_running ≤ most
 
--- the most time (ns) that interrupts take by one event: a second
-abbrev pub most_irq : ℕ
-most_irq = 1000000000
-
 -- A change takes and adds the counts of one task each. Where it tells that interrupts took time, which is a second at most, it
 -- takes and adds no counts.
 pub record IsOfOne (change : Change) : Type 0 where
   pub minus : IfSome change.minus (λ part. AreAtMost 1 part.1)
   pub plus : IfSome change.plus (λ part. AreAtMost 1 part.1)
-  pub irq : change.irq ≤ most_irq
+  pub irq : change.irq ≤ longest_irq
   pub alone : 0 < change.irq → (change.minus ≡ None) × (change.plus ≡ None)
 
 -- ---- how counts follow

@@ -14,7 +14,7 @@ use Rattle.psi_base.specs.declared.event.Cause.TheVariants as cause
 use Rattle.psi_spec.specs.declared.machine.Task.{Task}
 use Rattle.psi_spec.specs.declared.machine.GroupLife.{GroupLife}
 use Rattle.psi_spec.specs.Names.{names}
-use Rattle.psi_spec.specs.World.{World, Limits, Tasks, task_of, test_task, running_on, task_part, is_running, is_ready, is_active, is_ready_on, is_live, is_trigger, slot_of, parent_path, is_root, after_event, most_groups, most_tasks, most_events}
+use Rattle.psi_spec.specs.World.{World, Limits, Tasks, task_of, test_task, running_on, task_part, is_running, is_ready, is_active, is_ready_on, is_live, is_trigger, slot_of, parent_path, is_root, after_event, most_groups, most_tasks, most_events, longest_irq}
 
 -- ---- single tests
 
@@ -128,7 +128,7 @@ bad_window _ = false
 
 -- interrupts took more than a second, or more time (ns) than passed since the last `irq` line of the processor
 abbrev pub irq_too_long : List ℕ → ℕ → Act → Bool
-irq_too_long irqs at (act.Irq cpu ns) = nat_lt 1000000000 ns || nat_lt (at - slice_index_or irqs cpu.0 0) ns
+irq_too_long irqs at (act.Irq cpu ns) = nat_lt longest_irq ns || nat_lt (at - slice_index_or irqs cpu.0 0) ns
 irq_too_long irqs at _ = false
 
 -- ---- causes

@@ -153,6 +153,10 @@ most_groups = 1024
 abbrev pub most_tasks : ℕ
 most_tasks = 65536
 
+-- the longest time (ns) that one line of a trace tells of interrupts: a second
+abbrev pub longest_irq : ℕ
+longest_irq = 1000000000
+
 -- what a trace can name: how many processors there are, and the latest moment (ns)
 pub record Limits : Type 0 where
   pub cpus : ℕ
@@ -312,3 +316,7 @@ after events = after_from first_world events
 -- the events up to a moment (ns), those at the moment among them: the first so many, where moments never fall
 abbrev pub up_to : List Event → ℕ → List Event
 up_to events at = filter (λ (event : Event). nat_le event.at at) events
+
+-- acts as events of one moment (ns)
+abbrev pub events_at : ℕ → List Act → List Event
+events_at at acts = map (λ what. let event : Event = record { at = at; act = what } in event) acts

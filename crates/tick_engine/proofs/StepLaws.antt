@@ -7,7 +7,8 @@ use Rattle.std.proofs.lemmas.List.Elements.{filter-append}
 use Rattle.std.proofs.lemmas.List.FromFn.{map-range_with_len_more}
 use Rattle.psi_spec.specs.Trace.{last_moment, longest_tick}
 use Rattle.pressure_spec.specs.Ticks.{Tick, IsNextTick}
-use Rattle.pressure_spec.specs.Share.{AreAmountsWithin, AreTimesWithin, longest_irq, most_irq_total, plus, shares}
+use Rattle.pressure_spec.specs.Share.{AreAmountsWithin, AreTimesWithin, most_irq_total, plus, shares}
+use Rattle.psi_spec.specs.World.{longest_irq}
 use Rattle.pressure_spec.specs.Samples.{growths, row_at}
 use Rattle.pressure_spec.proofs.WithinLaws.{growths_next, irq_sum_most, totals_kept, totals_sampled}
 use Rattle.tick_engine.specs.declared.group.Group.{Group}

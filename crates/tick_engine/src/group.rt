@@ -3,10 +3,10 @@
 ghost use Rattle.std.specs.Prelude.{◌≡◌, ◌≤◌, ◌<◌, ◌+◌, All, length};
 ghost use Rattle.aggregate.specs.Table.{HasSizes};
 ghost use Rattle.pressure_spec.specs.Samples.{row_at};
-ghost use Rattle.pressure_spec.specs.Share.{AreAmountsWithin, AreTimesWithin, longest_irq, most_irq_total, plus, shares};
+ghost use Rattle.pressure_spec.specs.Share.{AreAmountsWithin, AreTimesWithin, most_irq_total, plus, shares};
 ghost use Rattle.pressure_spec.specs.Ticks.{IsNextTick};
 ghost use Rattle.psi_spec.specs.Trace.{last_moment, longest_tick};
-ghost use Rattle.psi_spec.specs.World.{most_groups};
+ghost use Rattle.psi_spec.specs.World.{most_groups, longest_irq};
 ghost use Rattle.tick_engine.specs.Step.{AreGroupsWithin, AreStepped, AreTotalsWithin, group_step, is_live_group, sampled, unsampled_group};
 ghost use Rattle.tick_engine.specs.Tables.{tick_at};
 

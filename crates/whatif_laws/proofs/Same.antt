@@ -16,10 +16,10 @@ use Rattle.psi_spec.specs.declared.machine.Task.{Task}
 use Rattle.psi_spec.specs.Refusal.{AreLegal}
 use Rattle.psi_spec.specs.Told.{told_from, trigger_by, triggers_of}
 use Rattle.psi_spec.specs.Trace.{EndsLast, IsAccepted}
-use Rattle.psi_spec.specs.World.{Limits, World, after, after_event, after_from, first_world, groups_after, is_active, is_running, running_on, task_of, up_to}
+use Rattle.psi_spec.specs.World.{Limits, World, after, after_event, after_from, first_world, groups_after, is_active, is_running, running_on, task_of, up_to, events_at}
 use Rattle.psi_spec.proofs.Following.{after_from-append}
 use Rattle.plan_laws.proofs.PlanUpTo.{past_it}
-use Rattle.whatif_spec.specs.Without.{act_without, acts_if, behind, dead_after, events_at, exit_acts, exit_of, exits_from, if_alive, is_alive, is_among, making_room, members, pid_part, rest_without, switch_without, without}
+use Rattle.whatif_spec.specs.Without.{act_without, acts_if, behind, dead_after, exit_acts, exit_of, exits_from, if_alive, is_alive, is_among, making_room, members, pid_part, rest_without, switch_without, without}
 use Rattle.whatif_trace.proofs.Resting.{Begins, in_time}
 use Rattle.whatif_trace.proofs.Together.{Holds, IsCut, cut_at, cut_world, dead_of, end_at, exits_of, holds, rest_of, three_parts}
 use Rattle.whatif_trace.proofs.Whole.{rest_both}

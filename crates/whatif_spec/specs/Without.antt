@@ -12,7 +12,7 @@ use Rattle.psi_base.specs.declared.event.Act.TheVariants as act
 use Rattle.psi_base.specs.declared.event.Event.{Event}
 use Rattle.psi_spec.specs.declared.machine.Mode.{Mode}
 use Rattle.psi_spec.specs.declared.machine.Task.{Task}
-use Rattle.psi_spec.specs.World.{World, Tasks, after, after_event, after_from, is_active, is_running, running_on, task_of, up_to}
+use Rattle.psi_spec.specs.World.{World, Tasks, after, after_event, after_from, events_at, is_active, is_running, running_on, task_of, up_to}
 use Rattle.psi_spec.specs.Stall.{is_under, parents_of}
 
 -- ---- the exits
@@ -48,10 +48,6 @@ exit_acts pid task running =
 abbrev pub exit_of : World → ℕ → Option Task → List Act
 exit_of w pid None = []
 exit_of w pid (Some task) = exit_acts pid task (pid_part (running_on w.tasks task.cpu.0))
-
--- acts as events of one moment (ns)
-abbrev pub events_at : ℕ → List Act → List Event
-events_at at acts = map (λ what. record { at = at; act = what }) acts
 
 -- the exits of tasks at a moment (ns), one after the other, each in the world that those before it left
 abbrev pub exits_from : ℕ → World → List ℕ → List Event

@@ -15,11 +15,11 @@ use Rattle.psi_base.specs.declared.event.How.TheVariants.{Preempt, Sleep, IoWait
 use Rattle.psi_base.specs.declared.event.Pid.{Pid}
 use Rattle.psi_spec.specs.declared.machine.Task.{Task}
 use Rattle.psi_spec.specs.Refusal.{AreLegal}
-use Rattle.psi_spec.specs.World.{Limits, Tasks, World, after_event, after_from, is_active, is_running, running_on, task_of, tasks_after, groups_after}
+use Rattle.psi_spec.specs.World.{Limits, Tasks, World, after_event, after_from, is_active, is_running, running_on, task_of, tasks_after, groups_after, events_at}
 use Rattle.psi_counts.specs.Legal.{IsLegalWorld}
 use Rattle.task_table.specs.Named.{next_task}
 use Rattle.task_table.proofs.CauseLaws.{let_through, may_switch}
-use Rattle.whatif_spec.specs.Without.{act_without, acts_if, dead_after, events_at, exit_acts, exit_of, exits_from, making_room, pid_part, rest_without, switch_without, without_pid}
+use Rattle.whatif_spec.specs.Without.{act_without, acts_if, dead_after, exit_acts, exit_of, exits_from, making_room, pid_part, rest_without, switch_without, without_pid}
 use Rattle.whatif_trace.specs.Left.{AreRunners, act_left, dead_left, exit_left, exited, exits_left, rest_left, runner_at, turned}
 use Rattle.whatif_trace.proofs.Doing.{IsReady}
 use Rattle.whatif_trace.proofs.Exiting.{exit_goes}

@@ -3,11 +3,10 @@ use Rattle.std.proofs.Common.{◌≡◌, ℕ, ◌+◌, ◌≤◌, ◌<◌, List,
 use Rattle.std.specs.Prelude.{◌||◌, if◌then◌else◌}
 use Rattle.psi_base.specs.declared.event.Act.{Act}
 use Rattle.psi_spec.specs.Refusal.{AreLegal, cause_of}
-use Rattle.psi_spec.specs.World.{Limits, World, after_event, after_from, ends, is_trigger}
+use Rattle.psi_spec.specs.World.{Limits, World, after_event, after_from, ends, is_trigger, events_at}
 use Rattle.psi_counts.specs.Legal.{IsLegalWorld}
 use Rattle.psi_counts.proofs.LegalLaws.{legal_kept}
 use Rattle.task_table.proofs.CauseLaws.{first_of_act}
-use Rattle.whatif_spec.specs.Without.{events_at}
 use Rattle.whatif_trace.proofs.Steps.{IsOfTasks, NoneAgainst, event_at}
 
 -- a legal world that goes on at a moment, with room for so many more events and the end

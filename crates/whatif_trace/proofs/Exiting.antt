@@ -11,7 +11,7 @@ use Rattle.psi_spec.specs.declared.machine.Mode.{Mode}
 use Rattle.psi_spec.specs.declared.machine.Mode.TheVariants.{Blocked, Waiting, Ready, Running}
 use Rattle.psi_spec.specs.declared.machine.Task.{Task}
 use Rattle.psi_spec.specs.Refusal.{AreLegal}
-use Rattle.psi_spec.specs.World.{Limits, Tasks, World, after_event, after_from, change_to, is_active, is_ready_on, is_running, is_running_on, put, readied, running_on, task_of, test_task}
+use Rattle.psi_spec.specs.World.{Limits, Tasks, World, after_event, after_from, change_to, is_active, is_ready_on, is_running, is_running_on, put, readied, running_on, task_of, test_task, events_at}
 use Rattle.psi_spec.proofs.Following.{after_from-append}
 use Rattle.psi_spec.proofs.RefusalLaws.{first_true, second_true}
 use Rattle.psi_spec.proofs.TaskLaws.{get_put, itself}
@@ -19,7 +19,7 @@ use Rattle.psi_counts.specs.Touch.{RunsOnce}
 use Rattle.psi_counts.proofs.TouchCounts.{running_found}
 use Rattle.task_table.specs.Causes.{wake_cause}
 use Rattle.task_table.proofs.Runners.{runs_there}
-use Rattle.whatif_spec.specs.Without.{acts_if, events_at, exit_of, exits_from, is_among, making_room, pid_part}
+use Rattle.whatif_spec.specs.Without.{acts_if, exit_of, exits_from, is_among, making_room, pid_part}
 use Rattle.whatif_trace.specs.Rest.{IsWithout, kept}
 use Rattle.whatif_trace.proofs.Steps.{event_at, of_tasks}
 use Rattle.whatif_trace.proofs.Switching.{next_apart}

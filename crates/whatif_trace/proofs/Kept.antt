@@ -3,7 +3,7 @@ use Rattle.std.proofs.Common.{◌≡◌, ℕ, List, [], ◌++◌, ap, ◌∙◌,
 use Rattle.std.proofs.lemmas.List.{append-nil, map-append}
 use Rattle.psi_base.specs.declared.event.Act.{Act}
 use Rattle.psi_base.specs.declared.event.Event.{Event}
-use Rattle.whatif_spec.specs.Without.{events_at}
+use Rattle.psi_spec.specs.World.{events_at}
 
 -- nothing is kept
 pub none_kept : (old : List Event) → old ≡ old ++ []

@@ -9,7 +9,7 @@ use Rattle.psi_base.specs.declared.event.How.TheVariants.{Exit}
 use Rattle.psi_base.specs.declared.event.Pid.{Pid}
 use Rattle.psi_spec.specs.declared.machine.Mode.TheVariants.{Ready, Running}
 use Rattle.psi_spec.specs.declared.machine.Task.{Task}
-use Rattle.psi_spec.specs.World.{Limits, Tasks, World, after_event, after_from, change_to, is_ready_on, is_running, is_running_on, leave, put, remove, running_on, start, task_of, test_task}
+use Rattle.psi_spec.specs.World.{Limits, Tasks, World, after_event, after_from, change_to, is_ready_on, is_running, is_running_on, leave, put, remove, running_on, start, task_of, test_task, events_at}
 use Rattle.psi_spec.proofs.TaskLaws.{get_put, get_remove, itself, task_placed}
 use Rattle.psi_counts.specs.Touch.{RunsOnce, changed}
 use Rattle.psi_counts.proofs.TouchCounts.{running_found}
@@ -17,7 +17,7 @@ use Rattle.psi_counts.proofs.TouchLaws.{ready_left}
 use Rattle.task_table.specs.Causes.{how_cause, unstall_cause}
 use Rattle.task_table.specs.Named.{next_task}
 use Rattle.task_table.proofs.Runners.{only_runs, runs_there}
-use Rattle.whatif_spec.specs.Without.{acts_if, events_at, making_room, pid_part}
+use Rattle.whatif_spec.specs.Without.{acts_if, making_room, pid_part}
 use Rattle.whatif_trace.proofs.Steps.{event_at, of_tasks}
 use Rattle.psi_spec.proofs.RefusalLaws.{second_true}
 use Rattle.whatif_trace.proofs.Switching.{may_be, next_apart, next_may, of_switch}

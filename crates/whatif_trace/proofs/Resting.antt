@@ -5,7 +5,7 @@ use Rattle.std.specs.FinMap as tasks_by
 use Rattle.psi_base.specs.declared.event.Act.{Act}
 use Rattle.psi_base.specs.declared.event.Act.TheVariants as act
 use Rattle.psi_base.specs.declared.event.Event.{Event}
-use Rattle.psi_spec.specs.World.{Limits, Tasks, World, after_event, after_from, readied, task_of}
+use Rattle.psi_spec.specs.World.{Limits, Tasks, World, after_event, after_from, readied, task_of, events_at}
 use Rattle.std.proofs.lemmas.Bool.Decides.{nat_tests}
 use Rattle.std.proofs.lemmas.List.{length-append}
 use Rattle.psi_base.specs.declared.event.Cause.{Cause}
@@ -19,7 +19,7 @@ use Rattle.psi_counts.proofs.LegalLaws.{legal_kept}
 use Rattle.task_table.proofs.CauseLaws.{let_through}
 use Rattle.task_table.specs.Causes.{migrate_cause, path_cause, stall_cause, unstall_cause, wake_cause}
 use Rattle.group_tree.specs.Tree.{add_cause}
-use Rattle.whatif_spec.specs.Without.{act_without, dead_after, events_at, is_among, rest_without}
+use Rattle.whatif_spec.specs.Without.{act_without, dead_after, is_among, rest_without}
 use Rattle.whatif_trace.specs.Rest.{IsWithout, dead_behind}
 use Rattle.whatif_trace.proofs.Fewer.{either, found_kept, no_more}
 use Rattle.whatif_trace.proofs.Changing.{change_alive, change_dead, placed_alive}

@@ -15,11 +15,11 @@ use Rattle.psi_spec.specs.declared.machine.Task.{Task}
 use Rattle.psi_spec.specs.Fields.{IsPid}
 use Rattle.psi_spec.specs.Grammar.{ActFits}
 use Rattle.psi_spec.specs.Trace.{AllFit}
-use Rattle.psi_spec.specs.World.{Limits, Tasks, World, after_event, after_from, change_to, first_world, is_active, is_running, leave, left_by, most_cpus, placed, running_on, start, task_of, tasks_after}
+use Rattle.psi_spec.specs.World.{Limits, Tasks, World, after_event, after_from, change_to, first_world, is_active, is_running, leave, left_by, most_cpus, placed, running_on, start, task_of, tasks_after, events_at}
 use Rattle.psi_spec.proofs.TaskLaws.{get_put, task_placed}
 use Rattle.psi_counts.specs.Touch.{changed}
 use Rattle.psi_counts.proofs.TouchCounts.{running_found}
-use Rattle.whatif_spec.specs.Without.{act_without, acts_if, dead_after, events_at, exit_acts, exit_of, exits_from, is_alive, is_among, if_alive, making_room, pid_part, rest_without, switch_without}
+use Rattle.whatif_spec.specs.Without.{act_without, acts_if, dead_after, exit_acts, exit_of, exits_from, is_alive, is_among, if_alive, making_room, pid_part, rest_without, switch_without}
 use Rattle.whatif_trace.proofs.Doing.{IsReady, ready_for}
 use Rattle.whatif_trace.proofs.Exiting.{exit_goes}
 use Rattle.whatif_trace.proofs.Leaving.{found_changed}

@@ -10,11 +10,11 @@ use Rattle.psi_base.specs.declared.event.Pid.{Pid}
 use Rattle.psi_spec.specs.declared.machine.GroupLife.{GroupLife}
 use Rattle.psi_spec.specs.declared.machine.Task.{Task}
 use Rattle.psi_spec.specs.Refusal.{AreLegal, has_member}
-use Rattle.psi_spec.specs.World.{Limits, Tasks, World, after_event, after_from, ends, groups_after, irqs_after, is_trigger, slot_of, tasks_after}
+use Rattle.psi_spec.specs.World.{Limits, Tasks, World, after_event, after_from, ends, groups_after, irqs_after, is_trigger, slot_of, tasks_after, events_at}
 use Rattle.group_tree.specs.Tree.{remove_cause}
 use Rattle.task_table.specs.Causes.{act_cause, empty_cause, fork_cause, move_cause, or_cause}
 use Rattle.task_table.proofs.CauseLaws.{first_of_act}
-use Rattle.whatif_spec.specs.Without.{acts_if, events_at, is_among}
+use Rattle.whatif_spec.specs.Without.{acts_if, is_among}
 use Rattle.whatif_trace.specs.Rest.{IsWithout}
 use Rattle.whatif_trace.proofs.Fewer.{AreWithout, no_member}
 

@@ -7,14 +7,14 @@ use Rattle.psi_base.specs.declared.event.Act.TheVariants as act
 use Rattle.psi_base.specs.declared.event.Event.{Event}
 use Rattle.psi_spec.specs.Refusal.{AreLegal}
 use Rattle.psi_spec.specs.Trace.{EndsLast}
-use Rattle.psi_spec.specs.World.{Limits, World, after, after_event, after_from, first_world, up_to}
+use Rattle.psi_spec.specs.World.{Limits, World, after, after_event, after_from, first_world, up_to, events_at}
 use Rattle.psi_spec.proofs.Following.{after_from-append, last_end, open_of_legal}
 use Rattle.psi_counts.specs.Legal.{IsLegalWorld}
 use Rattle.psi_counts.proofs.LegalLaws.{legal_kept}
 use Rattle.plan_laws.proofs.PlanStates.{legal_after, legal_front}
 use Rattle.plan_laws.proofs.PlanUpTo.{ends_by}
 use Rattle.task_table.proofs.CauseLaws.{let_through}
-use Rattle.whatif_spec.specs.Without.{act_without, behind, dead_after, events_at, exits_from, members, rest_without, without}
+use Rattle.whatif_spec.specs.Without.{act_without, behind, dead_after, exits_from, members, rest_without, without}
 use Rattle.whatif_trace.specs.Rest.{IsWithout, dead_behind}
 use Rattle.whatif_trace.proofs.Living.{AreLive, act_live}
 use Rattle.whatif_trace.proofs.Steps.{HasRoom}

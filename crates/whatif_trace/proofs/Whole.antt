@@ -8,10 +8,10 @@ use Rattle.psi_base.specs.declared.event.Event.{Event}
 use Rattle.psi_spec.specs.declared.machine.Task.{Task}
 use Rattle.psi_spec.specs.Refusal.{AreLegal}
 use Rattle.psi_spec.specs.Stall.{is_under, parents_of}
-use Rattle.psi_spec.specs.World.{Limits, Tasks, World, after_event, after_from, first_world, task_of, up_to}
+use Rattle.psi_spec.specs.World.{Limits, Tasks, World, after_event, after_from, first_world, task_of, up_to, events_at}
 use Rattle.psi_spec.proofs.TaskLaws.{found}
 use Rattle.plan_laws.proofs.PlanUpTo.{none_later, past_it}
-use Rattle.whatif_spec.specs.Without.{act_without, behind, dead_after, events_at, is_among, members, rest_without}
+use Rattle.whatif_spec.specs.Without.{act_without, behind, dead_after, is_among, members, rest_without}
 use Rattle.whatif_trace.specs.Rest.{dead_behind}
 use Rattle.whatif_trace.proofs.Living.{AreLive}
 use Rattle.whatif_trace.proofs.Resting.{Begins}

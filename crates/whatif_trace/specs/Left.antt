@@ -7,8 +7,8 @@ use Rattle.psi_base.specs.declared.event.Act.TheVariants as act
 use Rattle.psi_base.specs.declared.event.Event.{Event}
 use Rattle.psi_spec.specs.declared.machine.Task.{Task}
 use Rattle.psi_spec.specs.Stall.{is_under, parents_of}
-use Rattle.psi_spec.specs.World.{Tasks, World, is_running, is_running_on, task_of, test_task}
-use Rattle.whatif_spec.specs.Without.{act_of, events_at, exit_acts, switch_without, without_pid}
+use Rattle.psi_spec.specs.World.{Tasks, World, is_running, is_running_on, task_of, test_task, events_at}
+use Rattle.whatif_spec.specs.Without.{act_of, exit_acts, switch_without, without_pid}
 
 -- these events were added to what is kept, unless memory ran out
 abbrev pub Adds : {T E : Type 0} → List Event → List Event → Result T E → List Event → Type 0

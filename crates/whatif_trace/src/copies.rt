@@ -1,6 +1,7 @@
 //! Events once more, as they are kept.
 ghost use Rattle.std.specs.Prelude.{◌≡◌, ◌++◌, ◌∷◌, [], IfOk, OnOk};
-ghost use Rattle.whatif_spec.specs.Without.{acts_if, events_at};
+ghost use Rattle.whatif_spec.specs.Without.{acts_if};
+ghost use Rattle.psi_spec.specs.World.{events_at};
 ghost use Rattle.whatif_trace.specs.Left.{Adds};
 
 use psi_base::{Act, Event, NoMemory, Ns};

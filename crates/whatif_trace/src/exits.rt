@@ -1,7 +1,7 @@
 //! The exits of tasks that are killed.
 ghost use Rattle.std.specs.Prelude.{◌≡◌};
-ghost use Rattle.psi_spec.specs.World.{is_active};
-ghost use Rattle.whatif_spec.specs.Without.{events_at, exit_acts, making_room};
+ghost use Rattle.psi_spec.specs.World.{is_active, events_at};
+ghost use Rattle.whatif_spec.specs.Without.{exit_acts, making_room};
 ghost use Rattle.whatif_trace.specs.Left.{Adds, exit_left, exited, exits_left};
 
 use crate::copies::{keep, keep_if};

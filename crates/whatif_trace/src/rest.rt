@@ -1,6 +1,7 @@
 //! What is left of the events behind the exits.
 ghost use Rattle.std.specs.Prelude.{◌≡◌};
-ghost use Rattle.whatif_spec.specs.Without.{events_at, if_alive, is_alive, is_among, switch_without, without_pid};
+ghost use Rattle.whatif_spec.specs.Without.{if_alive, is_alive, is_among, switch_without, without_pid};
+ghost use Rattle.psi_spec.specs.World.{events_at};
 ghost use Rattle.whatif_trace.specs.Left.{Adds, act_left, dead_left, doer, left_if, rest_left};
 
 use crate::copies::{keep, keep_copy};

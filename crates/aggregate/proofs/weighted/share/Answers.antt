@@ -3,7 +3,8 @@ use Rattle.std.specs.Prelude.{max, sum_by}
 use Rattle.std.proofs.lemmas.List.{get_or_default, take_all}
 use Rattle.std.proofs.lemmas.List.Sums.{sum_by_more}
 use Rattle.psi_spec.specs.Trace.{longest_tick}
-use Rattle.pressure_spec.specs.Share.{AreTimesWithin, irq_place, irq_quantity, longest_irq, pressure_places, weight, total_weight}
+use Rattle.pressure_spec.specs.Share.{AreTimesWithin, irq_place, irq_quantity, pressure_places, weight, total_weight}
+use Rattle.psi_spec.specs.World.{longest_irq}
 use Rattle.pressure_spec.proofs.ShareLaws.{shares_all, state_place}
 use Rattle.aggregate.proofs.weighted.share.Goals as goal
 

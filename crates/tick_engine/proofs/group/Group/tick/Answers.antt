@@ -3,7 +3,8 @@ use Rattle.std.specs.Prelude.{All}
 use Rattle.psi_spec.specs.Trace.{last_moment, longest_tick}
 use Rattle.pressure_spec.specs.Ticks.{Tick}
 use Rattle.pressure_spec.specs.Samples.{growths, row_at}
-use Rattle.pressure_spec.specs.Share.{AreAmountsWithin, AreTimesWithin, longest_irq, most_irq_total, plus, shares}
+use Rattle.pressure_spec.specs.Share.{AreAmountsWithin, AreTimesWithin, most_irq_total, plus, shares}
+use Rattle.psi_spec.specs.World.{longest_irq}
 use Rattle.tick_engine.specs.Tables.{tick_at}
 use Rattle.tick_engine.proofs.StepLaws.{growths_short, sampled_fits}
 use Rattle.pressure_spec.proofs.WithinLaws.{totals_kept, totals_sampled}
