@@ -7,7 +7,6 @@ ghost use Rattle.kill_spec.specs.Readings.{IsReading};
 ghost use Rattle.detectors.specs.Stands.{Answers, DetectorTakes, StandsFor};
 
 use crate::conditions::{find_matches, greatest_of, has_condition, has_match, is_swap_short};
-use crate::copies::copy_spec;
 use crate::moments::{is_long, is_recent, of_seconds, run_after};
 use crate::reading::Reading;
 use crate::scans::take_rise;
@@ -67,7 +66,7 @@ impl Detector {
             StandsFor detector lives spec.now []) }
     {
         Ok(Detector {
-            spec: copy_spec(alloc, spec)?,
+            spec: spec.copy(alloc)?,
             last: None,
             matched: vec![in alloc; false; slots as usize]?,
             run: None,

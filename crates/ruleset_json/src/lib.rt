@@ -8,6 +8,7 @@
 
 mod action;
 mod arguments;
+mod copies;
 mod detector;
 mod fault;
 mod file;
