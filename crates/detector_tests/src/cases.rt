@@ -5,7 +5,6 @@ use crate::readings::{Failed, NO_HOST, bare_group, life, scanned, using};
 use crate::rig::Rig;
 use detectors::{GroupReading, HostReading};
 use path_match::Patterns;
-use pressure_spec::QUANTITIES;
 use psi_base::{Res, State};
 use psi_spec::GroupLife;
 use ruleset_json::{DetectorSpec, Size};
@@ -199,24 +198,6 @@ fn pressure_of_memory(rt: HostRuntime) -> Result<(), Fail> {
         row(10, [Some(seen), None], true),
     ];
     answers(&rt, rt.alloc(), &spec, &rows)
-}
-
-// No rule asks for interrupt time, whose averages stand behind those of the states.
-#[test]
-fn pressure_of_interrupts_is_none(rt: HostRuntime) -> Result<(), Fail> {
-    let mut seen = bare_group(1);
-    seen.averages[QUANTITIES - 1] = [204_800; 3];
-    for resource in [Res::Io, Res::Memory, Res::Cpu] {
-        let spec = DetectorSpec::PressureAbove {
-            cgroup: patterns(rt.alloc(), "a")?,
-            resource,
-            threshold: 0,
-            duration_s: 0,
-        };
-        let rows = [row(5, [Some(seen), None], false)];
-        answers(&rt, rt.alloc(), &spec, &rows)?;
-    }
-    Ok(())
 }
 
 #[test]

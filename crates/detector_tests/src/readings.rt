@@ -49,7 +49,7 @@ pub fn life(alloc: Global, path: &str, parent: Option<Slot>) -> Result<GroupLife
 pub fn bare_group(slot: u32) -> GroupReading {
     GroupReading {
         slot: Slot(slot),
-        averages: [[0; 3]; QUANTITIES],
+        averages: [[0; 3]; QUANTITIES - 1],
         current: 0,
         swap: 0,
         scan: 0,

@@ -1,5 +1,5 @@
 -- The readings of a trace: what is seen at each of its evaluations.
-use Rattle.std.specs.Prelude.{ℕ, zero, suc, ◌==◌, List, [], ◌∷◌, map, Bool, if◌then◌else◌}
+use Rattle.std.specs.Prelude.{ℕ, zero, suc, ◌==◌, List, [], ◌∷◌, map, take, Bool, if◌then◌else◌}
 use Rattle.std.specs.List.{list_any}
 use Rattle.std.specs.FinMap as tasks_by
 use Rattle.psi_base.specs.declared.event.Act.{Act}
@@ -15,6 +15,7 @@ use Rattle.psi_spec.specs.Groups.{live_groups}
 use Rattle.psi_spec.specs.Told.{slot_named, told_from}
 use Rattle.pressure_spec.specs.Ticks.{is_evaluation, tick_moment, ticks_of}
 use Rattle.pressure_spec.specs.Samples.{group_averages}
+use Rattle.pressure_spec.specs.Share.{irq_quantity}
 use Rattle.kill_spec.specs.declared.reading.GroupReading.{GroupReading}
 use Rattle.kill_spec.specs.declared.reading.HostReading.{HostReading}
 use Rattle.kill_spec.specs.Readings.{Reading, no_host}
@@ -89,9 +90,10 @@ group_seen events averages slot = record {
 }
 
 -- the averages of the group in a slot after the tick with a number, of a trace with so many processors and
--- ticks of a length (ns)
+-- ticks of a length (ns): those of states alone, so interrupt time, which is the last quantity, decides nothing
 abbrev pub averages_at : ℕ → List Event → ℕ → ℕ → ℕ → List (List ℕ)
 averages_at cpus events length i slot =
+    take irq_quantity
     (group_averages cpus (after events).groups (ticks_of cpus events length i) slot).averages
 
 -- the reading at the tick with a number: of the groups that are live then, in the byte order of their paths

@@ -13,7 +13,7 @@ use Rattle.psi_spec.specs.Stall.{state_number}
 use Rattle.psi_spec.specs.Groups.{path_at}
 use Rattle.pressure_spec.specs.Average.{IsRow}
 use Rattle.pressure_spec.specs.Samples.{state_of}
-use Rattle.pressure_spec.specs.Share.{pressure_places}
+use Rattle.pressure_spec.specs.Share.{irq_quantity}
 use Rattle.kill_spec.specs.declared.reading.GroupReading.{GroupReading}
 use Rattle.kill_spec.specs.declared.reading.HostReading.{HostReading}
 
@@ -45,8 +45,7 @@ ten_seconds = 0
 abbrev pub sixty_seconds : ℕ
 sixty_seconds = 1
 
--- The full average of a resource over a window, by the window's place, in fixed point. Rules ask for those of states alone, so
--- interrupt time, whose averages stand behind them, decides nothing.
+-- the full average of a resource over a window, by the window's place, in fixed point
 abbrev pub full_average : Res → ℕ → GroupReading → ℕ
 full_average resource window group =
     slice_index (slice_index_or group.averages (state_number (state_of resource FullStalled)) []) window
@@ -67,13 +66,13 @@ rise (before ∷ past) group = grown_from group.scan (group_in before group.slot
 -- ---- what holds of readings
 
 -- a group that was read is one of so many, its bytes and counts are at most 2^60, and it has three
--- averages of at most 100 percent for each pressure quantity
+-- averages of at most 100 percent for each quantity before interrupt time
 pub record IsGroupReading (slots : ℕ) (group : GroupReading) : Type 0 where
   pub slot : group.slot.0 < slots
   pub current : group.current ≤ 2 ^ 60
   pub swap : group.swap ≤ 2 ^ 60
   pub scan : group.scan ≤ 2 ^ 60
-  pub rows : length group.averages ≡ length pressure_places
+  pub rows : length group.averages ≡ irq_quantity
   pub each : All IsRow group.averages
 
 -- a sample of the host is in its ranges: bytes are at most 2^60

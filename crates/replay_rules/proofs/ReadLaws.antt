@@ -1,7 +1,7 @@
 -- One evaluation: what is read is the reading of the trace at its tick.
 use Rattle.std.proofs.Common.{◌≡◌, ℕ, zero, suc, ◌+◌, ◌<◌, List, [], ◌∷◌, length, map, refl, sym}
 use Rattle.std.proofs.Common.{ap, subst, ◌∙◌, arith, Bool, true, false}
-use Rattle.std.specs.Prelude.{All, Option, None, Some, if◌then◌else◌}
+use Rattle.std.specs.Prelude.{take, All, Option, None, Some, if◌then◌else◌}
 use Rattle.std.specs.List.{range_with_len}
 use Rattle.std.proofs.lemmas.List.{get_or-map, length-map}
 use Rattle.std.proofs.lemmas.List.Elements.{All-filter}
@@ -17,6 +17,7 @@ use Rattle.psi_spec.specs.World.{after, up_to}
 use Rattle.plan_laws.specs.Moments.{is_live_slot, with_path}
 use Rattle.plan_laws.proofs.MomentsOrder.{order_tells_live}
 use Rattle.pressure_spec.specs.Samples.{group_averages}
+use Rattle.pressure_spec.specs.Share.{irq_quantity}
 use Rattle.pressure_spec.specs.Ticks.{is_evaluation, tick_moment, ticks_of}
 use Rattle.pressure_spec.proofs.SampleLaws.{group_averages_are}
 use Rattle.ruleset_json.specs.declared.types.Rule.{Rule}
@@ -113,7 +114,7 @@ group_is : (engine : EngineView) (watch : SideView) (trace : Trace) (pace : Pace
     HasFollowed trace.events (Some (tick_moment pace.length i)) watch →
     slot < length (lives_of trace) → group_by engine watch slot ≡ group_told trace pace i slot
 group_is engine watch trace pace i slot ticked watching room =
-    let averages = ap (λ a. a.averages) (averages_are engine trace pace i slot ticked room) in
+    let averages = ap (λ a. take irq_quantity a.averages) (averages_are engine trace pace i slot ticked room) in
     ap (λ a. group_with slot a (side_sample (side_cell_at watch slot).memory)
     (side_cell_at watch slot).preference (has_tasks watch slot)) averages
     ∙ ap (λ m. group_with slot (averages_at trace.cpus trace.events pace.length i slot) m

@@ -10,8 +10,8 @@ use Rattle.std.specs.Ordering.{nat_cmp}
 use Rattle.std.specs.declared.cmp.Ordering.TheVariants.{Less, Equal, Greater}
 use Rattle.std.specs.FinMap as fin
 use Rattle.std.specs.FinMap.Entries.{by_order, put}
-use Rattle.std.proofs.lemmas.List.{get_or-map, get_or-take}
-use Rattle.std.proofs.lemmas.List.Elements.{All-from_recursion}
+use Rattle.std.proofs.lemmas.List.{get_or-map, get_or-take, length-take-le}
+use Rattle.std.proofs.lemmas.List.Elements.{All-from_recursion, All-take}
 use Rattle.psi_base.specs.declared.event.Act.{Act}
 use Rattle.psi_base.specs.declared.event.Act.TheVariants as act
 use Rattle.psi_base.specs.declared.event.Event.{Event}
@@ -24,6 +24,9 @@ use Rattle.psi_spec.specs.Trace.{AllFit, IsAccepted, Trace, limits_of}
 use Rattle.psi_spec.specs.World.{Limits, World, after, after_event, first_world, is_live, up_to}
 use Rattle.plan_laws.specs.Moments.{AreFirstOf}
 use Rattle.plan_laws.proofs.MomentsLives.{groups_keep_slots}
+use Rattle.pressure_spec.specs.Average.{IsRow}
+use Rattle.pressure_spec.specs.Samples.{group_averages}
+use Rattle.pressure_spec.specs.Share.{irq_quantity}
 use Rattle.pressure_spec.specs.Ticks.{is_evaluation, tick_moment, ticks_of}
 use Rattle.pressure_spec.proofs.SampleLaws.{group_averages_are}
 use Rattle.kill_spec.specs.declared.reading.GroupReading.{GroupReading}
@@ -222,13 +225,14 @@ is_reading trace pace i accepted =
     IsGroupReading (length lives) (told pair) = λ pair stands.
     let small = memory_small pair.1 seen fit in
     let state = group_averages_are trace.cpus lives ticks pair.1 in
+    let rows = (group_averages trace.cpus lives ticks pair.1).averages in
     record {
       slot = stands.0;
       current = small.0;
       swap = small.1;
       scan = small.2;
-      rows = state.rows;
-      each = state.each;
+      rows = length-take-le irq_quantity rows (omega (arith, state.rows));
+      each = All-take IsRow irq_quantity rows state.each;
     } in
     let ascend = keys_ascend live (in_order_sorted (live_from 0 (after seen).groups)) in
     record {

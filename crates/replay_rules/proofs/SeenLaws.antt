@@ -25,19 +25,17 @@ use Rattle.side_watch.specs.Watch.{SideView}
 use Rattle.group_tree.specs.Tree.{numbers_of}
 use Rattle.replay_rules.specs.Seen.{group_by, groups_by, slots_live_at}
 
--- seven rows, one by one
-pub seven_rows : (rows : List (List ℕ)) → length rows ≡ 7 →
+-- the first six of seven rows, one by one
+pub six_rows : (rows : List (List ℕ)) → length rows ≡ 7 →
     get_or rows 0 [] ∷ get_or rows 1 [] ∷ get_or rows 2 [] ∷ get_or rows 3 [] ∷ get_or rows 4
-    [] ∷ get_or rows 5 [] ∷ get_or rows 6 [] ∷ [] ≡ rows
-seven_rows [] is = absurd (omega (arith, is))
-seven_rows (a ∷ []) is = absurd (omega (arith, is))
-seven_rows (a ∷ b ∷ []) is = absurd (omega (arith, is))
-seven_rows (a ∷ b ∷ c ∷ []) is = absurd (omega (arith, is))
-seven_rows (a ∷ b ∷ c ∷ d ∷ []) is = absurd (omega (arith, is))
-seven_rows (a ∷ b ∷ c ∷ d ∷ e ∷ []) is = absurd (omega (arith, is))
-seven_rows (a ∷ b ∷ c ∷ d ∷ e ∷ f ∷ []) is = absurd (omega (arith, is))
-seven_rows (a ∷ b ∷ c ∷ d ∷ e ∷ f ∷ g ∷ []) is = refl
-seven_rows (a ∷ b ∷ c ∷ d ∷ e ∷ f ∷ g ∷ h ∷ more) is = absurd (omega (arith, is))
+    [] ∷ get_or rows 5 [] ∷ [] ≡ take 6 rows
+six_rows [] is = absurd (omega (arith, is))
+six_rows (a ∷ []) is = absurd (omega (arith, is))
+six_rows (a ∷ b ∷ []) is = absurd (omega (arith, is))
+six_rows (a ∷ b ∷ c ∷ []) is = absurd (omega (arith, is))
+six_rows (a ∷ b ∷ c ∷ d ∷ []) is = absurd (omega (arith, is))
+six_rows (a ∷ b ∷ c ∷ d ∷ e ∷ []) is = absurd (omega (arith, is))
+six_rows (a ∷ b ∷ c ∷ d ∷ e ∷ f ∷ more) is = refl
 
 -- ---- paths that ascend
 

@@ -1,8 +1,8 @@
 -- What an engine and a watch tell of the live groups at an evaluation.
-use Rattle.std.specs.Prelude.{◌≡◌, ℕ, List, length, map, filter}
+use Rattle.std.specs.Prelude.{◌≡◌, ℕ, List, length, map, filter, take}
 use Rattle.psi_spec.specs.declared.machine.GroupLife.{GroupLife}
 use Rattle.psi_spec.specs.Groups.{path_at}
-use Rattle.pressure_spec.specs.Share.{pressure_places}
+use Rattle.pressure_spec.specs.Share.{irq_quantity, pressure_places}
 use Rattle.plan_laws.specs.Moments.{is_live_slot}
 use Rattle.kill_spec.specs.declared.reading.GroupReading.{GroupReading}
 use Rattle.kill_spec.specs.Readings.{Ascend, Reading}
@@ -18,7 +18,7 @@ HasRows engine slot = length (averages_in engine slot).averages ≡ length press
 abbrev pub group_by : EngineView → SideView → ℕ → GroupReading
 group_by engine watch slot = record {
   slot = record { 0 = slot };
-  averages = (averages_in engine slot).averages;
+  averages = take irq_quantity (averages_in engine slot).averages;
   current = (side_cell_at watch slot).memory.current;
   swap = (side_cell_at watch slot).memory.swap;
   scan = (side_cell_at watch slot).memory.scan;

@@ -1,6 +1,7 @@
 //! What is read at an evaluation.
-ghost use Rattle.std.specs.Prelude.{◌≡◌, ◌<◌, ℕ, All, length};
+ghost use Rattle.std.specs.Prelude.{◌≡◌, ◌<◌, ℕ, All, length, take};
 ghost use Rattle.pressure_spec.specs.Average.{IsRow};
+ghost use Rattle.pressure_spec.specs.Share.{irq_quantity};
 ghost use Rattle.psi_spec.specs.Groups.{is_live_at};
 ghost use Rattle.kill_spec.specs.Readings.{IsGroupReading};
 ghost use Rattle.tick_engine.specs.Engine.{averages_in};
@@ -9,7 +10,7 @@ ghost use Rattle.replay_rules.specs.Seen.{HasRows, LiveAscend, group_by, read_by
 
 use detectors::Reading;
 use kill_spec::GroupReading;
-use pressure_spec::AverageRows;
+use pressure_spec::QUANTITIES;
 use psi_base::{Ns, Slot, State};
 use psi_spec::GroupLife;
 use side_watch::Watch;
@@ -27,11 +28,11 @@ pub fn is_live_at(life: &GroupLife, at: Ns) -> bool
 }
 
 /// The averages of a group over 10, 60 and 300 seconds, of each state but nonidle, in the order of
-/// the states, and of interrupt time.
-fn averages_of(engine: &Engine, slot: Slot) -> AverageRows
+/// the states.
+fn averages_of(engine: &Engine, slot: Slot) -> [[u64; 3]; QUANTITIES - 1]
     requires made { slot.0 < length engine.now.groups }
     requires rows { HasRows engine.now slot.0 }
-    ensures averages { result ≡ (averages_in engine.now slot.0).averages }
+    ensures averages { result ≡ take irq_quantity (averages_in engine.now slot.0).averages }
     ensures each { All IsRow result }
 {
     let averages = engine.averages(slot);
@@ -42,7 +43,6 @@ fn averages_of(engine: &Engine, slot: Slot) -> AverageRows
         averages.get(State::MemFull),
         averages.get(State::CpuSome),
         averages.get(State::CpuFull),
-        averages.irq(),
     ]
 }
 

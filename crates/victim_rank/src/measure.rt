@@ -1,7 +1,7 @@
 //! How an action compares groups.
 ghost use Rattle.std.specs.Prelude.{◌≡◌, ◌<◌, ◌≤◌, ◌^◌, All, MatchOption, false, length, true};
 ghost use Rattle.pressure_spec.specs.Average.{IsRow};
-ghost use Rattle.pressure_spec.specs.Share.{pressure_places};
+ghost use Rattle.pressure_spec.specs.Share.{irq_quantity};
 ghost use Rattle.ruleset_json.specs.Ranges.{FitsAction, IsSize};
 ghost use Rattle.kill_spec.specs.Readings.{IsGroupReading, IsHostReading};
 ghost use Rattle.kill_spec.specs.Victims.{is_at_least, pressure_measure, rank_of};
@@ -26,7 +26,7 @@ pub(crate) fn rank(group: &GroupReading) -> u8
 
 // The full averages of a resource over 10 s and 60 s together.
 fn pressure(group: &GroupReading, resource: Res) -> u64
-    requires rows { length group.now.averages ≡ length pressure_places }
+    requires rows { length group.now.averages ≡ irq_quantity }
     requires each { All IsRow group.now.averages }
     ensures { result ≡ pressure_measure resource group.now }
 {

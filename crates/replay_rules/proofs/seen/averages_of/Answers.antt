@@ -1,4 +1,4 @@
-use Rattle.replay_rules.proofs.SeenLaws.{seven_rows}
+use Rattle.replay_rules.proofs.SeenLaws.{six_rows}
 use Rattle.tick_engine.specs.Engine.{averages_in}
 use Rattle.replay_rules.proofs.seen.averages_of.Goals as goal
 
@@ -11,7 +11,6 @@ returns-clause-averages c =
       c.get-4.ensures.value,
       c.get-5.ensures.value,
       c.get-6.ensures.value,
-      c.irq.ensures.value,
       c.averages-averages.ensures,
     )
-    (seven_rows (averages_in c.args.engine.now c.args.slot.0).averages c.requires.rows)
+    (six_rows (averages_in c.args.engine.now c.args.slot.0).averages c.requires.rows)
