@@ -1,10 +1,6 @@
 //! The program: it makes the real files and streams, calls `run`, and ends with its status.
 #![tactic(auto)]
 
-mod host;
-mod name;
-mod words;
-
 ghost use Rattle.std.specs.Prelude.{◌≡◌, IfOk, None, OnErr, map, string_bytes};
 ghost use Rattle.std.specs.Process.{exit_status};
 ghost use Rattle.psi_base.specs.Gives.{no_memory};
@@ -14,14 +10,13 @@ ghost use Rattle.run_spec.specs.Words.{command_of};
 ghost use Rattle.run_spec.specs.Status.{code_of};
 ghost use Rattle.psi_oomd_main.specs.End.{EndsAs, RanAs};
 
-use host::{HostShelf, HostSink};
+use host_files::{HostShelf, HostSink, words_of};
 use psi_base::{NoMemory, OpenGate, Shelf, Sink, put_all};
 use replay_core::{Status, run};
 use std::alloc::Global;
 use std::env;
 use std::process::ExitCode;
 use std::thread::Threads;
-use words::words_of;
 
 // The exit status of a run.
 fn exit_code(status: Status) -> ExitCode

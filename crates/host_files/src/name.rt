@@ -8,7 +8,7 @@ const LONGEST: usize = 4095;
 
 /// A name that the system opens. It stands in place, so that keeping it takes no memory.
 #[derive(Drop)]
-pub struct Name {
+pub(crate) struct Name {
     bytes: [u8; LONGEST],
     length: usize,
 }
@@ -25,7 +25,7 @@ impl Model for Name {
 
 impl Name {
     /// The same name, or none where it is too long.
-    pub fn new(name: &str) -> Option<Name>
+    pub(crate) fn new(name: &str) -> Option<Name>
         ensures { MatchOption result (4095 < length name.now) (λ kept. kept ≡ name.now) }
     {
         let length = name.len();
@@ -38,7 +38,7 @@ impl Name {
     }
 
     /// Whether it is this name.
-    pub fn is(&self, name: &str) -> bool
+    pub(crate) fn is(&self, name: &str) -> bool
         ensures { IsTrue result ↔ (self.now ≡ name.now) }
     {
         &self.bytes[..self.length] == name.as_bytes()

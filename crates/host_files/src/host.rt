@@ -1,7 +1,7 @@
 //! The system's files and streams. They tell nothing of their content: here trust begins.
 ghost use Rattle.std.specs.Prelude.{◌≡◌, ◌≢◌, ◌<◌, ◌≤◌, ℕ, List, None, Some, IfErr, IfOk, IfSome, IsErrOf, OnOk, codes, length};
 ghost use Rattle.std.specs.Io.KnownBytes.{Keeps, ReadConsumes};
-ghost use Rattle.psi_oomd_main.specs.Host.{GoesOn, LeavesFromPlace, ReadsFront, StandsAt};
+ghost use Rattle.host_files.specs.Host.{GoesOn, LeavesFromPlace, ReadsFront, StandsAt};
 
 use crate::name::Name;
 use psi_base::{Shelf, ShelfFault, Sink, Tally, WriteFailed};
@@ -165,6 +165,10 @@ impl<'a, R: Files, I: Read> HostShelf<'a, R, I> {
     // Reads from a place on: the input, where the name is its own, and else the file of the name.
     fn read_named(&mut self, name: &str, at: u64, into: &mut [u8]) -> Result<usize, ShelfFault>
         ensures bound { IfOk result (λ n. n ≤ length into.new) }
+        ensures order { name.now ≡ codes "-" → at ≢ self.old.place →
+            IsErrOf result ShelfFault.Failed }
+        ensures bytes { name.now ≡ codes "-" → ReadConsumes (I.remaining self.old.input)
+            (I.remaining self.new.input) result into.new }
         ensures input { name.now ≢ codes "-" →
             I.remaining self.new.input ≡ I.remaining self.old.input }
         ensures place { name.now ≢ codes "-" → self.new.place ≡ self.old.place }
@@ -238,8 +242,8 @@ impl<W: Write> Sink for HostSink<W> {
     }
 }
 
-// A cursor over bytes is such a stream as reading at a place speaks of.
-fn law_cursors_leave_from_place<T: AsBytes>()
+/// A cursor over bytes is such a stream as reading at a place speaks of.
+pub fn law_cursors_leave_from_place<T: AsBytes>()
     ensures { LeavesFromPlace ⟦<Cursor<T> as Read>⟧.remaining
         ⟦<Cursor<T> as Seek>⟧.stream_position
         ⟦<Cursor<T> as Seek>⟧.stream_bytes }

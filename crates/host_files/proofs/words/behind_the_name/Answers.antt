@@ -2,7 +2,7 @@ use Rattle.std.proofs.Common.{ap, ◌∙◌}
 use Rattle.std.proofs.lemmas.Iterator.{items_from_collect}
 use Rattle.std.proofs.lemmas.Iterator.Adapters.{YieldsList-from_skip, YieldsList-from_vec}
 use Rattle.std.specs.Vec.Iter.{into_iter_items, into_iter_len}
-use Rattle.psi_oomd_main.proofs.words.behind_the_name.Goals as goal
+use Rattle.host_files.proofs.words.behind_the_name.Goals as goal
 
 -- What is collected is what the vector yields behind its first item.
 pub returns : goal.returns
