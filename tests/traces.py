@@ -262,6 +262,10 @@ class Maker:
         elif way > 0.5:
             self.now += self.draw.randrange(self.tick // 2)
 
+    def path(self) -> str:
+        """The root, or a path that some group had."""
+        return self.draw.choice(["/", *(path for path in self.PATHS if any(line.endswith(f" group {path}") for line in self.lines))])
+
     def cpu(self) -> str:
         return str(self.draw.randrange(self.machine.cpus))
 
@@ -338,10 +342,9 @@ def random_run(number: int, version: int = 1) -> Run:
     """A random trace of this version, the same for each number."""
     maker = Maker(number, version)
     trace = maker.trace()
-    made = [path for path in ("/", *Maker.PATHS) if path == "/" or f" group {path}\n" in trace]
     # Mostly at the ticks that it was made for.
     tick_ms = maker.tick // MS * maker.draw.choice((2, 2, 2, 1, 7)) // 2
-    return Run(f"random-{number}" + "-with-interrupts" * (version - 1), trace, maker.draw.choice(made), tick_ms, maker.draw.choice((0, 1, 10)))
+    return Run(f"random-{number}" + "-with-interrupts" * (version - 1), trace, maker.path(), tick_ms, maker.draw.choice((0, 1, 10)))
 
 
 def all_runs() -> Iterator[Run]:

@@ -24,13 +24,13 @@ def program_path() -> str:
     return os.path.abspath(os.environ.get("PSI_OOMD") or LAUNCHER)
 
 
-def built_program() -> str:
-    """The program of the launcher, built where it is older than its sources, which the launcher then tells on standard error.
+def built_program(launcher: str = LAUNCHER) -> str:
+    """The program of a launcher, built where it is older than its sources, which the launcher then tells on standard error.
 
     The launcher looks at all sources at each start, so what is run more than once is run without it."""
-    done = subprocess.run([LAUNCHER, "--build"], stdout=subprocess.PIPE, encoding="utf-8")
+    done = subprocess.run([launcher, "--build"], stdout=subprocess.PIPE, encoding="utf-8")
     if done.returncode:
-        raise Fault(f"{LAUNCHER} couldn't be built: {ADVICE}")
+        raise Fault(f"{launcher} couldn't be built: {ADVICE}")
     return done.stdout.rstrip("\n")
 
 
