@@ -1,4 +1,6 @@
 //! The lines that commands print, and the pressure files among them, which can be read again.
+//!
+//! Programs beside the first write lines of their own from the same [`Piece`]s.
 #![tactic(auto)]
 
 mod file;
@@ -8,6 +10,8 @@ mod read;
 
 pub use file::{write_file, write_irq, write_report, write_report_head};
 pub use lines::{
-    write_check, write_end, write_fired, write_kill, write_live, write_stall, write_stall_irq,
+    put_timed, write_check, write_end, write_fired, write_kill, write_live, write_stall,
+    write_stall_irq,
 };
+pub use pieces::{Piece, put_pieces};
 pub use read::{PressureFile, PressureLine, law_read_again, read_file, read_irq};

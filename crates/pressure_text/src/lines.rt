@@ -10,9 +10,9 @@ use crate::pieces::{Piece, level_word, put_numbers, put_pieces, resource_word};
 use pressure_spec::Times;
 use psi_base::{Cpu, Ns, Path, Sink, TriggerSpec, WriteFailed, put_all};
 
-// A line that ends with times (ns).
+/// Writes a line of its own: the pieces in order, and behind them times (ns), each behind a space.
 #[tactic(auto, using(psi_base::proofs::Grows::chain))]
-fn put_timed<K: Sink>(out: &mut K, head: &[Piece], times: &[Ns]) -> Result<(), WriteFailed>
+pub fn put_timed<K: Sink>(out: &mut K, head: &[Piece], times: &[Ns]) -> Result<(), WriteFailed>
     ensures bytes { PutsAll (K.has out.old) (K.has out.new) result
         (with_numbers head.now times.now) }
     ensures cause { HasCause (K.faults out.old) (K.faults out.new) result }

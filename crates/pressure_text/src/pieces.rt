@@ -13,7 +13,7 @@ const PERCENT: u64 = 2048;
 
 /// A piece of a line.
 #[derive(Clone, Copy)]
-pub(crate) enum Piece<'a> {
+pub enum Piece<'a> {
     /// A number in decimal digits.
     Number(u64),
     /// A text as it stands.
@@ -79,7 +79,7 @@ fn put_piece<K: Sink>(out: &mut K, piece: Piece) -> Result<(), WriteFailed>
 
 /// Sends the pieces in order. A failure leaves a prefix of their joined bytes in the sink.
 #[tactic(auto, using(psi_base::proofs::Grows::growth))]
-pub(crate) fn put_pieces<K: Sink>(out: &mut K, pieces: &[Piece]) -> Result<(), WriteFailed>
+pub fn put_pieces<K: Sink>(out: &mut K, pieces: &[Piece]) -> Result<(), WriteFailed>
     ensures bytes { PutsAll (K.has out.old) (K.has out.new) result
         (flat_map piece_bytes pieces.now) }
     ensures cause { HasCause (K.faults out.old) (K.faults out.new) result }
