@@ -15,5 +15,6 @@ mod stalls;
 mod trace;
 
 pub use entry::run;
+pub use note::put_refusal;
 pub use replay_ticks::{Replay, TickFault, prepare};
 pub use run_spec::{Status, Which};

@@ -59,8 +59,8 @@ fn field_of(cause: Cause) -> Option<u8>
     }
 }
 
-// Tells of a refused line.
-fn put_refusal<N: Sink>(note: &mut N, line: u32, cause: Cause) -> Result<(), WriteFailed>
+/// Tells of the refused line of a trace: its number, from 1, and the cause. Takes no memory.
+pub fn put_refusal<N: Sink>(note: &mut N, line: u32, cause: Cause) -> Result<(), WriteFailed>
     ensures bytes { PutsAll (N.has note.old) (N.has note.new) result (refusal_text line cause) }
     ensures cause { HasCause (N.faults note.old) (N.faults note.new) result }
 {
