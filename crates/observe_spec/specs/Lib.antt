@@ -1,2 +1,5 @@
 pub mod Samples
 pub mod Observed
+pub mod Words
+pub mod Status
+pub mod Run

@@ -1,0 +1,31 @@
+-- What is printed of entries and of states of the board.
+use Rattle.std.specs.Prelude.{ℕ, ◌+◌, List, [], ◌∷◌, ◌++◌, length, map, codes, decimal}
+use Rattle.std.specs.List.{flat_map}
+use Rattle.run_spec.specs.Lines.{labelled, line_of}
+use Rattle.observer_log.specs.declared.board.BoardState.{BoardState}
+use Rattle.observer_log.specs.declared.entry.Entry.{Entry}
+
+-- the line of an entry
+abbrev pub entry_line : Entry → List ℕ
+entry_line entry =
+    line_of (codes "sample" ∷ labelled (codes "observer=") entry.observer ∷ labelled (codes "cpu=") entry.cpu.0
+    ∷ labelled (codes "count=") entry.count ∷ labelled (codes "at=") entry.at ∷ map decimal entry.seven)
+
+-- the line of a state that an observer read
+abbrev pub state_line : ℕ → BoardState → List ℕ
+state_line observer state =
+    line_of (codes "board" ∷ labelled (codes "observer=") observer ∷ labelled (codes "tick=") state.tick
+    ∷ labelled (codes "events=") state.events ∷ labelled (codes "kills=") state.kills ∷ [])
+
+-- the lines of states that observers read, whose numbers are counted from this one on
+abbrev pub states_text : ℕ → List BoardState → List ℕ
+states_text observer [] = []
+states_text observer (state ∷ states) = state_line observer state ++ states_text (observer + 1) states
+
+-- the last line
+abbrev pub end_line : ℕ → ℕ → List ℕ
+end_line finish samples = line_of (codes "end" ∷ decimal finish ∷ labelled (codes "samples=") samples ∷ [])
+
+-- all lines: of the entries in their order, of the states by observer, and of the end (ns)
+abbrev pub printed : List Entry → List BoardState → ℕ → List ℕ
+printed entries states finish = flat_map entry_line entries ++ states_text 0 states ++ end_line finish (length entries)

@@ -1,0 +1,123 @@
+//! The lines that are printed.
+ghost use Rattle.std.specs.Prelude.{◌≡◌, ◌++◌, ◌≤◌, length};
+ghost use Rattle.std.specs.List.{flat_map};
+ghost use Rattle.psi_base.specs.Outside.{HasCause, PutsAll, StaysOver};
+ghost use Rattle.observe_core.specs.Printed.{end_line, entry_line, printed, state_line, states_text};
+
+use observer_log::{BoardState, Entry};
+use pressure_text::{Piece, put_pieces, put_timed};
+use psi_base::{Ns, Sink, WriteFailed};
+
+// Writes the line of a sample: its observer and processor, after how many changes it is, at which moment (ns), and its times (ns)
+// in the seven states, in their order.
+#[tactic(auto, using(pressure_text::proofs::Puts::times))]
+fn put_entry<K: Sink>(out: &mut K, entry: &Entry<'_>) -> Result<(), WriteFailed>
+    ensures bytes { PutsAll (K.has out.old) (K.has out.new) result (entry_line entry.now) }
+    ensures cause { HasCause (K.faults out.old) (K.faults out.new) result }
+    ensures below { StaysOver (K.below out.old) (K.below out.new) }
+{
+    put_timed(
+        out,
+        &[
+            Piece::Text(b"sample observer="),
+            Piece::Number(u64::from(entry.observer)),
+            Piece::Text(b" cpu="),
+            Piece::Number(u64::from(entry.cpu.0)),
+            Piece::Text(b" count="),
+            Piece::Number(entry.count),
+            Piece::Text(b" at="),
+            Piece::Number(entry.at),
+        ],
+        &entry.seven,
+    )
+}
+
+// Writes the line of what an observer read of the board.
+#[tactic(auto, using(psi_base::proofs::Grows::chain))]
+fn put_state<K: Sink>(out: &mut K, observer: u32, state: &BoardState) -> Result<(), WriteFailed>
+    ensures bytes { PutsAll (K.has out.old) (K.has out.new) result
+        (state_line observer state.now) }
+    ensures cause { HasCause (K.faults out.old) (K.faults out.new) result }
+    ensures below { StaysOver (K.below out.old) (K.below out.new) }
+{
+    put_pieces(
+        out,
+        &[
+            Piece::Text(b"board observer="),
+            Piece::Number(u64::from(observer)),
+            Piece::Text(b" tick="),
+            Piece::Number(state.tick),
+            Piece::Text(b" events="),
+            Piece::Number(state.events),
+            Piece::Text(b" kills="),
+            Piece::Number(state.kills),
+            Piece::Text(b"\n"),
+        ],
+    )
+}
+
+// Writes the last line: the end moment (ns), and how many samples there were.
+#[tactic(auto, using(psi_base::proofs::Grows::chain))]
+fn put_end<K: Sink>(out: &mut K, finish: Ns, samples: u64) -> Result<(), WriteFailed>
+    ensures bytes { PutsAll (K.has out.old) (K.has out.new) result (end_line finish samples) }
+    ensures cause { HasCause (K.faults out.old) (K.faults out.new) result }
+    ensures below { StaysOver (K.below out.old) (K.below out.new) }
+{
+    put_pieces(
+        out,
+        &[
+            Piece::Text(b"end "),
+            Piece::Number(finish),
+            Piece::Text(b" samples="),
+            Piece::Number(samples),
+            Piece::Text(b"\n"),
+        ],
+    )
+}
+
+// Writes the lines of samples.
+#[tactic(auto, using(psi_base::proofs::Grows::growth))]
+fn put_entries<K: Sink>(out: &mut K, entries: &[Entry<'_>]) -> Result<(), WriteFailed>
+    ensures bytes { PutsAll (K.has out.old) (K.has out.new) result
+        (flat_map entry_line entries.now) }
+    ensures cause { HasCause (K.faults out.old) (K.faults out.new) result }
+    ensures below { StaysOver (K.below out.old) (K.below out.new) }
+{
+    'entries: for entry in entries {
+        put_entry(out, entry)?;
+    }
+    Ok(())
+}
+
+// Writes the lines of what each observer read of the board, by their numbers.
+#[tactic(auto, using(psi_base::proofs::Grows::growth))]
+fn put_states<K: Sink>(out: &mut K, states: &[BoardState]) -> Result<(), WriteFailed>
+    requires { length states.now ≤ 8 }
+    ensures bytes { PutsAll (K.has out.old) (K.has out.new) result (states_text 0 states.now) }
+    ensures cause { HasCause (K.faults out.old) (K.faults out.new) result }
+    ensures below { StaysOver (K.below out.old) (K.below out.new) }
+{
+    'states: for observer in 0..states.len() {
+        put_state(out, observer as u32, &states[observer])?;
+    }
+    Ok(())
+}
+
+/// Writes all lines: those of the samples in this order, of what each observer read of the board last, and of the end (ns).
+#[tactic(auto, using(psi_base::proofs::Grows::chain))]
+pub(crate) fn put_observed<K: Sink>(
+    out: &mut K,
+    entries: &[Entry<'_>],
+    states: &[BoardState],
+    finish: Ns,
+) -> Result<(), WriteFailed>
+    requires { length states.now ≤ 8 }
+    ensures bytes { PutsAll (K.has out.old) (K.has out.new) result
+        (printed entries.now states.now finish) }
+    ensures cause { HasCause (K.faults out.old) (K.faults out.new) result }
+    ensures below { StaysOver (K.below out.old) (K.below out.new) }
+{
+    put_entries(out, entries)?;
+    put_states(out, states)?;
+    put_end(out, finish, entries.len() as u64)
+}

@@ -1,0 +1,49 @@
+//! What tells of a status.
+ghost use Rattle.std.specs.Prelude.{◌≡◌};
+ghost use Rattle.psi_base.specs.Outside.{HasCause, PutsAll};
+ghost use Rattle.observe_spec.specs.Status.{status_text, trace_text};
+ghost use Rattle.observe_core.specs.Asked.{asked_in};
+
+use crate::words::Request;
+use observe_spec::ObserveStatus;
+use psi_base::{Sink, WriteFailed, put_all, put_each};
+use replay_core::put_refusal;
+
+// The name of the trace's file, where one is asked for.
+fn trace_name<'a>(request: Option<&Request<'a>>) -> &'a [u8]
+    ensures { result.now ≡ trace_text (asked_in request.entry) }
+{
+    match request {
+        Some(request) => request.trace.as_bytes(),
+        None => b"",
+    }
+}
+
+/// Tells of a status in one line, and of `Done` in none. Takes no memory.
+pub(crate) fn put_status<N: Sink>(
+    note: &mut N,
+    request: Option<&Request<'_>>,
+    status: ObserveStatus,
+) -> Result<(), WriteFailed>
+    ensures bytes { PutsAll (N.has note.old) (N.has note.new) result
+        (status_text (asked_in request.entry) status) }
+    ensures cause { HasCause (N.faults note.old) (N.faults note.new) result }
+{
+    match status {
+        ObserveStatus::Done => put_all(note, b""),
+        ObserveStatus::Usage => put_all(note, b"usage: psi_observe TRACE OBSERVERS PATH\n"),
+        ObserveStatus::Trace { line, cause } => put_refusal(note, line, cause),
+        ObserveStatus::NoFile => put_each(
+            note,
+            &[
+                b"no file: ".as_slice(),
+                trace_name(request),
+                b"\n".as_slice(),
+            ],
+        ),
+        ObserveStatus::ReadFault => put_all(note, b"read fault\n"),
+        ObserveStatus::WriteFault => put_all(note, b"write fault\n"),
+        ObserveStatus::NoMemory(_) => put_all(note, b"out of memory\n"),
+        ObserveStatus::TooManySamples { .. } => put_all(note, b"too many samples\n"),
+    }
+}

@@ -1,0 +1,120 @@
+-- What a run of psi_observe promises: what each status says of the trace and of the output, and which counts of failures rose.
+use Rattle.std.specs.Prelude.{◌≡◌, ◌⊎◌, ℕ, ◌*◌, ◌<◌, ◌≤◌, List, [], ◌∷◌, codes, Option, None, Some, Ok, Err, true}
+use Rattle.std.specs.Io.KnownBytes.{Appends, Keeps}
+use Rattle.psi_base.specs.Gives.{no_memory}
+use Rattle.psi_base.specs.Outside.{AppendsFront, Files, Lacks, told}
+use Rattle.psi_spec.specs.Grammar.{verbs_of, versions}
+use Rattle.psi_spec.specs.Trace.{Accepts, AreKnown, IsAccepted, IsCpuCount, Trace, accepts_with, limits_of, trace_of}
+use Rattle.run_spec.specs.declared.command.Command.TheVariants.{Replay}
+use Rattle.run_spec.specs.declared.command.Options.{Options}
+use Rattle.run_spec.specs.Outputs.{or_refused, pace_of, taken_of}
+use Rattle.run_spec.specs.Replay.{Pace, tick_count}
+use Rattle.run_spec.specs.Run.{RisesWhere, RunCounts}
+use Rattle.run_spec.specs.Words.{command_of}
+use Rattle.observe_spec.specs.declared.status.ObserveStatus.{ObserveStatus}
+use Rattle.observe_spec.specs.declared.status.ObserveStatus.TheVariants as status
+use Rattle.observe_spec.specs.Observed.{IsObservedText}
+use Rattle.observe_spec.specs.Words.{Request, is_trace_name}
+
+-- ---- how a trace is replayed
+
+-- the options of `replay` where none is given, but that a path may be watched
+abbrev pub options_on : Option (List ℕ) → Options
+options_on path = record {
+  rules = None;
+  drop_in = None;
+  tick_ms = 2000;
+  interval_s = 5;
+  report_s = 10;
+  workers = 64;
+  live = path;
+  live_count = 1;
+}
+
+-- the pace of a replay beside observers of a path
+abbrev pub pace_on : List ℕ → Pace
+pace_on path = pace_of (options_on (Some path))
+
+-- the length of its ticks (ns), and so the latest moment of a trace, which is a million ticks
+abbrev pub tick_length : ℕ
+tick_length = 2000000000
+
+-- what is accepted of a trace: one of any version, at the length of these ticks
+abbrev pub accepts : Accepts
+accepts = accepts_with versions tick_length
+
+-- A trace is taken as it is asked for: its verbs are those of its version, its events make up a trace, and it is the one that the
+-- bytes of the file are, where these are told.
+pub record TakesTrace (request : Request) (files : Option Files) (trace : Trace) : Type 0 where
+  pub cpus : IsCpuCount trace.cpus
+  pub known : AreKnown (verbs_of trace.version) trace.events
+  pub accepted : IsAccepted (limits_of tick_length trace.cpus) trace.events
+  pub read : (bytes : List ℕ) → told files request.trace ≡ Some bytes → trace_of accepts bytes ≡ Ok trace
+
+-- ---- how many samples there may be
+
+-- the most samples that a run takes
+abbrev pub most_samples : ℕ
+most_samples = 1000000
+
+-- how many samples there are at most: one at each tick, of each observer, on each processor
+abbrev pub samples_asked : Request → Trace → ℕ
+samples_asked request trace = tick_count trace (pace_on request.path) * request.observers * trace.cpus
+
+-- ---- statuses
+
+-- the trace's file isn't told to be missing
+abbrev pub IsThere : Request → Option Files → Type 0
+IsThere request files = Lacks files request.trace → ⊥
+
+-- The whole output has some property: it is of samples that the observers may have taken of an accepted trace, which aren't too
+-- many. The file isn't missing.
+abbrev pub HasOutput : Request → Option Files → (List ℕ → Type 0) → Type 0
+HasOutput request files IsSo =
+    (trace : Trace) × TakesTrace request files trace × IsThere request files × (samples_asked request trace ≤ most_samples)
+    × ((text : List ℕ) × IsObservedText trace (pace_on request.path) request.path request.observers text × IsSo text)
+
+-- What a status says of what was asked for, where the shelf may tell files, and of what the sink held before and holds now: the
+-- whole output or a front of it; the first refused line of the trace; that its samples would be too many, and how many; or that
+-- the file isn't there. Where it isn't Done or WriteFault, the sink is as it was.
+abbrev pub Ends : Request → Option Files → Option (List ℕ) → Option (List ℕ) → ObserveStatus → Type 0
+Ends request files old new status.Done = HasOutput request files (λ text. Appends old new text)
+Ends request files old new status.WriteFault = HasOutput request files (λ text. AppendsFront old new text)
+Ends request files old new (status.Trace line why) =
+    Keeps old new × IsThere request files
+    × ((bytes : List ℕ) → told files request.trace ≡ Some bytes → trace_of accepts bytes ≡ Err (record { line = line; cause = why }))
+Ends request files old new (status.TooManySamples samples) =
+    Keeps old new × IsThere request files
+    × ((trace : Trace) × TakesTrace request files trace × (samples ≡ samples_asked request trace) × (most_samples < samples))
+Ends request files old new status.NoFile = Keeps old new × (told files request.trace ≡ None)
+Ends request files old new status.ReadFault = Keeps old new
+Ends request files old new (status.NoMemory _) = Keeps old new
+Ends request files old new status.Usage = ⊥
+
+-- Each count rose exactly where the status tells of its failure: so no failure is passed over in silence.
+pub record FailuresAreCounted (before now : RunCounts) (result : ObserveStatus) : Type 0 where
+  pub faults : RisesWhere (result ≡ status.ReadFault) before.shelf.faults now.shelf.faults
+  pub absent : RisesWhere (result ≡ status.NoFile) before.shelf.absent now.shelf.absent
+  pub writes : RisesWhere (result ≡ status.WriteFault) before.writes now.writes
+
+-- A run of what was asked for: what its status says, and the counts.
+pub record Runs (request : Request) (files : Option Files) (before now : RunCounts) (old new : Option (List ℕ)) (result : ObserveStatus) : Type 0 where
+  pub ends : Ends request files old new result
+  pub counts : FailuresAreCounted before now result
+
+-- ---- laws
+
+-- `replay` with the name of a trace and no option has these options, with no path.
+abbrev pub ReplayHasThese : Type 0
+ReplayHasThese = (name : List ℕ) → is_trace_name name ≡ true →
+    command_of (codes "replay" ∷ name ∷ []) ≡ Some (Replay name (options_on None))
+
+-- The trace is the one that `replay` takes with no option, and refused where and as it is there.
+abbrev pub TracesAreThoseOfReplay : Type 0
+TracesAreThoseOfReplay = (name bytes : List ℕ) → or_refused (trace_of accepts bytes) ≡ taken_of (Replay name (options_on None)) bytes
+
+-- Where the trace's file is told to be missing, a run says that it is, or tells of a failure.
+abbrev pub MissingTraceTells : Type 0
+MissingTraceTells = (request : Request) (files : Option Files) (old new : Option (List ℕ)) (result : ObserveStatus) →
+    Ends request files old new result → Lacks files request.trace →
+    (result ≡ status.NoFile) ⊎ (result ≡ status.ReadFault) ⊎ (result ≡ status.NoMemory no_memory)

@@ -1,0 +1,33 @@
+-- The codes of statuses, and the text that tells of each.
+use Rattle.std.specs.Prelude.{ℕ, List, [], ◌++◌, codes, Option, None, Some}
+use Rattle.run_spec.specs.Status.{refusal_text}
+use Rattle.observe_spec.specs.declared.status.ObserveStatus.{ObserveStatus}
+use Rattle.observe_spec.specs.declared.status.ObserveStatus.TheVariants as status
+use Rattle.observe_spec.specs.Words.{Request}
+
+-- the exit status
+abbrev pub code_of : ObserveStatus → ℕ
+code_of status.Done = 0
+code_of status.Usage = 1
+code_of (status.Trace line why) = 2
+code_of status.NoFile = 4
+code_of status.ReadFault = 5
+code_of status.WriteFault = 6
+code_of (status.NoMemory _) = 7
+code_of (status.TooManySamples samples) = 8
+
+-- the name of the trace's file, where words ask for one
+abbrev pub trace_text : Option Request → List ℕ
+trace_text None = []
+trace_text (Some request) = request.trace
+
+-- the line that tells of a status, with its newline; of Done nothing is told
+abbrev pub status_text : Option Request → ObserveStatus → List ℕ
+status_text request status.Done = []
+status_text request status.Usage = codes "usage: psi_observe TRACE OBSERVERS PATH\n"
+status_text request (status.Trace line why) = refusal_text line why
+status_text request status.NoFile = codes "no file: " ++ (trace_text request ++ codes "\n")
+status_text request status.ReadFault = codes "read fault\n"
+status_text request status.WriteFault = codes "write fault\n"
+status_text request (status.NoMemory _) = codes "out of memory\n"
+status_text request (status.TooManySamples samples) = codes "too many samples\n"
