@@ -1,13 +1,13 @@
 -- Laws of a run: it takes a trace as `replay` does, and tells of a missing one.
-use Rattle.std.proofs.Common.{◌≡◌, ◌⊎◌, inl, inr, ℕ, Bool, true, false, List, [], ◌∷◌, refl, Option, Some}
-use Rattle.std.specs.Prelude.{codes, ◌==◌, not}
+use Rattle.std.proofs.Common.{◌≡◌, ◌⊎◌, inl, inr, ℕ, Bool, true, false, true≢false, List, [], ◌∷◌, refl, sym, ◌∙◌, Option, None, Some}
+use Rattle.std.specs.Prelude.{codes, ◌==◌, ◌&&◌, not}
 use Rattle.psi_base.specs.Gives.{no_memory}
 use Rattle.psi_base.specs.Outside.{Files, Lacks}
 use Rattle.run_spec.specs.declared.command.Command.TheVariants.{Replay}
-use Rattle.run_spec.specs.Words.{command_of, options_of, replay_of}
+use Rattle.run_spec.specs.Words.{command_of, is_name, options_of, replay_of}
 use Rattle.observe_spec.specs.declared.status.ObserveStatus.{ObserveStatus}
 use Rattle.observe_spec.specs.declared.status.ObserveStatus.TheVariants as status
-use Rattle.observe_spec.specs.Run.{Ends, MissingTraceTells, ReplayHasThese, TracesAreThoseOfReplay}
+use Rattle.observe_spec.specs.Run.{Ends, MissingTraceTells, ReplayHasThese, TracesAreThoseOfReplay, options_on}
 
 pub missing_trace_tells : MissingTraceTells
 missing_trace_tells request files old new status.Done ends lacks = absurd (ends.2 lacks)
@@ -22,13 +22,22 @@ missing_trace_tells request files old new status.Usage ends lacks = absurd ends
 pub traces_are_those_of_replay : TracesAreThoseOfReplay
 traces_are_those_of_replay name bytes = refl
 
+and_false : (a : Bool) → a && false ≡ false
+and_false true = refl
+and_false false = refl
+
+-- the first of two that hold
+first_holds : (a b : Bool) → a && b ≡ true → a ≡ true
+first_holds true b both = refl
+first_holds false b both = both
+
 pub replay_has_these : ReplayHasThese
-unfolding command_of, options_of, replay_of
+unfolding command_of options_of replay_of
 replay_has_these [] is = absurd (cc)
 replay_has_these (byte ∷ []) is = refl
 replay_has_these (first ∷ second ∷ rest) is = go (first == 45) refl
   where
     go : (b : Bool) → first == 45 ≡ b →
         command_of (codes "replay" ∷ (first ∷ second ∷ rest) ∷ []) ≡ Some (Replay (first ∷ second ∷ rest) (options_on None))
-    go true dashed = absurd (cc)
-    go false plain = rw plain refl
+    go true dashed = absurd (true≢false (sym (rw dashed at is) ∙ and_false (is_name (first ∷ second ∷ rest))))
+    go false plain = rw (plain, first_holds (is_name (first ∷ second ∷ rest)) (not (first == 45)) is) refl
