@@ -1,7 +1,7 @@
 -- The lanes of processors, as they are dealt to workers, and what going over ticks makes of them.
 use Rattle.std.proofs.Common.{◌≡◌, ℕ, zero, suc, ◌+◌, ◌*◌, ◌/◌, ◌%◌, ◌^◌, ◌<◌, ◌≤◌, List, [], ◌∷◌, drop, length, get_or, refl, sym, ap, ◌∙◌, subst, arith, ◌⊎◌, ⊎_elim, inl, inr}
-use Rattle.std.specs.Prelude.{Bool, Some, is_some, max, min, slice_get}
-use Rattle.std.specs.List.{All}
+use Rattle.std.specs.Prelude.{Bool, None, Some, is_some, map, max, min, slice_get, true}
+use Rattle.std.specs.List.{All, range_with_len}
 use Rattle.std.proofs.Math.Nat.{div-mul-le_self, mod-add-div', mod-lt, mul-le-mul_left, mul-le-mul_right}
 use Rattle.std.proofs.Math.Seq.{drop-nil}
 use Rattle.std.proofs.lemmas.Nat.{div-mul-add, mod-mul-add}
@@ -12,8 +12,8 @@ use Rattle.plan_laws.specs.Plan.{IsPlan, PlanView, changes_up_to, last_change, n
 use Rattle.proc_plan.specs.Clocks.{OnPlan}
 use Rattle.proc_plan.specs.Plans.{PlansView, plan_at}
 use Rattle.replay_workers.specs.declared.ticks.Ticks.{Ticks}
-use Rattle.replay_workers.specs.Crew.{AreAt, AreBehind, AreOnPlans, CrewView, clocks_at, last_of, moment_in, moments_of, room_of, times_by}
-use Rattle.replay_workers.specs.Lanes.{AreKept, AreNewBatches, HasGone, HaveAllGone, HaveGone, IsBatchOf, AreLanes, IsLaneOf, KeepsTicks, LaneView, MayAllGo, batch_at, clocks_of, kept_at, lane_at, lane_of, no_lane, no_ticks}
+use Rattle.replay_workers.specs.Crew.{AreAt, AreBehind, AreInRows, AreOnPlans, CrewView, clocks_at, last_of, moment_in, moments_of, room_of, row_at, times_by}
+use Rattle.replay_workers.specs.Lanes.{AreKept, AreNewBatches, HasGone, HaveAllGone, HaveGone, IsBatchOf, AreLanes, IsLaneOf, KeepsTicks, LaneView, MayAllGo, batch_at, clocks_of, kept_at, lane_at, lane_of, no_lane, no_ticks, rows_of}
 use Rattle.replay_workers.specs.Watches.{WatcherView, crew_of}
 use Rattle.replay_workers.proofs.Steps.{places_end}
 
@@ -53,6 +53,19 @@ pub lane_found : (batches : List (List LaneView)) (workers cpu : ℕ) (batch : L
 lane_found batches workers cpu batch lane many same below there =
     there ∙ ap (λ n. get_or batch (cpu / n) lane) many ∙ ap (λ xs. get_or xs (cpu / length batches) lane) same ∙ get_or_default (batch_at batches (cpu % length batches)) (cpu / length batches) lane no_lane below
 
+-- so the lane at a processor's places is there
+pub place_inside : (plans : PlansView) (batches : List (List LaneView)) (ticks : Ticks) (out room cpu workers : ℕ) (batch lanes : List LaneView) → AreLanes plans batches ticks out room → cpu < length plans.plans → workers ≡ length batches
+    → batch ≡ get_or batches (cpu % workers) batch → lanes ≡ batch → cpu / workers < length lanes
+place_inside plans batches ticks out room cpu workers batch lanes is below many there same =
+    let found = same ∙ batch_found batches workers cpu batch many is.some there in
+    subst (λ n. cpu / n < length lanes) (sym many) (subst (λ (xs : List LaneView). cpu / length batches < length xs) (sym found) (lane_there plans batches ticks out room cpu is below))
+
+-- and it is the processor's
+pub lane_at_places : (plans : PlansView) (batches : List (List LaneView)) (ticks : Ticks) (out room cpu workers : ℕ) (batch lanes : List LaneView) (lane : LaneView) → AreLanes plans batches ticks out room → cpu < length plans.plans → workers ≡ length batches
+    → batch ≡ get_or batches (cpu % workers) batch → lanes ≡ batch → lane ≡ get_or lanes (cpu / workers) lane → lane ≡ lane_of batches cpu
+lane_at_places plans batches ticks out room cpu workers batch lanes lane is below many there same here =
+    lane_found batches workers cpu lanes lane many (same ∙ batch_found batches workers cpu batch many is.some there) (lane_there plans batches ticks out room cpu is below) here
+
 -- ---- clocks
 
 pub clocks_many : (batches : List (List LaneView)) (cpus : ℕ) → length (clocks_of batches cpus) ≡ cpus
@@ -60,6 +73,22 @@ clocks_many batches cpus = length-map-range_with_len (λ cpu. (lane_of batches c
 
 pub clocks_are : (batches : List (List LaneView)) (cpus cpu : ℕ) → cpu < cpus → clocks_at (clocks_of batches cpus) cpu ≡ (lane_of batches cpu).on
 clocks_are batches cpus cpu below = get_or-map-range_with_len (λ cpu. (lane_of batches cpu).on) 0 cpus cpu cpu (record { plan = no_plan; made = 0 }) below (omega arith)
+
+-- ---- rows
+
+pub rows_are : (batches : List (List LaneView)) (cpus cpu : ℕ) → cpu < cpus → row_at (rows_of batches cpus) cpu ≡ (lane_of batches cpu).row
+rows_are batches cpus cpu below = get_or-map-range_with_len (λ cpu. (lane_of batches cpu).row) 0 cpus cpu cpu None below (omega arith)
+
+-- lanes that are in the same rows have the same list of them
+rows_same : (old new : List (List LaneView)) (from n : ℕ) → ((cpu : ℕ) → from ≤ cpu → cpu < from + n → (lane_of new cpu).row ≡ (lane_of old cpu).row)
+    → map (λ cpu. (lane_of new cpu).row) (range_with_len from n) ≡ map (λ cpu. (lane_of old cpu).row) (range_with_len from n)
+rows_same old new from zero same = refl
+rows_same old new from (suc n) same =
+    let here = same from (omega arith) (omega arith) in
+    let rest = rows_same old new (from + 1) n (λ cpu low high. same cpu (omega (arith, low)) (omega (arith, high))) in
+    cc (here, rest)
+
+-- ---- clocks on plans
 
 -- the clocks of a crew are on the plans
 pub on_plans : (plans : PlansView) (batches : List (List LaneView)) (ticks : Ticks) (out room : ℕ) → AreLanes plans batches ticks out room → AreOnPlans plans (clocks_of batches (length plans.plans))
@@ -138,6 +167,10 @@ gone_there plans old new before ticks out room cpu is gone below =
     let there = lane_there plans old before out room cpu is below in
     let at_old = (gone.each (cpu % length old) (mod-lt cpu is.some)).each (cpu / length old) there in
     subst (λ n. HasGone ticks (lane_of old cpu) (lane_at (batch_at new (cpu % n)) (cpu / n))) (sym gone.many) at_old
+
+-- the clocks stay in their rows
+pub rows_stay : (plans : PlansView) (old new : List (List LaneView)) (before ticks : Ticks) (out room : ℕ) → AreLanes plans old before out room → HaveAllGone ticks old new → rows_of new (length plans.plans) ≡ rows_of old (length plans.plans)
+rows_stay plans old new before ticks out room is gone = rows_same old new 0 (length plans.plans) (λ cpu low high. (gone_there plans old new before ticks out room cpu is gone (omega (arith, high))).row)
 
 -- and all clocks are at the last tick
 pub gone_at : (plans : PlansView) (old new : List (List LaneView)) (before ticks : Ticks) (out room : ℕ) → AreLanes plans old before out room → ticks.count ≤ room → HaveAllGone ticks old new → AreAt plans (clocks_of new (length plans.plans)) (last_of ticks)
@@ -240,6 +273,11 @@ rows_new plans batches in_rows workers room new some roomy countable cpu below =
     let there = lane_there plans batches no_ticks 0 room cpu is below in
     let mine : cpu % length batches < workers = omega (arith, mod-lt cpu is.some, new.many) in
     (new.each (cpu % length batches) mine).rows (cpu / length batches) there
+
+-- so the rows of a crew whose clocks are to be in rows are there
+pub all_in_rows : (plans : PlansView) (batches : List (List LaneView)) (in_rows : Bool) (workers room : ℕ) → AreNewBatches plans room in_rows workers batches → 0 < workers → 1 ≤ room → room < 2 ^ 32 → in_rows ≡ true → AreInRows plans (rows_of batches (length plans.plans))
+all_in_rows plans batches in_rows workers room new some roomy countable wanted cpu below =
+    ap is_some (rows_are batches (length plans.plans) cpu below) ∙ rows_new plans batches in_rows workers room new some roomy countable cpu below ∙ wanted
 
 -- the lane of a processor that was made of plans is one of theirs
 pub new_lane : (plans : PlansView) (room cpu number : ℕ) (lane : LaneView) → number ≡ cpu → number < length plans.plans → lane.cpu ≡ number → lane.on ≡ record { plan = plan_at plans number; made = 0 } → length lane.kept ≡ room * length plans.lives → IsPlan lane.on.plan

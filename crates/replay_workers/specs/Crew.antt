@@ -1,6 +1,7 @@
 -- The clocks of all processors, how far they came, and the table of times that they give at a moment.
-use Rattle.std.specs.Prelude.{◌≡◌, ◌⊎◌, ℕ, ◌+◌, ◌-◌, ◌*◌, ◌/◌, ◌<◌, ◌≤◌, List, [], length, map, max, min, slice_index_or, Option, None, Some}
+use Rattle.std.specs.Prelude.{◌≡◌, ◌⊎◌, ℕ, ◌+◌, ◌-◌, ◌*◌, ◌/◌, ◌<◌, ◌≤◌, List, [], length, map, max, min, slice_index_or, Option, None, Some, is_some, true}
 use Rattle.std.specs.List.{All, range_with_len}
+use Rattle.atomic_table.specs.Seated.{TableId}
 use Rattle.psi_base.specs.declared.event.Slot.{Slot}
 use Rattle.psi_base.specs.declared.event.Event.{Event}
 use Rattle.psi_spec.specs.Refusal.{AreLegal}
@@ -38,12 +39,13 @@ pub record WatchView : Type 0 where
   pub samples : List Sample
   pub reader : ReaderView
 
--- A crew: the plans of a trace, the clocks of each processor, the moments (ns) whose tables are ready to be handed out, over
--- how many ticks it may go at once, how many live samples it takes of a processor in an interval, and what is watched of each
--- processor, where it takes any.
+-- A crew: the plans of a trace, the clocks of each processor and the row that they are in, if they are in one, the moments (ns)
+-- whose tables are ready to be handed out, over how many ticks it may go at once, how many live samples it takes of a processor in
+-- an interval, and what is watched of each processor, where it takes any.
 pub record CrewView : Type 0 where
   pub plans : PlansView
   pub clocks : List OnPlan
+  pub rows : List (Option TableId)
   pub ready : List ℕ
   pub room : ℕ
   pub asked : ℕ
@@ -65,6 +67,14 @@ room_of cpus slots moments = max (min (min (most_kept / max (64 * (slots * cpus)
 -- the clocks of a processor, by its number
 abbrev pub clocks_at : List OnPlan → ℕ → OnPlan
 clocks_at clocks cpu = slice_index_or clocks cpu (record { plan = no_plan; made = 0 })
+
+-- the row of a processor's clocks, by its number
+abbrev pub row_at : List (Option TableId) → ℕ → Option TableId
+row_at rows cpu = slice_index_or rows cpu None
+
+-- the clocks of each processor are in a row
+abbrev pub AreInRows : PlansView → List (Option TableId) → Type 0
+AreInRows plans rows = (cpu : ℕ) → cpu < length plans.plans → is_some (row_at rows cpu) ≡ true
 
 -- Each processor's clocks are on its plan, which is whole and has a parent or none for each group.
 pub record AreOnPlans (plans : PlansView) (clocks : List OnPlan) : Type 0 where

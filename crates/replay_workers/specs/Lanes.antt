@@ -124,6 +124,10 @@ AreKept plans batches tick at = (cpu : ℕ) → cpu < length plans.plans → IsK
 abbrev pub clocks_of : List (List LaneView) → ℕ → List OnPlan
 clocks_of batches cpus = map (λ cpu. (lane_of batches cpu).on) (range_with_len 0 cpus)
 
+-- the rows that these are in
+abbrev pub rows_of : List (List LaneView) → ℕ → List (Option TableId)
+rows_of batches cpus = map (λ cpu. (lane_of batches cpu).row) (range_with_len 0 cpus)
+
 -- ---- crews
 
 -- A lane of a crew is that of a processor: its clocks are on the processor's plan, there is room for so many ticks, and the

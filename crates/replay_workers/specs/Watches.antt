@@ -13,7 +13,7 @@ use Rattle.clock_row.specs.Steps.{new_reader}
 use Rattle.clock_row.specs.Tries.{IsTried, tries_of}
 use Rattle.replay_workers.specs.declared.ticks.Ticks.{Ticks}
 use Rattle.replay_workers.specs.Crew.{CrewView, IsSampled, WatchView, counts_sampled, moments_of}
-use Rattle.replay_workers.specs.Lanes.{AreLanes, LaneView, batch_at, clocks_of, lane_of}
+use Rattle.replay_workers.specs.Lanes.{AreLanes, LaneView, batch_at, clocks_of, lane_of, rows_of}
 
 -- ---- one watcher
 
@@ -177,6 +177,7 @@ abbrev pub crew_of : PlansView → List (List LaneView) → Ticks → ℕ → �
 crew_of plans batches ticks out room asked watchers = record {
   plans = plans;
   clocks = clocks_of batches (length plans.plans);
+  rows = rows_of batches (length plans.plans);
   ready = drop out (moments_of ticks);
   room = room;
   asked = asked;

@@ -50,10 +50,10 @@ impl<'a> Batch<'a> {
     }
 }
 
-// In how many threads to work: in the caller's alone, where no more than one batch has a change up to a moment (ns), or where
-// they have fewer together than so many.
-fn threads_for(batches: &[Batch<'_>], until: Ns, fewest: u64) -> usize
-    requires { 0 < length batches.now }
+// In how many threads to work: in one for each so many changes that the batches have up to a moment (ns), and in no more than
+// there are batches; in the caller's alone, where no more than one of them has a change.
+fn threads_for(batches: &[Batch<'_>], until: Ns, worth: u64) -> usize
+    requires { 0 < worth }
     ensures { 0 < result }
 {
     let mut busy = 0u64;
@@ -63,30 +63,29 @@ fn threads_for(batches: &[Batch<'_>], until: Ns, fewest: u64) -> usize
         busy = busy.saturating_add(left.min(1));
         changes = changes.saturating_add(left);
     }
-    if busy > 1 && changes >= fewest {
-        batches.len()
-    } else {
-        1
+    if busy < 2 {
+        return 1;
     }
+    batches.len().min((changes / worth) as usize).max(1)
 }
 
 /// Makes the changes of all batches up to each tick, and keeps the times of all groups there, each batch in a thread of its own
-/// where one can be started and there are so many changes to make: they tell nothing of one another.
+/// where one can be started, but in no more threads than one for each so many changes: they tell nothing of one another.
 pub(crate) fn go_all<R: Threads + Sync, G: Gate>(
     rt: &R,
     batches: &mut [Batch<'_>],
     ticks: Ticks,
-    fewest: u64,
+    worth: u64,
     gate: &G,
 )
-    requires any { 0 < length batches.old }
+    requires worth { 0 < worth }
     requires some { 0 < ticks.count }
     requires early { last_of ticks ≤ last_moment }
     requires may { All (MayAllGo ticks) batches.old }
     ensures { HaveAllGone ticks batches.old batches.new }
 {
     let last = ticks.last();
-    let threads = threads_for(batches, last, fewest);
+    let threads = threads_for(batches, last, worth);
     thread::for_each_mut(
         rt,
         batches,

@@ -32,9 +32,9 @@ fn watcher_of(
     batch.lanes[cpu.0 as usize / workers].watcher(alloc, asked)
 }
 
-/// For how many changes threads are started, where a crew goes interval by interval: it takes about as long to start them as to
-/// make so many changes.
-pub(crate) const WORTH_THREADS: u64 = 2_000;
+/// How many changes are worth a thread, where a crew goes interval by interval: it takes about as long to start one as to make
+/// so many changes.
+pub(crate) const WORTH_THREAD: u64 = 2_000;
 
 /// Watchers of the lanes of so many processors, whose clocks are in rows. Each is to take so many samples in an interval. They
 /// take all the memory that they need.
@@ -78,7 +78,7 @@ fn meet(batches: &mut [Batch<'_>], watcher: &mut Watcher, slot: Slot)
     let cpu = watcher.cpu().0 as usize;
     let workers = batches.len();
     let batch = &mut batches[cpu % workers];
-    batch.lanes[cpu / workers].meet(watcher, slot);
+    batch.lanes[cpu / workers].meet_watcher(watcher, slot);
 }
 
 // Each lane meets the watcher of its processor.
@@ -104,7 +104,7 @@ fn settle(batches: &mut [Batch<'_>], watcher: &mut Watcher)
     let cpu = watcher.cpu().0 as usize;
     let workers = batches.len();
     let batch = &mut batches[cpu % workers];
-    batch.lanes[cpu / workers].settle(watcher);
+    batch.lanes[cpu / workers].settle_watcher(watcher);
 }
 
 // Each lane settles with the watcher of its processor.
@@ -132,7 +132,7 @@ fn gone<'a, R: Threads + Sync, G: Gate>(
     requires may { All (MayAllGo ticks) batches.items }
     ensures { HaveAllGone ticks batches.entry.items result.items }
 {
-    go_all(rt, &mut batches, ticks, WORTH_THREADS, gate);
+    go_all(rt, &mut batches, ticks, WORTH_THREAD, gate);
     batches
 }
 

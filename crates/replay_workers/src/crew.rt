@@ -1,19 +1,20 @@
 //! The clocks of all processors of a trace, which go over ticks in the threads of workers.
-ghost use Rattle.std.specs.Prelude.{◌≡◌, ◌<◌, ◌≤◌, ℕ, ◌∷◌, [], drop, length, slice_get, IfOk, IfSome, None, Some};
+ghost use Rattle.std.specs.Prelude.{◌≡◌, ◌<◌, ◌≤◌, ℕ, ◌∷◌, [], drop, length, slice_get, IfOk, IfSome, None, Ok, Some, is_some, true};
 ghost use Rattle.plan_laws.specs.Plan.{IsClock};
 ghost use Rattle.psi_spec.specs.Trace.{last_moment};
+ghost use Rattle.clock_row.specs.Steps.{count_shown, new_reader};
 ghost use Rattle.aggregate.specs.Table.{HasSizes};
 ghost use Rattle.proc_plan.specs.Plans.{plan_at};
-ghost use Rattle.replay_workers.specs.Crew.{AreAt, AreBehind, AreOnPlans, AreSampled, IsTableAt, clocks_at, last_of, moments_of, room_of, watch_at};
+ghost use Rattle.replay_workers.specs.Crew.{AreAt, AreBehind, AreInRows, AreOnPlans, AreSampled, IsTableAt, clocks_at, last_of, moments_of, room_of, row_at, watch_at};
 
 use crate::batch::{Batch, go_all};
-use crate::beside::{WORTH_THREADS, clear, go_beside, watch};
+use crate::beside::{WORTH_THREAD, clear, go_beside, watch};
 use crate::deal::{deal, room_for};
 use crate::fill::{fill, lane_in};
 use crate::ticks::Ticks;
 use crate::watch::Watcher;
 use aggregate::Rows;
-use clock_row::Sample;
+use clock_row::{ClockReader, Sample};
 use cpu_clock::Clock;
 use proc_plan::Plans;
 use psi_base::{Cpu, Gate, NoMemory, Ns, Slot};
@@ -25,7 +26,11 @@ use std::thread::Threads;
 /// The clocks of all processors, which make the changes of a trace over some ticks at a time, each worker those of its own
 /// processors. They keep the times of all groups at each of these ticks, until [`Crew::fill`] hands them out. Beside the changes
 /// of an interval live samples of one group can be taken. Contracts see the plans, how many changes each processor's clocks
-/// made, the moments whose times are ready, over how many ticks the crew goes at once, and what is watched.
+/// made and in which row they are, the moments whose times are ready, over how many ticks the crew goes at once, and what is
+/// watched.
+///
+/// A crew that takes live samples has its clocks in rows. One that was made for them and watches nothing still has: who wants
+/// to take samples by readers of its own asks it for these, and settles and meets each with it between two intervals.
 #[derive(Drop)]
 pub struct Crew<'a> {
     alloc: Global,
@@ -75,6 +80,7 @@ impl<'a> Crew<'a> {
         ensures fresh { IfOk result (λ crew.
             (cpu : ℕ) → cpu < length crew.plans.plans →
             (clocks_at crew.clocks cpu).made ≡ 0) }
+        ensures rows { 0 < live → IfOk result (λ crew. AreInRows crew.plans crew.rows) }
         ensures none { IfOk result (λ crew. crew.ready ≡ []) }
         ensures room { IfOk result (λ crew. crew.room
             ≡ room_of (length crew.plans.plans) (length crew.plans.lives) moments) }
@@ -128,6 +134,7 @@ impl<'a> Crew<'a> {
         requires behind { AreBehind self.old.plans self.old.clocks ticks.first }
         requires early { last_of ticks ≤ last_moment }
         ensures plans { self.new.plans ≡ self.old.plans }
+        ensures rows { self.new.rows ≡ self.old.rows }
         ensures room { self.new.room ≡ self.old.room }
         ensures asked { self.new.asked ≡ self.old.asked }
         ensures there { AreAt self.new.plans self.new.clocks (last_of ticks) }
@@ -135,8 +142,8 @@ impl<'a> Crew<'a> {
         ensures live { AreSampled None self.old self.new }
     {
         // A crew that takes samples goes interval by interval, also where nothing is watched.
-        let fewest = if self.asked > 0 { WORTH_THREADS } else { 0 };
-        go_all(rt, &mut self.batches, ticks, fewest, gate);
+        let worth = if self.asked > 0 { WORTH_THREAD } else { 1 };
+        go_all(rt, &mut self.batches, ticks, worth, gate);
         clear(&mut self.watchers);
         self.ticks = ticks;
         self.out = 0;
@@ -156,6 +163,7 @@ impl<'a> Crew<'a> {
         requires early { last_of ticks ≤ last_moment }
         requires slot { slot.0 < length self.old.plans.lives }
         ensures plans { self.new.plans ≡ self.old.plans }
+        ensures rows { self.new.rows ≡ self.old.rows }
         ensures room { self.new.room ≡ self.old.room }
         ensures asked { self.new.asked ≡ self.old.asked }
         ensures there { AreAt self.new.plans self.new.clocks (last_of ticks) }
@@ -185,6 +193,7 @@ impl<'a> Crew<'a> {
         requires early { until ≤ last_moment }
         requires watched { IfSome watched (λ slot. slot.0 < length self.old.plans.lives) }
         ensures plans { self.new.plans ≡ self.old.plans }
+        ensures rows { self.new.rows ≡ self.old.rows }
         ensures room { self.new.room ≡ self.old.room }
         ensures asked { self.new.asked ≡ self.old.asked }
         ensures there { AreAt self.new.plans self.new.clocks until }
@@ -244,5 +253,50 @@ impl<'a> Crew<'a> {
         let workers = self.batches.len();
         let batch = &mut self.batches[cpu.0 as usize % workers];
         batch.lanes[cpu.0 as usize / workers].own(slot)
+    }
+
+    /// A reader of a processor's row, which has seen the changes that were made. It may go to another thread.
+    pub fn reader(&mut self, cpu: Cpu) -> Result<ClockReader, NoMemory>
+        requires cpu { cpu.0 < length self.old.plans.plans }
+        requires in_row { is_some (row_at self.old.rows cpu.0) ≡ true }
+        ensures same { self.new ≡ self.old }
+        ensures row { IfOk result (λ reader. Some reader.row ≡ row_at self.old.rows cpu.0) }
+        ensures seen { IfOk result (λ reader. reader.knows
+            ≡ new_reader (plan_at self.old.plans cpu.0) (clocks_at self.old.clocks cpu.0).made) }
+    {
+        let workers = self.batches.len();
+        let batch = &mut self.batches[cpu.0 as usize % workers];
+        batch.lanes[cpu.0 as usize / workers].reader()
+    }
+
+    /// Tells a reader of a processor's row how many changes were made: it has then seen at least so many, and no fewer than
+    /// before. It takes no memory, and always answers Ok.
+    pub fn meet(&mut self, cpu: Cpu, reader: &mut ClockReader) -> Result<(), NoMemory>
+        requires cpu { cpu.0 < length self.old.plans.plans }
+        requires own { Some reader.old.row ≡ row_at self.old.rows cpu.0 }
+        ensures ok { result ≡ Ok tt }
+        ensures same { self.new ≡ self.old }
+        ensures row { reader.new.row ≡ reader.old.row }
+        ensures met { reader.new.knows
+            ≡ count_shown (clocks_at self.old.clocks cpu.0).made reader.old.knows }
+    {
+        let workers = self.batches.len();
+        let batch = &mut self.batches[cpu.0 as usize % workers];
+        batch.lanes[cpu.0 as usize / workers].meet(reader)
+    }
+
+    /// Learns from a reader of a processor's row what it has seen: that is at most the number of changes that were made. It
+    /// takes no memory, and always answers Ok.
+    pub fn settle(&mut self, cpu: Cpu, reader: &mut ClockReader) -> Result<(), NoMemory>
+        requires cpu { cpu.0 < length self.old.plans.plans }
+        requires own { Some reader.old.row ≡ row_at self.old.rows cpu.0 }
+        ensures ok { result ≡ Ok tt }
+        ensures crew { self.new ≡ self.old }
+        ensures same { reader.new ≡ reader.old }
+        ensures seen { reader.old.knows.seen ≤ (clocks_at self.old.clocks cpu.0).made }
+    {
+        let workers = self.batches.len();
+        let batch = &mut self.batches[cpu.0 as usize % workers];
+        batch.lanes[cpu.0 as usize / workers].settle(reader)
     }
 }

@@ -1,8 +1,9 @@
 //! One processor, which goes tick by tick and keeps the times at each.
-ghost use Rattle.std.specs.Prelude.{◌≡◌, ◌*◌, ◌<◌, ◌≤◌, ℕ, length, IfOk, Some, is_some};
+ghost use Rattle.std.specs.Prelude.{◌≡◌, ◌*◌, ◌<◌, ◌≤◌, ℕ, length, IfOk, Ok, Some, is_some};
 ghost use Rattle.plan_laws.specs.Plan.{IsClock, IsPlan};
 ghost use Rattle.psi_spec.specs.Trace.{last_moment};
 ghost use Rattle.proc_plan.specs.Plans.{plan_at};
+ghost use Rattle.clock_row.specs.Steps.{count_shown, new_reader};
 ghost use Rattle.replay_workers.specs.Crew.{last_of};
 ghost use Rattle.replay_workers.specs.Lanes.{HasGone, MayGo};
 ghost use Rattle.replay_workers.specs.Watches.{HasMet, IsInRow, IsNewWatcher};
@@ -10,6 +11,7 @@ ghost use Rattle.replay_workers.specs.Watches.{HasMet, IsInRow, IsNewWatcher};
 use crate::lane_clocks::LaneClocks;
 use crate::ticks::Ticks;
 use crate::watch::Watcher;
+use clock_row::ClockReader;
 use cpu_clock::Clock;
 use pressure_spec::{TIMES, Times};
 use proc_plan::{Plan, Plans};
@@ -110,6 +112,49 @@ impl<'a> Lane<'a> {
         &self.kept
     }
 
+    /// A reader of the processor's row: its clocks are in one.
+    pub(crate) fn reader(&mut self) -> Result<ClockReader, NoMemory>
+        requires { IsInRow self.old }
+        ensures same { self.new ≡ self.old }
+        ensures row { IfOk result (λ reader. Some reader.row ≡ self.old.row) }
+        ensures seen { IfOk result (λ reader.
+            reader.knows ≡ new_reader self.old.on.plan self.old.on.made) }
+    {
+        let LaneClocks::Row(writer) = &mut self.clocks else {
+            unreachable!()
+        };
+        writer.reader()
+    }
+
+    /// Tells a reader of the processor's row how many changes were made. It takes no memory, and always answers Ok.
+    pub(crate) fn meet(&mut self, reader: &mut ClockReader) -> Result<(), NoMemory>
+        requires { Some reader.old.row ≡ self.old.row }
+        ensures ok { result ≡ Ok tt }
+        ensures same { self.new ≡ self.old }
+        ensures row { reader.new.row ≡ reader.old.row }
+        ensures met { reader.new.knows ≡ count_shown self.old.on.made reader.old.knows }
+    {
+        let LaneClocks::Row(writer) = &mut self.clocks else {
+            unreachable!()
+        };
+        writer.meet(reader)
+    }
+
+    /// Learns from a reader of the processor's row what it has seen: no more changes than were made. It takes no memory, and
+    /// always answers Ok.
+    pub(crate) fn settle(&mut self, reader: &mut ClockReader) -> Result<(), NoMemory>
+        requires { Some reader.old.row ≡ self.old.row }
+        ensures ok { result ≡ Ok tt }
+        ensures lane { self.new ≡ self.old }
+        ensures same { reader.new ≡ reader.old }
+        ensures seen { reader.old.knows.seen ≤ self.old.on.made }
+    {
+        let LaneClocks::Row(writer) = &mut self.clocks else {
+            unreachable!()
+        };
+        writer.settle(reader)
+    }
+
     /// A watcher of the processor, whose clocks are in a row. It is to take so many samples in an interval, and takes all the
     /// memory that it needs.
     pub(crate) fn watcher(&mut self, alloc: Global, asked: u32) -> Result<Watcher, NoMemory>
@@ -125,7 +170,7 @@ impl<'a> Lane<'a> {
     }
 
     /// Meets the processor's watcher: it learns how many changes were made, and what the clock of a slot is after them.
-    pub(crate) fn meet(&mut self, watcher: &mut Watcher, slot: Slot)
+    pub(crate) fn meet_watcher(&mut self, watcher: &mut Watcher, slot: Slot)
         requires row { Some watcher.old.row ≡ self.old.row }
         requires plan { watcher.old.knows.plan ≡ self.old.on.plan }
         requires slot { slot.0 < length self.old.on.plan.parents }
@@ -139,7 +184,7 @@ impl<'a> Lane<'a> {
     }
 
     /// Settles with the processor's watcher: it has seen no more changes than were made.
-    pub(crate) fn settle(&mut self, watcher: &mut Watcher)
+    pub(crate) fn settle_watcher(&mut self, watcher: &mut Watcher)
         requires { Some watcher.old.row ≡ self.old.row }
         ensures lane { self.new ≡ self.old }
         ensures same { watcher.new ≡ watcher.old }

@@ -13,7 +13,7 @@ mod laws;
 mod ticks;
 mod watch;
 
-pub use clock_row::Sample;
+pub use clock_row::{ClockReader, Sample};
 pub use clocks::{first_clocks, make_until, own_times};
 pub use crew::Crew;
 pub use laws::{law_room, law_tables};

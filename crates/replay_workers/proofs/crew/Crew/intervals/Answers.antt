@@ -1,9 +1,9 @@
-use Rattle.std.proofs.Common.{◌≡◌, ◌≤◌, ◌++◌, List, [], ℕ, ap, arith, drop, length, map, subst, sym, take}
+use Rattle.std.proofs.Common.{◌≡◌, ◌≤◌, ◌++◌, List, [], ℕ, ap, arith, drop, length, map, subst, sym, take, ◌∙◌}
 use Rattle.std.specs.Prelude.{All}
 use Rattle.replay_workers.specs.Crew.{AreAt, AreBehind, CrewView, last_of, watch_at}
-use Rattle.replay_workers.specs.Lanes.{HaveAllGone, LaneView, MayAllGo, clocks_of}
+use Rattle.replay_workers.specs.Lanes.{HaveAllGone, LaneView, MayAllGo, clocks_of, rows_of}
 use Rattle.replay_workers.specs.Watches.{HaveCleared, IsCrew, WatcherView, watch_seen}
-use Rattle.replay_workers.proofs.Dealt.{crew_gone, gone_at, may_go}
+use Rattle.replay_workers.proofs.Dealt.{crew_gone, gone_at, may_go, rows_stay}
 use Rattle.replay_workers.proofs.Watched.{none_sampled, watchers_stay, written_back}
 use Rattle.replay_workers.proofs.crew.Crew.intervals.Goals as goal
 
@@ -48,3 +48,12 @@ returns-clause-live g c =
     let cleared = subst (λ (old : List WatcherView). HaveCleared old watchers) c.deref_mut-2.ensures.value c.clear.ensures in
     let whole = written_back crew.watchers.items watchers crew.watchers.len (omega (arith, cleared.many, c.deref_mut-2.ensures.len, ap length c.deref_mut-2.ensures.value)) in
     subst (λ (new : List WatcherView). (cpu : ℕ) → (watch_at (map watch_seen new) cpu).samples ≡ []) (sym whole) (none_sampled crew.watchers.items watchers cleared)
+
+pub returns-clause-rows : goal.returns-clause-rows
+returns-clause-rows g c =
+    let crew = c.self.inside in
+    let lanes = c.go_all.new.batches in
+    let whole = written_back crew.batches.items lanes crew.batches.len (omega (arith, c.go_all.ensures.many, c.deref_mut.ensures.len, ap length c.deref_mut.ensures.value)) in
+    let gone = subst (λ (batches : List (List LaneView)). HaveAllGone c.args.ticks batches lanes) c.deref_mut.ensures.value c.go_all.ensures in
+    subst (λ (batches : List (List LaneView)). rows_of batches (length crew.plans.now.plans) ≡ c.args.self.now.rows) (sym whole)
+    (rows_stay crew.plans.now crew.batches.items lanes crew.ticks c.args.ticks crew.out crew.room c.self.invariant.lanes gone ∙ ap (λ (view : CrewView). view.rows) c.self.view_is)

@@ -1,9 +1,9 @@
-use Rattle.std.proofs.Common.{◌<◌, ◌≤◌, List, ap, length, subst, sym}
+use Rattle.std.proofs.Common.{◌<◌, ◌≤◌, List, ap, length, subst, sym, ◌∙◌}
 use Rattle.std.specs.Prelude.{All, Some}
 use Rattle.replay_workers.specs.Crew.{AreBehind, AreSampled, CrewView}
 use Rattle.replay_workers.specs.Lanes.{HaveAllGone, LaneView, MayAllGo}
 use Rattle.replay_workers.specs.Watches.{AreWatching, HaveSlot, HaveWatched, WatcherView, crew_of}
-use Rattle.replay_workers.proofs.Dealt.{crew_gone, gone_at, may_go}
+use Rattle.replay_workers.proofs.Dealt.{crew_gone, gone_at, may_go, rows_stay}
 use Rattle.replay_workers.proofs.Watched.{are_sampled, are_watching, have_slot, watchers_stay}
 use Rattle.replay_workers.proofs.crew.Crew.intervals_beside.Goals as goal
 
@@ -69,3 +69,10 @@ returns-clause-live g c =
     in
     subst (λ (view : CrewView). AreSampled (Some c.args.slot) view (crew_of crew.plans.now lanes c.args.ticks 0 crew.room crew.asked new)) c.self.view_is
     (are_sampled crew.plans.now crew.batches.items lanes crew.ticks c.args.ticks crew.out crew.room crew.asked c.args.slot crew.watchers.items new 0 c.self.invariant within behind gone watched)
+
+pub returns-clause-rows : goal.returns-clause-rows
+returns-clause-rows g c =
+    let crew = c.self.inside in
+    let lanes = c.go_beside-batches.result.0.items in
+    let gone = subst (λ (batches : List (List LaneView)). HaveAllGone c.args.ticks batches lanes) (ap (λ batches. batches.items) c.replace-batches.ensures.value) c.go_beside-batches.ensures.gone in
+    rows_stay crew.plans.now crew.batches.items lanes crew.ticks c.args.ticks crew.out crew.room c.self.invariant.lanes gone ∙ ap (λ (view : CrewView). view.rows) c.self.view_is
