@@ -1,3 +1,4 @@
+pub mod LastTrace
 pub mod Missing
 pub mod RangeLaws
 pub mod WordLaws

@@ -1,5 +1,5 @@
 -- What is left to a run where a file of its command is told to be missing.
-use Rattle.std.proofs.Common.{◌≡◌, ◌⊎◌, inl, inr, ℕ, List, refl, sym, ap, ◌∙◌, Option, None, true≢false, Some}
+use Rattle.std.proofs.Common.{◌≡◌, ◌⊎◌, inl, inr, ℕ, List, refl, sym, ap, ◌∙◌, Option, true≢false, Some}
 use Rattle.std.specs.Prelude.{IsSome, is_some}
 use Rattle.psi_base.specs.Gives.{no_memory}
 use Rattle.psi_base.specs.Outside.{Files, Lacks}
@@ -21,6 +21,7 @@ missing_rules command files old new status.WriteFault name ends named lacks = ab
 missing_rules command files old new (status.Rules fault) name ends named lacks = absurd (ends.1 name named lacks)
 missing_rules command files old new (status.Trace line why) name ends named lacks = absurd (ends.2.2.0 name named lacks)
 missing_rules command files old new (status.DropIn fault) name ends named lacks = absurd (ends.2.3 name named lacks)
+missing_rules command files old new (status.TooLarge events) name ends named lacks = absurd (ends.1.rules_there.0 name named lacks)
 missing_rules command files old new (status.NoFile RulesFile) name ends named lacks = inl refl
 missing_rules command files old new (status.Import line why) name ends named lacks = absurd (ends.2.2.0 name named lacks)
 missing_rules command files old new (status.NoFile DropInFile) name ends named lacks = absurd (ends.1.3 name named lacks)
@@ -38,6 +39,7 @@ missing_drop_in command files old new status.Done name ends named lacks = absurd
 missing_drop_in command files old new status.WriteFault name ends named lacks = absurd (ends.4.1 name named lacks)
 missing_drop_in command files old new (status.Rules fault) name ends named lacks = inr (inr (inr (inr (fault, refl))))
 missing_drop_in command files old new (status.DropIn fault) name ends named lacks = absurd (ends.3 name named lacks)
+missing_drop_in command files old new (status.TooLarge events) name ends named lacks = absurd (ends.1.rules_there.1 name named lacks)
 missing_drop_in command files old new (status.Trace line why) name ends named lacks = absurd (ends.2.2.1 name named lacks)
 missing_drop_in command files old new (status.Import line why) name ends named lacks = absurd (ends.2.2.1 name named lacks)
 missing_drop_in command files old new (status.NoFile RulesFile) name ends named lacks = inl refl
@@ -57,6 +59,7 @@ from_trace (words.Gen shape) reads = refl
 from_trace (words.Stress shape workers) reads = refl
 from_trace (words.Import file cpus) reads = absurd (true≢false (sym reads))
 from_trace (words.Rules file drop_in) reads = absurd (true≢false (sym reads))
+from_trace (words.Whatif trace options) reads = refl
 
 -- and one that imports a text of ftrace from that
 pub from_import : (command : Command) → IsSome (file_of command ImportFile) → source_of command ≡ ImportFile
@@ -67,6 +70,7 @@ from_import (words.Gen shape) reads = absurd (true≢false (sym reads))
 from_import (words.Stress shape workers) reads = absurd (true≢false (sym reads))
 from_import (words.Import file cpus) reads = refl
 from_import (words.Rules file drop_in) reads = absurd (true≢false (sym reads))
+from_import (words.Whatif trace options) reads = absurd (true≢false (sym reads))
 
 -- a command that takes its trace from a file has a trace
 pub has_trace : (command : Command) (name : List ℕ) → source_name command ≡ Some name → HasTrace command
@@ -77,6 +81,7 @@ has_trace (words.Gen shape) name named = tt
 has_trace (words.Stress shape workers) name named = tt
 has_trace (words.Import file cpus) name named = tt
 has_trace (words.Rules file drop_in) name named = true≢false (sym (ap is_some named))
+has_trace (words.Whatif trace options) name named = tt
 
 pub missing_source : (command : Command) (files : Option Files) (old new : Option (List ℕ)) (result : Status) (name : List ℕ)
     → Ends command files old new result → source_name command ≡ Some name → Lacks files name
@@ -84,6 +89,7 @@ pub missing_source : (command : Command) (files : Option Files) (old new : Optio
     ⊎ ((fault : RulesFault) × (result ≡ status.Rules fault)) ⊎ ((fault : DropFault) × (result ≡ status.DropIn fault))
 missing_source command files old new status.Done name ends named lacks = absurd (ends.5 name named lacks)
 missing_source command files old new status.WriteFault name ends named lacks = absurd (ends.5 name named lacks)
+missing_source command files old new (status.TooLarge events) name ends named lacks = absurd (ends.1.there name named lacks)
 missing_source command files old new (status.Rules fault) name ends named lacks = inr (inr (inr (inl (fault, refl))))
 missing_source command files old new (status.DropIn fault) name ends named lacks = inr (inr (inr (inr (fault, refl))))
 missing_source command files old new (status.Trace line why) name ends named lacks =

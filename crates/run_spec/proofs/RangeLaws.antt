@@ -10,12 +10,12 @@ use Rattle.psi_base.specs.Path.{is_path}
 use Rattle.run_spec.specs.declared.command.Command.{Command}
 use Rattle.run_spec.specs.declared.command.Options.{Options}
 use Rattle.run_spec.specs.declared.command.Shape.{Shape}
-use Rattle.run_spec.specs.declared.command.Command.TheVariants.{Stall, Check, Replay, Gen, Stress, Import, Rules}
+use Rattle.run_spec.specs.declared.command.Command.TheVariants.{Stall, Check, Replay, Gen, Stress, Import, Rules, Whatif}
 use Rattle.std.proofs.Common.{lit≤}
 use Rattle.run_spec.specs.Words.{◌>>=◌, Given, parted, value_given, is_name, number_within, number_or}
 use Rattle.run_spec.specs.Words.{needed, trace_given, rules_given, drop_in_given, live_given, tick_given, workers_given}
 use Rattle.run_spec.specs.Words.{options_of, shape_of, stall_of, check_of, replay_of, gen_of}
-use Rattle.run_spec.specs.Words.{stress_of, import_of, rules_command_of, IsOptionName, CommandForm, forms, command_of, IsWithin, AreOptions, IsShape}
+use Rattle.run_spec.specs.Words.{stress_of, import_of, rules_command_of, whatif_of, IsOptionName, CommandForm, forms, command_of, IsWithin, AreOptions, IsShape}
 use Rattle.run_spec.specs.Words.{IsCommand, SpelledInRange}
 
 -- a step that found something had something before it
@@ -240,6 +240,26 @@ rules_command_ranges given command is =
       rules_ranges (value_given (codes "drop-in") given) drop_in.0 drop_in.1,
     )
 
+-- a test that isn't passed by some value
+none_there : {A : Type 0} (o : Option A) → not (is_some o) ≡ true → o ≡ None
+none_there None is = refl
+none_there (Some x) is = absurd (true≢false (sym is))
+
+pub whatif_ranges : (given : Given) (command : Command) → whatif_of given ≡ Some command
+    → IsCommand command
+unfolding whatif_of
+whatif_ranges given command is =
+    let trace = bind_some (trace_given given) _ command is in
+    let options = bind_some (options_of given) _ command trace.2 in
+    let tests = if_some (is_some options.0.rules && not (is_some options.0.live)) (Whatif trace.0 options.0) command options.2 in
+    let both = both_true (is_some options.0.rules) (not (is_some options.0.live)) tests.0 in
+    subst IsCommand tests.1 (
+      trace_ranges given trace.0 trace.1,
+      options_ranges given options.0 options.1,
+      both.0,
+      none_there options.0.live both.1,
+    )
+
 -- ---- all commands
 
 -- a fact holds of each command's table
@@ -267,7 +287,7 @@ GivesCommands read =
     (given : Given) (command : Command) → read given ≡ Some command → IsCommand command
 
 all_ranges : OfEach GivesCommands forms
-all_ranges = (stall_ranges, (check_ranges, (replay_ranges, (gen_ranges, (stress_ranges, (import_ranges, (rules_command_ranges, tt)))))))
+all_ranges = (stall_ranges, (check_ranges, (replay_ranges, (gen_ranges, (stress_ranges, (import_ranges, (rules_command_ranges, (whatif_ranges, tt))))))))
 
 pub command_ranges : SpelledInRange
 unfolding command_of

@@ -12,7 +12,7 @@ use Rattle.run_spec.specs.Words.{◌>>=◌, Word, assigned, opened, end, plain, 
 use Rattle.run_spec.specs.Words.{is_among, is_equals, option_of, word_of, Given, value_given}
 use Rattle.run_spec.specs.Words.{with_option, with_positional, positionals, then_word, parted}
 use Rattle.run_spec.specs.Words.{options_of, shape_of, stall_of, check_of, replay_of, gen_of}
-use Rattle.run_spec.specs.Words.{stress_of, import_of, rules_command_of, CommandForm, forms, command_of, assigned_word}
+use Rattle.run_spec.specs.Words.{stress_of, import_of, rules_command_of, whatif_of, CommandForm, forms, command_of, assigned_word}
 use Rattle.run_spec.specs.Words.{HasNoEquals, OrderIsFree, ValueMayFollow}
 use Rattle.run_spec.proofs.RangeLaws.{OfEach, each_found}
 
@@ -349,9 +349,13 @@ rules_respects : Respects rules_command_of
 unfolding rules_command_of
 rules_respects one other same = rw (same.positional, same.values (codes "drop-in")) refl
 
+whatif_respects : Respects whatif_of
+unfolding whatif_of
+whatif_respects one other same = rw (options_respects one other same, same.positional) refl
+
 all_respect : OfEach Respects forms
 all_respect =
-    (stall_respects, (check_respects, (replay_respects, (gen_respects, (stress_respects, (import_respects, (rules_respects, tt)))))))
+    (stall_respects, (check_respects, (replay_respects, (gen_respects, (stress_respects, (import_respects, (rules_respects, (whatif_respects, tt))))))))
 
 same_read : (read : Given → Option Command) (r s : Option Given) → Respects read → Same r s
     → r >>= read ≡ s >>= read

@@ -4,6 +4,7 @@ pub mod Words
 pub mod Generated
 pub mod Live
 pub mod Replay
+pub mod Whatif
 pub mod Outputs
 pub mod MostRead
 pub mod Status

@@ -14,7 +14,7 @@ use Rattle.dropin_rules.specs.Joined.{dropped_in}
 use Rattle.dropin_rules.specs.RulesText.{rules_text}
 use Rattle.kill_spec.specs.Detectors.{of_seconds}
 use Rattle.run_spec.specs.declared.command.Command.{Command}
-use Rattle.run_spec.specs.declared.command.Command.TheVariants.{Stall, Check, Replay, Gen, Stress, Import, Rules}
+use Rattle.run_spec.specs.declared.command.Command.TheVariants.{Stall, Check, Replay, Gen, Stress, Import, Rules, Whatif}
 use Rattle.run_spec.specs.declared.command.Options.{Options}
 use Rattle.run_spec.specs.declared.status.Status.{Status}
 use Rattle.run_spec.specs.declared.status.Status.TheVariants as status
@@ -24,6 +24,7 @@ use Rattle.run_spec.specs.Text.{check_text, stall_text}
 use Rattle.run_spec.specs.Generated.{generated}
 use Rattle.run_spec.specs.Live.{Watch}
 use Rattle.run_spec.specs.Replay.{IsReplayText, Pace, stress_text}
+use Rattle.run_spec.specs.Whatif.{last_trace}
 
 -- the name of the trace that a command reads, if it reads one
 abbrev pub trace_name : Command → Option (List ℕ)
@@ -34,17 +35,20 @@ trace_name (Gen shape) = None
 trace_name (Stress shape workers) = None
 trace_name (Import file cpus) = None
 trace_name (Rules file drop_in) = None
+trace_name (Whatif trace options) = Some trace
 
 -- the name of the rules file that a command reads, if it reads one
 abbrev pub rules_name : Command → Option (List ℕ)
 rules_name (Replay trace options) = options.rules
 rules_name (Rules file drop_in) = Some file
+rules_name (Whatif trace options) = options.rules
 rules_name _ = None
 
 -- the name of the drop-in file over it that a command reads, if it reads one
 abbrev pub drop_in_name : Command → Option (List ℕ)
 drop_in_name (Replay trace options) = options.drop_in
 drop_in_name (Rules file drop_in) = drop_in
+drop_in_name (Whatif trace options) = options.drop_in
 drop_in_name _ = None
 
 -- the name of the text of ftrace that a command imports, if it imports one
@@ -76,13 +80,15 @@ of_ms n = n * 1000000
 abbrev pub tick_length : Command → ℕ
 tick_length (Check trace tick_ms) = of_ms tick_ms
 tick_length (Replay trace options) = of_ms options.tick_ms
+tick_length (Whatif trace options) = of_ms options.tick_ms
 tick_length _ = of_seconds 2
 
--- the versions of traces that a command takes: `stall`, `check` and `replay` any, and each other the first alone
+-- the versions of traces that a command takes: `stall`, `check`, `replay` and `whatif` any, and each other the first alone
 abbrev pub versions_of : Command → List Version
 versions_of (Stall trace) = versions
 versions_of (Check trace tick_ms) = versions
 versions_of (Replay trace options) = versions
+versions_of (Whatif trace options) = versions
 versions_of _ = One ∷ []
 
 -- what a command accepts of a trace: one of a version that it takes, with all the verbs of that, at the length of its ticks
@@ -161,7 +167,8 @@ stress_options workers = record {
 -- A text is the whole output of a command for an accepted trace and rulesets. Of `replay` there may be more than one where a
 -- group is watched, since each live sample may be of any change in its interval. `gen` and `stress` read no file: theirs is
 -- the trace that their shape gives. `import` prints its trace, which has as many processors as it was told. `rules` has no
--- trace, and prints its rulesets.
+-- trace, and prints its rulesets. `whatif` prints what `replay` prints of the last trace, from which the victims of its kills were
+-- taken out.
 abbrev pub IsOutput : Command → Trace → List Rule → List ℕ → Type 0
 IsOutput (Stall name) trace rules text = text ≡ stall_text trace
 IsOutput (Check name tick_ms) trace rules text = text ≡ check_text trace
@@ -172,3 +179,16 @@ IsOutput (Stress shape workers) trace rules text =
     (trace ≡ generated shape) × (text ≡ stress_text trace (pace_of (stress_options workers)))
 IsOutput (Import file cpus) trace rules text = (trace.cpus ≡ cpus) × (text ≡ text_of trace)
 IsOutput (Rules file drop_in) trace rules text = text ≡ rules_text rules ++ codes "\n"
+IsOutput (Whatif name options) trace rules text =
+    (last : Trace) × (last_trace trace (pace_of options) rules ≡ Ok last) × IsReplayText last (pace_of options) rules text
+
+-- the status where a last trace is left, or where a round left more events than a trace may have
+abbrev pub status_of_last : Result Trace ℕ → Status
+status_of_last (Ok last) = status.Done
+status_of_last (Err events) = status.TooLarge events
+
+-- How a command ends for an accepted trace and rulesets, where nothing else is against it: it is done, unless a round of `whatif`
+-- leaves more events than a trace may have.
+abbrev pub outcome_of : Command → Trace → List Rule → Status
+outcome_of (Whatif name options) trace rules = status_of_last (last_trace trace (pace_of options) rules)
+outcome_of command trace rules = status.Done

@@ -17,7 +17,7 @@ use Rattle.ruleset_json.specs.declared.types.Rules.{Rules}
 use Rattle.ruleset_json.specs.RuleRanges.{FitsRules}
 use Rattle.ruleset_json.specs.Rules.{rules_of}
 use Rattle.dropin_rules.specs.declared.fault.DropFault.{DropFault}
-use Rattle.run_spec.specs.Outputs.{IsOutput, accepts_of, drop_in_name, file_of, rules_from, rules_name, source_name, source_of, taken_of}
+use Rattle.run_spec.specs.Outputs.{IsOutput, accepts_of, drop_in_name, file_of, outcome_of, rules_from, rules_name, source_name, source_of, taken_of}
 
 -- ---- counts
 
@@ -111,6 +111,17 @@ HasOutput command files IsSo =
     × RulesAreThere command files × IsThere command files (source_of command)
     × ((text : List ℕ) × IsOutput command trace rules text × IsSo text)
 
+-- Where nothing else is against it, a command ends with this status for an accepted trace and rulesets, and no file of it is
+-- missing.
+pub record ComesTo (command : Command) (files : Option Files) (result : Status) : Type 0 where
+  pub trace : Trace
+  pub rules : List Rule
+  pub takes : HasTrace command → TakesTrace command files trace
+  pub takes_rules : TakesRules command files rules
+  pub rules_there : RulesAreThere command files
+  pub there : IsThere command files (source_of command)
+  pub outcome : outcome_of command trace rules ≡ result
+
 -- What comes before a command reads its file of this kind is in order: the rules file comes first, then the drop-in file over it,
 -- then any other. The files before it are there.
 abbrev pub IsPassed : Command → Option Files → Which → Type 0
@@ -130,8 +141,8 @@ Refuses command files old new which result =
 
 -- What a status says of a command, whose files the shelf may tell, and of what the sink held before and holds now: the whole
 -- output or a front of it, for an accepted trace and rulesets; the first fault of the rules file, or of the drop-in file over it;
--- behind the rules the first refused line of the trace, or of a text of ftrace; or a name that isn't there. Where it isn't Done or
--- WriteFault, the sink is as it was.
+-- behind the rules the first refused line of the trace, or of a text of ftrace; that what a round left of the trace is too large; or
+-- a name that isn't there. Where it isn't Done or WriteFault, the sink is as it was.
 abbrev pub Ends : Command → Option Files → Option (List ℕ) → Option (List ℕ) → Status → Type 0
 Ends command files old new status.Done = HasOutput command files (λ text. Appends old new text)
 Ends command files old new status.WriteFault = HasOutput command files (λ text. AppendsFront old new text)
@@ -144,6 +155,7 @@ Ends command files old new (status.DropIn fault) =
     → rules_from bytes (Some drop_in) ≡ Err (status.DropIn fault))
 Ends command files old new (status.Trace line why) = Refuses command files old new TraceFile (status.Trace line why)
 Ends command files old new (status.Import line why) = Refuses command files old new ImportFile (status.Import line why)
+Ends command files old new (status.TooLarge events) = Keeps old new × ComesTo command files (status.TooLarge events)
 Ends command files old new (status.NoFile which) =
     Keeps old new × IsPassed command files which × ((name : List ℕ) × (file_of command which ≡ Some name) × (told files name ≡ None))
 Ends command files old new status.ReadFault = Keeps old new × ReadsFiles command

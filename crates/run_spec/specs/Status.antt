@@ -23,6 +23,7 @@ code_of status.WriteFault = 6
 code_of (status.NoMemory _) = 7
 code_of (status.Import line why) = 8
 code_of (status.DropIn fault) = 9
+code_of (status.TooLarge events) = 10
 
 -- a name, if there is one
 abbrev pub name_or_none : Option (List ℕ) → List ℕ
@@ -45,7 +46,7 @@ import_refusal_text line why = codes "import line " ++ (decimal line ++ (codes "
 -- the line that tells of a status, with its newline; of Done nothing is told
 abbrev pub status_text : Option Command → Status → List ℕ
 status_text command status.Done = []
-status_text command status.Usage = codes "usage: psi_oomd stall or check or replay or gen or stress or import or rules\n"
+status_text command status.Usage = codes "usage: psi_oomd stall or check or replay or gen or stress or import or rules or whatif\n"
 status_text command (status.Trace line why) = refusal_text line why
 status_text command (status.Rules fault) = fault_text fault ++ codes "\n"
 status_text command (status.NoFile which) = codes "no file: " ++ (name_text command which ++ codes "\n")
@@ -54,3 +55,4 @@ status_text command status.WriteFault = codes "write fault\n"
 status_text command (status.NoMemory _) = codes "out of memory\n"
 status_text command (status.Import line why) = import_refusal_text line why
 status_text command (status.DropIn fault) = drop_fault_text fault ++ codes "\n"
+status_text command (status.TooLarge events) = codes "too large\n"

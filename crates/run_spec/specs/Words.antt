@@ -2,14 +2,14 @@
 -- command has one table.
 use Rattle.std.specs.Prelude.{◌≡◌, ◌≢◌, ℕ, ◌-◌, ◌^◌, ◌≤◌, ◌<◌, List, [], ◌∷◌, ◌++◌, length, drop}
 use Rattle.std.specs.Prelude.{find, nat_eq, nat_lt, nat_le, ◌==◌, ◌&&◌, not, Bool}
-use Rattle.std.specs.Prelude.{true, false, if◌then◌else◌, codes, Option, None, Some, IfSome}
+use Rattle.std.specs.Prelude.{true, false, if◌then◌else◌, codes, Option, None, Some, IfSome, IsSome}
 use Rattle.std.specs.Prelude.{option_map, is_some}
 use Rattle.std.specs.List.{list_any, before_first, after_first, starts_with}
 use Rattle.std.specs.Str.{bytes_eq}
 use Rattle.psi_base.specs.Number.{number_of}
 use Rattle.psi_base.specs.Path.{is_path}
 use Rattle.run_spec.specs.declared.command.Command.{Command}
-use Rattle.run_spec.specs.declared.command.Command.TheVariants.{Stall, Check, Replay, Gen, Stress, Import, Rules}
+use Rattle.run_spec.specs.declared.command.Command.TheVariants.{Stall, Check, Replay, Gen, Stress, Import, Rules, Whatif}
 use Rattle.run_spec.specs.declared.command.Options.{Options}
 use Rattle.run_spec.specs.declared.command.Shape.{Shape}
 
@@ -185,7 +185,7 @@ check_of given = do
   tick_ms ← tick_given given
   Some (Check trace tick_ms)
 
--- what the options of `replay` say, with the default of each
+-- what the options of `replay` and `whatif` say, with the default of each
 unfoldable pub options_of : Given → Option Options
 options_of given = do
   rules ← rules_given (value_given (codes "rules") given)
@@ -251,6 +251,13 @@ rules_command_of given = do
   drop_in ← rules_given (value_given (codes "drop-in") given)
   Some (Rules file drop_in)
 
+-- `whatif` needs a trace and rules, and has the other options of `replay` but those on what is watched
+unfoldable pub whatif_of : Given → Option Command
+whatif_of given = do
+  trace ← trace_given given
+  options ← options_of given
+  if is_some options.rules && not (is_some options.live) then Some (Whatif trace options) else None
+
 -- how a command is spelled: its own word, the names of its options, and its table, which gives the
 -- command by what the words behind its own say
 pub record CommandForm : Type 0 where
@@ -300,9 +307,19 @@ import_form = record { word = codes "import"; options = codes "cpus" ∷ []; com
 abbrev pub rules_form : CommandForm
 rules_form = record { word = codes "rules"; options = codes "drop-in" ∷ []; command = rules_command_of }
 
+-- the names of the options of `whatif`
+abbrev pub whatif_names : List (List ℕ)
+whatif_names =
+    codes "rules" ∷ codes "drop-in" ∷ codes "tick-ms" ∷ codes "interval-s" ∷ codes "report-s" ∷ codes "workers" ∷ []
+
+-- `whatif TRACE`, with options
+abbrev pub whatif_form : CommandForm
+whatif_form = record { word = codes "whatif"; options = whatif_names; command = whatif_of }
+
 -- all commands
 abbrev pub forms : List CommandForm
-forms = stall_form ∷ check_form ∷ replay_form ∷ gen_form ∷ stress_form ∷ import_form ∷ rules_form ∷ []
+forms =
+    stall_form ∷ check_form ∷ replay_form ∷ gen_form ∷ stress_form ∷ import_form ∷ rules_form ∷ whatif_form ∷ []
 
 -- the command of this form that the words behind its own spell
 abbrev pub spelled : CommandForm → List (List ℕ) → Option Command
@@ -327,7 +344,7 @@ IsWithin least most number = (least ≤ number) × (number ≤ most)
 abbrev pub IsOptionName : Option (List ℕ) → Type 0
 IsOptionName named = IfSome named (λ name. (name ≢ []) × (name ≢ codes "-"))
 
--- what the options of `replay` say is in range
+-- what the options of `replay` and `whatif` say is in range
 pub record AreOptions (options : Options) : Type 0 where
   pub rules : IsOptionName options.rules
   pub drop_in : IsOptionName options.drop_in
@@ -355,6 +372,7 @@ IsCommand (Gen shape) = IsShape shape
 IsCommand (Stress shape workers) = IsShape shape × IsWithin 1 64 workers
 IsCommand (Import file cpus) = (file ≢ []) × IsWithin 1 64 cpus
 IsCommand (Rules file drop_in) = (file ≢ []) × IsOptionName drop_in
+IsCommand (Whatif trace options) = (trace ≢ []) × AreOptions options × IsSome options.rules × (options.live ≡ None)
 
 -- ---- laws
 

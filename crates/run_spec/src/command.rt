@@ -52,9 +52,16 @@ pub enum Command {
         /// The name of the drop-in file over it, by default none.
         drop_in: Option<Text>,
     },
+    /// Replay what is left of the trace where the victims of its kills are taken out of it, one kill after the other.
+    Whatif {
+        /// The name of the trace's file, or `-` for standard input.
+        trace: Text,
+        /// What the options say: those of `replay`, with rules, and nothing is watched.
+        options: Options,
+    },
 }
 
-/// What the options of `replay` say.
+/// What the options of `replay` and `whatif` say.
 #[derive(Drop)]
 pub struct Options {
     /// The name of the rules file, by default none.

@@ -44,6 +44,8 @@ pub enum Status {
     Import { line: u32, cause: ImportCause },
     /// The drop-in file is refused, for this fault at its place.
     DropIn { fault: DropFault },
+    /// A round left so many events, more than a trace may have.
+    TooLarge { events: u64 },
 }
 
 impl Status {
@@ -62,6 +64,7 @@ impl Status {
             Status::NoMemory(_) => 7,
             Status::Import { .. } => 8,
             Status::DropIn { .. } => 9,
+            Status::TooLarge { .. } => 10,
         }
     }
 }

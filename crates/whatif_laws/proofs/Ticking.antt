@@ -19,7 +19,7 @@ use Rattle.kill_spec.specs.Kills as deciding
 use Rattle.kill_spec.specs.Evaluations.{evaluations, group_seen, host_of, reading_at, readings_until}
 use Rattle.run_spec.specs.Replay.{Beside, Pace, files_text, fired_in, group_report, kill_lines, kills_in, live_groups_at, lives_of, reports, signal_lines, tick_count, tick_text}
 use Rattle.whatif_spec.specs.Without.{without}
-use Rattle.whatif_laws.specs.Until.{SameUntilKill, trace_without}
+use Rattle.whatif_laws.specs.Until.{SameUntilKill}
 use Rattle.whatif_laws.proofs.Same.{IsSame, is_same}
 
 -- ---- moments

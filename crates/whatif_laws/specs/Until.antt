@@ -4,11 +4,7 @@ use Rattle.psi_spec.specs.World.{Limits, after, most_events}
 use Rattle.psi_spec.specs.Trace.{IsAccepted, Trace}
 use Rattle.pressure_spec.specs.Ticks.{tick_moment}
 use Rattle.run_spec.specs.Replay.{Beside, Pace, tick_count, tick_text}
-use Rattle.whatif_spec.specs.Without.{without}
-
--- a trace without the tasks that are in a group or below it at a moment (ns)
-abbrev pub trace_without : Trace → ℕ → ℕ → Trace
-trace_without trace at victim = record trace { events = without trace.events at victim }
+use Rattle.whatif_spec.specs.Without.{trace_without, without}
 
 -- It has as many ticks, and up to and with the moment, at which a kill is, each tick prints the same.
 abbrev pub SameUntilKill : Type 0

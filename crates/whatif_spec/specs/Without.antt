@@ -14,6 +14,7 @@ use Rattle.psi_spec.specs.declared.machine.Mode.{Mode}
 use Rattle.psi_spec.specs.declared.machine.Task.{Task}
 use Rattle.psi_spec.specs.World.{World, Tasks, after, after_event, after_from, events_at, is_active, is_running, running_on, task_of, up_to}
 use Rattle.psi_spec.specs.Stall.{is_under, parents_of}
+use Rattle.psi_spec.specs.Trace.{Trace}
 
 -- ---- the exits
 
@@ -124,3 +125,7 @@ without events at victim =
     ++ exits_from (at + 1) (after (up_to events at)) (members (after (up_to events at)) victim)
     ++ rest_without (members (after (up_to events at)) victim) (after (up_to events at)) (behind events at)
     else events
+
+-- a trace without the tasks that are in a group or below it at a moment (ns)
+abbrev pub trace_without : Trace → ℕ → ℕ → Trace
+trace_without trace at victim = record trace { events = without trace.events at victim }

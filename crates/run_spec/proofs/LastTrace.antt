@@ -1,0 +1,115 @@
+-- Rounds that take kills out of a trace, one after another.
+use Rattle.std.proofs.Common.{◌≡◌, ◌⊎◌, inl, inr, ℕ, zero, suc, ◌<◌, ◌≤◌, List, length, nat_lt, refl, ap, ◌∙◌, subst, arith, None, Some, Bool, true, false, if◌then◌else◌, get_or}
+use Rattle.std.specs.Prelude.{Result, Ok, Err, slice_get}
+use Rattle.std.proofs.lemmas.Option.{slice_get_cases, slice_get_past}
+use Rattle.std.proofs.lemmas.Bool.Decides.{nat_tests}
+use Rattle.psi_spec.specs.World.{most_events}
+use Rattle.psi_spec.specs.Trace.{Trace}
+use Rattle.ruleset_json.specs.declared.types.Rule.{Rule}
+use Rattle.run_spec.specs.Replay.{Pace}
+use Rattle.run_spec.specs.Whatif.{LastOutgrown, LastWithoutKill, OutgrownAtRound, after_rounds, all_kills, bounded_trace, most_rounds, round, then_round, without_kill}
+
+-- ---- no kill with a number
+
+past_if : {A : Type 0} (xs : List A) (i : ℕ) → slice_get xs i ≡ None → ((x : A) × (i < length xs) × (slice_get xs i ≡ Some x) × (get_or xs i x ≡ x)) ⊎ ((length xs ≤ i) × (slice_get xs i ≡ None)) → length xs ≤ i
+past_if xs i is (inl found) = let some = found.2 in absurd (let no : ⊥ = cc (is, some) in no)
+past_if xs i is (inr past) = past.0
+
+past_none : {A : Type 0} (xs : List A) (i : ℕ) → slice_get xs i ≡ None → length xs ≤ i
+past_none xs i is = past_if xs i is (slice_get_cases xs i).1
+
+-- where there is none with a number, there is none with a greater one
+none_behind : {A : Type 0} (xs : List A) (i j : ℕ) → i ≤ j → slice_get xs i ≡ None → slice_get xs j ≡ None
+none_behind xs i j low is = slice_get_past xs j (omega (arith, past_none xs i is, low))
+
+-- ---- rounds
+
+-- a trace that isn't too large is left
+pub within_bounds : (trace : Trace) → length trace.events ≤ most_events → bounded_trace trace ≡ Ok trace
+within_bounds trace few =
+    let not : nat_lt most_events (length trace.events) ≡ false = grind (arith, nat_tests) in
+    rw not refl
+
+-- and one that is too large tells of its events
+pub beyond_bounds : (trace : Trace) → most_events < length trace.events → bounded_trace trace ≡ Err (length trace.events)
+beyond_bounds trace many =
+    let is : nat_lt most_events (length trace.events) ≡ true = grind (arith, nat_tests) in
+    rw is refl
+
+-- one round more
+pub one_round : (trace left : Trace) (pace : Pace) (rules : List Rule) (count : ℕ) → after_rounds trace pace rules count ≡ Ok left
+    → after_rounds trace pace rules (suc count) ≡ round pace rules count left
+unfolding after_rounds
+one_round trace left pace rules count is = ap (then_round pace rules count) is
+
+-- behind one that left too much
+no_round : (trace : Trace) (pace : Pace) (rules : List Rule) (count events : ℕ) → after_rounds trace pace rules count ≡ Err events
+    → after_rounds trace pace rules (suc count) ≡ Err events
+unfolding after_rounds
+no_round trace pace rules count events is = ap (then_round pace rules count) is
+
+-- a number is at most another, or at most the one before it
+or_before : (i n : ℕ) → i ≤ suc n → (i ≡ suc n) ⊎ (i ≤ n)
+or_before i n low = elim (nat_lt n i) as (λ b. nat_lt n i ≡ b → (i ≡ suc n) ⊎ (i ≤ n)) [
+  | true ↦ λ is. inl (grind (arith, nat_tests))
+  | false ↦ λ is. inr (grind (arith, nat_tests))
+] refl
+
+-- what a property of rounds that lasts comes to
+lasts_by : (P : ℕ → Type 0) (i n : ℕ) → P i → (i ≤ n → P n) → (i ≤ n → P n → P (suc n)) → (i ≡ suc n) ⊎ (i ≤ n) → P (suc n)
+lasts_by P i n first before goes (inl same) = subst P same first
+lasts_by P i n first before goes (inr low) = goes low (before low)
+
+lasts : (P : ℕ → Type 0) (i : ℕ) → P i → ((n : ℕ) → i ≤ n → P n → P (suc n)) → (n : ℕ) → i ≤ n → P n
+lasts P i first goes zero low = subst P (omega (arith, low)) first
+lasts P i first goes (suc n) low = lasts_by P i n first (lasts P i first goes n) (goes n) (or_before i n low)
+
+-- a round without a kill leaves the trace
+idle_round : (left : Trace) (pace : Pace) (rules : List Rule) (number : ℕ) → length left.events ≤ most_events → slice_get (all_kills left pace rules) number ≡ None
+    → round pace rules number left ≡ Ok left
+idle_round left pace rules number few none = ap (λ kill. bounded_trace (without_kill left kill)) none ∙ within_bounds left few
+
+pub last_without_kill : LastWithoutKill
+last_without_kill trace left pace rules count some few is none =
+    lasts (λ n. after_rounds trace pace rules n ≡ Ok left) count is
+    (λ n low so. one_round trace left pace rules n so ∙ idle_round left pace rules n few (none_behind (all_kills left pace rules) count n low none))
+    most_rounds some
+
+pub last_outgrown : LastOutgrown
+last_outgrown trace pace rules count events some is =
+    lasts (λ n. after_rounds trace pace rules n ≡ Err events) count is (λ n low so. no_round trace pace rules n events so) most_rounds some
+
+-- ---- where it grew too large
+
+-- some round before this one left too much
+abbrev pub GrewBefore : Trace → Pace → List Rule → ℕ → ℕ → Type 0
+GrewBefore trace pace rules events count =
+    (number : ℕ) × (left : Trace) × (number < count) × (after_rounds trace pace rules number ≡ Ok left)
+    × (length (without_kill left (slice_get (all_kills left pace rules) number)).events ≡ events) × (most_events < events)
+
+-- a trace that isn't left is too large
+is_beyond : (trace : Trace) (events : ℕ) → bounded_trace trace ≡ Err events → (length trace.events ≡ events) × (most_events < events)
+is_beyond trace events is = go (nat_lt most_events (length trace.events)) refl is
+  where
+    go : (b : Bool) → nat_lt most_events (length trace.events) ≡ b → (if b then Err (length trace.events) else Ok trace) ≡ Err events → (length trace.events ≡ events) × (most_events < events)
+    go true large is = let same : length trace.events ≡ events = cc is in (same, grind (arith, nat_tests, large, same))
+    go false small is = absurd (let no : ⊥ = cc is in no)
+
+grew_by : (trace : Trace) (pace : Pace) (rules : List Rule) (events n : ℕ) (before : Result Trace ℕ) → after_rounds trace pace rules n ≡ before
+    → (after_rounds trace pace rules n ≡ Err events → GrewBefore trace pace rules events n) → then_round pace rules n before ≡ Err events → GrewBefore trace pace rules events (suc n)
+grew_by trace pace rules events n (Ok left) so earlier is =
+    let found = is_beyond (without_kill left (slice_get (all_kills left pace rules) n)) events is in
+    (n, left, omega arith, so, found.0, found.1)
+grew_by trace pace rules events n (Err more) so earlier is =
+    let same : more ≡ events = cc is in
+    let found = earlier (so ∙ ap (λ (k : ℕ). let left : Result Trace ℕ = Err k in left) same) in
+    (found.0, found.1, omega (arith, found.2), found.3, found.4, found.5)
+
+grew : (trace : Trace) (pace : Pace) (rules : List Rule) (events n : ℕ) → after_rounds trace pace rules n ≡ Err events → GrewBefore trace pace rules events n
+unfolding after_rounds
+grew trace pace rules events zero is = absurd (let no : ⊥ = cc is in no)
+grew trace pace rules events (suc n) is =
+    grew_by trace pace rules events n (after_rounds trace pace rules n) refl (grew trace pace rules events n) is
+
+pub outgrown_at_round : OutgrownAtRound
+outgrown_at_round trace pace rules events is = grew trace pace rules events most_rounds is

@@ -1,0 +1,69 @@
+-- What is left of a trace where the victims of its kills are taken out of it, one kill after the other.
+use Rattle.std.specs.Prelude.{◌≡◌, ◌<◌, ◌≤◌, ℕ, zero, suc, List, length, nat_lt, if◌then◌else◌, Option, None, Some, Result, Ok, Err, slice_get}
+use Rattle.std.specs.List.{flat_map, range_with_len}
+use Rattle.psi_spec.specs.World.{most_events}
+use Rattle.psi_spec.specs.Trace.{Trace}
+use Rattle.ruleset_json.specs.declared.types.Rule.{Rule}
+use Rattle.kill_spec.specs.declared.kill.Kill.{Kill}
+use Rattle.whatif_spec.specs.Without.{trace_without}
+use Rattle.run_spec.specs.Replay.{Pace, kills_in, tick_count}
+
+-- how many kills are taken at most
+abbrev pub most_rounds : ℕ
+most_rounds = 64
+
+-- the kills at the first so many ticks, by tick, ruleset and action
+abbrev pub kills_by : Trace → Pace → List Rule → ℕ → List Kill
+kills_by trace pace rules count = flat_map (kills_in trace pace rules) (range_with_len 1 count)
+
+-- all kills of a trace
+abbrev pub all_kills : Trace → Pace → List Rule → List Kill
+all_kills trace pace rules = kills_by trace pace rules (tick_count trace pace)
+
+-- a trace without the tasks of a kill's victim from the kill on, where there is a kill
+abbrev pub without_kill : Trace → Option Kill → Trace
+without_kill trace None = trace
+without_kill trace (Some kill) = trace_without trace kill.at kill.victim.0
+
+-- a trace, or how many events it has where those are more than a trace may have
+abbrev pub bounded_trace : Trace → Result Trace ℕ
+bounded_trace trace = if nat_lt most_events (length trace.events) then Err (length trace.events) else Ok trace
+
+-- What one round leaves of a trace: it takes out the kill with this number, from 0, where the trace has so many.
+abbrev pub round : Pace → List Rule → ℕ → Trace → Result Trace ℕ
+round pace rules number trace = bounded_trace (without_kill trace (slice_get (all_kills trace pace rules) number))
+
+-- a round behind others, unless one of these left too much
+abbrev pub then_round : Pace → List Rule → ℕ → Result Trace ℕ → Result Trace ℕ
+then_round pace rules number (Err events) = Err events
+then_round pace rules number (Ok trace) = round pace rules number trace
+
+-- What the first so many rounds leave of a trace, each of what the one before it left: the first takes out the first kill, the
+-- second the second kill of what is left then, and so on. Where one leaves more events than a trace may have, it is how many.
+unfoldable pub after_rounds : Trace → Pace → List Rule → ℕ → Result Trace ℕ
+after_rounds trace pace rules zero = Ok trace
+after_rounds trace pace rules (suc count) = then_round pace rules count (after_rounds trace pace rules count)
+
+-- the trace that is left when all kills were taken, 64 at most, or how many events a round left that left too many
+abbrev pub last_trace : Trace → Pace → List Rule → Result Trace ℕ
+last_trace trace pace rules = after_rounds trace pace rules most_rounds
+
+-- ---- laws
+
+-- Where a round finds no kill with its number, no later one does: what is left then is the last trace.
+abbrev pub LastWithoutKill : Type 0
+LastWithoutKill = (trace left : Trace) (pace : Pace) (rules : List Rule) (count : ℕ) → count ≤ most_rounds
+    → length left.events ≤ most_events
+    → after_rounds trace pace rules count ≡ Ok left → slice_get (all_kills left pace rules) count ≡ None
+    → last_trace trace pace rules ≡ Ok left
+
+-- Where a round leaves too much, that is how many events the last trace would have.
+abbrev pub LastOutgrown : Type 0
+LastOutgrown = (trace : Trace) (pace : Pace) (rules : List Rule) (count events : ℕ) → count ≤ most_rounds
+    → after_rounds trace pace rules count ≡ Err events → last_trace trace pace rules ≡ Err events
+
+-- So it is exactly where some round leaves more events than a trace may have.
+abbrev pub OutgrownAtRound : Type 0
+OutgrownAtRound = (trace : Trace) (pace : Pace) (rules : List Rule) (events : ℕ) → last_trace trace pace rules ≡ Err events
+    → (number : ℕ) × (left : Trace) × (number < most_rounds) × (after_rounds trace pace rules number ≡ Ok left)
+    × (length (without_kill left (slice_get (all_kills left pace rules) number)).events ≡ events) × (most_events < events)
