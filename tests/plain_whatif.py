@@ -1,0 +1,147 @@
+"""What is left of a trace behind the kills of its rules, by a plain walk: for checks of what `psi_oomd whatif` prints.
+
+It follows docs/FORMATS.md alone, event by event over the tasks of tests/machine.py. Who is killed it is told: by what a replay of
+the trace printed.
+"""
+from __future__ import annotations
+
+import re
+from collections.abc import Callable, Iterator
+from typing import NamedTuple
+
+from machine import Machine
+
+MOST_ROUNDS = 64
+# Events of a task, whose number is their first field.
+OF_A_TASK = ("wake", "stall", "unstall", "migrate", "move")
+
+
+class Event(NamedTuple):
+    """An event: its moment (ns), its verb, and the fields of that."""
+
+    moment: int
+    verb: str
+    fields: tuple[str, ...] = ()
+
+
+class Kill(NamedTuple):
+    """A kill: its moment (ns) and the victim's path."""
+
+    moment: int
+    path: str
+
+
+class Trace(NamedTuple):
+    """A trace: its header, and its events up to the end."""
+
+    header: str
+    events: list[Event]
+
+    def machine(self) -> Machine:
+        """The machine of the trace, on which nothing happened yet."""
+        return Machine(int(self.header.partition("cpus=")[2]))
+
+    def text(self) -> str:
+        lines = (" ".join((str(moment), verb, *fields)) for moment, verb, fields in self.events)
+        return "\n".join((self.header, *lines, ""))
+
+
+def trace_of(text: str) -> Trace:
+    """The trace that a text is, which must be one."""
+    header, *lines = text.splitlines()
+    parts = (line.split(" ") for line in lines)
+    return Trace(header, [Event(int(moment), verb, tuple(fields)) for moment, verb, *fields in parts])
+
+
+def kills_of(printed: str) -> list[Kill]:
+    """The kills that a replay printed, in their order: by tick, ruleset and action."""
+    found = re.findall(r"^kill ([0-9]+) ruleset=[0-9]+ action=[0-9]+ (\S+)$", printed, re.MULTILINE)
+    return [Kill(int(moment), path) for moment, path in found]
+
+
+# ---------------------------------------------------------------- without
+
+
+def members(machine: Machine, path: str) -> list[str]:
+    """The numbers of the tasks that are in the live group of this path or below it, ascending."""
+    top = machine.live[path]
+    return sorted((pid for pid, task in machine.tasks.items() if machine.is_under(task.group, top)), key=int)
+
+
+def exit_of(machine: Machine, pid: str, moment: int) -> list[Event]:
+    """How a task exits at a moment (ns): it wakes if it sleeps, runs if it doesn't, ends its stall, and is gone. Who ran there
+    makes room for it, and runs on behind it."""
+    task = machine.tasks[pid]
+    cpu, others = str(task.cpu), [other for other in machine.running(task.cpu) if other != pid]
+    events = []
+    if task.at in ("sleep", "iowait"):
+        events.append(Event(moment, "wake", (pid, cpu)))
+    if task.at != "running":
+        events.append(Event(moment, "switch", (cpu, pid, "preempt" if others else "idle")))
+    if task.is_stalled:
+        events.append(Event(moment, "unstall", (pid,)))
+    return [*events, Event(moment, "switch", (cpu, *(others or ["0"]), "exit"))]
+
+
+def left_of(machine: Machine, dead: set[str], event: Event) -> list[Event]:
+    """What is left of an event where these tasks are dead, on the machine as it was before it in the trace."""
+    if event.verb in OF_A_TASK:
+        return [] if event.fields[0] in dead else [event]
+    if event.verb != "switch":
+        return [event]
+    cpu, then, how = event.fields
+    then = "0" if then in dead else then
+    if any(pid not in dead for pid in machine.running(int(cpu))):
+        return [event._replace(fields=(cpu, then, how))]
+    return [event._replace(fields=(cpu, then, "idle"))] if then != "0" else []
+
+
+def rest_of(machine: Machine, dead: set[str], events: list[Event]) -> Iterator[Event]:
+    """The events without these tasks. A number is another task's once the dead one has exited in the trace."""
+    for event in events:
+        yield from left_of(machine, dead, event)
+        if event.verb == "switch" and event.fields[2] == "exit":
+            dead.difference_update(machine.running(int(event.fields[0])))
+        machine.take(event.verb, *event.fields)
+
+
+def without(trace: Trace, kill: Kill) -> Trace:
+    """The trace without the victim's tasks: up to the kill it stays, they exit a nanosecond later, and then the rest follows. A
+    kill at the end leaves all."""
+    if kill.moment >= trace.events[-1].moment:
+        return trace
+    front = [event for event in trace.events if event.moment <= kill.moment]
+    as_recorded, supposed = trace.machine(), trace.machine()
+    for event in front:
+        as_recorded.take(event.verb, *event.fields)
+        supposed.take(event.verb, *event.fields)
+    dead, exits = members(supposed, kill.path), list[Event]()
+    for pid in dead:
+        events = exit_of(supposed, pid, kill.moment + 1)
+        for event in events:
+            supposed.take(event.verb, *event.fields)
+        exits += events
+    return Trace(trace.header, [*front, *exits, *rest_of(as_recorded, set(dead), trace.events[len(front) :])])
+
+
+# ---------------------------------------------------------------- kill by kill
+
+
+class Round(NamedTuple):
+    """A trace of the way to the last one, what its replay prints, and the kill behind which the next is left, if one follows."""
+
+    trace: Trace
+    printed: str
+    kill: Kill | None
+
+
+def rounds(trace: Trace, replay: Callable[[str], str]) -> Iterator[Round]:
+    """The traces up to that whose output `whatif` prints: in each the kill of the next number is looked for, up to 64 times."""
+    for number in range(MOST_ROUNDS + 1):
+        printed = replay(trace.text())
+        kills = kills_of(printed)
+        if number == MOST_ROUNDS or number >= len(kills):
+            yield Round(trace, printed, None)
+            return
+        yield Round(trace, printed, kills[number])
+        trace = without(trace, kills[number])
