@@ -155,7 +155,7 @@ def endless(table: Table) -> None:
     run = table.start("replay", table.file("trace", TRACE), "--rules", "/dev/zero").end()
     table.wants("replay: /dev/zero as rules", run, 3, "rules: TooLong")
     run = table.start("check", *["a"] * 20000).end()
-    table.wants("check: 20,000 words", run, 1, "usage: psi_oomd stall or check or replay or gen or stress or import or rules")
+    table.wants("check: 20,000 words", run, 1, "usage: psi_oomd stall or check or replay or gen or stress or import or rules or whatif")
 
 
 def nested(table: Table) -> None:
