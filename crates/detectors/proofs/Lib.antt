@@ -1,4 +1,6 @@
 pub mod Order
+pub mod Children
+pub mod Placing
 pub mod ScanTables
 pub mod Runs
 pub mod Greatest

@@ -71,7 +71,7 @@ slots_differ lives (group ∷ groups) order = (
 )
 
 -- a slot among those of groups is one of so many
-either : (a b : Bool) → (a || b) ≡ true → (a ≡ true) ⊎ (b ≡ true)
+pub either : (a b : Bool) → (a || b) ≡ true → (a ≡ true) ⊎ (b ≡ true)
 either true b is = inl refl
 either false b is = inr is
 

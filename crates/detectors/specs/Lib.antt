@@ -1,3 +1,4 @@
 pub mod Views
+pub mod Below
 pub mod Tables
 pub mod Stands

@@ -5,6 +5,7 @@ mod conditions;
 mod copies;
 mod detector;
 mod moments;
+mod places;
 mod reading;
 mod scans;
 

@@ -1,11 +1,13 @@
 //! Readings.
-ghost use Rattle.std.specs.Prelude.{◌≡◌, ◌<◌, ◌≤◌, [], IfOk, length};
+ghost use Rattle.std.specs.Prelude.{◌≡◌, ◌<◌, ◌≤◌, [], IfOk, filter, length};
 ghost use Rattle.psi_spec.specs.Groups.{path_at};
 ghost use Rattle.psi_spec.specs.World.{most_groups};
 ghost use Rattle.kill_spec.specs.Readings.{IsGroupReading, IsHostReading, IsReading, no_host};
+ghost use Rattle.detectors.specs.Below.{AreAmong, group_at, groups_at, is_child};
 ghost use Rattle.detectors.specs.Views.{ComesLast, reading_of, seen_at, with_group};
 
 use crate::copies::copy_lives;
+use crate::places::{Places, clear_below, place_below, room_below};
 use kill_spec::{GroupReading, HostReading};
 use psi_base::{NoMemory, Ns, Path, Slot};
 use psi_spec::GroupLife;
@@ -21,10 +23,15 @@ pub struct Reading {
     host: HostReading,
     /// The live groups, with room for all.
     groups: Vec<GroupReading>,
+    /// Where all of them stand, in order.
+    all: Places,
+    /// By slot, where the live children of a group stand among them, with room for all its children.
+    below: Vec<Places>,
 }
 
 impl Model for Reading {
     ghost use Rattle.std.specs.Prelude.{length, vec_capacity};
+    ghost use Rattle.detectors.specs.Below.{ArePlaces};
     ghost use Rattle.detectors.specs.Views.{IsReadingView, IsRoom, ReadingView};
     ghost use Rattle.detectors.specs.Views.{reading_of, seen_at};
 
@@ -33,7 +40,8 @@ impl Model for Reading {
     ghost view = { λ r. reading_of r.lives.items (seen_at r.at r.host r.groups.items) };
 
     ghost invariant = { λ r. IsRoom (length r.lives.items) (vec_capacity r.groups)
-        × IsReadingView (reading_of r.lives.items (seen_at r.at r.host r.groups.items)) };
+        × IsReadingView (reading_of r.lives.items (seen_at r.at r.host r.groups.items))
+        × ArePlaces r.lives.items r.groups.items r.all r.below.items };
 }
 
 impl Reading {
@@ -52,6 +60,8 @@ impl Reading {
                 swap_free: 0,
             },
             groups: Vec::with_capacity(alloc, lives.len())?,
+            all: Places::with_room(alloc, lives.len())?,
+            below: room_below(alloc, lives)?,
         })
     }
 
@@ -64,6 +74,8 @@ impl Reading {
         self.at = at;
         self.host = host;
         self.groups.clear();
+        self.all.clear();
+        clear_below(&mut self.below);
     }
 
     /// Puts a live group behind the others. Its path comes after theirs in byte order, so there is
@@ -73,6 +85,10 @@ impl Reading {
         requires order { ComesLast self.old group }
         ensures { self.new ≡ reading_of self.old.lives (with_group self.old.seen group) }
     {
+        let place = self.groups.len() as u32;
+        let parent = self.lives[group.slot.0 as usize].parent;
+        self.all.push(place);
+        place_below(&mut self.below, parent, place);
         if self.groups.push(group).is_err() {
             unreachable!();
         }
@@ -99,6 +115,38 @@ impl Reading {
         ensures within { IsReading self.now.lives self.now.seen }
     {
         &self.groups
+    }
+
+    /// The live group at a place, of which there are as many as groups.
+    pub fn group(&self, place: u32) -> &GroupReading
+        requires { place < length self.now.seen.groups }
+        ensures group { result.now ≡ group_at self.now.seen.groups place }
+        ensures within { IsGroupReading (length self.now.lives) result.now }
+    {
+        &self.groups[place as usize]
+    }
+
+    /// The places of all live groups, in the byte order of their paths.
+    pub fn places(&self) -> &[u32]
+        ensures groups { groups_at self.now.seen.groups result.now ≡ self.now.seen.groups }
+        ensures within { AreAmong self.now.seen.groups result.now }
+        ensures few { length result.now ≤ most_groups }
+        ensures read { IsReading self.now.lives self.now.seen }
+    {
+        self.all.items()
+    }
+
+    /// The places of the live groups right below the group in a slot, in the byte order of their
+    /// paths.
+    pub fn below(&self, slot: Slot) -> &[u32]
+        requires { slot.0 < length self.now.lives }
+        ensures groups { groups_at self.now.seen.groups result.now
+            ≡ filter (is_child self.now.lives slot.0) self.now.seen.groups }
+        ensures within { AreAmong self.now.seen.groups result.now }
+        ensures few { length result.now ≤ most_groups }
+        ensures read { IsReading self.now.lives self.now.seen }
+    {
+        self.below[slot.0 as usize].items()
     }
 
     /// All groups that a trace ever makes, by slot.

@@ -1,22 +1,22 @@
 -- Growth orders groups, and the walk finds the group that has grown most.
-use Rattle.std.proofs.Common.{◌≡◌, ℕ, ◌*◌, ◌<◌, ◌≤◌, List, [], length, sum, refl, sym, ap, ◌∙◌}
-use Rattle.std.proofs.Common.{arith, true, mul-lt-mul_of_pos_right, mul-le-mul_right}
+use Rattle.std.proofs.Common.{◌≡◌, ℕ, ◌*◌, ◌<◌, ◌≤◌, List, [], ◌∷◌, length, sum, refl, sym, ap, ◌∙◌}
+use Rattle.std.proofs.Common.{arith, true, false, mul-lt-mul_of_pos_right, mul-le-mul_right}
 use Rattle.std.proofs.Common.{lt_of_mul-lt-mul_right, ⊎_elim, inl, inr}
 use Rattle.std.proofs.Math.Nat.{eq_of_mul-eq-mul_right}
-use Rattle.std.specs.Prelude.{Bool, Option, None, ◌&&◌, ◌||◌, ◌==◌, filter, map, nat_le, nat_lt}
-use Rattle.std.proofs.lemmas.Bool.{and_parts}
+use Rattle.std.specs.Prelude.{Bool, IfSome, MatchOption, Option, None, Some, option_map, ◌&&◌, ◌||◌, ◌==◌, filter, map, nat_le, nat_lt}
+use Rattle.std.proofs.lemmas.Bool.{and_parts, true≢false}
 use Rattle.std.proofs.lemmas.Bool.Decides.{nat_tests}
 use Rattle.psi_spec.specs.declared.machine.GroupLife.{GroupLife}
 use Rattle.kill_spec.specs.declared.reading.GroupReading.{GroupReading}
 use Rattle.kill_spec.specs.Readings.{Ascend, path_of}
 use Rattle.kill_spec.specs.Victims.{is_larger, largest_few, memory_in_use, unbeaten}
-use Rattle.kill_spec.proofs.Foremost.{Orders, each_map, each_passes, foremost, pairs_filter}
+use Rattle.kill_spec.proofs.Foremost.{Orders, by_test, better, each_map, each_passes, foremost, foremost_of, pairs_filter}
 use Rattle.kill_spec.proofs.ChoiceLaws.{IsBefore, greater_order, in_order, then_first, then_one_way}
 use Rattle.kill_spec.proofs.ChoiceLaws.{then_same, then_tells, then_told, walk_unbeaten}
 use Rattle.victim_rank.specs.declared.growth.Grown.{Grown}
 use Rattle.victim_rank.specs.Growth.{growth_over, has_grown_more_over, is_growing_over}
 use Rattle.victim_rank.specs.Grown.{IsGrown, leads_grown}
-use Rattle.victim_rank.proofs.Scoped.{filter_filter, foremost_none, leads_plainly}
+use Rattle.victim_rank.proofs.Scoped.{filter_filter, foremost_none, kept_by, leads_plainly}
 
 -- a group leads one before it: it has grown more, or as much and it uses more memory
 abbrev pub leads_over : (GroupReading → List ℕ) → GroupReading → GroupReading → Bool
@@ -109,6 +109,16 @@ choosable_is sizes lives ratio few p groups =
     (filter (λ other. is_larger lives other group) (filter p groups))) few && is_growing_over
     sizes ratio group) groups
 
+-- the groups of the scope and the rank tell them
+pub same_choosable : (sizes : GroupReading → List ℕ) (lives : List GroupLife) (ratio few : ℕ)
+    (p : GroupReading → Bool) (found groups : List GroupReading) →
+    filter p found ≡ filter p groups →
+    filter (is_choosable sizes lives ratio few p groups) found
+    ≡ filter (is_choosable sizes lives ratio few p groups) groups
+same_choosable sizes lives ratio few p found groups same =
+    kept_by p (λ group. nat_lt (length (filter (λ other. is_larger lives other group)
+    (filter p groups))) few && is_growing_over sizes ratio group) found groups same
+
 has_past : (sizes : GroupReading → List ℕ) (ratio : ℕ) (group : GroupReading) →
     is_growing_over sizes ratio group ≡ true → HasPast sizes group
 has_past sizes ratio group growing =
@@ -143,3 +153,86 @@ walked_growth lives sizes ratio few p groups ascend best rest =
 pub leads_as : (sizes : GroupReading → List ℕ) (next best : Grown) → IsGrown sizes next next.group →
     IsGrown sizes best best.group → leads_grown next best ≡ leads_over sizes next.group best.group
 leads_as sizes next best is was = rw (is.sizes_is, is.sum_is, was.sizes_is, was.sum_is) refl
+
+pub growing_as : (sizes : GroupReading → List ℕ) (ratio : ℕ) (next : Grown) (group : GroupReading) →
+    IsGrown sizes next group →
+    (nat_lt 0 next.sum && nat_le (ratio * next.sum) (next.sizes * 1000))
+    ≡ is_growing_over sizes ratio group
+growing_as sizes ratio next group is = rw (is.sizes_is, is.sum_is) refl
+
+-- the best so far by its group
+abbrev pub best_group : Option Grown → Option GroupReading
+best_group best = option_map (λ (grown : Grown). grown.group) best
+
+-- what is told of a group that leads the best so far, if there is one
+abbrev pub LeadsAny : Option Grown → Grown → Bool → Type 0
+LeadsAny best next leads = MatchOption best (leads ≡ true) (λ before. leads ≡ leads_grown next before)
+
+-- of two, the next one is the better where it leads, and else the one before
+next_better : (leads : GroupReading → GroupReading → Bool) (best next : GroupReading) →
+    leads next best ≡ true → next ≡ better leads best next
+next_better leads best next is = rw is refl
+
+best_better : (leads : GroupReading → GroupReading → Bool) (best next : GroupReading) →
+    leads next best ≡ false → best ≡ better leads best next
+best_better leads best next is = rw is refl
+
+passes_first : (p : GroupReading → Bool) (group : GroupReading) (groups : List GroupReading) →
+    p group ≡ true → filter p (group ∷ groups) ≡ group ∷ filter p groups
+passes_first p group groups passes = rw passes refl
+
+-- the walk goes on with a group that leads the best so far, where it can be chosen
+pub next_taken : (sizes : GroupReading → List ℕ) (p : GroupReading → Bool) (best : Option Grown)
+    (next : Grown) (leads : Bool) (groups : List GroupReading) →
+    IfSome best (λ before. IsGrown sizes before before.group) → IsGrown sizes next next.group →
+    LeadsAny best next leads → leads ≡ true → p next.group ≡ true →
+    foremost (leads_over sizes) (Some next.group) (filter p groups)
+    ≡ foremost (leads_over sizes) (best_group best) (filter p (next.group ∷ groups))
+next_taken sizes p None next leads groups was is told holds passes =
+    ap (foremost (leads_over sizes) None) (sym (passes_first p next.group groups passes))
+next_taken sizes p (Some before) next leads groups was is told holds passes =
+    let over : leads_over sizes next.group before.group ≡ true =
+    sym (leads_as sizes next before is was) ∙ sym told ∙ holds in
+    ap (λ group. Some (foremost_of (leads_over sizes) group (filter p groups)))
+    (next_better (leads_over sizes) before.group next.group over)
+    ∙ ap (foremost (leads_over sizes) (Some before.group)) (sym (passes_first p next.group groups passes))
+
+-- with the best so far where another doesn't lead it
+pub next_trails : (sizes : GroupReading → List ℕ) (p : GroupReading → Bool) (best : Option Grown)
+    (next : Grown) (leads : Bool) (groups : List GroupReading) →
+    IfSome best (λ before. IsGrown sizes before before.group) → IsGrown sizes next next.group →
+    LeadsAny best next leads → leads ≡ false →
+    foremost (leads_over sizes) (best_group best) (filter p groups)
+    ≡ foremost (leads_over sizes) (best_group best) (filter p (next.group ∷ groups))
+next_trails sizes p None next leads groups was is told fails = absurd (true≢false (sym told ∙ fails))
+next_trails sizes p (Some before) next leads groups was is told fails =
+    let under : leads_over sizes next.group before.group ≡ false =
+    sym (leads_as sizes next before is was) ∙ sym told ∙ fails in
+    by_test _ (p next.group)
+    (λ passes. ap (λ group. Some (foremost_of (leads_over sizes) group (filter p groups)))
+    (best_better (leads_over sizes) before.group next.group under)
+    ∙ ap (foremost (leads_over sizes) (Some before.group)) (sym (passes_first p next.group groups passes)))
+    (λ left. rw left refl)
+
+-- or can't be chosen
+pub next_left : (sizes : GroupReading → List ℕ) (p : GroupReading → Bool) (best : Option GroupReading)
+    (group : GroupReading) (groups : List GroupReading) → p group ≡ false →
+    foremost (leads_over sizes) best (filter p groups)
+    ≡ foremost (leads_over sizes) best (filter p (group ∷ groups))
+next_left sizes p best group groups fails = rw fails refl
+
+-- the tests of a group that can be chosen
+pub choosable_all : (a b c : Bool) → a ≡ true → b ≡ true → c ≡ true → (a && (b && c)) ≡ true
+choosable_all a b c first second third = rw (first, second, third) refl
+
+pub left_first : (a b c : Bool) → a ≡ false → (a && (b && c)) ≡ false
+left_first a b c fails = rw fails refl
+
+pub left_second : (a b c : Bool) → b ≡ false → (a && (b && c)) ≡ false
+left_second true b c fails = rw fails refl
+left_second false b c fails = refl
+
+pub left_third : (a b c : Bool) → c ≡ false → (a && (b && c)) ≡ false
+left_third true true c fails = fails
+left_third true false c fails = refl
+left_third false b c fails = refl

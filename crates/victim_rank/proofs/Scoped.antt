@@ -1,5 +1,5 @@
 -- Filters of filters, and the groups of a scope.
-use Rattle.std.proofs.Common.{◌≡◌, ℕ, List, [], ◌∷◌, refl, sym, ap, ◌∙◌, true, false}
+use Rattle.std.proofs.Common.{◌≡◌, ℕ, List, [], ◌∷◌, refl, sym, ap, subst, ◌∙◌, true, false}
 use Rattle.std.specs.Prelude.{Bool, Option, None, Some, ◌&&◌, ◌||◌, ◌==◌, filter, nat_lt, map}
 use Rattle.std.proofs.lemmas.Bool.{true≢false}
 use Rattle.psi_base.specs.declared.event.Slot.{Slot}
@@ -12,7 +12,8 @@ use Rattle.kill_spec.specs.Victims.{action_patterns, beats_by, memory_in_use, ra
 use Rattle.kill_spec.proofs.Foremost.{Each, by_test, foremost, pairs_filter}
 use Rattle.kill_spec.proofs.ChoiceLaws.{IsBefore, beats_order, each_unit, in_order, leads_by}
 use Rattle.kill_spec.proofs.ChoiceLaws.{leads_larger, walk_unbeaten}
-use Rattle.victim_rank.specs.Scopes.{among, is_in_scope}
+use Rattle.detectors.specs.Below.{is_child}
+use Rattle.victim_rank.specs.Scopes.{ScopeView, among, is_in_rank, is_in_scope, is_in_view}
 
 pub filter_filter : (p q : GroupReading → Bool) (groups : List GroupReading) →
     filter q (filter p groups) ≡ filter (λ group. p group && q group) groups
@@ -38,6 +39,43 @@ pub each_every : (P : GroupReading → Type 0) (groups : List GroupReading) →
     ((group : GroupReading) → P group) → Each P groups
 each_every P [] every = tt
 each_every P (first ∷ groups) every = (every first, each_every P groups every)
+
+-- where two lists have the same groups that pass a test, they have the same that pass another too
+pub kept_by : (p q : GroupReading → Bool) (found groups : List GroupReading) →
+    filter p found ≡ filter p groups →
+    filter (λ group. p group && q group) found ≡ filter (λ group. p group && q group) groups
+kept_by p q found groups same =
+    sym (filter_filter p q found) ∙ ap (filter q) same ∙ filter_filter p q groups
+
+twice : (a b : Bool) → (a && (b && a)) ≡ (b && a)
+twice true b = refl
+twice false true = refl
+twice false false = refl
+
+children_view : (lives : List GroupLife) (act : Action) (above : Slot) (groups : List GroupReading) →
+    filter (is_in_scope lives act (Some above)) (filter (is_child lives above.0) groups)
+    ≡ filter (is_in_scope lives act (Some above)) groups
+children_view lives act above groups =
+    filter_filter (is_child lives above.0) (is_in_scope lives act (Some above)) groups
+    ∙ filter_same _ _ groups (each_every _ groups
+    (λ group. twice (is_child lives above.0 group) group.populated))
+
+-- among the children of a group stand all groups of a scope below it
+pub below_view : (scope : ScopeView) (above : Slot) (found groups : List GroupReading) →
+    scope.above ≡ Some above → found ≡ filter (is_child scope.lives above.0) groups →
+    filter (is_in_view scope) found ≡ filter (is_in_view scope) groups
+below_view scope above found groups is children =
+    let P : Option Slot → Type 0 = λ o.
+    filter (is_in_scope scope.lives scope.act o) found ≡ filter (is_in_scope scope.lives scope.act o) groups in
+    subst P (sym is) (ap (filter (is_in_scope scope.lives scope.act (Some above))) children
+    ∙ children_view scope.lives scope.act above groups)
+
+-- those of a rank are the same, where those of the scope are
+pub same_in_rank : (scope : ScopeView) (best_rank : ℕ) (found groups : List GroupReading) →
+    filter (is_in_view scope) found ≡ filter (is_in_view scope) groups →
+    filter (is_in_rank scope best_rank) found ≡ filter (is_in_rank scope best_rank) groups
+same_in_rank scope best_rank found groups same =
+    kept_by (is_in_view scope) (λ group. rank_of group == best_rank) found groups same
 
 -- the groups of a scope are those that the test tells
 pub among_is : (lives : List GroupLife) (act : Action) (above : Option Slot) (now : Reading) →

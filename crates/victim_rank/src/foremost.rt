@@ -75,7 +75,8 @@ pub(crate) fn foremost(scope: &Scope<'_>, reading: &Reading, past: &Past) -> Opt
 {
     let host = reading.host();
     let mut best: Option<Measured> = None;
-    'groups: for group in reading.groups() {
+    'groups: for place in scope.places(reading) {
+        let group = reading.group(*place);
         if let Some(measure) = measured_in(scope, host, past, group) {
             best = Some(better(
                 best,

@@ -99,7 +99,8 @@ pub(crate) fn grown_most(
         (filter (is_in_rank scope.now best_rank) reading.now.seen.groups))) }
 {
     let mut best: Option<Grown> = None;
-    'groups: for group in reading.groups() {
+    'groups: for place in scope.places(reading) {
+        let group = reading.group(*place);
         let next = growth_of(past, group);
         if is_growing(ratio, &next)
             && leads_any(&next, best)

@@ -1,10 +1,14 @@
 //! Among which groups a choice is made.
-ghost use Rattle.std.specs.Prelude.{◌≡◌, ◌<◌, None, Some, length};
+ghost use Rattle.std.specs.Prelude.{◌≡◌, ◌<◌, ◌≤◌, None, Some, filter, length};
 ghost use Rattle.path_match.specs.Match.{is_match};
 ghost use Rattle.kill_spec.specs.Victims.{action_patterns, after_of};
+ghost use Rattle.detectors.specs.Below.{AreAmong, groups_at};
 ghost use Rattle.detectors.specs.Tables.{match_table};
+ghost use Rattle.psi_spec.specs.World.{most_groups};
+ghost use Rattle.kill_spec.specs.Readings.{IsReading};
 ghost use Rattle.victim_rank.specs.Scopes.{is_in_view};
 
+use detectors::Reading;
 use kill_spec::GroupReading;
 use path_match::Patterns;
 use psi_base::Slot;
@@ -108,6 +112,23 @@ impl<'a> Scope<'a> {
         ensures { result.now ≡ self.now.lives }
     {
         self.lives
+    }
+
+    /// The places of groups of a reading, in order: of the children if it is made among these, else of all. No other
+    /// group is one of the scope.
+    pub(crate) fn places<'r>(&self, reading: &'r Reading) -> &'r [u32]
+        requires { reading.now.lives ≡ self.now.lives }
+        ensures groups { filter (is_in_view self.now)
+            (groups_at reading.now.seen.groups result.now)
+            ≡ filter (is_in_view self.now) reading.now.seen.groups }
+        ensures within { AreAmong reading.now.seen.groups result.now }
+        ensures few { length result.now ≤ most_groups }
+        ensures read { IsReading reading.now.lives reading.now.seen }
+    {
+        match self.above {
+            Some(above) if (above.0 as usize) < self.lives.len() => reading.below(above),
+            _ => reading.places(),
+        }
     }
 
     /// Whether the choice is made among others with this group, which was read.

@@ -17,7 +17,8 @@ pub(crate) fn total_size(scope: &Scope<'_>, reading: &Reading) -> u128
     ensures fits { result < 2 ^ 120 }
 {
     let mut total: u128 = 0;
-    'groups: for group in reading.groups() {
+    'groups: for place in scope.places(reading) {
+        let group = reading.group(*place);
         if scope.has(group) {
             total += u128::from(group.current);
         }
@@ -48,8 +49,8 @@ pub(crate) fn count_in_rank(scope: &Scope<'_>, best_rank: u8, reading: &Reading)
     ensures { result ≡ length (filter (is_in_rank scope.now best_rank) reading.now.seen.groups) }
 {
     let mut count = 0;
-    'groups: for group in reading.groups() {
-        if is_in_rank(scope, best_rank, group) {
+    'groups: for place in scope.places(reading) {
+        if is_in_rank(scope, best_rank, reading.group(*place)) {
             count += 1;
         }
     }
@@ -92,7 +93,8 @@ pub(crate) fn is_among_largest(
         (filter (is_in_rank scope.now best_rank) reading.now.seen.groups))) few }
 {
     let mut larger: u128 = 0;
-    'groups: for other in reading.groups() {
+    'groups: for place in scope.places(reading) {
+        let other = reading.group(*place);
         if is_in_rank(scope, best_rank, other) && is_larger(scope.lives(), other, group) {
             larger += 1;
             if larger == few {

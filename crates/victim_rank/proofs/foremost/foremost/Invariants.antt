@@ -5,6 +5,7 @@ use Rattle.kill_spec.proofs.Foremost.{foremost}
 use Rattle.kill_spec.proofs.ChoiceLaws.{leads_by}
 use Rattle.victim_rank.specs.declared.foremost.Measured.{Measured}
 use Rattle.victim_rank.specs.Scopes.{is_eligible, is_in_view, measure_of}
+use Rattle.detectors.specs.Below.{groups_at}
 use Rattle.victim_rank.proofs.foremost.foremost.Given as goal
 
 abbrev pub invariant-groups : goal.invariant-groups
@@ -14,9 +15,9 @@ invariant-groups l = record {
       (option_map (λ (best : Measured). best.group) l.best)
       (filter (λ (group : GroupReading). is_in_view
       l.scope group && is_eligible l.scope.act l.reading.seen.host l.past group)
-      (drop l.group-index l.group-items))
+      (groups_at l.reading.seen.groups (drop l.place-index l.place-items)))
       ≡ foremost (leads_by (measure_of l.scope.act l.past)) None
       (filter (λ (group : GroupReading). is_in_view
       l.scope group && is_eligible l.scope.act l.reading.seen.host l.past group)
-      l.reading.seen.groups);
+      (groups_at l.reading.seen.groups l.place-items));
 }

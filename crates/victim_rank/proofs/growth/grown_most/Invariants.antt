@@ -6,6 +6,7 @@ use Rattle.victim_rank.specs.Growth.{sizes_from}
 use Rattle.victim_rank.specs.Grown.{IsGrown}
 use Rattle.victim_rank.specs.Scopes.{is_in_rank}
 use Rattle.victim_rank.proofs.Growing.{is_choosable, leads_over}
+use Rattle.detectors.specs.Below.{groups_at}
 use Rattle.victim_rank.proofs.growth.grown_most.Given as goal
 
 abbrev pub invariant-groups : goal.invariant-groups
@@ -15,8 +16,8 @@ invariant-groups l = record {
       (option_map (λ (best : Grown). best.group) l.best)
       (filter (is_choosable (sizes_from l.past) l.scope.lives l.ratio l.few
       (is_in_rank l.scope l.best_rank) l.reading.seen.groups)
-      (drop l.group-index l.group-items))
+      (groups_at l.reading.seen.groups (drop l.place-index l.place-items)))
       ≡ foremost (leads_over (sizes_from l.past)) None
       (filter (is_choosable (sizes_from l.past) l.scope.lives l.ratio l.few
-      (is_in_rank l.scope l.best_rank) l.reading.seen.groups) l.reading.seen.groups);
+      (is_in_rank l.scope l.best_rank) l.reading.seen.groups) (groups_at l.reading.seen.groups l.place-items));
 }

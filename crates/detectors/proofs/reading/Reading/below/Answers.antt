@@ -1,0 +1,18 @@
+use Rattle.std.proofs.Common.{◌<◌, length, subst, sym}
+use Rattle.detectors.specs.Below.{AreHeld, child_count, is_child}
+use Rattle.detectors.specs.Views.{ReadingView, reading_of, seen_at}
+use Rattle.detectors.proofs.Placing.{few_held}
+use Rattle.detectors.proofs.reading.Reading.below.Goals as goal
+
+pub returns-clause-few : goal.returns-clause-few
+returns-clause-few c =
+    let old = c.self.inside in
+    let lives = old.lives.items in
+    let slot = c.args.slot.0 in
+    let inside : slot < length lives =
+    subst (λ (v : ReadingView). slot < length v.lives) (sym c.self.view_is) c.requires in
+    let held = subst (AreHeld (is_child lives slot) old.groups.items (child_count lives slot)) (sym c.index.ensures)
+    (c.self.invariant.2.children slot c.index.result.now inside) in
+    rw c.items.ensures
+    (few_held (reading_of lives (seen_at old.at old.host old.groups.items)) (is_child lives slot)
+    (child_count lives slot) c.index.result.now c.self.invariant.1 held)
