@@ -345,6 +345,14 @@ impl<'a> Replay<'a> {
         Ok(true)
     }
 
+    /// The kills at the tick that was made last, by ruleset and action; none before the first.
+    pub fn kills(&self) -> &[Kill]
+        ensures { (trace : Trace) (pace : Pace) (rules : List Rule) (i : ℕ) →
+            IsReplay self.now trace pace rules i → result.now ≡ kills_in trace pace rules i }
+    {
+        self.judge.kills()
+    }
+
     /// Writes the pressure files of the root at the tick that was made last.
     pub fn put_root<K: Sink>(&self, out: &mut K) -> Result<(), WriteFailed>
         requires { (trace : Trace) × (pace : Pace) × (rules : List Rule) × (i : ℕ)
