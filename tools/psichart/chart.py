@@ -13,7 +13,7 @@ from .axes import TimeAxis
 from .marks import ROW, Mark, Moment, marks_of, place
 from .panels import MemoryPanel, Panel, PressurePanel
 from .replay import Gone, Replay
-from .svg import LEFT, RIGHT, STYLE, WIDTH, Element, add, counted, decimal, short
+from .svg import LEFT, RIGHT, STYLE, STYLE_BESIDE, WIDTH, Element, add, counted, decimal, short
 from .thresholds import memory_thresholds, pressure_thresholds
 
 NAMES = {
@@ -23,6 +23,8 @@ MARKS_TOP = 74
 # Between the texts of upright lines and the first panel there is room for that panel's name.
 NAME_ROOM = 18
 LEGEND = 50
+# A second row of the legend, where two replays are drawn.
+LEGEND_ROW = 20
 AVERAGES = ("10 s", "60 s", "300 s")
 # A title has the paths of so many groups at most, and so many letters if it names who kills.
 TITLED = 3
@@ -30,13 +32,14 @@ TITLE_ROOM = 100
 
 
 class Wanted(NamedTuple):
-    """What is to be drawn, and from what."""
+    """What is to be drawn, and from what. `recorded` is a replay of the trace as it is, beside one without who is killed."""
 
     replay: Replay
     resources: list[str]
     axis: TimeAxis
     rules: Optional[Rules]
     samples: Optional[Samples]
+    recorded: Optional[Replay]
 
 
 class Chart:
@@ -49,7 +52,8 @@ class Chart:
         self.unnamed = place(self.marks)
         self.panels = [panel for resource in [*wanted.resources, "use"] for panel in self.panels_of(resource)]
         rows = [mark.row + 1 for mark in self.marks if mark.row is not None]
-        self.marks_bottom = MARKS_TOP + ROW * max(rows, default=0)
+        self.marks_top = MARKS_TOP + (LEGEND_ROW if wanted.recorded else 0)
+        self.marks_bottom = self.marks_top + ROW * max(rows, default=0)
         self.top = self.marks_bottom + 14 + (NAME_ROOM if rows else 0)
         self.plot_height = 300 if len(self.panels) == 1 else 132 if len(self.panels) <= 5 else 96
         self.panel_height = self.plot_height + 48
@@ -67,7 +71,8 @@ class Chart:
         name = NAMES[resource] + (f" of {short(path, 80)}" if len(self.replay.groups) > 1 else "")
         if resource != "use":
             thresholds = pressure_thresholds(rules, path, resource)
-            return [PressurePanel(name, self.axis, thresholds, self.replay, path, resource)]
+            replays = [self.replay, *filter(None, [self.wanted.recorded])]
+            return [PressurePanel(name, self.axis, thresholds, replays, path, resource)]
         if not samples:
             return []
         return [MemoryPanel(name, self.axis, memory_thresholds(rules, path, samples.host), samples.lives[path])]
@@ -117,10 +122,13 @@ class Chart:
         height = self.bottom + 46
         self.svg.attrib.update({"width": str(WIDTH), "height": str(height), "viewBox": f"0 0 {WIDTH} {height}"})
         add(self.svg, "title", self.title(1000))
-        add(self.svg, "style", STYLE)
+        add(self.svg, "style", STYLE + STYLE_BESIDE if self.wanted.recorded else STYLE)
         add(self.svg, "rect", class_="ground", width="100%", height="100%")
         add(self.svg, "text", self.heading, class_="title", x=16, y=26)
         self.draw_legend()
+        if self.wanted.recorded:
+            self.draw_legend_beside()
+            self.draw_supposed()
         self.draw_time()
         for number, panel in enumerate(self.panels):
             # Panels of one kind reach up to the same, so that groups can be compared.
@@ -146,6 +154,30 @@ class Chart:
         add(kill, "path", d=f"M830 {y - 7}h8l-4 7z")
         add(kill, "text", "would be killed", x=844, y=y + 4)
 
+    def draw_legend_beside(self) -> None:
+        """The looks of the two replays."""
+        legend = add(self.svg, "g", class_="legend beside")
+        y = LEGEND + LEGEND_ROW
+        for text, classes, x in (
+            ("thin: as recorded", "series plain some was", 106),
+            ("thick: without the tasks of who would be killed", "series plain some", 262),
+        ):
+            add(legend, "polyline", class_=classes, points=f"{x},{y} {x + 32},{y}")
+            add(legend, "text", text, x=x + 38, y=y + 4)
+        add(legend, "rect", class_="supposed", x=592, y=y - 7, width=32, height=14)
+        add(legend, "text", "behind the first kill: others as recorded", x=630, y=y + 4)
+
+    def draw_supposed(self) -> None:
+        """A shade over all panels behind the first kill, where it is supposed that others do what they did."""
+        first = min((kill.moment for kill in self.replay.kills), default=self.axis.end)
+        if first >= self.axis.end:
+            return
+        left = self.axis.x(max(first, self.axis.start))
+        shade = add(self.svg, "g", class_="shade")
+        for number in range(len(self.panels)):
+            top = self.top + number * self.panel_height
+            add(shade, "rect", class_="supposed", x=left, y=top, width=RIGHT - left, height=self.plot_height)
+
     def draw_time(self) -> None:
         """The lines of the time axis through all panels, and their numbers below the last."""
         axis = add(self.svg, "g", class_="time")
@@ -165,7 +197,7 @@ class Chart:
         unnamed = sum(len(mark.moments) for mark in self.unnamed)
         if unnamed:
             text = f"{counted(unnamed, 'upright line')} without a path, for want of room: draw less time by --from and --to"
-            add(marks, "text", text, class_="small", x=RIGHT, y=MARKS_TOP - 4, text_anchor="end")
+            add(marks, "text", text, class_="small", x=RIGHT, y=self.marks_top - 4, text_anchor="end")
 
     def draw_mark(self, marks: Element, mark: Mark) -> None:
         """A line from the row of its text down through all panels, with a triangle for a kill, and a cross for an end."""

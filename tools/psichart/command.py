@@ -8,6 +8,7 @@ from xml.etree import ElementTree
 
 from psireplay.command import Fault, Words, run_tool
 from psireplay.lines import RESOURCES
+from psireplay.program import opened
 from psireplay.rules import Rules
 from psireplay.samples import Samples
 from psireplay.times import SECOND, WallTime, seconds, wall_time
@@ -16,7 +17,7 @@ from .axes import time_axis
 from .chart import Chart, Wanted
 from .replay import Replay, read_replay
 
-ABOUT = "Draws what `psi_oomd replay` printed, as an SVG. Lines of its --live are passed over."
+ABOUT = "Draws what `psi_oomd replay` or `whatif` printed, as an SVG. Lines of --live are passed over."
 AFTER = (
     "--rules and --trace run the psi_oomd beside this tool, or the program that the variable PSI_OOMD names, which says "
     "whether the file is one."
@@ -34,6 +35,7 @@ class Given(NamedTuple):
     wall: Optional[WallTime]
     rules: Optional[str]
     trace: Optional[str]
+    beside: Optional[str]
 
 
 def moment(word: str) -> Moment:
@@ -54,6 +56,7 @@ HELP = {
     "start": "when the trace began, as 2026-11-28T13:58:12Z: all times are by the clock",
     "rules": "the rules of the replay: draws thresholds of the groups, and names rulesets",
     "trace": "the trace of the replay: draws the groups' memory too",
+    "beside": "what `replay` printed of the trace: draws it thin, and what `whatif` printed thick",
 }
 
 
@@ -67,6 +70,7 @@ def words() -> Words:
     option("--start", dest="wall", type=wall_time, metavar="TIME", help=HELP["start"])
     option("--rules", metavar="FILE", help=HELP["rules"])
     option("--trace", metavar="FILE", help=HELP["trace"])
+    option("--beside", metavar="FILE", help=HELP["beside"])
     return parser
 
 
@@ -86,7 +90,7 @@ def read_words() -> Given:
     start = since_start(given.start, given.wall, "--from")
     end = None if given.end is None else since_start(given.end, given.wall, "--to")
     groups = list(dict.fromkeys(given.group or ["/"]))
-    return Given(groups, given.resource, start, end, given.wall, given.rules, given.trace)
+    return Given(groups, given.resource, start, end, given.wall, given.rules, given.trace, given.beside)
 
 
 def resources_of(replay: Replay, given: Given) -> list[str]:
@@ -108,6 +112,19 @@ def must_have_reports(replay: Replay, resources: list[str], start: int, end: int
     raise Fault(f"no report of {', '.join(groups)}{about} {when}: {advice}")
 
 
+def read_recorded(name: str, groups: list[str], replay: Replay) -> Replay:
+    """The replay that a file has, which must be of the same trace as the other."""
+    with opened(name) as printed:
+        try:
+            recorded = read_replay(printed, groups)
+        except Fault as fault:
+            raise Fault(f"{name}: {fault}") from None
+    if (recorded.end.moment, recorded.end.ticks) != (replay.end.moment, replay.end.ticks):
+        ends = [f"{it.end.ticks} ticks up to {seconds(it.end.moment)} s" for it in (recorded, replay)]
+        raise Fault(f"{name} has {ends[0]}, and the standard input {ends[1]}: give two of one trace and of one --tick-ms")
+    return recorded
+
+
 def chart() -> bytes:
     given = read_words()
     rules = Rules(given.rules) if given.rules is not None else None
@@ -118,8 +135,9 @@ def chart() -> bytes:
     for path in given.groups:
         must_have_reports(replay, resources, 0, max(1, replay.end.moment), [path])
     must_have_reports(replay, resources, given.start, end, given.groups)
+    recorded = read_recorded(given.beside, given.groups, replay) if given.beside is not None else None
     samples = Samples(given.trace, given.groups, replay.end.moment) if given.trace is not None else None
-    picture = Chart(Wanted(replay, resources, time_axis(given.start, end, given.wall), rules, samples)).draw()
+    picture = Chart(Wanted(replay, resources, time_axis(given.start, end, given.wall), rules, samples, recorded)).draw()
     ElementTree.indent(picture, "")
     return bytes(ElementTree.tostring(picture, "utf-8", xml_declaration=True)) + b"\n"
 

@@ -15,6 +15,8 @@ from .thresholds import Threshold, draw_thresholds
 # A panel reaches at least up to 1 %, or 1 MiB, so that next to nothing doesn't look like much.
 LEAST_SHARE = 100
 LEAST_BYTES = 1024**2
+# So many letters have room left of a panel.
+COUNT_ROOM = 17
 
 
 class Frame(NamedTuple):
@@ -73,38 +75,25 @@ class Panel:
         draw_thresholds(panel, self.thresholds, frame.bottom, frame.scale)
 
 
-class PressurePanel(Panel):
-    """The averages of a group's reports on a resource, and below them a tick for each event of its triggers."""
+class Curves:
+    """The averages of a group's reports on a resource in the time of an axis, drawn by a look of their own."""
 
-    of_what = "share of time"
-
-    def __init__(
-        self, name: str, axis: TimeAxis, thresholds: list[Threshold], replay: Replay, path: str, resource: str
-    ) -> None:
-        super().__init__(name, axis, thresholds)
-        self.kind = resource
-        self.series = replay.series.get((path, resource), Series())
-        self.events = {level: replay.events.get((path, resource, level), []) for level in LEVELS}
-        self.shown = [place for place, moment in enumerate(self.series.moments) if axis.holds(moment)]
+    def __init__(self, series: Series, axis: TimeAxis, look: str = "") -> None:
+        self.series, self.axis, self.look = series, axis, look
+        self.shown = [place for place, moment in enumerate(series.moments) if axis.holds(moment)]
 
     def most(self) -> int:
+        """The greatest share, in hundredths of a percent."""
         shares = (shares[place] for shares in self.series.shares.values() if shares for place in self.shown)
-        return max(LEAST_SHARE, max(shares, default=0), *(it.level for it in self.thresholds))
+        return max(shares, default=0)
 
-    def step(self, most: int) -> int:
-        return share_step(most)
-
-    def number(self, value: int, step: int) -> str:
-        return f"{decimal(value / 100)} %"
-
-    def draw_inside(self, panel: Element, frame: Frame) -> None:
+    def draw(self, panel: Element, frame: Frame) -> None:
         for average, level in itertools.product(reversed(AVERAGES), LEVELS):
             shares = self.series.shares[level, average]
-            lines = add(panel, "g", class_=f"series {level} {average}")
+            lines = add(panel, "g", class_=f"series {level} {average}{self.look}")
             for places in self.unbroken() if shares else ():
                 points = ((self.axis.x(self.series.moments[it]), frame.bottom - shares[it] * frame.scale) for it in places)
                 add_line(lines, thinned(points))
-        self.draw_events(panel, frame.bottom + 5)
 
     def unbroken(self) -> Iterator[list[int]]:
         """The places of the reports, cut where the group wasn't there for two pixels or more."""
@@ -119,16 +108,55 @@ class PressurePanel(Panel):
         if run:
             yield run
 
+
+class PressurePanel(Panel):
+    """The averages of a group's reports on a resource, and below them a tick for each event of its triggers. Beside a replay's
+    own there may be those of what was recorded."""
+
+    of_what = "share of time"
+
+    def __init__(
+        self, name: str, axis: TimeAxis, thresholds: list[Threshold], replays: list[Replay], path: str, resource: str
+    ) -> None:
+        super().__init__(name, axis, thresholds)
+        self.kind = resource
+        found = [replay.series.get((path, resource), Series()) for replay in replays]
+        self.curves = [Curves(series, axis, look) for series, look in zip(found, ("", " was"))]
+        # By replay and by level, the moments of the shown events.
+        self.events = [
+            [list(filter(axis.holds, replay.events.get((path, resource, level), []))) for level in LEVELS] for replay in replays
+        ]
+
+    def most(self) -> int:
+        return max(LEAST_SHARE, *(it.most() for it in self.curves), *(it.level for it in self.thresholds))
+
+    def step(self, most: int) -> int:
+        return share_step(most)
+
+    def number(self, value: int, step: int) -> str:
+        return f"{decimal(value / 100)} %"
+
+    def draw_inside(self, panel: Element, frame: Frame) -> None:
+        for curves in self.curves:
+            curves.draw(panel, frame)
+        self.draw_events(panel, frame.bottom + 5)
+
     def draw_events(self, panel: Element, top: float) -> None:
-        count = 0
-        for row, level in enumerate(LEVELS):
-            moments = [moment for moment in self.events[level] if self.axis.holds(moment)]
-            count += len(moments)
+        for row, (level, moments) in enumerate(zip(LEVELS, self.events[0])):
             columns = itertools.groupby(map(self.axis.x, moments), key=int)
             ticks = "".join(f"M{decimal(next(column))} {decimal(top + 7 * row)}v6" for _, column in columns)
             if ticks:
                 add(panel, "path", class_=f"tick {level}", d=ticks)
-        add(panel, "text", counted(count, "event"), class_="small", x=LEFT - 7, y=top + 10, text_anchor="end")
+        add(panel, "text", self.counts(), class_="small", x=LEFT - 7, y=top + 10, text_anchor="end")
+
+    def counts(self) -> str:
+        """How many events are shown, and how many were, where it was another number."""
+        count, *was = (sum(map(len, events)) for events in self.events)
+        text = counted(count, "event")
+        if was in ([], [count]):
+            return text
+        both = f"{text}, was {was[0]}"
+        return both if len(both) <= COUNT_ROOM else f"{count}, was {was[0]}"
 
 
 class MemoryPanel(Panel):

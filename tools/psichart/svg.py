@@ -60,6 +60,14 @@ text { fill: #e6e6e6; }
 }
 """
 
+# Where two replays are drawn, what was is thin, and what would have been is thick.
+STYLE_BESIDE = """.series.some { stroke-width: 2.5; }
+.series.full { stroke-width: 4.5; }
+.series.some.was { stroke-width: 1; }
+.series.full.was { stroke-width: 1.5; }
+.supposed { fill: #888; fill-opacity: 0.14; }
+"""
+
 
 def decimal(value: float) -> str:
     """At most two decimals, and no zeros behind the last."""
