@@ -117,7 +117,7 @@ impl Reading {
         &self.groups
     }
 
-    /// The live group at a place, of which there are as many as groups.
+    /// The live group at a place, from 0 on.
     pub fn group(&self, place: u32) -> &GroupReading
         requires { place < length self.now.seen.groups }
         ensures group { result.now ≡ group_at self.now.seen.groups place }

@@ -88,8 +88,8 @@ fn descend(scope: &Scope<'_>, reading: &Reading, past: &Past, chosen: GroupReadi
 
 /// The group that an action kills at a reading, after those for which the past stands, if it has a victim: the choice among
 /// the populated groups that its patterns match, which its table tells, and for a recursive action again and again among the children of the one
-/// that was chosen. It takes no memory. A choice by a measure walks the groups once; one by size or growth up to four times, and
-/// as `grown_most` says. A recursive action chooses once for each level.
+/// that was chosen. It takes no memory. A choice by a measure walks the groups of its scope once; one by size or growth up to four times,
+/// and as `grown_most` says. A recursive action chooses once for each level, and there among the children alone.
 pub fn victim(
     action: &Action,
     table: &MatchTable,

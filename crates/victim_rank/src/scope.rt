@@ -114,8 +114,8 @@ impl<'a> Scope<'a> {
         self.lives
     }
 
-    /// The places of groups of a reading, in order: of the children if it is made among these, else of all. No other
-    /// group is one of the scope.
+    /// The places of the groups of a reading among which those of the scope are found, in order: of the children of the
+    /// group above, or else of all.
     pub(crate) fn places<'r>(&self, reading: &'r Reading) -> &'r [u32]
         requires { reading.now.lives ≡ self.now.lives }
         ensures groups { filter (is_in_view self.now)
@@ -125,6 +125,7 @@ impl<'a> Scope<'a> {
         ensures few { length result.now ≤ most_groups }
         ensures read { IsReading reading.now.lives reading.now.seen }
     {
+        // The slot above is that of a group; for any other all groups would do.
         match self.above {
             Some(above) if (above.0 as usize) < self.lives.len() => reading.below(above),
             _ => reading.places(),
