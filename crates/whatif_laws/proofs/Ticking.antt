@@ -1,6 +1,6 @@
 -- Up to the moment of a kill each tick prints the same without the tasks of its victim.
 use Rattle.std.proofs.Common.{◌≡◌, ℕ, zero, suc, ◌+◌, ◌*◌, ◌-◌, ◌/◌, ◌≤◌, ◌<◌, List, [], ◌∷◌, ◌++◌, refl, ap, ◌∙◌, sym, subst, arith, cond, Bool, true, false, length, map}
-use Rattle.std.specs.Prelude.{if◌then◌else◌}
+use Rattle.std.specs.Prelude.{if◌then◌else◌, take}
 use Rattle.std.specs.List.{flat_map, range_with_len}
 use Rattle.std.proofs.Math.Nat.{mul-le-mul_right}
 use Rattle.psi_base.specs.declared.event.Event.{Event}
@@ -10,6 +10,7 @@ use Rattle.psi_spec.specs.Stall.{irq_time, stall}
 use Rattle.psi_spec.specs.Told.{triggers_of}
 use Rattle.psi_spec.specs.Trace.{IsAccepted, Trace}
 use Rattle.psi_spec.specs.World.{Limits, after, up_to}
+use Rattle.pressure_spec.specs.Share.{irq_quantity}
 use Rattle.pressure_spec.specs.Ticks.{Tick, is_evaluation, is_report, tick_moment, tick_of, ticks_of, times_with}
 use Rattle.pressure_spec.specs.Samples.{fired_at, group_averages, totals_after}
 use Rattle.ruleset_json.specs.declared.types.Rule.{Rule}
@@ -71,7 +72,7 @@ abbrev reading_by : ℕ → List Event → List GroupLife → List Tick → ℕ 
 reading_by cpus front groups ticks at = record {
   at = at;
   host = host_of front;
-  groups = map (λ (group : List ℕ × ℕ). group_seen front (group_averages cpus groups ticks group.1).averages group.1) (live_groups (after front).groups);
+  groups = map (λ (group : List ℕ × ℕ). group_seen front (take irq_quantity (group_averages cpus groups ticks group.1).averages) group.1) (live_groups (after front).groups);
 }
 
 same_reading : (cpus : ℕ) (events other : List Event) (at length i : ℕ) → IsSame events other at → tick_moment length i ≤ at → reading_at cpus other length i ≡ reading_at cpus events length i
