@@ -19,6 +19,12 @@ abbrev pub front_length : ℕ → List Event → ℕ
 front_length at [] = 0
 front_length at (event ∷ events) = if nat_le event.at at then front_length at events + 1 else 0
 
+-- an act tells of a group's memory, or sets a trigger on it
+abbrev pub tells_of_group : Act → Bool
+tells_of_group (act.Mem path current swap scan) = true
+tells_of_group (act.Trigger path res level threshold_us window_us) = true
+tells_of_group what = false
+
 -- ---- who runs
 
 -- the number of the task that runs on a processor, if one does

@@ -1,88 +1,101 @@
-//! Events once more, as they are kept.
-ghost use Rattle.std.specs.Prelude.{◌≡◌, ◌++◌, ◌∷◌, [], IfOk, OnOk};
+//! Events once more, and how they are kept.
+ghost use Rattle.std.specs.Prelude.{◌≡◌, ◌++◌, ◌∷◌, [], IfOk, OnOk, true};
 ghost use Rattle.whatif_spec.specs.Without.{acts_if};
 ghost use Rattle.psi_spec.specs.World.{events_at};
-ghost use Rattle.whatif_trace.specs.Left.{Adds};
+ghost use Rattle.whatif_trace.specs.Left.{Adds, tells_of_group};
 
 use psi_base::{Act, Event, NoMemory, Ns};
 use std::alloc::Global;
 
-/// The same act.
-fn copy_act(alloc: Global, act: &Act) -> Result<Act, NoMemory>
+// The same act, which tells of a group's memory or sets a trigger.
+fn copy_told(alloc: Global, act: &Act) -> Result<Act, NoMemory>
+    requires { tells_of_group act.now ≡ true }
     ensures { IfOk result (λ copy. copy ≡ act.now) }
 {
-    let copy = match act {
-        Act::Group { path } => Act::Group {
-            path: path.copy(alloc)?,
-        },
-        Act::Remove { path } => Act::Remove {
-            path: path.copy(alloc)?,
-        },
-        Act::Prefer { path, preference } => Act::Prefer {
-            path: path.copy(alloc)?,
-            preference: *preference,
-        },
-        Act::Fork { pid, path, cpu } => Act::Fork {
-            pid: *pid,
-            path: path.copy(alloc)?,
-            cpu: *cpu,
-        },
-        Act::Wake { pid, cpu } => Act::Wake {
-            pid: *pid,
-            cpu: *cpu,
-        },
-        Act::Switch { cpu, next, how } => Act::Switch {
-            cpu: *cpu,
-            next: *next,
-            how: *how,
-        },
-        Act::Stall { pid } => Act::Stall { pid: *pid },
-        Act::Unstall { pid } => Act::Unstall { pid: *pid },
-        Act::Migrate { pid, cpu } => Act::Migrate {
-            pid: *pid,
-            cpu: *cpu,
-        },
-        Act::Move { pid, path } => Act::Move {
-            pid: *pid,
-            path: path.copy(alloc)?,
-        },
+    Ok(match *act {
         Act::Mem {
-            path,
+            ref path,
             current,
             swap,
             scan,
         } => Act::Mem {
             path: path.copy(alloc)?,
-            current: *current,
-            swap: *swap,
-            scan: *scan,
-        },
-        Act::Host {
-            mem_total,
-            swap_total,
-            swap_free,
-        } => Act::Host {
-            mem_total: *mem_total,
-            swap_total: *swap_total,
-            swap_free: *swap_free,
+            current,
+            swap,
+            scan,
         },
         Act::Trigger {
-            path,
+            ref path,
             res,
             level,
             threshold_us,
             window_us,
         } => Act::Trigger {
             path: path.copy(alloc)?,
-            res: *res,
-            level: *level,
-            threshold_us: *threshold_us,
-            window_us: *window_us,
+            res,
+            level,
+            threshold_us,
+            window_us,
         },
-        Act::Irq { cpu, ns } => Act::Irq { cpu: *cpu, ns: *ns },
+        _ => unreachable!(),
+    })
+}
+
+// The same act.
+fn copy_act(alloc: Global, act: &Act) -> Result<Act, NoMemory>
+    ensures { IfOk result (λ copy. copy ≡ act.now) }
+{
+    Ok(match *act {
+        Act::Group { ref path } => Act::Group {
+            path: path.copy(alloc)?,
+        },
+        Act::Remove { ref path } => Act::Remove {
+            path: path.copy(alloc)?,
+        },
+        Act::Prefer {
+            ref path,
+            preference,
+        } => Act::Prefer {
+            path: path.copy(alloc)?,
+            preference,
+        },
+        Act::Fork { pid, ref path, cpu } => Act::Fork {
+            pid,
+            path: path.copy(alloc)?,
+            cpu,
+        },
+        Act::Move { pid, ref path } => Act::Move {
+            pid,
+            path: path.copy(alloc)?,
+        },
+        Act::Mem { .. } | Act::Trigger { .. } => copy_told(alloc, act)?,
+        Act::Host {
+            mem_total,
+            swap_total,
+            swap_free,
+        } => Act::Host {
+            mem_total,
+            swap_total,
+            swap_free,
+        },
+        Act::Wake { pid, cpu } => Act::Wake { pid, cpu },
+        Act::Switch { cpu, next, how } => Act::Switch { cpu, next, how },
+        Act::Stall { pid } => Act::Stall { pid },
+        Act::Unstall { pid } => Act::Unstall { pid },
+        Act::Migrate { pid, cpu } => Act::Migrate { pid, cpu },
+        Act::Irq { cpu, ns } => Act::Irq { cpu, ns },
         Act::End => Act::End,
-    };
-    Ok(copy)
+    })
+}
+
+/// The same event, in memory of its own.
+pub fn copy_event(alloc: Global, event: &Event) -> Result<Event, NoMemory>
+    ensures { IfOk result (λ copy. copy ≡ event.now) }
+{
+    Ok(Event {
+        at: event.at,
+        act: copy_act(alloc, &event.act)?,
+    })
 }
 
 /// Keeps one event more.
@@ -106,8 +119,8 @@ pub(crate) fn keep_if(kept: &mut Vec<Event>, test: bool, at: Ns, act: Act) -> Re
 pub(crate) fn keep_copy(alloc: Global, kept: &mut Vec<Event>, event: &Event) -> Result<(), NoMemory>
     ensures { Adds kept.old.items kept.new.items result (event.now ∷ []) }
 {
-    let act = copy_act(alloc, &event.act)?;
-    keep(kept, event.at, act)
+    kept.push(copy_event(alloc, event)?)?;
+    Ok(())
 }
 
 /// Keeps events as they are.

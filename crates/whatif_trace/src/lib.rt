@@ -1,4 +1,4 @@
-//! Traces without the tasks of a group that is killed, and laws of what is left. No command uses it yet.
+//! Traces without the tasks of a group that is killed, and laws of what is left.
 //!
 //! In `specs/`: `Rest` (how the worlds of both traces stand beside each other), `Left` (what is left, by who runs on each
 //! processor), `Bounded` and `Laws`.
@@ -12,5 +12,6 @@ mod removal;
 mod rest;
 mod runners;
 
+pub use copies::copy_event;
 pub use laws::{law_without, law_worlds_without};
 pub use removal::{TooLarge, without};
