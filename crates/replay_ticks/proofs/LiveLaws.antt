@@ -28,7 +28,7 @@ use Rattle.clock_row.specs.declared.reader.Sample.{Sample}
 use Rattle.replay_workers.specs.Crew.{AreAt, AreSampled, CrewView, IsSampled, WatchView, clocks_at, counts_sampled, watch_at}
 use Rattle.replay_rules.specs.Planned.{IsPlanned}
 use Rattle.replay_ticks.specs.declared.pacing.Pacing.{Pacing}
-use Rattle.replay_ticks.specs.Replays.{AreIdle, AreInTime, GoesByTick, IsLiveTick, IsPaced, IsReached, IsWatching, asked_by, watched_path, handed, samples_text, watched_at, watches_text}
+use Rattle.replay_ticks.specs.Replays.{AreIdle, AreInTime, GoesByTick, IsLiveTick, IsPaced, IsReached, IsSlotAt, IsWatching, asked_by, watched_path, handed, samples_text, watched_at, watches_text}
 
 -- ---- numbers that never fall
 
@@ -244,9 +244,9 @@ idle_in_time watches at cpus idle = λ cpu below. no_samples (watch_at watches c
 -- ---- the tick
 
 -- a crew that went on with nothing watched reached the tick
-pub reached_unwatched : (old new : CrewView) (trace : Trace) (pace : Pace) (i : ℕ) → pace.watch ≡ None → AreIdle new.watches → new.asked ≡ old.asked → IsReached old new trace pace i
-reached_unwatched old new trace pace i none idle asked = record {
-  live = record {
+pub reached_unwatched : (slot : Option Slot) (old new : CrewView) (trace : Trace) (pace : Pace) (i : ℕ) → pace.watch ≡ None → AreIdle new.watches → new.asked ≡ old.asked → IsReached slot old new trace pace i
+reached_unwatched slot old new trace pace i none idle asked = record {
+  live = λ _. record {
     watched = None;
     slot = rw none refl;
     sampled = idle;
@@ -267,26 +267,29 @@ times_of : (plans : PlansView) (old new : CrewView) (trace : Trace) (pace : Pace
 times_of plans old new trace pace i at None is early sampled = idle_in_time new.watches at trace.cpus sampled
 times_of plans old new trace pace i at (Some slot) is early sampled = slot_in_time plans old new trace pace i at slot is early sampled
 
--- a crew that went to the tick with a path watched reached it
-pub reached_watched : (plans : PlansView) (old new : CrewView) (trace : Trace) (pace : Pace) (watch : Watch) (i at : ℕ) (slot : Option Slot) → pace.watch ≡ Some watch → HasReached plans old new trace pace i at → at ≤ last_moment →
-    number_of_slot slot ≡ live_slot 0 plans.lives watch.path at → GoesByTick (Some watch) 0 old trace pace.length i → old.asked ≡ watch.count → AreSampled slot old new → IsReached old new trace pace i
-reached_watched plans old new trace pace watch i at slot watches is early found by_tick asked sampled =
-    let by_lives = slot_by_lives (limits_of pace.length trace.cpus) trace.events is.planned.accepted.legal watch.path at in
-    let here : number_of_slot slot ≡ live_slot_at trace.events watch.path (tick_moment pace.length (i + 1)) =
-    found ∙ ap (λ lives. live_slot 0 lives watch.path at) is.planned.stand.lives ∙ sym by_lives ∙ ap (live_slot_at trace.events watch.path) is.at_is in
+-- a crew that took samples of the slot that is watched at a tick has those of the tick
+live_tick : (plans : PlansView) (old new : CrewView) (trace : Trace) (pace : Pace) (watch : Watch) (i at : ℕ) (slot : Option Slot) → pace.watch ≡ Some watch → HasReached plans old new trace pace i at → at ≤ last_moment →
+    GoesByTick (Some watch) 0 old trace pace.length i → old.asked ≡ watch.count → AreSampled slot old new → IsSlotAt slot trace pace (i + 1) → IsLiveTick old new trace pace (i + 1)
+live_tick plans old new trace pace watch i at slot watches is early by_tick asked sampled found =
+    let here : number_of_slot slot ≡ live_slot_at trace.events watch.path (tick_moment pace.length (i + 1)) = found ∙ ap (λ w. watched_at trace (watched_path w) (tick_moment pace.length (i + 1))) watches in
     let lines = subst (λ s. IsLiveOf trace pace.length (i + 1) watch.count s (watches_text (tick_moment pace.length (i + 1)) trace.cpus new.watches)) here (lines_of plans old new trace pace watch i at slot is by_tick asked sampled) in
     record {
-      live = record {
-        watched = slot;
-        slot = here ∙ ap (λ w. watched_at trace (watched_path w) (tick_moment pace.length (i + 1))) (sym watches);
-        sampled = sampled;
-        text = subst (λ w. IsLiveText trace pace.length w (i + 1) (watches_text (tick_moment pace.length (i + 1)) trace.cpus new.watches)) (sym watches) lines;
-        in_time = subst (AreInTime trace.cpus new.watches) is.at_is (times_of plans old new trace pace i at slot is early sampled);
-      };
-      asked = is.asked;
-      by_tick = subst (λ w. GoesByTick w 1 new trace pace.length (i + 1)) (sym watches)
-          (ap length is.ready, λ cpu below. made_now plans old new trace pace i at cpu is below);
+      watched = slot;
+      slot = found;
+      sampled = sampled;
+      text = subst (λ w. IsLiveText trace pace.length w (i + 1) (watches_text (tick_moment pace.length (i + 1)) trace.cpus new.watches)) (sym watches) lines;
+      in_time = subst (AreInTime trace.cpus new.watches) is.at_is (times_of plans old new trace pace i at slot is early sampled);
     }
+
+-- a crew that went to the tick with a path watched reached it
+pub reached_watched : (plans : PlansView) (old new : CrewView) (trace : Trace) (pace : Pace) (watch : Watch) (i at : ℕ) (slot : Option Slot) → pace.watch ≡ Some watch → HasReached plans old new trace pace i at → at ≤ last_moment →
+    GoesByTick (Some watch) 0 old trace pace.length i → old.asked ≡ watch.count → AreSampled slot old new → IsReached slot old new trace pace i
+reached_watched plans old new trace pace watch i at slot watches is early by_tick asked sampled = record {
+  live = live_tick plans old new trace pace watch i at slot watches is early by_tick asked sampled;
+  asked = is.asked;
+  by_tick = subst (λ w. GoesByTick w 1 new trace pace.length (i + 1)) (sym watches)
+      (ap length is.ready, λ cpu below. made_now plans old new trace pace i at cpu is below);
+}
 
 -- ---- the table is handed out
 
@@ -308,12 +311,12 @@ by_tick_kept None crew trace tick i is = is
 by_tick_kept (Some watch) crew trace tick i is = (length-drop 1 crew.ready ∙ ap (λ n. n - 1) is.0, is.1)
 
 -- a crew that reached a tick and handed out its table took its samples
-pub live_next : (old mid new : CrewView) (trace : Trace) (pace : Pace) (i : ℕ) → IsReached old mid trace pace i → new ≡ handed mid → IsLiveTick old new trace pace (i + 1)
-live_next old mid new trace pace i is same = subst (λ (crew : CrewView). IsLiveTick old crew trace pace (i + 1)) (sym same) (live_kept old mid trace pace (i + 1) is.live)
+pub live_next : (slot : Option Slot) (old mid new : CrewView) (trace : Trace) (pace : Pace) (i : ℕ) → IsReached slot old mid trace pace i → new ≡ handed mid → IsSlotAt slot trace pace (i + 1) → IsLiveTick old new trace pace (i + 1)
+live_next slot old mid new trace pace i is same found = subst (λ (crew : CrewView). IsLiveTick old crew trace pace (i + 1)) (sym same) (live_kept old mid trace pace (i + 1) (is.live found))
 
 -- and watches on
-pub watching_next : (old mid new : CrewView) (live : Option (List ℕ)) (trace : Trace) (pace : Pace) (i : ℕ) → IsWatching old live trace pace i → IsReached old mid trace pace i → new ≡ handed mid → IsWatching new live trace pace (i + 1)
-watching_next old mid new live trace pace i was is same =
+pub watching_next : (slot : Option Slot) (old mid new : CrewView) (live : Option (List ℕ)) (trace : Trace) (pace : Pace) (i : ℕ) → IsWatching old live trace pace i → IsReached slot old mid trace pace i → new ≡ handed mid → IsWatching new live trace pace (i + 1)
+watching_next slot old mid new live trace pace i was is same =
     subst (λ (crew : CrewView). IsWatching crew live trace pace (i + 1)) (sym same)
     (record {
       path = was.path;
@@ -382,9 +385,14 @@ moment_same pacing trace pace i paced = ap (λ length. tick_moment length (i + 1
 abbrev pub AreThere : PlansView → CrewView → ℕ → Type 0
 AreThere plans crew at = AreAt plans crew.clocks at
 
-pub lives_same : (one other : PlansView) → one ≡ other → one.lives ≡ other.lives
-lives_same one other same = ap (λ (plans : PlansView). plans.lives) same
+-- the slot that was looked for is that which is watched at the next tick
+pub slot_is : (plans : PlansView) (lives : List GroupLife) (crew : CrewView) (live : Option (List ℕ)) (path : List ℕ) (trace : Trace) (pace : Pace) (i at : ℕ) (slot : Option Slot) → IsPlanned plans trace pace → IsWatching crew live trace pace i → live ≡ Some path → lives ≡ plans.lives
+    → at ≡ tick_moment pace.length (i + 1) → number_of_slot slot ≡ live_slot 0 lives path at → IsSlotAt slot trace pace (i + 1)
+slot_is plans lives crew live path trace pace i at slot planned is named same at_is found =
+    let by_lives = slot_by_lives (limits_of pace.length trace.cpus) trace.events planned.accepted.legal path at in
+    found ∙ ap (λ groups. live_slot 0 groups path at) (same ∙ planned.stand.lives) ∙ sym by_lives ∙ ap (live_slot_at trace.events path) at_is
+    ∙ ap (λ watched. watched_at trace watched (tick_moment pace.length (i + 1))) (sym named ∙ is.path)
 
--- the slot that was looked for is that of what is watched
-pub slot_found : (plans : PlansView) (lives : List GroupLife) (watch : Watch) (path : List ℕ) (at : ℕ) (slot : Option Slot) → lives ≡ plans.lives → watch.path ≡ path → number_of_slot slot ≡ live_slot 0 lives path at → number_of_slot slot ≡ live_slot 0 plans.lives watch.path at
-slot_found plans lives watch path at slot same named found = found ∙ ap (λ groups. live_slot 0 groups path at) same ∙ ap (λ bytes. live_slot 0 plans.lives bytes at) (sym named)
+-- where no path is watched there is none
+pub no_slot : (crew : CrewView) (live : Option (List ℕ)) (trace : Trace) (pace : Pace) (i : ℕ) → IsWatching crew live trace pace i → live ≡ None → IsSlotAt None trace pace (i + 1)
+no_slot crew live trace pace i is none = ap (λ watched. watched_at trace watched (tick_moment pace.length (i + 1))) (sym none ∙ is.path)

@@ -158,6 +158,13 @@ one_left replay trace pace rules i is open_ =
     let other : i ≡ tick_count trace pace → ⊥ = λ same. open_ (made ∙ same ∙ sym last) in
     grind (arith, within, other)
 
+-- where one is left, not all were made
+pub still_open : (replay : ReplayView) (trace : Trace) (pace : Pace) (rules : List Rule) (i : ℕ) → IsReplay replay trace pace rules i → i < tick_count trace pace → replay.made ≡ replay.pacing.last → ⊥
+still_open replay trace pace rules i is left all =
+    let made = is.made in
+    let last = is.paced.last in
+    omega (arith, left, all, made, last)
+
 -- its moment
 pub moment_is : (replay : ReplayView) (trace : Trace) (pace : Pace) (rules : List Rule) (i : ℕ) → IsReplay replay trace pace rules i → tick_moment replay.pacing.length (replay.made + 1) ≡ tick_moment pace.length (i + 1)
 moment_is replay trace pace rules i is =

@@ -95,6 +95,10 @@ abbrev pub watched_at : Trace → Option (List ℕ) → ℕ → Option ℕ
 watched_at trace None at = None
 watched_at trace (Some path) at = live_slot_at trace.events path at
 
+-- a slot is that which is watched at the tick with a number, if one is
+abbrev pub IsSlotAt : Option Slot → Trace → Pace → ℕ → Type 0
+IsSlotAt slot trace pace i = number_of_slot slot ≡ watched_at trace (watched_path pace.watch) (tick_moment pace.length i)
+
 -- no samples are there
 abbrev pub AreIdle : List WatchView → Type 0
 AreIdle watches = (cpu : ℕ) → (watch_at watches cpu).samples ≡ []
@@ -130,7 +134,7 @@ AreInTime cpus watches at =
 -- which the tick may have.
 pub record IsLiveTick (old new : CrewView) (trace : Trace) (pace : Pace) (i : ℕ) : Type 0 where
   pub watched : Option Slot
-  pub slot : number_of_slot watched ≡ watched_at trace (watched_path pace.watch) (tick_moment pace.length i)
+  pub slot : IsSlotAt watched trace pace i
   pub sampled : AreSampled watched old new
   pub text : IsLiveText trace pace.length pace.watch i (watches_text (tick_moment pace.length i) trace.cpus new.watches)
   pub in_time : AreInTime trace.cpus new.watches (tick_moment pace.length i)
@@ -179,10 +183,10 @@ due_text trace pace number =
 
 -- ---- the whole replay
 
--- A crew reached the tick behind the first so many: it took samples up to it, and where it goes tick by tick its table alone is
--- ready.
-pub record IsReached (old new : CrewView) (trace : Trace) (pace : Pace) (i : ℕ) : Type 0 where
-  pub live : IsLiveTick old new trace pace (i + 1)
+-- A crew reached the tick behind the first so many: where it took samples of the slot that is watched at the tick, they are those of
+-- the tick, and where it goes tick by tick the tick's table alone is ready.
+pub record IsReached (slot : Option Slot) (old new : CrewView) (trace : Trace) (pace : Pace) (i : ℕ) : Type 0 where
+  pub live : IsSlotAt slot trace pace (i + 1) → IsLiveTick old new trace pace (i + 1)
   pub asked : new.asked ≡ old.asked
   pub by_tick : GoesByTick pace.watch 1 new trace pace.length (i + 1)
 
@@ -209,6 +213,10 @@ pub record IsReplay (replay : ReplayView) (trace : Trace) (pace : Pace) (rules :
 -- a replay is one of some trace
 abbrev pub IsSomeReplay : ReplayView → Type 0
 IsSomeReplay replay = (trace : Trace) × (pace : Pace) × (rules : List Rule) × (i : ℕ) × IsReplay replay trace pace rules i
+
+-- of a replay a tick is left
+abbrev pub IsTickLeft : ReplayView → Type 0
+IsTickLeft replay = (trace : Trace) × (pace : Pace) × (rules : List Rule) × (i : ℕ) × IsReplay replay trace pace rules i × (i < tick_count trace pace)
 
 -- making the next tick: one is left, and samples were taken up to it, or nothing changes
 abbrev pub Passes : Trace → Pace → List Rule → ℕ → ReplayView → ReplayView → Bool → Type 0

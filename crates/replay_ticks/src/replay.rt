@@ -1,16 +1,11 @@
 //! A trace that is replayed tick by tick.
-ghost use Rattle.std.specs.Prelude.{◌≡◌, ◌+◌, ◌≤◌, ◌<◌, ℕ, List, IfOk};
+ghost use Rattle.std.specs.Prelude.{◌≡◌, ◌+◌, ◌≤◌, ◌<◌, ℕ, List, length, IfSome};
+ghost use Rattle.psi_base.specs.declared.event.Slot.{Slot};
 ghost use Rattle.psi_base.specs.Outside.{HasCause, PutsAll, StaysOver};
-ghost use Rattle.psi_spec.specs.Grammar.{IsVersion, version_of};
 ghost use Rattle.psi_spec.specs.Trace.{Trace};
-ghost use Rattle.run_spec.specs.Outputs.{pace_of, watch_of};
-ghost use Rattle.run_spec.specs.Words.{IsWithin};
 ghost use Rattle.run_spec.specs.Replay.{Pace, kills_in, last_line, tick_count, tick_text, with_rules};
 ghost use Rattle.ruleset_json.specs.declared.types.Rule.{Rule};
-ghost use Rattle.ruleset_json.specs.RuleRanges.{FitsRules};
-ghost use Rattle.replay_rules.specs.Judged.{given_rules};
-ghost use Rattle.replay_rules.specs.Planned.{IsPlanned};
-ghost use Rattle.replay_ticks.specs.Replays.{IsReached, IsReady, IsReplay, IsSomeReplay, IsTickSampled, IsToGo, IsToPut, IsToPutRoot, IsToSample, IsWatching, Passes, TickGives, asked_by, due_text, handed, root_report, watched_path};
+ghost use Rattle.replay_ticks.specs.Replays.{IsLiveTick, IsReached, IsReady, IsReplay, IsSlotAt, IsSomeReplay, IsTickLeft, IsTickSampled, IsToGo, IsToPut, IsToPutRoot, IsToSample, IsWatching, Passes, TickGives, due_text, handed, root_report};
 
 use crate::live::{put_live, watched_slot};
 use crate::pacing::Pacing;
@@ -18,21 +13,12 @@ use crate::reports::{put_files, put_kills, put_reports, put_signals};
 use aggregate::Rows;
 use pressure_text::write_end;
 use proc_plan::Plans;
-use psi_base::{Gate, NoMemory, Ns, Path, Sink, Slot, WriteFailed};
+use psi_base::{Gate, Ns, Path, Sink, Slot, WriteFailed};
 use replay_rules::{Judge, Kill, tick_moment};
 use replay_workers::{Crew, Ticks};
-use ruleset_json::Rules;
-use run_spec::Options;
-use std::alloc::Global;
 use std::marker::Model;
 use std::thread::Threads;
 use tick_engine::Engine;
-
-/// How many ns a millisecond has.
-const MILLISECOND: Ns = 1_000_000;
-
-/// How many ns a second has.
-const SECOND: Ns = 1_000_000_000;
 
 /// The slot of the root.
 const ROOT: Slot = Slot(0);
@@ -58,22 +44,22 @@ impl From<WriteFailed> for TickFault {
 /// A trace of which some ticks were made. Contracts see it whole.
 #[derive(Drop)]
 pub struct Replay<'a> {
-    plans: &'a Plans,
-    crew: Crew<'a>,
-    rows: Rows,
-    engine: Engine,
-    judge: Judge,
+    pub(crate) plans: &'a Plans,
+    pub(crate) crew: Crew<'a>,
+    pub(crate) rows: Rows,
+    pub(crate) engine: Engine,
+    pub(crate) judge: Judge,
     /// All slots, in the byte order of their paths.
-    order: Vec<Slot>,
-    pacing: Pacing,
+    pub(crate) order: Vec<Slot>,
+    pub(crate) pacing: Pacing,
     /// The path whose group is watched.
-    live: Option<Path>,
+    pub(crate) live: Option<Path>,
     /// How many ticks were made.
-    made: u64,
+    pub(crate) made: u64,
     /// How many signals there were.
-    signals: u64,
+    pub(crate) signals: u64,
     /// How many kills there were.
-    kills: u64,
+    pub(crate) kills: u64,
 }
 
 impl<'a> Model for Replay<'a> {
@@ -97,35 +83,34 @@ impl<'a> Model for Replay<'a> {
 }
 
 // Makes the changes up to the ticks behind the first so many, where the table of none is ready: over as many ticks at once as are
-// left and as the crew can go over, and up to the next alone where a path is watched, whose slot may be another at each.
+// left and as the crew can go over, and up to the next alone where a path is watched, whose slot may be another at each. Then
+// samples of a slot are taken beside them, if one is named.
 fn look_ahead<R: Threads + Sync, G: Gate>(
     rt: &R,
     crew: &mut Crew<'_>,
-    plans: &Plans,
     live: &Option<Path>,
+    watched: Option<Slot>,
     pacing: Pacing,
     made: u64,
     gate: &G,
 )
-    requires plans { plans.now ≡ crew.old.plans }
+    requires slot { IfSome watched (λ (slot : Slot). slot.0 < length crew.old.plans.lives) }
     requires go { (trace : Trace) × (pace : Pace)
         × IsToGo crew.old.plans crew.old pacing trace pace made
         × IsWatching crew.old live.now trace pace made }
-    ensures { (trace : Trace) (pace : Pace) →
+    ensures rows { crew.new.rows ≡ crew.old.rows }
+    ensures reached { (trace : Trace) (pace : Pace) →
         IsToGo crew.old.plans crew.old pacing trace pace made →
         IsWatching crew.old live.now trace pace made →
         IsReady crew.old.plans crew.new trace pace made
-        × IsReached crew.old crew.new trace pace made }
+        × IsReached watched crew.old crew.new trace pace made }
 {
     if crew.ready() > 0 {
         return;
     }
     let next = tick_moment(pacing.length, made + 1);
     match live {
-        Some(path) => {
-            let slot = watched_slot(plans.lives(), path, next);
-            crew.interval(rt, next, slot, gate);
-        }
+        Some(_) => crew.interval(rt, next, watched, gate),
         None => {
             let left = pacing.last - made;
             let ticks = Ticks {
@@ -227,78 +212,47 @@ fn put_root<K: Sink>(
     put_files(out, pacing.version, at, path, ROOT, totals, averages)
 }
 
-// The path that options have watched, if they name one, and how many samples they have taken of a processor in an interval.
-fn watched(alloc: Global, options: &Options) -> Result<(Option<Path>, u32), NoMemory>
-    ensures path { IfOk result (λ watched. watched.0 ≡ watched_path (watch_of options.now)) }
-    ensures asked { IfOk result (λ watched. watched.1 ≡ asked_by (watch_of options.now)) }
-{
-    match &options.live {
-        Some(path) => Ok((Some(path.copy(alloc)?), options.live_count)),
-        None => Ok((None, 0)),
-    }
-}
-
-/// A replay of the trace that the plans stand for, with rules if there are some, before its first tick: a trace of this version
-/// that is accepted at the options' length of a tick. It takes all memory that the replay needs.
-pub fn prepare<'a>(
-    alloc: Global,
-    version: u32,
-    plans: &'a Plans,
-    rules: Option<Rules>,
-    options: &Options,
-) -> Result<Replay<'a>, NoMemory>
-    requires version { IsVersion version }
-    requires planned { (trace : Trace) × IsPlanned plans.now trace (pace_of options.now) }
-    requires fit { FitsRules (given_rules rules) }
-    requires often { options.now.interval_s ≤ 3600 }
-    requires workers { IsWithin 1 64 options.now.workers }
-    ensures { IfOk result (λ replay.
-        (trace : Trace) → IsPlanned plans.now trace (pace_of options.now) →
-        version_of version ≡ trace.version → IsReplay replay trace (pace_of options.now) (given_rules rules) 0) }
-{
-    let slots = plans.groups().len() as u32;
-    let length = Ns::from(options.tick_ms) * MILLISECOND;
-    let interval = Ns::from(options.interval_s) * SECOND;
-    let last = plans.finish() / length;
-    let (live, asked) = watched(alloc, options)?;
-    // Where a path is watched the crew goes tick by tick.
-    let ahead = if live.is_some() { 1 } else { last };
-    Ok(Replay {
-        plans,
-        crew: Crew::make(alloc, plans, options.workers, ahead, asked)?,
-        rows: Rows::make(alloc, plans.cpus(), slots)?,
-        engine: Engine::make(alloc, plans.lives(), plans.triggers(), plans.cpus())?,
-        judge: Judge::make(alloc, plans, rules, length, interval)?,
-        order: plans.groups().path_order(alloc)?,
-        pacing: Pacing {
-            version,
-            length,
-            report: Ns::from(options.report_s) * SECOND,
-            last,
-        },
-        live,
-        made: 0,
-        signals: 0,
-        kills: 0,
-    })
-}
-
 impl<'a> Replay<'a> {
-    /// Makes the next tick, and writes nothing. False exactly where no tick is left; then nothing changes. Takes no memory.
-    pub fn pass<R: Threads + Sync, G: Gate>(&mut self, rt: &R, gate: &G) -> bool
-        requires { IsSomeReplay self.old }
-        ensures { (trace : Trace) (pace : Pace) (rules : List Rule) (i : ℕ) →
-            IsReplay self.old trace pace rules i →
-            Passes trace pace rules i self.old self.new result }
+    /// The slot that the watched path has at the next tick, if a tick is left, and the path is live then.
+    pub fn next_slot(&self) -> Option<Slot>
+        requires { IsSomeReplay self.now }
+        ensures slot { (trace : Trace) (pace : Pace) (rules : List Rule) (i : ℕ) →
+            IsReplay self.now trace pace rules i → i < tick_count trace pace →
+            IsSlotAt result trace pace (i + 1) }
+        ensures made { IfSome result (λ (slot : Slot). slot.0 < length self.now.plans.lives) }
     {
         if self.made == self.pacing.last {
-            return false;
+            return None;
         }
+        let next = tick_moment(self.pacing.length, self.made + 1);
+        match &self.live {
+            Some(path) => watched_slot(self.plans.lives(), path, next),
+            None => None,
+        }
+    }
+
+    // Makes the next tick: one is left. Samples of a slot are taken up to it, if one is named.
+    pub(crate) fn advance<R: Threads + Sync, G: Gate>(
+        &mut self,
+        rt: &R,
+        watched: Option<Slot>,
+        gate: &G,
+    )
+        requires slot { IfSome watched (λ (slot : Slot). slot.0 < length self.old.plans.lives) }
+        requires left { IsTickLeft self.old }
+        ensures plans { self.new.plans ≡ self.old.plans }
+        ensures rows { self.new.crew.rows ≡ self.old.crew.rows }
+        ensures made { (trace : Trace) (pace : Pace) (rules : List Rule) (i : ℕ) →
+            IsReplay self.old trace pace rules i → i < tick_count trace pace →
+            IsReplay self.new trace pace rules (i + 1)
+            × (IsSlotAt watched trace pace (i + 1) →
+            IsLiveTick self.old.crew self.new.crew trace pace (i + 1)) }
+    {
         look_ahead(
             rt,
             &mut self.crew,
-            self.plans,
             &self.live,
+            watched,
             self.pacing,
             self.made,
             gate,
@@ -310,6 +264,20 @@ impl<'a> Replay<'a> {
         self.judge
             .tick(self.plans, &self.engine, &self.order, self.made);
         self.kills += self.judge.kills().len() as u64;
+    }
+
+    /// Makes the next tick, and writes nothing. False exactly where no tick is left; then nothing changes. Takes no memory.
+    pub fn pass<R: Threads + Sync, G: Gate>(&mut self, rt: &R, gate: &G) -> bool
+        requires { IsSomeReplay self.old }
+        ensures { (trace : Trace) (pace : Pace) (rules : List Rule) (i : ℕ) →
+            IsReplay self.old trace pace rules i →
+            Passes trace pace rules i self.old self.new result }
+    {
+        if self.made == self.pacing.last {
+            return false;
+        }
+        let slot = self.next_slot();
+        self.advance(rt, slot, gate);
         true
     }
 

@@ -6,12 +6,12 @@ use Rattle.replay_ticks.proofs.LiveLaws as live
 use Rattle.replay_ticks.proofs.replay.look_ahead.Goals as goal
 
 -- a table is ready
-pub returns-then-ready-gt0 : goal.returns-then-ready-gt0
-returns-then-ready-gt0 g c = λ trace pace is watching.
+pub returns-then-ready-gt0-clause-reached : goal.returns-then-ready-gt0-clause-reached
+returns-then-ready-gt0-clause-reached g c = λ trace pace is watching.
     let crew = c.args.crew.now in
     let some : 0 < length crew.ready = grind (arith, c.if-ready-gt0.true, c.ready.ensures) in
     let none = live.unwatched_ready crew c.args.live.now trace pace c.args.made some watching in
-    (record { ahead = is.ahead; some = some }, live.reached_unwatched crew crew trace pace c.args.made none (live.idle_unwatched crew c.args.live.now trace pace c.args.made none watching) refl)
+    (record { ahead = is.ahead; some = some }, live.reached_unwatched c.args.watched crew crew trace pace c.args.made none (live.idle_unwatched crew c.args.live.now trace pace c.args.made none watching) refl)
 
 pub tick_moment-next-requires : goal.tick_moment-next-requires
 tick_moment-next-requires g c = next_fits c.args.crew.now.plans c.args.crew.now c.args.pacing c.requires.go.0 c.requires.go.1 c.args.made c.requires.go.2
@@ -26,11 +26,11 @@ interval-requires-clause-behind g c =
 pub interval-requires-clause-early : goal.interval-requires-clause-early
 interval-requires-clause-early g c = λ _ _. tick_early c.args.crew.now.plans c.args.crew.now c.args.pacing c.requires.go.0 c.requires.go.1 c.args.made c.tick_moment-next.result c.requires.go.2 c.tick_moment-next.ensures
 
-pub returns-in-Some : goal.returns-in-Some
-returns-in-Some g c = λ trace pace is watching.
+pub returns-in-Some-clause-reached : goal.returns-in-Some-clause-reached
+returns-in-Some-clause-reached g c = λ trace pace is watching.
     let crew = c.args.crew.now in
     let new = c.interval.new.self in
-    let watch = live.watch_is crew c.args.live.now c.in-Some.path trace pace c.args.made c.in-Some.is watching in
+    let watch = live.watch_is crew c.args.live.now _ trace pace c.args.made c.in-Some.is watching in
     let at_is = c.tick_moment-next.ensures ∙ live.moment_same c.args.pacing trace pace c.args.made is.paced in
     let reached : live.HasReached crew.plans crew new trace pace c.args.made c.tick_moment-next.result = record {
       planned = is.planned;
@@ -42,9 +42,8 @@ returns-in-Some g c = λ trace pace is watching.
       asked = c.interval.ensures.asked;
     } in (
       tick_ready crew.plans crew new c.args.pacing trace pace c.args.made c.tick_moment-next.result is c.tick_moment-next.ensures c.interval.ensures.plans c.interval.ensures.ready c.interval.ensures.there,
-      live.reached_watched crew.plans crew new trace pace watch.0 c.args.made c.tick_moment-next.result c.watched_slot-slot.result watch.1 reached
+      live.reached_watched crew.plans crew new trace pace watch.0 c.args.made c.tick_moment-next.result c.args.watched watch.1 reached
           (tick_early crew.plans crew c.args.pacing trace pace c.args.made c.tick_moment-next.result is c.tick_moment-next.ensures)
-          (live.slot_found crew.plans c.lives.result.now watch.0 c.in-Some.path c.tick_moment-next.result c.watched_slot-slot.result (c.lives.ensures.lives ∙ live.lives_same c.args.plans.now crew.plans c.requires.plans) watch.2 c.watched_slot-slot.ensures.slot)
           (live.by_tick_is crew c.args.live.now trace pace c.args.made watch.0 watch.1 watching)
           (live.asked_is crew c.args.live.now trace pace c.args.made watch.0 watch.1 watching)
           c.interval.ensures.live,
@@ -67,13 +66,13 @@ intervals-requires-clause-early g c =
     let roomy = subst (λ n. 1 ≤ n) c.room.ensures.room c.room.ensures.some in
     λ _ _. next_early ticks crew.plans crew c.args.pacing c.requires.go.0 c.requires.go.1 c.args.made c.requires.go.2 roomy next
 
-pub returns-in-None : goal.returns-in-None
-returns-in-None g c = λ trace pace is watching.
+pub returns-in-None-clause-reached : goal.returns-in-None-clause-reached
+returns-in-None-clause-reached g c = λ trace pace is watching.
     let crew = c.args.crew.now in
     let ticks : Ticks = record { first = c.tick_moment-next.result; length = c.args.pacing.length; count = c.min.result } in
     let next : AreNext ticks crew c.args.pacing c.args.made = record { first = c.tick_moment-next.ensures; length = refl; count = c.min.ensures ∙ ap (min (c.args.pacing.last - c.args.made)) (c.from.ensures ∙ c.room.ensures.room) } in
     let roomy = subst (λ n. 1 ≤ n) c.room.ensures.room c.room.ensures.some in
     let none = live.watch_none crew c.args.live.now trace pace c.args.made c.in-None.is watching in (
       next_ready ticks crew.plans crew c.intervals.new.self c.args.pacing trace pace c.args.made is roomy next c.intervals.ensures.plans c.intervals.ensures.ready c.intervals.ensures.there,
-      live.reached_unwatched crew c.intervals.new.self trace pace c.args.made none c.intervals.ensures.live c.intervals.ensures.asked,
+      live.reached_unwatched c.args.watched crew c.intervals.new.self trace pace c.args.made none c.intervals.ensures.live c.intervals.ensures.asked,
     )

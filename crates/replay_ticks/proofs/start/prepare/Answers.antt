@@ -9,7 +9,7 @@ use Rattle.replay_rules.specs.Judged.{IsToBegin, given_rules}
 use Rattle.proc_plan.specs.Plans.{PlansView}
 use Rattle.replay_ticks.proofs.LiveLaws.{watching_new}
 use Rattle.replay_ticks.proofs.StartLaws.{lives_within, replay_new, triggers_within}
-use Rattle.replay_ticks.proofs.replay.prepare.Goals as goal
+use Rattle.replay_ticks.proofs.start.prepare.Goals as goal
 
 pub make-requires-3-clause-lives : goal.make-requires-3-clause-lives
 make-requires-3-clause-lives c = rw c.lives.ensures.lives (lives_within c.args.plans.now c.requires.planned.0 (pace_of c.args.options.now) c.requires.planned.1)
@@ -17,8 +17,8 @@ make-requires-3-clause-lives c = rw c.lives.ensures.lives (lives_within c.args.p
 pub make-requires-3-clause-triggers : goal.make-requires-3-clause-triggers
 make-requires-3-clause-triggers c = rw (c.lives.ensures.lives, c.triggers.ensures) (triggers_within c.args.plans.now c.requires.planned.0 (pace_of c.args.options.now) c.requires.planned.1)
 
-pub returns : goal.returns
-returns c = λ trace planned version.
+pub returns-clause-replay : goal.returns-clause-replay
+returns-clause-replay c = λ trace planned version.
     let plans = c.args.plans.now in
     let engine : StandsFor c.in_ok-make-3.field-0 (length plans.plans) plans.lives plans.triggers [] = rw (← c.cpus-2.ensures.cpus, ← c.lives.ensures.lives, ← c.triggers.ensures) c.in_ok-make-3.ensures in
     let slots : c.len-slots.result ≡ length plans.lives = c.len-slots.ensures.len ∙ ap length c.groups.ensures.lives in

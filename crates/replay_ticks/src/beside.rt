@@ -1,0 +1,101 @@
+//! What those ask of a replay between its ticks who take samples of their own beside it: how far it is, and its clocks.
+ghost use Rattle.std.specs.Prelude.{◌≡◌, ◌+◌, ◌<◌, ◌≤◌, ℕ, List, length, IfOk, Some, is_some, true};
+ghost use Rattle.psi_spec.specs.Trace.{Trace};
+ghost use Rattle.plan_laws.specs.Plan.{IsClock};
+ghost use Rattle.run_spec.specs.Replay.{Pace, tick_count};
+ghost use Rattle.ruleset_json.specs.declared.types.Rule.{Rule};
+ghost use Rattle.proc_plan.specs.Plans.{plan_at};
+ghost use Rattle.clock_row.specs.Steps.{count_shown, new_reader};
+ghost use Rattle.replay_workers.specs.Crew.{clocks_at, row_at};
+ghost use Rattle.replay_ticks.specs.Replays.{IsReplay, IsSomeReplay, IsTickLeft};
+
+use crate::replay::Replay;
+use psi_base::{Cpu, Gate, NoMemory, Slot};
+use replay_workers::{ClockReader, Sample};
+use std::thread::Threads;
+
+impl<'a> Replay<'a> {
+    /// How many ticks the trace has.
+    pub fn ticks(&self) -> u64
+        ensures { (trace : Trace) (pace : Pace) (rules : List Rule) (i : ℕ) →
+            IsReplay self.now trace pace rules i → result ≡ tick_count trace pace }
+    {
+        self.pacing.last
+    }
+
+    /// How many signals there were at the ticks that were made.
+    pub fn signals(&self) -> u64
+        ensures { result ≡ self.now.signals }
+    {
+        self.signals
+    }
+
+    /// Makes the next tick, where one is left, and takes no sample, also where a path is watched. Takes no memory.
+    pub fn pass_unwatched<R: Threads + Sync, G: Gate>(&mut self, rt: &R, gate: &G)
+        requires { IsTickLeft self.old }
+        ensures passed { (trace : Trace) (pace : Pace) (rules : List Rule) (i : ℕ) →
+            IsReplay self.old trace pace rules i → i < tick_count trace pace →
+            IsReplay self.new trace pace rules (i + 1) }
+        ensures plans { self.new.plans ≡ self.old.plans }
+        ensures rows { self.new.crew.rows ≡ self.old.crew.rows }
+    {
+        self.advance(rt, None, gate);
+    }
+
+    /// A reader of a processor's row, where its clocks are in one. It has seen the changes that were made.
+    pub fn reader(&mut self, cpu: Cpu) -> Result<ClockReader, NoMemory>
+        requires replay { IsSomeReplay self.old }
+        requires cpu { cpu.0 < length self.old.plans.plans }
+        requires in_row { is_some (row_at self.old.crew.rows cpu.0) ≡ true }
+        ensures same { self.new ≡ self.old }
+        ensures row { IfOk result (λ reader. Some reader.row ≡ row_at self.old.crew.rows cpu.0) }
+        ensures seen { IfOk result (λ reader. reader.knows ≡ new_reader
+            (plan_at self.old.plans cpu.0) (clocks_at self.old.crew.clocks cpu.0).made) }
+    {
+        self.crew.reader(cpu)
+    }
+
+    /// Tells a reader of a processor's row how many changes were made: it has then seen at least so many, and no fewer than
+    /// before. Takes no memory.
+    pub fn meet(&mut self, cpu: Cpu, reader: &mut ClockReader)
+        requires replay { IsSomeReplay self.old }
+        requires cpu { cpu.0 < length self.old.plans.plans }
+        requires own { Some reader.old.row ≡ row_at self.old.crew.rows cpu.0 }
+        ensures same { self.new ≡ self.old }
+        ensures row { reader.new.row ≡ reader.old.row }
+        ensures met { reader.new.knows
+            ≡ count_shown (clocks_at self.old.crew.clocks cpu.0).made reader.old.knows }
+    {
+        // It is always Ok.
+        let _met = self.crew.meet(cpu, reader);
+    }
+
+    /// Learns from a reader of a processor's row what it has seen: at most as many changes as were made. Takes no memory.
+    pub fn settle(&mut self, cpu: Cpu, reader: &mut ClockReader)
+        requires replay { IsSomeReplay self.old }
+        requires cpu { cpu.0 < length self.old.plans.plans }
+        requires own { Some reader.old.row ≡ row_at self.old.crew.rows cpu.0 }
+        ensures replay { self.new ≡ self.old }
+        ensures same { reader.new ≡ reader.old }
+        ensures seen { reader.old.knows.seen ≤ (clocks_at self.old.crew.clocks cpu.0).made }
+    {
+        // It is always Ok.
+        let _settled = self.crew.settle(cpu, reader);
+    }
+
+    /// The clock of a slot on a processor that the replay itself has, after the changes that were made.
+    pub fn last(&mut self, cpu: Cpu, slot: Slot) -> Sample
+        requires replay { IsSomeReplay self.old }
+        requires cpu { cpu.0 < length self.old.plans.plans }
+        requires slot { slot.0 < length self.old.plans.lives }
+        ensures same { self.new ≡ self.old }
+        ensures count { result.count ≡ (clocks_at self.old.crew.clocks cpu.0).made }
+        ensures clock { IsClock result.clock (plan_at self.old.plans cpu.0) slot.0
+            result.count }
+    {
+        Sample {
+            count: self.crew.count(cpu),
+            clock: self.crew.own(cpu, slot),
+        }
+    }
+}

@@ -1,0 +1,89 @@
+//! A trace before its first tick.
+ghost use Rattle.std.specs.Prelude.{◌≡◌, ◌<◌, ◌≤◌, IfOk};
+ghost use Rattle.psi_spec.specs.Grammar.{IsVersion, version_of};
+ghost use Rattle.psi_spec.specs.Trace.{Trace};
+ghost use Rattle.run_spec.specs.Outputs.{pace_of, watch_of};
+ghost use Rattle.run_spec.specs.Words.{IsWithin};
+ghost use Rattle.ruleset_json.specs.RuleRanges.{FitsRules};
+ghost use Rattle.replay_rules.specs.Judged.{given_rules};
+ghost use Rattle.replay_rules.specs.Planned.{IsPlanned};
+ghost use Rattle.replay_workers.specs.Crew.{AreInRows};
+ghost use Rattle.replay_ticks.specs.Replays.{IsReplay, asked_by, watched_path};
+
+use crate::pacing::Pacing;
+use crate::replay::Replay;
+use aggregate::Rows;
+use proc_plan::Plans;
+use psi_base::{NoMemory, Ns, Path};
+use replay_rules::Judge;
+use replay_workers::Crew;
+use ruleset_json::Rules;
+use run_spec::Options;
+use std::alloc::Global;
+use tick_engine::Engine;
+
+/// How many ns a millisecond has.
+const MILLISECOND: Ns = 1_000_000;
+
+/// How many ns a second has.
+const SECOND: Ns = 1_000_000_000;
+
+// The path that options have watched, if they name one, and how many samples they have taken of a processor in an interval.
+fn watched(alloc: Global, options: &Options) -> Result<(Option<Path>, u32), NoMemory>
+    ensures path { IfOk result (λ watched. watched.0 ≡ watched_path (watch_of options.now)) }
+    ensures asked { IfOk result (λ watched. watched.1 ≡ asked_by (watch_of options.now)) }
+{
+    match &options.live {
+        Some(path) => Ok((Some(path.copy(alloc)?), options.live_count)),
+        None => Ok((None, 0)),
+    }
+}
+
+/// A replay of the trace that the plans stand for, with rules if there are some, before its first tick: a trace of this version
+/// that is accepted at the options' length of a tick. It takes all memory that the replay needs.
+pub fn prepare<'a>(
+    alloc: Global,
+    version: u32,
+    plans: &'a Plans,
+    rules: Option<Rules>,
+    options: &Options,
+) -> Result<Replay<'a>, NoMemory>
+    requires version { IsVersion version }
+    requires planned { (trace : Trace) × IsPlanned plans.now trace (pace_of options.now) }
+    requires fit { FitsRules (given_rules rules) }
+    requires often { options.now.interval_s ≤ 3600 }
+    requires workers { IsWithin 1 64 options.now.workers }
+    ensures replay { IfOk result (λ replay.
+        (trace : Trace) → IsPlanned plans.now trace (pace_of options.now) →
+        version_of version ≡ trace.version →
+        IsReplay replay trace (pace_of options.now) (given_rules rules) 0) }
+    ensures plans { IfOk result (λ replay. replay.plans ≡ plans.now) }
+    ensures rows { 0 < asked_by (watch_of options.now) →
+        IfOk result (λ replay. AreInRows replay.plans replay.crew.rows) }
+{
+    let slots = plans.groups().len() as u32;
+    let length = Ns::from(options.tick_ms) * MILLISECOND;
+    let interval = Ns::from(options.interval_s) * SECOND;
+    let last = plans.finish() / length;
+    let (live, asked) = watched(alloc, options)?;
+    // Where a path is watched the crew goes tick by tick.
+    let ahead = if live.is_some() { 1 } else { last };
+    Ok(Replay {
+        plans,
+        crew: Crew::make(alloc, plans, options.workers, ahead, asked)?,
+        rows: Rows::make(alloc, plans.cpus(), slots)?,
+        engine: Engine::make(alloc, plans.lives(), plans.triggers(), plans.cpus())?,
+        judge: Judge::make(alloc, plans, rules, length, interval)?,
+        order: plans.groups().path_order(alloc)?,
+        pacing: Pacing {
+            version,
+            length,
+            report: Ns::from(options.report_s) * SECOND,
+            last,
+        },
+        live,
+        made: 0,
+        signals: 0,
+        kills: 0,
+    })
+}
