@@ -5,7 +5,7 @@ use Rattle.std.specs.Borrow.{Bor}
 use Rattle.psi_base.specs.declared.event.Fault.{Fault}
 use Rattle.psi_base.specs.declared.event.Fault.TheVariants.{Refused, NoMemory}
 use Rattle.run_spec.specs.declared.command.Command.{Command}
-use Rattle.run_spec.specs.declared.command.Command.TheVariants.{Stall, Check, Replay, Gen, Stress, Import, Rules}
+use Rattle.run_spec.specs.declared.command.Command.TheVariants.{Stall, Check, Replay, Gen, Stress, Import, Rules, Whatif}
 
 -- the call returned what is read, or an error where nothing is
 abbrev pub Finds : {A E : Type 0} → Result A E → Option A → Type 0
@@ -31,3 +31,4 @@ HasTextNames (Gen shape) = ⊤
 HasTextNames (Stress shape workers) = ⊤
 HasTextNames (Import file cpus) = IsUtf8 file
 HasTextNames (Rules file drop_in) = IsUtf8 file × IfSome drop_in IsUtf8
+HasTextNames (Whatif trace options) = IsUtf8 trace × IfSome options.rules IsUtf8 × IfSome options.drop_in IsUtf8

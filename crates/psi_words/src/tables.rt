@@ -35,7 +35,7 @@ fn workers(given: &Parsed) -> Result<u32, BadWords>
     number_or(64, 1, 64, given.value("workers"))
 }
 
-// What the options of `replay` say.
+// What the options of `replay` and `whatif` say.
 #[tactic(auto, unfolding(run_spec::specs::Words::options_of))]
 fn options(alloc: Global, given: &Parsed) -> Result<Options, Fault<BadWords>>
     ensures exact { ReadsWord result (spec.options_of given.now) }
@@ -173,4 +173,28 @@ pub(crate) fn read_rules(alloc: Global, words: &[String]) -> Result<Command, Fau
     let file = trace(alloc, &given)?;
     let drop_in = rules(alloc, given.value("drop-in"))?;
     Ok(Command::Rules { file, drop_in })
+}
+
+/// The words behind `whatif`.
+#[tactic(auto, unfolding(run_spec::specs::Words::whatif_of))]
+pub(crate) fn read_whatif(alloc: Global, words: &[String]) -> Result<Command, Fault<BadWords>>
+    ensures exact { ReadsWord result (spec.spelled spec.whatif_form (map string_bytes words.now)) }
+    ensures texts { IfOk result HasTextNames }
+{
+    let names = [
+        "rules",
+        "drop-in",
+        "tick-ms",
+        "interval-s",
+        "report-s",
+        "workers",
+    ];
+    let given = Parsed::read(alloc, &names, words)?;
+    let trace = trace(alloc, &given)?;
+    let options = options(alloc, &given)?;
+    if options.rules.is_some() && options.live.is_none() {
+        Ok(Command::Whatif { trace, options })
+    } else {
+        Err(Fault::Refused(BadWords))
+    }
 }

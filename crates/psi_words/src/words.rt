@@ -1,10 +1,11 @@
 //! The command that words spell.
-ghost use Rattle.std.specs.Prelude.{IfOk, map, string_bytes};
+ghost use Rattle.std.specs.Prelude.{IfOk, map, string_bytes, ◌∷◌};
 ghost use Rattle.psi_words.specs.Reads.{HasTextNames, ReadsWord};
 ghost use Rattle.run_spec.specs.Words.{command_of, IsCommand};
 
 use crate::tables::{
     read_check, read_gen, read_import, read_replay, read_rules, read_stall, read_stress,
+    read_whatif,
 };
 use psi_base::Fault;
 use run_spec::Command;
@@ -25,17 +26,13 @@ impl From<BadWords> for Fault<BadWords> {
     }
 }
 
-/// The command that the words spell, the program's name not among them.
+// The command that its own word and the words behind it spell.
 #[tactic(auto, unfolding(run_spec::specs::Words::command_of))]
-pub fn read_words(alloc: Global, words: &[String]) -> Result<Command, Fault<BadWords>>
-    ensures exact { ReadsWord result (command_of (map string_bytes words.now)) }
+fn read_named(alloc: Global, first: &str, words: &[String]) -> Result<Command, Fault<BadWords>>
+    ensures exact { ReadsWord result (command_of (first.now ∷ map string_bytes words.now)) }
     ensures ranges { IfOk result IsCommand }
     ensures texts { IfOk result HasTextNames }
 {
-    let [first, words @ ..] = words else {
-        return Err(Fault::Refused(BadWords));
-    };
-    let first = first.as_str();
     if first == "stall" {
         read_stall(alloc, words)
     } else if first == "check" {
@@ -50,7 +47,22 @@ pub fn read_words(alloc: Global, words: &[String]) -> Result<Command, Fault<BadW
         read_import(alloc, words)
     } else if first == "rules" {
         read_rules(alloc, words)
+    } else if first == "whatif" {
+        read_whatif(alloc, words)
     } else {
         Err(Fault::Refused(BadWords))
     }
+}
+
+/// The command that the words spell, the program's name not among them.
+#[tactic(auto, unfolding(run_spec::specs::Words::command_of))]
+pub fn read_words(alloc: Global, words: &[String]) -> Result<Command, Fault<BadWords>>
+    ensures exact { ReadsWord result (command_of (map string_bytes words.now)) }
+    ensures ranges { IfOk result IsCommand }
+    ensures texts { IfOk result HasTextNames }
+{
+    let [first, words @ ..] = words else {
+        return Err(Fault::Refused(BadWords));
+    };
+    read_named(alloc, first.as_str(), words)
 }

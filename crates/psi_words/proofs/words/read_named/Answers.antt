@@ -1,7 +1,7 @@
-use Rattle.run_spec.specs.Words.{stall_of, check_of, replay_of, gen_of, stress_of, import_of, rules_command_of}
-use Rattle.run_spec.proofs.RangeLaws.{stall_ranges, check_ranges, replay_ranges, gen_ranges, stress_ranges, import_ranges, rules_command_ranges}
+use Rattle.run_spec.specs.Words.{stall_of, check_of, replay_of, gen_of, stress_of, import_of, rules_command_of, whatif_of}
+use Rattle.run_spec.proofs.RangeLaws.{stall_ranges, check_ranges, replay_ranges, gen_ranges, stress_ranges, import_ranges, rules_command_ranges, whatif_ranges}
 use Rattle.psi_words.proofs.InRange.{in_range}
-use Rattle.psi_words.proofs.words.read_words.Goals as goal
+use Rattle.psi_words.proofs.words.read_named.Goals as goal
 
 pub returns-then-eq-clause-ranges : goal.returns-then-eq-clause-ranges
 returns-then-eq-clause-ranges c = in_range _ _ stall_of stall_ranges c.read_stall.ensures.exact
@@ -23,3 +23,6 @@ returns-then-eq-6-clause-ranges c = in_range _ _ import_of import_ranges c.read_
 
 pub returns-then-eq-7-clause-ranges : goal.returns-then-eq-7-clause-ranges
 returns-then-eq-7-clause-ranges c = in_range _ _ rules_command_of rules_command_ranges c.read_rules.ensures.exact
+
+pub returns-then-eq-8-clause-ranges : goal.returns-then-eq-8-clause-ranges
+returns-then-eq-8-clause-ranges c = in_range _ _ whatif_of whatif_ranges c.read_whatif.ensures.exact
