@@ -1,0 +1,55 @@
+-- What rounds have left of a trace so far, and what the next one finds.
+use Rattle.std.specs.Prelude.{◌≡◌, ℕ, List, ◌≤◌, None, Some, Ok, Err, ⊤, slice_get}
+use Rattle.psi_base.specs.declared.event.Event.{Event}
+use Rattle.psi_base.specs.declared.event.Fault.{Fault}
+use Rattle.psi_base.specs.declared.event.Fault.TheVariants as fault
+use Rattle.psi_spec.specs.Grammar.{version_of}
+use Rattle.psi_spec.specs.Trace.{IsAccepted, IsCpuCount, Trace, limits_of}
+use Rattle.ruleset_json.specs.declared.types.Rule.{Rule}
+use Rattle.run_spec.specs.Outputs.{of_ms, pace_of}
+use Rattle.run_spec.specs.Whatif.{all_kills, last_trace}
+use Rattle.run_spec.specs.Words.{IsWithin}
+use Rattle.run_spec.specs.declared.command.Options.{Options}
+use Rattle.proc_plan.specs.Plans.{PlansView}
+use Rattle.replay_rules.specs.Planned.{IsPlanned}
+use Rattle.whatif_trace.specs.declared.removal.TooLarge.{TooLarge}
+use Rattle.whatif_rounds.specs.declared.rounds.Round.{Round}
+use Rattle.whatif_rounds.specs.declared.rounds.Round.TheVariants as found
+
+-- what options say is in range, as far as a replay has it
+pub record MayReplay (options : Options) : Type 0 where
+  pub some : 1 ≤ options.tick_ms
+  pub short : options.tick_ms ≤ 60000
+  pub interval : 1 ≤ options.interval_s
+  pub often : options.interval_s ≤ 3600
+  pub workers : IsWithin 1 64 options.workers
+
+-- a trace is accepted at the length of a tick that options say
+pub record IsTraceAt (options : Options) (trace : Trace) : Type 0 where
+  pub counted : IsCpuCount trace.cpus
+  pub accepted : IsAccepted (limits_of (of_ms options.tick_ms) trace.cpus) trace.events
+
+-- the trace of the version with a number, of so many processors and events
+abbrev pub trace_from : ℕ → ℕ → List Event → Trace
+trace_from number cpus events = record { version = version_of number; cpus = cpus; events = events }
+
+-- plans are those of a trace, which may be replayed as options say
+abbrev pub ArePlansOf : PlansView → Options → Trace → Type 0
+ArePlansOf plans options trace = IsPlanned plans trace (pace_of options)
+
+-- What a round finds in a trace: the kill with its number, or that it has none, and then the plans of the trace.
+abbrev pub Finds : Options → List Rule → ℕ → Trace → Round → Type 0
+Finds options rules number trace (found.Kill kill) = slice_get (all_kills trace (pace_of options) rules) number ≡ Some kill
+Finds options rules number trace (found.Last plans) =
+    (slice_get (all_kills trace (pace_of options) rules) number ≡ None) × ArePlansOf plans options trace
+
+-- The plans are those of the trace that is left when all kills were taken.
+abbrev pub AreLastPlans : Options → List Rule → Trace → PlansView → Type 0
+AreLastPlans options rules trace plans =
+    (last : Trace) × (last_trace trace (pace_of options) rules ≡ Ok last) × (last.version ≡ trace.version)
+    × ArePlansOf plans options last
+
+-- a round left too many events, so many as this tells; of want of memory nothing is said
+abbrev pub IsOutgrown : Options → List Rule → Trace → Fault TooLarge → Type 0
+IsOutgrown options rules trace (fault.Refused large) = last_trace trace (pace_of options) rules ≡ Err large.events
+IsOutgrown options rules trace (fault.NoMemory _) = ⊤

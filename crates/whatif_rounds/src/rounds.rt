@@ -1,0 +1,152 @@
+//! Kills taken out of a trace, round by round.
+ghost use Rattle.std.specs.Prelude.{◌≡◌, IfOk, MatchResult, Ok};
+ghost use Rattle.psi_base.specs.Gives.{FaultOf};
+ghost use Rattle.psi_spec.specs.Grammar.{IsVersion};
+ghost use Rattle.psi_spec.specs.Trace.{IsAccepted, IsCpuCount, limits_of};
+ghost use Rattle.ruleset_json.specs.RuleRanges.{FitsRules};
+ghost use Rattle.run_spec.specs.Outputs.{of_ms};
+ghost use Rattle.proc_plan.specs.Plans.{StandFor};
+ghost use Rattle.whatif_spec.specs.Without.{without};
+ghost use Rattle.whatif_trace.specs.Bounded.{bounded};
+ghost use Rattle.whatif_rounds.specs.Rounds.{AreLastPlans, Finds, IsOutgrown, IsTraceAt, MayReplay, trace_from};
+
+use crate::search::find_kill;
+use kill_spec::Kill;
+use proc_plan::Plans;
+use psi_base::{Event, Fault, NoMemory, Ns};
+use ruleset_json::Rules;
+use run_spec::Options;
+use std::alloc::Global;
+use std::thread::Threads;
+use whatif_trace::{TooLarge, without};
+
+/// How many kills are taken at most.
+const MOST_ROUNDS: usize = 64;
+
+/// How many ns a million ticks have for each ms of a tick.
+const MILLION_TICKS: Ns = 1_000_000_000_000;
+
+/// What a round finds in a trace.
+#[derive(Drop)]
+pub(crate) enum Round {
+    /// The kill with the round's number.
+    Kill(Kill),
+    /// No such kill. These are the plans of the trace.
+    Last(Plans),
+}
+
+// The latest moment (ns) of a trace at the options' length of a tick.
+fn latest_of(options: &Options) -> Ns
+    requires { MayReplay options.now }
+    ensures { result ≡ (limits_of (of_ms options.now.tick_ms) 1).latest }
+{
+    Ns::from(options.tick_ms) * MILLION_TICKS
+}
+
+// The plans of the events of an accepted trace.
+fn plans_of(
+    alloc: Global,
+    cpus: u32,
+    options: &Options,
+    events: &[Event],
+) -> Result<Plans, NoMemory>
+    requires options { MayReplay options.now }
+    requires counted { IsCpuCount cpus }
+    requires accepted { IsAccepted (limits_of (of_ms options.now.tick_ms) cpus) events.now }
+    ensures { IfOk result (λ plans. StandFor plans cpus events.now) }
+{
+    match Plans::build(alloc, cpus, latest_of(options), events) {
+        Ok(plans) => Ok(plans),
+        Err(Fault::NoMemory(none)) => Err(none),
+        Err(Fault::Refused(_)) => unreachable!(),
+    }
+}
+
+// Looks for the kill with a number, from 0, in an accepted trace of these events.
+fn find_in<R: Threads + Sync>(
+    rt: &R,
+    alloc: Global,
+    version: u32,
+    cpus: u32,
+    events: &[Event],
+    rules: &Rules,
+    options: &Options,
+    number: usize,
+) -> Result<Round, NoMemory>
+    requires version { IsVersion version }
+    requires trace { IsTraceAt options.now (trace_from version cpus events.now) }
+    requires fit { FitsRules rules.now.rules }
+    requires options { MayReplay options.now }
+    ensures { IfOk result
+        (Finds options.now rules.now.rules number (trace_from version cpus events.now)) }
+{
+    let plans = plans_of(alloc, cpus, options, events)?;
+    let rules = Some(rules.copy(alloc)?);
+    match find_kill(rt, alloc, version, &plans, rules, options, number)? {
+        Some(kill) => Ok(Round::Kill(kill)),
+        None => Ok(Round::Last(plans)),
+    }
+}
+
+// What is left of an accepted trace of these events without the tasks of a kill's victim.
+fn take_out(
+    alloc: Global,
+    cpus: u32,
+    options: &Options,
+    events: Vec<Event>,
+    kill: Kill,
+) -> Result<Vec<Event>, Fault<TooLarge>>
+    requires options { MayReplay options.now }
+    requires counted { IsCpuCount cpus }
+    requires accepted { IsAccepted (limits_of (of_ms options.now.tick_ms) cpus) events.items }
+    ensures content { let left_of = bounded (without events.items kill.at kill.victim.0) in
+        MatchResult result (λ left. left_of ≡ Ok left.items) (λ fault. FaultOf fault left_of) }
+    ensures accepted { IfOk result
+        (λ left. IsAccepted (limits_of (of_ms options.now.tick_ms) cpus) left.items) }
+{
+    without(
+        alloc,
+        cpus,
+        latest_of(options),
+        &events,
+        kill.at,
+        kill.victim,
+    )
+}
+
+/// The plans of what is left of an accepted trace, of a version, on so many processors and with these events, where the victims of
+/// its kills by these rules are taken out of it, one kill after the other, at most 64. It is replayed for that as options say.
+/// `TooLarge` exactly where more than 4,000,000 events are left behind a kill.
+pub fn last_plans<R: Threads + Sync>(
+    rt: &R,
+    alloc: Global,
+    version: u32,
+    cpus: u32,
+    events: Vec<Event>,
+    rules: &Rules,
+    options: &Options,
+) -> Result<Plans, Fault<TooLarge>>
+    requires version { IsVersion version }
+    requires trace { IsTraceAt options.now (trace_from version cpus events.items) }
+    requires fit { FitsRules rules.now.rules }
+    requires options { MayReplay options.now }
+    ensures { let trace = trace_from version cpus events.items in MatchResult result
+        (λ plans. AreLastPlans options.now rules.now.rules trace plans)
+        (λ fault. IsOutgrown options.now rules.now.rules trace fault) }
+{
+    let mut events = events;
+    'rounds: for number in 0..MOST_ROUNDS {
+        let round = find_in(rt, alloc, version, cpus, &events, rules, options, number)?;
+        match round {
+            Round::Kill(kill) => match take_out(alloc, cpus, options, events, kill) {
+                Ok(left) => events = left,
+                Err(fault) => return Err(fault),
+            },
+            Round::Last(plans) => return Ok(plans),
+        }
+    }
+    match plans_of(alloc, cpus, options, &events) {
+        Ok(plans) => Ok(plans),
+        Err(none) => Err(Fault::NoMemory(none)),
+    }
+}

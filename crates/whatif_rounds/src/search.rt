@@ -1,0 +1,66 @@
+//! A replay that looks for a kill and writes nothing.
+ghost use Rattle.std.specs.Prelude.{◌≡◌, ℕ, List, IfOk, slice_get};
+ghost use Rattle.kill_spec.specs.declared.kill.Kill.{Kill};
+ghost use Rattle.psi_spec.specs.Grammar.{IsVersion, version_of};
+ghost use Rattle.psi_spec.specs.Trace.{Trace};
+ghost use Rattle.ruleset_json.specs.RuleRanges.{FitsRules};
+ghost use Rattle.ruleset_json.specs.declared.types.Rule.{Rule};
+ghost use Rattle.run_spec.specs.Outputs.{pace_of};
+ghost use Rattle.run_spec.specs.Replay.{Pace};
+ghost use Rattle.run_spec.specs.Whatif.{all_kills};
+ghost use Rattle.replay_rules.specs.Judged.{given_rules};
+ghost use Rattle.replay_rules.specs.Planned.{IsPlanned};
+ghost use Rattle.replay_ticks.specs.Replays.{IsReplay};
+ghost use Rattle.whatif_rounds.specs.Rounds.{MayReplay};
+
+use kill_spec::Kill;
+use proc_plan::Plans;
+use psi_base::{NoMemory, OpenGate};
+use replay_ticks::{Replay, prepare};
+use ruleset_json::Rules;
+use run_spec::Options;
+use std::alloc::Global;
+use std::thread::Threads;
+
+// The kill with a number, from 0, by tick, ruleset and action, of a replay before its first tick.
+fn kill_of<R: Threads + Sync>(rt: &R, replay: &mut Replay<'_>, number: usize) -> Option<Kill>
+    requires { (trace : Trace) × (pace : Pace) × (rules : List Rule)
+        × IsReplay replay.old trace pace rules 0 }
+    ensures { (trace : Trace) (pace : Pace) (rules : List Rule) →
+        IsReplay replay.old trace pace rules 0 →
+        result ≡ slice_get (all_kills trace pace rules) number }
+{
+    let mut left = number;
+    'ticks: while replay.pass(rt, &OpenGate) {
+        let kills = replay.kills();
+        if left < kills.len() {
+            return Some(kills[left]);
+        }
+        left -= kills.len();
+    }
+    None
+}
+
+/// The kill with a number, from 0, by tick, ruleset and action, of the trace of plans, which has a version, where it is replayed
+/// with these rules as options say.
+pub(crate) fn find_kill<R: Threads + Sync>(
+    rt: &R,
+    alloc: Global,
+    version: u32,
+    plans: &Plans,
+    rules: Option<Rules>,
+    options: &Options,
+    number: usize,
+) -> Result<Option<Kill>, NoMemory>
+    requires version { IsVersion version }
+    requires planned { (trace : Trace) × IsPlanned plans.now trace (pace_of options.now)
+        × (version_of version ≡ trace.version) }
+    requires fit { FitsRules (given_rules rules) }
+    requires options { MayReplay options.now }
+    ensures { IfOk result (λ found. (trace : Trace) →
+        IsPlanned plans.now trace (pace_of options.now) → version_of version ≡ trace.version →
+        found ≡ slice_get (all_kills trace (pace_of options.now) (given_rules rules)) number) }
+{
+    let mut replay = prepare(alloc, version, plans, rules, options)?;
+    Ok(kill_of(rt, &mut replay, number))
+}
