@@ -28,19 +28,19 @@ put_replay-requires-after_bounds g c κs within =
     let limits = c.requires.taken.0 in
     let events = c.requires.taken.1 in
     let trace = trace_with (version_of c.args.version) limits.cpus events in
-    (trace, pace_of c.args.options.now, given_rules c.args.rules, c.in-Ok-prepare.ensures trace (planned (version_of c.args.version) c.args.planner c.in-Ok.plans c.args.options.now limits events c.requires.taken.2 c.in-Ok.ensures) refl)
+    (trace, pace_of c.args.options.now, given_rules c.args.rules, c.in-Ok-prepare.ensures.replay trace (planned (version_of c.args.version) c.args.planner c.in-Ok.plans c.args.options.now limits events c.requires.taken.2 c.in-Ok.ensures) refl)
 
 pub returns-in-Ok-put_replay-clause-writes : goal.returns-in-Ok-put_replay-clause-writes
 returns-in-Ok-put_replay-clause-writes g c = λ limits events to_replay.
     let trace = trace_with (version_of c.args.version) limits.cpus events in
-    let fresh = c.in-Ok-prepare.ensures trace (planned (version_of c.args.version) c.args.planner c.in-Ok.plans c.args.options.now limits events to_replay c.in-Ok.ensures) refl in
+    let fresh = c.in-Ok-prepare.ensures.replay trace (planned (version_of c.args.version) c.args.planner c.in-Ok.plans c.args.options.now limits events to_replay c.in-Ok.ensures) refl in
     let put = c.in-Ok-put_replay.ensures.bytes trace (pace_of c.args.options.now) (given_rules c.args.rules) fresh in
     (put.0, put.1, (put.2, c.in-Ok-put_replay.ensures.cause.same))
 
 pub returns-clause-writes : goal.returns-clause-writes
 returns-clause-writes g c = λ limits events to_replay.
     let trace = trace_with (version_of c.args.version) limits.cpus events in
-    let fresh = c.in-Ok-prepare.ensures trace (planned (version_of c.args.version) c.args.planner c.in-Ok.plans c.args.options.now limits events to_replay c.in-Ok.ensures) refl in
+    let fresh = c.in-Ok-prepare.ensures.replay trace (planned (version_of c.args.version) c.args.planner c.in-Ok.plans c.args.options.now limits events to_replay c.in-Ok.ensures) refl in
     let put = c.in-Err-put_replay.ensures.bytes trace (pace_of c.args.options.now) (given_rules c.args.rules) fresh in
     (put.0, put.1, (put.2, c.in-Err-put_replay.ensures.cause.failed))
 
