@@ -18,6 +18,7 @@ use Rattle.psi_lines.specs.Next.{furthest}
 use Rattle.psi_lines.specs.declared.lines.LineFault.{LineFault}
 use Rattle.psi_lines.specs.declared.lines.LineFault.TheVariants as lines
 use Rattle.psi_trace.specs.declared.header.Header.{Header}
+use Rattle.proc_plan.specs.Plans.{PlansView, StandFor}
 use Rattle.replay_core.specs.declared.trace.TraceFault.{TraceFault}
 use Rattle.replay_core.specs.declared.trace.TraceFault.TheVariants.{Refused, NoFile, ReadFault, NoMemory}
 
@@ -149,6 +150,17 @@ pub record TracePlayed (Played : Plays) (number tick : ℕ) (known : Option (Lis
   pub told : AreKnown (verbs_in number) events
   pub accepted : IsAccepted (limits_of tick cpus) events
   pub read : (bytes : List ℕ) → known ≡ Some bytes → trace_of (accepts_with versions tick) bytes ≡ Ok (trace_with (version_of number) cpus events)
+
+-- Plans stand for an accepted trace of the version with a number, which is that of the bytes where they are told.
+pub record PlansRead (plans : PlansView) (number tick : ℕ) (known : Option (List ℕ)) : Type 0 where
+  pub numbered : IsVersion number
+  pub trace : Trace
+  pub counted : IsCpuCount trace.cpus
+  pub version : version_of number ≡ trace.version
+  pub stand : StandFor plans trace.cpus trace.events
+  pub known_verbs : AreKnown (verbs_of trace.version) trace.events
+  pub accepted : IsAccepted (limits_of tick trace.cpus) trace.events
+  pub read : (bytes : List ℕ) → known ≡ Some bytes → trace_of (accepts_with versions tick) bytes ≡ Ok trace
 
 -- a trace that can't be read has its first refusal
 abbrev pub TraceRefused : TraceFault → ℕ → Option (List ℕ) → Type 0

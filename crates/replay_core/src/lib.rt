@@ -7,6 +7,7 @@ mod generated;
 mod import;
 mod lines;
 mod note;
+mod plans;
 mod player;
 mod printed;
 mod replay;
@@ -16,5 +17,7 @@ mod trace;
 
 pub use entry::run;
 pub use note::put_refusal;
+pub use plans::read_plans;
 pub use replay_ticks::{Replay, TickFault, prepare};
 pub use run_spec::{Status, Which};
+pub use trace::TraceFault;

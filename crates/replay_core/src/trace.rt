@@ -18,10 +18,14 @@ use std::alloc::Global;
 
 /// Why there is no trace.
 #[derive(Clone, Copy, Debug, PartialEq, Eq)]
-pub(crate) enum TraceFault {
+pub enum TraceFault {
+    /// A line of it was refused.
     Refused(Refusal),
+    /// The shelf has no such file.
     NoFile,
+    /// A read failed.
     ReadFault,
+    /// Memory was wanting.
     NoMemory(NoMemory),
 }
 
