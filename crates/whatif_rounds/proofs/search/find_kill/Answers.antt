@@ -8,7 +8,7 @@ prepare-requires-clause-planned g c = (c.requires.planned.0, c.requires.planned.
 pub kill_of-requires-after_bounds : goal.kill_of-requires-after_bounds
 kill_of-requires-after_bounds g c κs within =
     let planned = c.requires.planned in
-    (planned.0, pace_of c.args.options.now, given_rules c.args.rules, c.in_ok-replay.ensures planned.0 planned.1 planned.2)
+    (planned.0, pace_of c.args.options.now, given_rules c.args.rules, c.in_ok-replay.ensures.replay planned.0 planned.1 planned.2)
 
 pub returns : goal.returns
-returns g c = λ trace planned same. c.kill_of.ensures trace (pace_of c.args.options.now) (given_rules c.args.rules) (c.in_ok-replay.ensures trace planned same)
+returns g c = λ trace planned same. c.kill_of.ensures trace (pace_of c.args.options.now) (given_rules c.args.rules) (c.in_ok-replay.ensures.replay trace planned same)
