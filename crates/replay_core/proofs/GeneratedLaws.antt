@@ -1,6 +1,7 @@
 -- What the commands over generated traces come to as a run.
 use Rattle.std.proofs.Common.{◌≡◌, ◌⊎◌, inl, inr, ℕ, ◌<◌, ◌-◌, List, [], ◌∷◌, ◌++◌, refl, sym, ap, ◌∙◌, subst, arith, true≢false}
 use Rattle.std.proofs.Common.{append_assoc, Option, None, Some, is_some, Bool, true, false, ◌==◌, if◌then◌else◌}
+use Rattle.std.specs.Prelude.{IsSome}
 use Rattle.psi_base.specs.Gives.{no_memory}
 use Rattle.psi_base.specs.Outside.{Files, Rose}
 use Rattle.psi_base.specs.declared.event.Event.{Event}
@@ -10,7 +11,9 @@ use Rattle.psi_spec.specs.Refusal.{AreLegal, cause_of}
 use Rattle.psi_spec.specs.Trace.{AllFit, IsAccepted, Trace, limits_of}
 use Rattle.psi_spec.specs.World.{Limits, World, after, after_event, after_from, first_world}
 use Rattle.proc_plan.specs.Plans.{HasTaken, PlannerView, PlansView, StandForTaken}
+use Rattle.ruleset_json.specs.declared.types.Rule.{Rule}
 use Rattle.run_spec.specs.declared.command.Command.{Command}
+use Rattle.run_spec.specs.declared.command.Command.TheVariants as words
 use Rattle.run_spec.specs.declared.command.Shape.{Shape}
 use Rattle.run_spec.specs.declared.status.Status.{Status}
 use Rattle.run_spec.specs.declared.status.Status.TheVariants as status
@@ -18,7 +21,7 @@ use Rattle.run_spec.specs.declared.status.Which.{Which}
 use Rattle.run_spec.specs.declared.status.Which.TheVariants.{DropInFile, ImportFile, RulesFile, TraceFile}
 use Rattle.run_spec.specs.Generated.{generated}
 use Rattle.kill_spec.specs.Detectors.{of_seconds}
-use Rattle.run_spec.specs.Outputs.{IsOutput, drop_in_name, file_of, pace_of, rules_name, source_name, source_of, stress_options, tick_length, versions_of}
+use Rattle.run_spec.specs.Outputs.{IsOutput, drop_in_name, file_of, outcome_of, pace_of, rules_name, source_name, source_of, stress_options, tick_length, versions_of}
 use Rattle.run_spec.specs.Run.{IsThere, ReadsFiles, RunCounts, Runs, TakesTrace}
 use Rattle.run_spec.specs.Words.{IsShape, IsWithin}
 use Rattle.replay_rules.specs.Planned.{IsPlanned}
@@ -264,6 +267,17 @@ runs_generated command files before now had has trace text (status.NoMemory _) u
 }
 runs_generated command files before now had has trace text _ unnamed unruled alone takes output shelf wrote = absurd wrote
 
+-- a command that grows too large reads a trace
+pub outgrown_reads : (command : Command) (trace : Trace) (rules : List Rule) (events : ℕ) → outcome_of command trace rules ≡ status.TooLarge events → IsSome (file_of command TraceFile)
+outgrown_reads (words.Whatif name options) trace rules events is = refl
+outgrown_reads (words.Stall name) trace rules events is = absurd (let no : ⊥ = cc is in no)
+outgrown_reads (words.Check name tick_ms) trace rules events is = absurd (let no : ⊥ = cc is in no)
+outgrown_reads (words.Replay name options) trace rules events is = absurd (let no : ⊥ = cc is in no)
+outgrown_reads (words.Gen shape) trace rules events is = absurd (let no : ⊥ = cc is in no)
+outgrown_reads (words.Stress shape workers) trace rules events is = absurd (let no : ⊥ = cc is in no)
+outgrown_reads (words.Import file cpus) trace rules events is = absurd (let no : ⊥ = cc is in no)
+outgrown_reads (words.Rules file drop_in) trace rules events is = absurd (let no : ⊥ = cc is in no)
+
 -- such a run is done, where no write failed and memory was there
 pub makes : (command : Command) (files : Option Files) (before now : RunCounts)
     (had has : Option (List ℕ)) (result : Status) → Runs command files before now had has result
@@ -280,5 +294,7 @@ makes command files before now had has (status.Rules fault) runs none writes =
 makes command files before now had has (status.DropIn fault) runs none writes = absurd (none (DropInFile, runs.ends.1))
 makes command files before now had has (status.Trace line why) runs none writes = absurd (none (TraceFile, runs.ends.1))
 makes command files before now had has (status.Import line why) runs none writes = absurd (none (ImportFile, runs.ends.1))
+makes command files before now had has (status.TooLarge events) runs none writes =
+    absurd (none (TraceFile, outgrown_reads command runs.ends.1.trace runs.ends.1.rules events runs.ends.1.outcome))
 makes command files before now had has (status.NoFile which) runs none writes =
     absurd (none (which, is_named command which runs.ends.2.0 runs.ends.2.1))

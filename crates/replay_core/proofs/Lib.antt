@@ -10,3 +10,4 @@ pub mod RulesLaws
 pub mod RulesRuns
 pub mod RunEnds
 pub mod RunLaws
+pub mod WhatifLaws

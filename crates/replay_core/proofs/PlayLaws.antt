@@ -1,17 +1,17 @@
 -- What the table's clauses tell of the players over it.
-use Rattle.std.proofs.Common.{◌≡◌, ◌+◌, [], ◌∷◌, ◌++◌, length, ap, ◌∙◌, sym, arith, subst, None, Some}
+use Rattle.std.proofs.Common.{◌≡◌, ℕ, List, ◌+◌, [], ◌∷◌, ◌++◌, length, ap, ◌∙◌, sym, arith, subst, None, Some}
 use Rattle.std.specs.Prelude.{Result, Ok, Err}
 use Rattle.psi_base.specs.declared.event.Event.{Event}
 use Rattle.psi_base.specs.declared.event.Cause.{Cause}
 use Rattle.psi_base.specs.declared.event.Fault.{Fault}
 use Rattle.psi_base.specs.declared.event.Fault.TheVariants as fault
-use Rattle.psi_spec.specs.World.{World, after, after_event}
+use Rattle.psi_spec.specs.World.{Limits, World, after, after_event}
 use Rattle.psi_spec.specs.Refusal.{cause_of}
 use Rattle.task_table.specs.Stands.{PlaysEvent, TableView}
 use Rattle.proc_plan.specs.Plans as plans
 use Rattle.proc_plan.specs.Plans.{HasTaken, PlannerView}
 use Rattle.proc_plan.proofs.Taking.{lines_of}
-use Rattle.replay_core.specs.Reads.{IsPlayed, PlayerTakes}
+use Rattle.replay_core.specs.Reads.{HasKept, IsPlayed, PlayerTakes}
 use Rattle.plan_laws.proofs.PlanLaws.{after-push}
 
 -- ---- the table as a player
@@ -39,3 +39,15 @@ pub planner_takes : (old new : PlannerView) (event : Event) (result : Result (Un
 planner_takes old new event (Ok x) takes = takes
 planner_takes old new event (Err (fault.Refused why)) takes = takes
 planner_takes old new event (Err (fault.NoMemory _)) takes = tt
+
+-- ---- a keeper as a player
+
+-- what the table's clause tells, where the event was kept too
+pub keeper_takes : (cpus : ℕ) (kept kept_now : List Event) (old new : TableView) (event : Event) (x : Unit {0}) → PlaysEvent {T = Unit {0}} old event new (Ok x) → kept_now ≡ kept ++ event ∷ []
+    → PlayerTakes (HasKept cpus kept old.limits old.world) (HasKept cpus kept_now new.limits new.world) event (Ok x)
+keeper_takes cpus kept kept_now old new event x plays more = λ limits events so.
+    let takes = table_takes old new event (Ok x) plays limits events so.played in (
+      takes.0,
+      record { played = takes.1; kept_are = more ∙ ap (λ es. es ++ event ∷ []) so.kept_are; cpus_are = so.cpus_are },
+      takes.2,
+    )

@@ -95,6 +95,12 @@ tick_failed old new trace pace rules had mid has fault so given =
       subst (AppendsFront had has) (sym (append_assoc so.text line rest.0)) (AppendsFront-then had mid has so.text line rest.0 so.sent live.2),
     )
 
+-- a trace of plans has some text
+pub planned_text : (plans : PlansView) (trace : Trace) (pace : Pace) (rules : List Rule) → IsPlanned plans trace pace → (text : List ℕ) × IsReplayText trace pace rules text
+planned_text plans trace pace rules is =
+    let rest = texts_go_on (limits_of pace.length trace.cpus) trace pace rules 0 [] is.accepted.legal (omega arith) (no_text_at_first trace pace rules) in
+    ([] ++ rest.0, rest.1)
+
 -- a trace that is to be replayed has some text
 pub some_text : (version : Version) (planner : PlannerView) (options : Options) (limits : Limits) (events : List Event) (rules : List Rule) → IsToReplay planner options limits events → (text : List ℕ) × IsReplayText (trace_with version limits.cpus events) (pace_of options) rules text
 some_text version planner options limits events rules is =

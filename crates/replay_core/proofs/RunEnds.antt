@@ -19,10 +19,13 @@ use Rattle.run_spec.specs.declared.command.Command.TheVariants as words
 use Rattle.run_spec.specs.declared.command.Options.{Options}
 use Rattle.run_spec.specs.declared.status.Which.{Which}
 use Rattle.run_spec.specs.declared.status.Which.TheVariants.{DropInFile, ImportFile, RulesFile, TraceFile}
-use Rattle.run_spec.specs.Outputs.{accepts_of, drop_in_name, file_of, or_not_imported, or_refused, or_rules_fault, pace_of, rules_from, rules_name, source_of, taken_of, watch_of_path, with_drop_in}
+use Rattle.run_spec.specs.Outputs.{IsOutput, accepts_of, drop_in_name, file_of, or_not_imported, or_refused, or_rules_fault, outcome_of, pace_of, rules_from, rules_name, source_of, status_of_last, taken_of, watch_of_path, with_drop_in}
 use Rattle.run_spec.specs.Replay.{IsReplayText, replay_text, with_rules}
+use Rattle.run_spec.specs.Whatif.{last_trace}
+use Rattle.run_spec.specs.Words.{command_of}
+use Rattle.run_spec.proofs.RangeLaws.{command_ranges}
 use Rattle.run_laws.proofs.LiveTexts.{one_text_unwatched}
-use Rattle.run_spec.specs.Run.{DropInTold, Ends, FailuresAreCounted, HasTrace, IsTold, IsThere, Refuses, RulesTold, RunCounts, Runs, TakesBase, TakesRules, told_if_named}
+use Rattle.run_spec.specs.Run.{ComesTo, DropInTold, Ends, FailuresAreCounted, HasTrace, IsTold, IsThere, Refuses, RulesTold, RunCounts, Runs, TakesBase, TakesRules, TakesTrace, told_if_named}
 use Rattle.ruleset_json.specs.Rules.{rules_of}
 use Rattle.ruleset_json.specs.declared.fault.RulesFault.{RulesFault}
 use Rattle.ruleset_json.specs.declared.types.Rule.{Rule}
@@ -47,6 +50,7 @@ ends_below command files had below pending status.Done not ends more = absurd (n
 ends_below command files had below pending status.WriteFault not ends more = (ends.0, ends.1, ends.2, ends.3, ends.4, ends.5, (ends.6.0, ends.6.1, put_failed had below pending ends.6.0 ends.6.2 more))
 ends_below command files had below pending (status.Rules fault) not ends more = (kept_below had below pending ends.0 more, ends.1, ends.2)
 ends_below command files had below pending (status.DropIn fault) not ends more = (kept_below had below pending ends.0 more, ends.1, ends.2, ends.3, ends.4)
+ends_below command files had below pending (status.TooLarge events) not ends more = (kept_below had below pending ends.0 more, ends.1)
 ends_below command files had below pending (status.Trace line why) not ends more = (kept_below had below pending ends.0 more, ends.1, ends.2, ends.3, ends.4)
 ends_below command files had below pending (status.Import line why) not ends more = (kept_below had below pending ends.0 more, ends.1, ends.2, ends.3, ends.4)
 ends_below command files had below pending (status.NoFile which) not ends more = (kept_below had below pending ends.0 more, ends.1, ends.2)
@@ -230,11 +234,41 @@ headlined_alone name options files before now had has runs bytes rules none tell
     let text = found.2 in
     (found.0, found.1, subst (Appends had has) (one_text_unwatched found.0 (pace_of options) rules text.0 (ap (watch_of_path options.live_count) none) text.1) text.2)
 
--- an accepted trace is done, where its rules are accepted, nothing failed and memory was there
+-- where a command has its output for a trace and rulesets, it is done where nothing else is against it
+done_there : (command : Command) (trace : Trace) (rules : List Rule) (text : List ℕ) → IsOutput command trace rules text → outcome_of command trace rules ≡ status.Done
+done_there (words.Whatif name options) trace rules text output = ap status_of_last output.1
+done_there (words.Stall name) trace rules text output = refl
+done_there (words.Check name tick_ms) trace rules text output = refl
+done_there (words.Replay name options) trace rules text output = refl
+done_there (words.Gen shape) trace rules text output = refl
+done_there (words.Stress shape workers) trace rules text output = refl
+done_there (words.Import file cpus) trace rules text output = refl
+done_there (words.Rules file drop_in) trace rules text output = refl
+
+-- the trace that a command takes is the one that it takes from bytes that are told
+same_trace : (command : Command) (files : Option Files) (bytes : List ℕ) (taken trace : Trace) → (HasTrace command → TakesTrace command files taken) → (tells : IsTold command (source_of command) files bytes) → taken_of command bytes ≡ Ok trace → taken ≡ trace
+same_trace command files bytes taken trace takes tells is =
+    let read = (takes (has_trace command tells.0 tells.1)).read bytes tells in
+    cc (read, is)
+
+-- how it ends for what it takes is how it ends for what is told
+same_outcome : (command : Command) (files : Option Files) (bytes : List ℕ) (taken trace : Trace) (taken_rules rules : List Rule) (result : Status) → (HasTrace command → TakesTrace command files taken) → TakesRules command files taken_rules
+    → RulesTold command files rules → (tells : IsTold command (source_of command) files bytes) → taken_of command bytes ≡ Ok trace
+    → outcome_of command taken taken_rules ≡ result → result ≡ outcome_of command trace rules
+same_outcome command files bytes taken trace taken_rules rules result takes takes_rules given tells is comes =
+    sym comes ∙ ap (λ t. outcome_of command t taken_rules) (same_trace command files bytes taken trace takes tells is)
+    ∙ ap (outcome_of command trace) (same_rules command files taken_rules rules takes_rules given)
+
+-- an accepted trace ends a run as it is to, where its rules are accepted, nothing failed and memory was there
 pub completes : (command : Command) (files : Option Files) (before now : RunCounts) (had has : Option (List ℕ)) (result : Status) → Runs command files before now had has result
     → (rules : List Rule) (bytes : List ℕ) (trace : Trace) → RulesTold command files rules → IsTold command (source_of command) files bytes → taken_of command bytes ≡ Ok trace
-    → (Rose before.shelf.faults now.shelf.faults → ⊥) → (Rose before.writes now.writes → ⊥) → (result ≡ status.Done) ⊎ (result ≡ status.NoMemory no_memory)
-completes command files before now had has status.Done runs rules bytes trace given tells is reads writes = inl refl
+    → (Rose before.shelf.faults now.shelf.faults → ⊥) → (Rose before.writes now.writes → ⊥) → (result ≡ outcome_of command trace rules) ⊎ (result ≡ status.NoMemory no_memory)
+completes command files before now had has status.Done runs rules bytes trace given tells is reads writes =
+    let ends = runs.ends in
+    inl (same_outcome command files bytes ends.0 trace ends.1 rules status.Done ends.2 ends.3 given tells is (done_there command ends.0 ends.1 ends.6.0 ends.6.1))
+completes command files before now had has (status.TooLarge events) runs rules bytes trace given tells is reads writes =
+    let come = runs.ends.1 in
+    inl (same_outcome command files bytes come.trace trace come.rules rules (status.TooLarge events) come.takes come.takes_rules given tells is come.outcome)
 completes command files before now had has (status.NoMemory _) runs rules bytes trace given tells is reads writes = inr refl
 completes command files before now had has status.WriteFault runs rules bytes trace given tells is reads writes = absurd (writes (runs.counts.writes.rose refl))
 completes command files before now had has status.ReadFault runs rules bytes trace given tells is reads writes = absurd (reads (runs.counts.faults.rose refl))
@@ -260,6 +294,7 @@ refuses command files before now had has status.Usage runs rules bytes why given
 refuses command files before now had has (status.Rules fault) runs rules bytes why given tells is reads = absurd (no_fault command files rules fault had has given runs.ends)
 refuses command files before now had has (status.DropIn fault) runs rules bytes why given tells is reads = absurd (no_drop_fault command files rules fault had has given runs.ends)
 refuses command files before now had has (status.NoFile DropInFile) runs rules bytes why given tells is reads = absurd (no_missed_drop_in command files rules had has given runs.ends)
+refuses command files before now had has (status.TooLarge events) runs rules bytes why given tells is reads = let other = (runs.ends.1.takes (has_trace command tells.0 tells.1)).read bytes tells in absurd (let no : ⊥ = cc (is, other) in no)
 refuses command files before now had has (status.Trace at cause) runs rules bytes why given tells is reads =
     let other = trace_told command files bytes had has (status.Trace at cause) tells runs.ends in
     inl (cc (is, other))
@@ -307,6 +342,7 @@ pub faults : (command : Command) (files : Option Files) (before now : RunCounts)
 faults command files before now had has status.Done runs name bytes fault named tells is reads = absurd (none_taken command files runs.ends.1 name bytes fault runs.ends.3 runs.ends.4.1 named tells is)
 faults command files before now had has (status.NoMemory _) runs name bytes fault named tells is reads = inr refl
 faults command files before now had has status.WriteFault runs name bytes fault named tells is reads = absurd (none_taken command files runs.ends.1 name bytes fault runs.ends.3 runs.ends.4.1 named tells is)
+faults command files before now had has (status.TooLarge events) runs name bytes fault named tells is reads = absurd (none_taken command files runs.ends.1.rules name bytes fault runs.ends.1.takes_rules runs.ends.1.rules_there.1 named tells is)
 faults command files before now had has status.ReadFault runs name bytes fault named tells is reads = absurd (reads (runs.counts.faults.rose refl))
 faults command files before now had has status.Usage runs name bytes fault named tells is reads = absurd runs.ends
 faults command files before now had has (status.Rules found) runs name bytes fault named tells is reads = inl (ap status.Rules (found_fault command files had has name bytes found fault runs.ends named tells is))
@@ -349,6 +385,7 @@ pub drop_faults : (command : Command) (files : Option Files) (before now : RunCo
     → (Rose before.shelf.faults now.shelf.faults → ⊥) → (result ≡ status.DropIn fault) ⊎ (result ≡ status.NoMemory no_memory)
 drop_faults command files before now had has status.Done runs bytes drop_in fault known over is reads = absurd (none_joined command files runs.ends.1 bytes drop_in fault runs.ends.3 known over is)
 drop_faults command files before now had has status.WriteFault runs bytes drop_in fault known over is reads = absurd (none_joined command files runs.ends.1 bytes drop_in fault runs.ends.3 known over is)
+drop_faults command files before now had has (status.TooLarge events) runs bytes drop_in fault known over is reads = absurd (none_joined command files runs.ends.1.rules bytes drop_in fault runs.ends.1.takes_rules known over is)
 drop_faults command files before now had has (status.NoMemory _) runs bytes drop_in fault known over is reads = inr refl
 drop_faults command files before now had has status.ReadFault runs bytes drop_in fault known over is reads = absurd (reads (runs.counts.faults.rose refl))
 drop_faults command files before now had has status.Usage runs bytes drop_in fault known over is reads = absurd runs.ends
@@ -378,6 +415,7 @@ pub prints_all : (name : List ℕ) (drop_in : Option (List ℕ)) (files : Option
 prints_all name drop_in files before now had has status.Done runs rules given reads writes = inl refl
 prints_all name drop_in files before now had has (status.NoMemory _) runs rules given reads writes = inr refl
 prints_all name drop_in files before now had has status.WriteFault runs rules given reads writes = absurd (writes (runs.counts.writes.rose refl))
+prints_all name drop_in files before now had has (status.TooLarge events) runs rules given reads writes = absurd (let no : ⊥ = let come = runs.ends.1.outcome in cc come in no)
 prints_all name drop_in files before now had has status.ReadFault runs rules given reads writes = absurd (reads (runs.counts.faults.rose refl))
 prints_all name drop_in files before now had has status.Usage runs rules given reads writes = absurd runs.ends
 prints_all name drop_in files before now had has (status.Rules fault) runs rules given reads writes = absurd (no_fault (words.Rules name drop_in) files rules fault had has given runs.ends)
@@ -388,3 +426,44 @@ prints_all name drop_in files before now had has (status.NoFile RulesFile) runs 
 prints_all name drop_in files before now had has (status.NoFile DropInFile) runs rules given reads writes = absurd (no_missed_drop_in (words.Rules name drop_in) files rules had has given runs.ends)
 prints_all name drop_in files before now had has (status.NoFile TraceFile) runs rules given reads writes = absurd (true≢false (sym (ap is_some runs.ends.2.1)))
 prints_all name drop_in files before now had has (status.NoFile ImportFile) runs rules given reads writes = absurd (true≢false (sym (ap is_some runs.ends.2.1)))
+
+-- ---- `whatif`
+
+-- where it is done, its output is that of the last trace
+pub supposed : (name : List ℕ) (options : Options) (files : Option Files) (before now : RunCounts) (had has : Option (List ℕ)) → Runs (words.Whatif name options) files before now had has status.Done
+    → (bytes : List ℕ) (rules : List Rule) → options.live ≡ None → IsTold (words.Whatif name options) TraceFile files bytes → RulesTold (words.Whatif name options) files rules
+    → (trace : Trace) × (last : Trace) × (trace_of (accepts_of (words.Whatif name options)) bytes ≡ Ok trace)
+    × (last_trace trace (pace_of options) rules ≡ Ok last) × Appends had has (replay_text last (pace_of options) (with_rules rules))
+supposed name options files before now had has runs bytes rules none tells rules_told =
+    let ends = runs.ends in
+    let same = same_rules (words.Whatif name options) files ends.1 rules ends.3 rules_told in
+    let last = ends.6.1.0 in
+    let text = subst (λ r. IsReplayText last (pace_of options) r ends.6.0) same ends.6.1.2 in (
+      ends.0,
+      last,
+      of_read (trace_of (accepts_of (words.Whatif name options)) bytes) ends.0 ((ends.2 tt).read bytes tells),
+      subst (λ r. last_trace ends.0 (pace_of options) r ≡ Ok last) same ends.6.1.1,
+      subst (Appends had has) (one_text_unwatched last (pace_of options) rules ends.6.0 (ap (watch_of_path options.live_count) none) text) ends.6.2,
+    )
+
+-- how many events a round left is told by the status
+large_events : (last : Result Trace ℕ) (events : ℕ) → status_of_last last ≡ status.TooLarge events → last ≡ Err events
+large_events (Ok trace) events is = absurd (let no : ⊥ = cc is in no)
+large_events (Err more) events is = let same : more ≡ events = cc is in ap (λ (n : ℕ). let lost : Result Trace ℕ = Err n in lost) same
+
+-- and where it is too large, a round left so many events
+pub outgrown : (name : List ℕ) (options : Options) (files : Option Files) (before now : RunCounts) (had has : Option (List ℕ)) (events : ℕ) → Runs (words.Whatif name options) files before now had has (status.TooLarge events)
+    → (bytes : List ℕ) (rules : List Rule) → IsTold (words.Whatif name options) TraceFile files bytes → RulesTold (words.Whatif name options) files rules
+    → (trace : Trace) × (trace_of (accepts_of (words.Whatif name options)) bytes ≡ Ok trace) × (last_trace trace (pace_of options) rules ≡ Err events) × Keeps had has
+outgrown name options files before now had has events runs bytes rules tells rules_told =
+    let come = runs.ends.1 in
+    let same = same_rules (words.Whatif name options) files come.rules rules come.takes_rules rules_told in (
+      come.trace,
+      of_read (trace_of (accepts_of (words.Whatif name options)) bytes) come.trace ((come.takes tt).read bytes tells),
+      subst (λ r. last_trace come.trace (pace_of options) r ≡ Err events) same (large_events (last_trace come.trace (pace_of options) come.rules) events come.outcome),
+      runs.ends.0,
+    )
+
+-- nothing that `whatif` says is watched
+pub unwatched : (given : List (List ℕ)) (name : List ℕ) (options : Options) → command_of given ≡ Some (words.Whatif name options) → options.live ≡ None
+unwatched given name options is = (command_ranges given (words.Whatif name options) is).3

@@ -9,18 +9,20 @@ use Rattle.psi_spec.specs.Fields.{IsAmong}
 use Rattle.psi_spec.specs.Grammar.{One, Two, Version, verbs_of, versions}
 use Rattle.psi_spec.specs.Trace.{AreKnown, IsAccepted, IsCpuCount, Trace, limits_of, trace_of}
 use Rattle.run_spec.specs.declared.command.Command.{Command}
+use Rattle.run_spec.specs.declared.command.Command.TheVariants as words
+use Rattle.run_spec.specs.declared.command.Options.{Options}
 use Rattle.run_spec.specs.declared.status.Status.{Status}
 use Rattle.run_spec.specs.declared.status.Status.TheVariants as status
 use Rattle.run_spec.specs.declared.status.Which.{Which}
 use Rattle.run_spec.specs.declared.status.Which.TheVariants.{TraceFile}
-use Rattle.run_spec.specs.Outputs.{IsOutput, accepts_of, drop_in_name, file_of, or_refused, rules_name, source_name, source_of, taken_of, tick_length, trace_name, versions_of}
+use Rattle.run_spec.specs.Outputs.{IsOutput, accepts_of, drop_in_name, file_of, or_refused, pace_of, rules_name, source_name, source_of, status_of_last, taken_of, tick_length, trace_name, versions_of}
 use Rattle.run_spec.specs.Run.{FailuresAreCounted, IsThere, ReadsFiles, RisesWhere, RulesAreThere, RunCounts, Runs, TakesRules, TakesTrace, told_if_named}
 use Rattle.std.proofs.lemmas.List.Elements.{All-nil}
 use Rattle.ruleset_json.specs.RuleRanges.{FitsRule}
 use Rattle.ruleset_json.specs.declared.types.Rule.{Rule}
 use Rattle.replay_core.specs.Rules.{RulesGiven}
 use Rattle.replay_core.specs.Reads.{CausesTraceFault, RefusalOf, TellsNothing, trace_with}
-use Rattle.replay_core.specs.Writes.{IsStatusOf, WritesText}
+use Rattle.replay_core.specs.Writes.{IsStatusOf, WritesLast, WritesText}
 use Rattle.replay_core.specs.declared.trace.TraceFault.{TraceFault}
 use Rattle.replay_core.specs.declared.trace.TraceFault.TheVariants as fault
 
@@ -128,6 +130,38 @@ runs_written command name files before now had has trace rules text (status.NoMe
   counts = counts_written before now (status.NoMemory no_memory) faults absent (λ is. cc is) (λ is. cc is.1) (stays _ before.writes now.writes (λ is. cc is) wrote.1);
 }
 runs_written command name files before now had has trace rules text _ named takes given held output faults absent wrote = absurd wrote
+
+-- what `whatif` wrote of a trace
+pub runs_supposed : (name : List ℕ) (options : Options) (files : Option Files) (before now : RunCounts) (had has : Option (List ℕ)) (trace : Trace) (rules : List Rule) (result : Status)
+    → TakesTrace (words.Whatif name options) files trace → RulesGiven options.rules options.drop_in files rules → (Lacks files name → ⊥)
+    → now.shelf.faults ≡ before.shelf.faults → now.shelf.absent ≡ before.shelf.absent
+    → WritesLast trace (pace_of options) rules before.writes now.writes had has result → Runs (words.Whatif name options) files before now had has result
+runs_supposed name options files before now had has trace rules status.Done takes given held faults absent wrote =
+    let some = wrote.2 in
+    runs_written (words.Whatif name options) name files before now had has trace rules some.0 status.Done refl takes given held (wrote.0, wrote.1, some.1) faults absent some.2
+runs_supposed name options files before now had has trace rules status.WriteFault takes given held faults absent wrote =
+    let some = wrote.2 in
+    runs_written (words.Whatif name options) name files before now had has trace rules some.0 status.WriteFault refl takes given held (wrote.0, wrote.1, some.1) faults absent some.2
+runs_supposed name options files before now had has trace rules (status.NoMemory _) takes given held faults absent wrote = record {
+  ends = wrote.0;
+  counts = counts_written before now (status.NoMemory no_memory) faults absent (λ is. cc is) (λ is. cc is.1) (stays _ before.writes now.writes (λ is. cc is) wrote.1);
+}
+runs_supposed name options files before now had has trace rules (status.TooLarge events) takes given held faults absent wrote = record {
+  ends = (
+    wrote.1,
+    record {
+      trace = trace;
+      rules = rules;
+      takes = λ _. takes;
+      takes_rules = takes_given (words.Whatif name options) _ _ files rules refl refl given;
+      rules_there = rules_there (words.Whatif name options) files rules given;
+      there = file_there (words.Whatif name options) TraceFile name files refl held;
+      outcome = ap status_of_last wrote.0;
+    },
+  );
+  counts = counts_written before now (status.TooLarge events) faults absent (λ is. cc is) (λ is. cc is.1) (stays _ before.writes now.writes (λ is. cc is) wrote.2);
+}
+runs_supposed name options files before now had has trace rules _ takes given held faults absent wrote = absurd wrote.2.2
 
 -- ---- a file that couldn't be read
 

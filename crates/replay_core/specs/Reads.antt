@@ -33,6 +33,12 @@ pub record IsPlayed (limits_now : Limits) (w : World) (limits : Limits) (events 
   pub limits_are : limits_now ≡ limits
   pub world : w ≡ after events
 
+-- a keeper's table has played events, and it keeps them, and how many processors they are on
+pub record HasKept (cpus : ℕ) (kept : List Event) (limits_now : Limits) (w : World) (limits : Limits) (events : List Event) : Type 0 where
+  pub played : IsPlayed limits_now w limits events
+  pub kept_are : kept ≡ events
+  pub cpus_are : cpus ≡ limits.cpus
+
 -- a player has played events that can each be spelled, by one of these verbs, and are legal in their turn
 abbrev pub Legally : List Verb → Plays → Plays
 Legally verbs Played limits events = Played limits events × AllFit events × AreKnown verbs events × AreLegal limits first_world events

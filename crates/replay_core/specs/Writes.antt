@@ -1,17 +1,23 @@
 -- What reading and writing come to as the status of a run.
-use Rattle.std.specs.Prelude.{◌≡◌, ◌≤◌, ℕ, List, Option, Result}
+use Rattle.std.specs.Prelude.{◌≡◌, ◌≤◌, ℕ, List, Option, Result, Ok, Err}
 use Rattle.std.specs.Io.KnownBytes.{Appends, Keeps}
 use Rattle.psi_base.specs.Outside.{AppendsFront, PutsAll, Rose}
 use Rattle.psi_base.specs.declared.event.Event.{Event}
-use Rattle.psi_spec.specs.Trace.{IsAccepted, limits_of}
+use Rattle.psi_base.specs.declared.event.Fault.{Fault}
+use Rattle.psi_base.specs.declared.event.Fault.TheVariants as of_rounds
+use Rattle.psi_spec.specs.Trace.{IsAccepted, Trace, limits_of}
 use Rattle.psi_spec.specs.World.{Limits}
 use Rattle.proc_plan.specs.Plans.{HasTaken, PlannerView}
+use Rattle.ruleset_json.specs.declared.types.Rule.{Rule}
 use Rattle.run_spec.specs.Outputs.{of_ms}
+use Rattle.run_spec.specs.Replay.{IsReplayText, Pace}
+use Rattle.run_spec.specs.Whatif.{last_trace}
 use Rattle.run_spec.specs.Words.{IsWithin}
 use Rattle.run_spec.specs.declared.command.Options.{Options}
 use Rattle.run_spec.specs.declared.status.Status.{Status}
 use Rattle.run_spec.specs.declared.status.Status.TheVariants as status
 use Rattle.run_spec.specs.declared.status.Which.TheVariants.{TraceFile}
+use Rattle.whatif_trace.specs.declared.removal.TooLarge.{TooLarge}
 use Rattle.replay_core.specs.declared.trace.TraceFault.{TraceFault}
 use Rattle.replay_core.specs.declared.trace.TraceFault.TheVariants as fault
 
@@ -31,12 +37,25 @@ WritesSome IsSo before now had has result = (text : List ℕ) × IsSo text × Wr
 abbrev pub PutsSome : {T E : Type 0} → (List ℕ → Type 0) → Option (List ℕ) → Option (List ℕ) → Result T E → Type 0
 PutsSome IsSo had has result = (text : List ℕ) × IsSo text × PutsAll had has result text
 
+-- What `whatif` wrote of a trace: some output of `replay` for the last trace, or none where a round left too many events.
+abbrev pub WritesLast : Trace → Pace → List Rule → ℕ → ℕ → Option (List ℕ) → Option (List ℕ) → Status → Type 0
+WritesLast trace pace rules before now had has (status.TooLarge events) =
+    (last_trace trace pace rules ≡ Err events) × Keeps had has × (now ≡ before)
+WritesLast trace pace rules before now had has (status.NoMemory _) = Keeps had has × (now ≡ before)
+WritesLast trace pace rules before now had has result =
+    (last : Trace) × (last_trace trace pace rules ≡ Ok last) × WritesSome (IsReplayText last pace rules) before now had has result
+
 -- the status of a trace that can't be read
 abbrev pub IsStatusOf : TraceFault → Status → Type 0
 IsStatusOf (fault.Refused refusal) result = result ≡ status.Trace refusal.line refusal.cause
 IsStatusOf fault.NoFile result = result ≡ status.NoFile TraceFile
 IsStatusOf fault.ReadFault result = result ≡ status.ReadFault
 IsStatusOf (fault.NoMemory none) result = result ≡ status.NoMemory none
+
+-- the status of rounds that left no trace
+abbrev pub IsStatusOfRounds : Fault TooLarge → Status → Type 0
+IsStatusOfRounds (of_rounds.Refused large) result = result ≡ status.TooLarge large.events
+IsStatusOfRounds (of_rounds.NoMemory none) result = result ≡ status.NoMemory none
 
 -- a trace that was taken apart is to be replayed with options: it is accepted at their length of a tick
 pub record IsToReplay (planner : PlannerView) (options : Options) (limits : Limits) (events : List Event) : Type 0 where

@@ -19,6 +19,7 @@ use crate::replay::write_replay;
 use crate::rules::read_rules;
 use crate::stalls::write_stalls;
 use crate::trace::{TraceFault, play_trace};
+use crate::whatif::run_whatif;
 use proc_plan::Planner;
 use psi_base::{Gate, Ns, Shelf, Sink, Text, WriteFailed};
 use run_spec::{Command, Options, Status, Which};
@@ -27,13 +28,13 @@ use std::thread::Threads;
 use task_table::Table;
 
 /// How many ns a millisecond has.
-const MILLISECOND: Ns = 1_000_000;
+pub(crate) const MILLISECOND: Ns = 1_000_000;
 
 /// The length of a tick (ns) of `stall`, which bounds the moments of its trace.
 const TICK: Ns = 2000 * MILLISECOND;
 
-// The status of a trace that can't be read.
-fn fault_status(fault: TraceFault) -> Status
+/// The status of a trace that can't be read.
+pub(crate) fn fault_status(fault: TraceFault) -> Status
     ensures status { IsStatusOf fault result }
 {
     match fault {
@@ -194,5 +195,8 @@ pub(crate) fn run_command<R: Threads + Sync, S: Shelf, K: Sink, G: Gate>(
         }
         Command::Import { file, cpus } => run_import(alloc, name_of(file), *cpus, shelf, out),
         Command::Rules { file, drop_in } => { run_rules(alloc, name_of(file), drop_in, shelf, out) }
+        Command::Whatif { trace, options } => {
+            run_whatif(rt, alloc, name_of(trace), options, shelf, out, gate)
+        }
     }
 }

@@ -10,9 +10,10 @@ ghost use Rattle.psi_words.specs.Reads.{HasTextNames};
 ghost use Rattle.run_spec.specs.declared.command.Command.{Command};
 ghost use Rattle.run_spec.specs.declared.command.Options.{Options};
 ghost use Rattle.run_spec.specs.declared.status.Status.{Status};
-ghost use Rattle.run_spec.specs.Outputs.{accepts_of, pace_of, rules_from, rules_name, source_of, taken_of};
+ghost use Rattle.run_spec.specs.Outputs.{accepts_of, outcome_of, pace_of, rules_from, rules_name, source_of, taken_of};
 ghost use Rattle.run_spec.specs.MostRead.{most_read};
 ghost use Rattle.run_spec.specs.Replay.{IsReplayText, replay_text, with_rules};
+ghost use Rattle.run_spec.specs.Whatif.{last_trace};
 ghost use Rattle.run_spec.specs.Run.{FailuresAreCounted, IsTold, ReadsFiles, RulesTold, Runs, run_counts};
 ghost use Rattle.run_spec.specs.declared.status.Which.TheVariants.{DropInFile, ImportFile, RulesFile, TraceFile};
 ghost use Rattle.dropin_rules.specs.RulesText.{rules_text};
@@ -137,7 +138,33 @@ pub fn run<R: Threads + Sync, S: Shelf, K: Sink, N: Sink, G: Gate>(
         (Rose (K.faults out.old) (K.faults out.new) → ⊥) →
         (result ≡ Status.Done) ⊎ (result ≡ Status.NoMemory no_memory) }
 
-    // An accepted file, with accepted rules, gives the whole output, unless a count of faults rose or memory was wanting.
+    // What a kill would have done: where it is done, the output grew by exactly the text that the definitions give for the last trace,
+    // which is left when the victims of the kills were taken out of the trace, one after the other.
+    ensures supposed { (name bytes : List ℕ) (options : Options) (rules : List Rule) →
+        command_of (map string_bytes words.now) ≡ Some (Command.Whatif name options) →
+        IsTold (Command.Whatif name options) TraceFile (S.holds shelf.old) bytes →
+        RulesTold (Command.Whatif name options) (S.holds shelf.old) rules →
+        result ≡ Status.Done →
+        (trace : Trace) × (last : Trace)
+        × (trace_of (accepts_of (Command.Whatif name options)) bytes ≡ Ok trace)
+        × (last_trace trace (pace_of options) rules ≡ Ok last)
+        × Appends (K.has out.old) (K.has out.new)
+        (replay_text last (pace_of options) (with_rules rules)) }
+
+    // It is too large only where a round left so many events, and then nothing is written.
+    ensures outgrown { (name bytes : List ℕ) (options : Options) (rules : List Rule)
+        (events : ℕ) →
+        command_of (map string_bytes words.now) ≡ Some (Command.Whatif name options) →
+        IsTold (Command.Whatif name options) TraceFile (S.holds shelf.old) bytes →
+        RulesTold (Command.Whatif name options) (S.holds shelf.old) rules →
+        result ≡ Status.TooLarge events →
+        (trace : Trace)
+        × (trace_of (accepts_of (Command.Whatif name options)) bytes ≡ Ok trace)
+        × (last_trace trace (pace_of options) rules ≡ Err events)
+        × Keeps (K.has out.old) (K.has out.new) }
+
+    // An accepted file, with accepted rules, ends the run as it is to end: with the whole output, or, where a round of `whatif` leaves
+    // too many events, as too large; unless a count of faults rose or memory was wanting.
     ensures complete { (command : Command) (rules : List Rule) (bytes : List ℕ)
         (trace : Trace) →
         command_of (map string_bytes words.now) ≡ Some command →
@@ -146,7 +173,7 @@ pub fn run<R: Threads + Sync, S: Shelf, K: Sink, N: Sink, G: Gate>(
         taken_of command bytes ≡ Ok trace →
         (Rose (S.faults shelf.old) (S.faults shelf.new) → ⊥) →
         (Rose (K.faults out.old) (K.faults out.new) → ⊥) →
-        (result ≡ Status.Done) ⊎ (result ≡ Status.NoMemory no_memory) }
+        (result ≡ outcome_of command trace rules) ⊎ (result ≡ Status.NoMemory no_memory) }
 
     // A refused rules file gives its first fault with its place, unless a fault of reading rose or memory was wanting.
     ensures faulty { (command : Command) (name bytes : List ℕ) (fault : RulesFault) →

@@ -14,6 +14,7 @@ mod replay;
 mod rules;
 mod stalls;
 mod trace;
+mod whatif;
 
 pub use entry::run;
 pub use note::put_refusal;

@@ -164,10 +164,13 @@ fn file_name(command: Option<&Command>, which: Which) -> &[u8]
     let name = match (which, command) {
         (Which::TraceFile, Some(Command::Stall { trace }))
         | (Which::TraceFile, Some(Command::Check { trace, .. }))
-        | (Which::TraceFile, Some(Command::Replay { trace, .. })) => Some(trace),
-        (Which::RulesFile, Some(Command::Replay { options, .. })) => options.rules.as_ref(),
+        | (Which::TraceFile, Some(Command::Replay { trace, .. }))
+        | (Which::TraceFile, Some(Command::Whatif { trace, .. })) => Some(trace),
+        (Which::RulesFile, Some(Command::Replay { options, .. }))
+        | (Which::RulesFile, Some(Command::Whatif { options, .. })) => options.rules.as_ref(),
         (Which::RulesFile, Some(Command::Rules { file, .. })) => Some(file),
-        (Which::DropInFile, Some(Command::Replay { options, .. })) => options.drop_in.as_ref(),
+        (Which::DropInFile, Some(Command::Replay { options, .. }))
+        | (Which::DropInFile, Some(Command::Whatif { options, .. })) => options.drop_in.as_ref(),
         (Which::DropInFile, Some(Command::Rules { drop_in, .. })) => drop_in.as_ref(),
         (Which::ImportFile, Some(Command::Import { file, .. })) => Some(file),
         _ => None,
@@ -192,7 +195,7 @@ pub(crate) fn put_status<N: Sink>(
         Status::Done => put_all(note, b""),
         Status::Usage => put_all(
             note,
-            b"usage: psi_oomd stall or check or replay or gen or stress or import or rules\n",
+            b"usage: psi_oomd stall or check or replay or gen or stress or import or rules or whatif\n",
         ),
         Status::Trace { line, cause } => put_refusal(note, line, cause),
         Status::Rules { fault } => put_rules_fault(note, fault),
@@ -209,5 +212,6 @@ pub(crate) fn put_status<N: Sink>(
         Status::NoMemory(_) => put_all(note, b"out of memory\n"),
         Status::Import { line, cause } => put_import_refusal(note, line, cause),
         Status::DropIn { fault } => put_drop_in_fault(note, fault),
+        Status::TooLarge { .. } => put_all(note, b"too large\n"),
     }
 }

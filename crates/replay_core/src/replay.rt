@@ -1,5 +1,5 @@
 //! The output of `replay`.
-ghost use Rattle.std.specs.Prelude.{◌≡◌, ℕ, List};
+ghost use Rattle.std.specs.Prelude.{◌≡◌, ◌≤◌, ℕ, List};
 ghost use Rattle.psi_base.specs.Outside.{HasCause, StaysOver};
 ghost use Rattle.psi_base.specs.declared.event.Event.{Event};
 ghost use Rattle.psi_spec.specs.Trace.{Trace};
@@ -8,13 +8,15 @@ ghost use Rattle.run_spec.specs.Outputs.{pace_of};
 ghost use Rattle.ruleset_json.specs.declared.types.Rule.{Rule};
 ghost use Rattle.ruleset_json.specs.RuleRanges.{FitsRules};
 ghost use Rattle.run_spec.specs.Replay.{IsReplayText, Pace};
+ghost use Rattle.run_spec.specs.Words.{IsWithin};
 ghost use Rattle.replay_ticks.specs.Replays.{IsReplay};
 ghost use Rattle.psi_spec.specs.Grammar.{IsVersion, version_of};
 ghost use Rattle.replay_core.specs.Reads.{trace_with};
 ghost use Rattle.replay_rules.specs.Judged.{given_rules};
+ghost use Rattle.replay_rules.specs.Planned.{IsPlanned};
 ghost use Rattle.replay_core.specs.Writes.{IsToReplay, PutsSome, WritesSome};
 
-use proc_plan::Planner;
+use proc_plan::{Planner, Plans};
 use psi_base::{Gate, Sink, WriteFailed};
 use replay_ticks::{Replay, TickFault, prepare};
 use ruleset_json::Rules;
@@ -46,6 +48,40 @@ fn put_replay<R: Threads + Sync, K: Sink, G: Gate>(
     }
 }
 
+/// Writes the output of `replay` for the trace of plans, which has a version, with rules if there are some. Where memory is wanting,
+/// nothing is written.
+pub(crate) fn write_planned<R: Threads + Sync, K: Sink, G: Gate>(
+    rt: &R,
+    alloc: Global,
+    version: u32,
+    plans: &Plans,
+    rules: Option<Rules>,
+    options: &Options,
+    out: &mut K,
+    gate: &G,
+) -> Status
+    requires planned { (trace : Trace) × IsPlanned plans.now trace (pace_of options.now)
+        × (version_of version ≡ trace.version) }
+    requires fit { FitsRules (given_rules rules) }
+    requires version { IsVersion version }
+    requires often { options.now.interval_s ≤ 3600 }
+    requires workers { IsWithin 1 64 options.now.workers }
+    ensures writes { (trace : Trace) → IsPlanned plans.now trace (pace_of options.now) →
+        version_of version ≡ trace.version →
+        WritesSome (IsReplayText trace (pace_of options.now) (given_rules rules))
+        (K.faults out.old) (K.faults out.new) (K.has out.old) (K.has out.new) result }
+    ensures below { StaysOver (K.below out.old) (K.below out.new) }
+{
+    let mut replay = match prepare(alloc, version, plans, rules, options) {
+        Ok(replay) => replay,
+        Err(none) => return Status::NoMemory(none),
+    };
+    match put_replay(rt, &mut replay, out, gate) {
+        Ok(()) => Status::Done,
+        Err(WriteFailed) => Status::WriteFault,
+    }
+}
+
 /// Writes the output of `replay` for a trace of a version that was taken apart, with rules if there are some. Where memory is wanting,
 /// nothing is written.
 pub(crate) fn write_replay<R: Threads + Sync, K: Sink, G: Gate>(
@@ -69,16 +105,8 @@ pub(crate) fn write_replay<R: Threads + Sync, K: Sink, G: Gate>(
         (K.has out.old) (K.has out.new) result }
     ensures below { StaysOver (K.below out.old) (K.below out.new) }
 {
-    let plans = match planner.finish(alloc) {
-        Ok(plans) => plans,
-        Err(none) => return Status::NoMemory(none),
-    };
-    let mut replay = match prepare(alloc, version, &plans, rules, options) {
-        Ok(replay) => replay,
-        Err(none) => return Status::NoMemory(none),
-    };
-    match put_replay(rt, &mut replay, out, gate) {
-        Ok(()) => Status::Done,
-        Err(WriteFailed) => Status::WriteFault,
+    match planner.finish(alloc) {
+        Ok(plans) => write_planned(rt, alloc, version, &plans, rules, options, out, gate),
+        Err(none) => Status::NoMemory(none),
     }
 }

@@ -1,5 +1,5 @@
 //! Tests of the top call over shelves and sinks in memory: traces and outputs in pieces, words, faults at each call, traces that
-//! are cut anywhere, traces at their limits, and drop-in files over rules.
+//! are cut anywhere, traces at their limits, drop-in files over rules, and traces without the victims of kills.
 #![tactic(auto)]
 
 #[cfg(test)]
@@ -20,5 +20,7 @@ mod pieces;
 mod replays;
 #[cfg(test)]
 mod runs;
+#[cfg(test)]
+mod whatif;
 #[cfg(test)]
 mod words;

@@ -17,7 +17,8 @@ const NO_FILE: Status = Status::NoFile {
 // The shelf in memory holds nothing by the names `u` and `-`.
 #[test]
 fn words_and_names(rt: HostRuntime) -> Result<(), Fail> {
-    let usage = "usage: psi_oomd stall or check or replay or gen or stress or import or rules\n";
+    let usage =
+        "usage: psi_oomd stall or check or replay or gen or stress or import or rules or whatif\n";
     assert!(rt; prints_nothing(&rt, "stall", ONE_WAIT, 7, NONE, Status::Usage, usage)?);
     assert!(rt; prints_nothing(&rt, "stall u", ONE_WAIT, 7, NONE, NO_FILE, "no file: u\n")?);
     assert!(rt; prints_nothing(&rt, "check u", ONE_WAIT, 7, NONE, NO_FILE, "no file: u\n")?);
@@ -56,6 +57,7 @@ fn codes_of_statuses(rt: HostRuntime) {
             },
         }
         .code(),
+        Status::TooLarge { events: 4_000_001 }.code(),
     ];
-    assert!(rt; codes == [0, 1, 2, 4, 5, 6, 7, 8, 9]);
+    assert!(rt; codes == [0, 1, 2, 4, 5, 6, 7, 8, 9, 10]);
 }

@@ -5,11 +5,15 @@ use run_spec::{Command, Options, Shape};
 use std::alloc::{AllocError, Global};
 use std::test::Fail;
 
-// Words, and behind `=>` the command: its trace, and of `replay` the rules with the drop-in file behind `+`, the numbers of
+// Words, and behind `=>` the command: its trace, and of `replay` and `whatif` the rules with the drop-in file behind `+`, the numbers of
 // `--tick-ms`, `--interval-s`, `--report-s` and `--workers`, the path and the number of
 // `--live-count`; of `gen` and `stress` the numbers of `--seed`, `--cpus`, `--groups` and `--events`,
 // and of `stress` that of `--workers`; of `import` its file and the number of `--cpus`; of `rules` its file with the drop-in file.
-const ACCEPTED: &str = "stall|X => stall X
+const ACCEPTED: &str = "whatif|X|--rules=R => whatif X R 2000 5 10 64 none 1
+whatif|-|--rules|R => whatif - R 2000 5 10 64 none 1
+whatif|--drop-in=D|--report-s=0|X|--rules=R => whatif X R+D 2000 5 0 64 none 1
+whatif|X|--rules=R|--tick-ms=1000|--interval-s=7|--workers=3 => whatif X R 1000 7 10 3 none 1
+stall|X => stall X
 stall|- => stall -
 stall|help => stall help
 stall|stall => stall stall
@@ -285,7 +289,20 @@ replay|X|--rules=R|--drop-in=D|--drop-in=D
 replay|X|--rules=-|--drop-in=D
 stall|X|--drop-in=D
 check|X|--drop-in=D
-whatif|X";
+whatif
+whatif|X
+whatif|--rules|R
+whatif|X|--rules|-
+whatif|X|--rules=
+whatif|X|--drop-in=D
+whatif|X|--rules=R|--live=/
+whatif|X|--rules=R|--live-count=2
+whatif|X|--rules=R|--tick-ms=0
+whatif|X|--rules=R|--workers=65
+whatif|X|--rules=R|--rules=R
+whatif|X|Y|--rules=R
+Whatif|X|--rules=R
+whatifs|X|--rules=R";
 
 // The bytes as text.
 fn shown(bytes: &[u8]) -> &str {
@@ -356,6 +373,10 @@ fn command_shown(alloc: Global, command: &Command) -> Result<String, AllocError>
         Command::Rules { file, drop_in } => {
             let (plus, drop_in) = over_shown(drop_in);
             format!(in alloc; "rules {}{plus}{drop_in}", shown(file.bytes()))
+        }
+        Command::Whatif { trace, options } => {
+            let options = options_shown(alloc, options)?;
+            format!(in alloc; "whatif {} {options}", shown(trace.bytes()))
         }
     }
 }

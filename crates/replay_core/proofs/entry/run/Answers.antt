@@ -1,9 +1,9 @@
 use Rattle.std.proofs.Common.{◌≡◌}
 use Rattle.run_spec.specs.Run.{ReadsFiles}
-use Rattle.run_spec.specs.declared.command.Command.TheVariants.{Import, Replay, Rules}
+use Rattle.run_spec.specs.declared.command.Command.TheVariants.{Import, Replay, Rules, Whatif}
 use Rattle.replay_core.proofs.GeneratedLaws.{makes}
 use Rattle.replay_core.proofs.Pieces.{front_of_puts}
-use Rattle.replay_core.proofs.RunEnds.{completes, drop_faults, faults, headlined, headlined_alone, imports, prints, prints_all, refuses}
+use Rattle.replay_core.proofs.RunEnds.{completes, drop_faults, faults, headlined, headlined_alone, imports, outgrown, prints, prints_all, refuses, supposed, unwatched}
 use Rattle.replay_core.proofs.entry.run.Goals as goal
 
 pub returns-in-Ok-clause-headline : goal.returns-in-Ok-clause-headline
@@ -35,6 +35,18 @@ returns-in-Ok-clause-prints g c = λ name drop_in rules is tells.
     let same : c.in-Ok.command ≡ Rules name drop_in = cc (c.in-Ok.ensures.exact, is) in
     let runs = rw same at c.run_buffered-status.ensures.runs in
     prints_all name drop_in (g.S.Shelf.holds c.args.shelf.now) _ _ _ _ c.run_buffered-status.result runs rules tells
+
+pub returns-in-Ok-clause-supposed : goal.returns-in-Ok-clause-supposed
+returns-in-Ok-clause-supposed g c = λ name bytes options rules is tells given done.
+    let same : c.in-Ok.command ≡ Whatif name options = cc (c.in-Ok.ensures.exact, is) in
+    let runs = rw (same, done) at c.run_buffered-status.ensures.runs in
+    supposed name options (g.S.Shelf.holds c.args.shelf.now) _ _ _ _ runs bytes rules (unwatched _ name options is) tells given
+
+pub returns-in-Ok-clause-outgrown : goal.returns-in-Ok-clause-outgrown
+returns-in-Ok-clause-outgrown g c = λ name bytes options rules events is tells given large.
+    let same : c.in-Ok.command ≡ Whatif name options = cc (c.in-Ok.ensures.exact, is) in
+    let runs = rw (same, large) at c.run_buffered-status.ensures.runs in
+    outgrown name options (g.S.Shelf.holds c.args.shelf.now) _ _ _ _ events runs bytes rules tells given
 
 pub returns-in-Ok-clause-dropped : goal.returns-in-Ok-clause-dropped
 returns-in-Ok-clause-dropped g c = λ command bytes drop_in fault is.

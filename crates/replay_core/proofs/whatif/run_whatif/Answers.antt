@@ -1,0 +1,36 @@
+use Rattle.std.proofs.Common.{Some, refl, sym, ap, ◌∙◌, subst}
+use Rattle.psi_spec.specs.Grammar.{version_of}
+use Rattle.psi_spec.specs.Trace.{limits_of}
+use Rattle.run_spec.specs.Outputs.{of_ms, pace_of}
+use Rattle.run_spec.specs.declared.command.Command.TheVariants.{Whatif}
+use Rattle.replay_core.specs.Reads.{trace_with}
+use Rattle.replay_core.specs.Rules.{RulesGiven}
+use Rattle.replay_core.proofs.RunLaws.{runs_supposed, takes_any}
+use Rattle.replay_core.proofs.WhatifLaws.{kept_accepted, kept_written}
+use Rattle.replay_core.proofs.whatif.run_whatif.Goals as goal
+
+pub write_whatif-requires-clause-trace : goal.write_whatif-requires-clause-trace
+write_whatif-requires-clause-trace g c κs within =
+    let options = c.args.options.now in
+    let keeper = c.in-Ok-play_trace.keeper in
+    let read = rw (c.from-tick.ensures, c.in-Ok.ensures.kept) at c.in-Ok-play_trace.ensures.content in
+    kept_accepted options c.in-Ok-play_trace.version keeper.cpus read.cpus keeper.events.items read.events keeper.table.limits keeper.table.world read.counted read.accepted read.played
+
+pub returns-in-Ok-play_trace-clause-runs : goal.returns-in-Ok-play_trace-clause-runs
+returns-in-Ok-play_trace-clause-runs g c =
+    let options = c.args.options.now in
+    let command = Whatif c.args.name.now options in
+    let files = g.S.Shelf.holds c.args.shelf.now in
+    let keeper = c.in-Ok-play_trace.keeper in
+    let given = c.in-Ok.ensures.answer in
+    let read = rw (c.from-tick.ensures, c.in-Ok.ensures.kept) at c.in-Ok-play_trace.ensures.content in
+    let limits = limits_of (of_ms options.tick_ms) read.cpus in
+    let wrote = kept_written c.in-Ok-play_trace.version keeper.cpus read.cpus keeper.events.items read.events limits keeper.table.limits keeper.table.world (pace_of options) c.in-Ok.rules.rules _ _ _ _ c.write_whatif.result refl read.played c.write_whatif.ensures.writes in
+    let causes = c.in-Ok-play_trace.ensures.cause in
+    runs_supposed c.args.name.now options files _ _ _ _ (trace_with (version_of c.in-Ok-play_trace.version) read.cpus read.events) c.in-Ok.rules.rules c.write_whatif.result
+    (takes_any command c.args.name.now files (version_of c.in-Ok-play_trace.version) read.cpus read.events (λ bytes. refl) refl refl read.counted read.told read.accepted read.read)
+    (subst (λ named. RulesGiven named options.drop_in files c.in-Ok.rules.rules) (sym c.in-Some.is) (subst (λ n. RulesGiven (Some n) options.drop_in files c.in-Ok.rules.rules) c.name_of.ensures given.0))
+    (rw c.in-Ok.ensures.kept at c.in-Ok-play_trace.ensures.missing) (causes.faults_same (λ is. cc is) ∙ given.1.faults) (causes.absent_same (λ is. cc is) ∙ given.1.absent) wrote
+
+pub returns-in-Err-clause-runs : goal.returns-in-Err-clause-runs
+returns-in-Err-clause-runs g c = c.in-Err.ensures.answer (Whatif c.args.name.now c.args.options.now) _ _ (c.in-Some.is ∙ ap (λ n. Some n) (sym c.name_of.ensures)) refl

@@ -1,0 +1,108 @@
+//! `whatif`: the output of what is left of a trace without the victims of its kills.
+ghost use Rattle.std.specs.Prelude.{◌≡◌, ◌+◌, ◌≤◌, IfSome, IsSome, IsUtf8};
+ghost use Rattle.psi_base.specs.Outside.{StaysOver};
+ghost use Rattle.psi_spec.specs.Grammar.{IsVersion};
+ghost use Rattle.ruleset_json.specs.RuleRanges.{FitsRules};
+ghost use Rattle.run_spec.specs.Outputs.{pace_of};
+ghost use Rattle.run_spec.specs.MostRead.{most_read};
+ghost use Rattle.run_spec.specs.Run.{Runs, run_counts};
+ghost use Rattle.whatif_rounds.specs.Rounds.{IsTraceAt, MayReplay, trace_from};
+ghost use Rattle.replay_core.specs.Writes.{IsStatusOfRounds, WritesLast};
+
+use crate::command::{MILLISECOND, fault_status, name_of};
+use crate::player::Keeper;
+use crate::replay::write_planned;
+use crate::rules::read_joined;
+use crate::trace::play_trace;
+use psi_base::{Event, Fault, Gate, Ns, Shelf, Sink};
+use ruleset_json::Rules;
+use run_spec::{Command, Options, Status};
+use std::alloc::Global;
+use std::thread::Threads;
+use whatif_rounds::{TooLarge, last_plans};
+
+// The status of a trace of which no last one is left.
+fn rounds_status(fault: Fault<TooLarge>) -> Status
+    ensures { IsStatusOfRounds fault result }
+{
+    match fault {
+        Fault::Refused(large) => Status::TooLarge {
+            events: large.events,
+        },
+        Fault::NoMemory(none) => Status::NoMemory(none),
+    }
+}
+
+// Takes the victims of its kills out of a trace of a version, with these events, and writes the output of what is left. All rounds
+// are made before anything is written.
+fn write_whatif<R: Threads + Sync, K: Sink, G: Gate>(
+    rt: &R,
+    alloc: Global,
+    version: u32,
+    cpus: u32,
+    events: Vec<Event>,
+    rules: Rules,
+    options: &Options,
+    out: &mut K,
+    gate: &G,
+) -> Status
+    requires version { IsVersion version }
+    requires trace { IsTraceAt options.now (trace_from version cpus events.items) }
+    requires fit { FitsRules rules.rules }
+    requires options { MayReplay options.now }
+    ensures writes { WritesLast (trace_from version cpus events.items) (pace_of options.now)
+        rules.rules (K.faults out.old) (K.faults out.new) (K.has out.old) (K.has out.new) result }
+    ensures below { StaysOver (K.below out.old) (K.below out.new) }
+{
+    match last_plans(rt, alloc, version, cpus, events, &rules, options) {
+        Ok(plans) => write_planned(rt, alloc, version, &plans, Some(rules), options, out, gate),
+        Err(fault) => rounds_status(fault),
+    }
+}
+
+/// Runs `whatif` over a trace, with the rules of its rules file and of the drop-in file over it, if it names one.
+pub(crate) fn run_whatif<R: Threads + Sync, S: Shelf, K: Sink, G: Gate>(
+    rt: &R,
+    alloc: Global,
+    name: &str,
+    options: &Options,
+    shelf: &mut S,
+    out: &mut K,
+    gate: &G,
+) -> Status
+    requires options { MayReplay options.now }
+    requires named { IsSome options.now.rules }
+    requires text { IfSome options.now.rules IsUtf8 }
+    requires drop_in { IfSome options.now.drop_in IsUtf8 }
+    ensures kept { S.holds shelf.new ≡ S.holds shelf.old }
+    ensures runs { Runs (Command.Whatif name.now options.now) (S.holds shelf.old)
+        (run_counts (S.faults shelf.old) (S.absent shelf.old) (K.faults out.old))
+        (run_counts (S.faults shelf.new) (S.absent shelf.new) (K.faults out.new))
+        (K.has out.old) (K.has out.new) result }
+    ensures reads { S.given shelf.new
+        ≤ S.given shelf.old + most_read (Command.Whatif name.now options.now) }
+    ensures below { StaysOver (K.below out.old) (K.below out.new) }
+{
+    let Some(rules_name) = &options.rules else {
+        unreachable!();
+    };
+    let rules = match read_joined(alloc, name_of(rules_name), &options.drop_in, shelf) {
+        Ok(rules) => rules,
+        Err(status) => return status,
+    };
+    let tick = Ns::from(options.tick_ms) * MILLISECOND;
+    match play_trace::<S, Keeper>(alloc, name, shelf, tick) {
+        Ok((version, keeper)) => write_whatif(
+            rt,
+            alloc,
+            version,
+            keeper.cpus,
+            keeper.events,
+            rules,
+            options,
+            out,
+            gate,
+        ),
+        Err(fault) => fault_status(fault),
+    }
+}
