@@ -1,6 +1,6 @@
 -- What the commands over generated traces come to as a run.
 use Rattle.std.proofs.Common.{◌≡◌, ◌⊎◌, inl, inr, ℕ, ◌<◌, ◌-◌, List, [], ◌∷◌, ◌++◌, refl, sym, ap, ◌∙◌, subst, arith, true≢false}
-use Rattle.std.proofs.Common.{append_assoc, Option, None, Some, is_some, Bool, true, false, ◌==◌, if◌then◌else◌}
+use Rattle.std.proofs.Common.{append_assoc, Option, None, Bool, true, false, ◌==◌, if◌then◌else◌}
 use Rattle.std.specs.Prelude.{IsSome}
 use Rattle.psi_base.specs.Gives.{no_memory}
 use Rattle.psi_base.specs.Outside.{Files, Rose}

@@ -1,6 +1,6 @@
 -- Reading the header of a trace, against the definition over its bytes.
-use Rattle.std.proofs.Common.{◌≡◌, ℕ, ◌≤◌, List, [], length, refl, ap, ◌∙◌, arith, ⊎_elim, Bool, true, false}
-use Rattle.std.specs.Prelude.{Result, Ok, Err, Option, None, Some, nat_lt, if◌then◌else◌}
+use Rattle.std.proofs.Common.{◌≡◌, ℕ, ◌≤◌, List, [], length, refl, ap, ◌∙◌, arith, ⊎_elim, Bool, false}
+use Rattle.std.specs.Prelude.{Result, Ok, Err, None, Some, nat_lt, if◌then◌else◌}
 use Rattle.psi_base.specs.Path.{parts_at}
 use Rattle.psi_base.specs.declared.event.Cause.{Cause}
 use Rattle.psi_base.specs.declared.event.Cause.TheVariants as cause

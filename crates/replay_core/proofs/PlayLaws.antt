@@ -5,7 +5,7 @@ use Rattle.psi_base.specs.declared.event.Event.{Event}
 use Rattle.psi_base.specs.declared.event.Cause.{Cause}
 use Rattle.psi_base.specs.declared.event.Fault.{Fault}
 use Rattle.psi_base.specs.declared.event.Fault.TheVariants as fault
-use Rattle.psi_spec.specs.World.{Limits, World, after, after_event}
+use Rattle.psi_spec.specs.World.{World, after, after_event}
 use Rattle.psi_spec.specs.Refusal.{cause_of}
 use Rattle.task_table.specs.Stands.{PlaysEvent, TableView}
 use Rattle.proc_plan.specs.Plans as plans

@@ -25,7 +25,7 @@ use Rattle.run_spec.specs.Whatif.{last_trace}
 use Rattle.run_spec.specs.Words.{command_of}
 use Rattle.run_spec.proofs.RangeLaws.{command_ranges}
 use Rattle.run_laws.proofs.LiveTexts.{one_text_unwatched}
-use Rattle.run_spec.specs.Run.{ComesTo, DropInTold, Ends, FailuresAreCounted, HasTrace, IsTold, IsThere, Refuses, RulesTold, RunCounts, Runs, TakesBase, TakesRules, TakesTrace, told_if_named}
+use Rattle.run_spec.specs.Run.{DropInTold, Ends, FailuresAreCounted, HasTrace, IsTold, IsThere, Refuses, RulesTold, RunCounts, Runs, TakesBase, TakesRules, TakesTrace, told_if_named}
 use Rattle.ruleset_json.specs.Rules.{rules_of}
 use Rattle.ruleset_json.specs.declared.fault.RulesFault.{RulesFault}
 use Rattle.ruleset_json.specs.declared.types.Rule.{Rule}

@@ -1,5 +1,5 @@
 -- What reading a trace gives, where its bytes are told.
-use Rattle.std.specs.Prelude.{◌≡◌, ◌≢◌, ℕ, ◌+◌, ◌<◌, ◌≤◌, List, [], ◌∷◌, ◌++◌, length, Option, None, Some, Result, Ok, Err, IsErrOf, OnOk, ⊤, Bool, true, false, ◌==◌}
+use Rattle.std.specs.Prelude.{◌≡◌, ◌≢◌, ℕ, ◌+◌, ◌<◌, ◌≤◌, List, [], ◌∷◌, ◌++◌, length, Option, None, Some, Result, Ok, Err, IsErrOf, OnOk, ⊤, true, false}
 use Rattle.psi_base.specs.Outside.{HasCauses, ShelfCounts}
 use Rattle.psi_base.specs.Path.{parts_at}
 use Rattle.psi_base.specs.declared.event.Event.{Event}
@@ -10,7 +10,6 @@ use Rattle.psi_base.specs.declared.event.Fault.{Fault}
 use Rattle.psi_base.specs.declared.event.Fault.TheVariants as fault
 use Rattle.psi_spec.specs.World.{World, Limits, after, first_world, most_events}
 use Rattle.psi_spec.specs.Refusal.{AreLegal, cause_of}
-use Rattle.psi_spec.specs.Fields.{IsAmong}
 use Rattle.psi_spec.specs.Grammar.{IsVersion, One, Verb, Version, header_with, verbs_of, version_of, versions}
 use Rattle.psi_spec.specs.Trace.{AllFit, AreKnown, IsAccepted, IsCpuCount, Trace, accepts_with, events_from, followed, limits_of, line_event, refused, trace_of, with_events}
 use Rattle.psi_lines.specs.Lines.{Reader}

@@ -1,4 +1,4 @@
-use Rattle.std.proofs.Common.{◌≡◌, Err, Ok, sym, ap, ◌∙◌, subst}
+use Rattle.std.proofs.Common.{Ok, sym, ap, ◌∙◌}
 use Rattle.ruleset_json.specs.Rules.{rules_of}
 use Rattle.replay_core.proofs.RulesRuns.{base_read, base_refused, unread_base}
 use Rattle.replay_core.proofs.rules.read_base.Goals as goal

@@ -1,4 +1,3 @@
-use Rattle.std.proofs.Common.{refl}
 use Rattle.replay_core.proofs.RulesRuns.{base_alone, base_ends, over_answers}
 use Rattle.replay_core.proofs.rules.read_joined.Goals as goal
 

@@ -1,4 +1,4 @@
-use Rattle.std.proofs.Common.{◌≡◌, Err, Ok, sym, ap, ◌∙◌, subst}
+use Rattle.std.proofs.Common.{Ok, sym, ap, ◌∙◌}
 use Rattle.dropin_rules.specs.Joined.{dropped_in}
 use Rattle.replay_core.proofs.RulesRuns.{over_read, over_refused, unread_over}
 use Rattle.replay_core.proofs.rules.read_over.Goals as goal
