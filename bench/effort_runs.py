@@ -24,6 +24,7 @@ class Trace(enum.Enum):
 
     NONE = "none"
     BUSY = "busy"
+    SMALL = "small"
     SPREAD = "spread"
     MANY_GROUPS = "many groups"
     QUIET = "quiet"
@@ -32,6 +33,7 @@ class Trace(enum.Enum):
 # The words of `gen` for each trace that it makes. A thousand events take about a second.
 SHAPES = {
     Trace.BUSY: ("--seed", "1", "--cpus", "8", "--groups", "40"),
+    Trace.SMALL: ("--seed", "1", "--cpus", "2", "--groups", "10"),
     Trace.SPREAD: ("--seed", "7", "--cpus", "64", "--groups", "10"),
     Trace.MANY_GROUPS: ("--seed", "1", "--cpus", "2", "--groups", "1000"),
 }
@@ -64,6 +66,7 @@ ONE_WORKER = ("--workers", "1")
 MANY_WORKERS = ("--workers", "64")
 LIVE = ("--live", "/")
 SHORT_TICKS = ("--tick-ms", "20", "--report-s", "0")
+LONG_TICKS = ("--tick-ms", "10000", "--report-s", "0")
 
 RUNS = (
     Run("check", ("check", "TRACE"), Trace.BUSY, is_alone=True),
@@ -73,7 +76,9 @@ RUNS = (
     Run("live by one", ("replay", "TRACE", *LIVE, *ONE_WORKER), Trace.BUSY, varies_percent=2),
     Run("live by many", ("replay", "TRACE", *LIVE, *MANY_WORKERS), Trace.BUSY, varies_percent=2),
     Run("live at short ticks", ("replay", "TRACE", *LIVE, *MANY_WORKERS, *SHORT_TICKS), Trace.BUSY, varies_percent=2),
+    Run("live on a small machine", ("replay", "TRACE", *LIVE, *MANY_WORKERS), Trace.SMALL, varies_percent=2),
     Run("never live", ("replay", "TRACE", "--live", "/none", *MANY_WORKERS, *SHORT_TICKS), Trace.SPREAD, is_alone=True),
+    Run("never live, long ticks", ("replay", "TRACE", "--live", "/none", *MANY_WORKERS, *LONG_TICKS), Trace.SPREAD),
     Run("quiet", ("replay", "TRACE", *MANY_WORKERS, "--report-s", "0"), Trace.QUIET, (2_000, 6_000), Step.TICK),
     Run("rules", ("replay", "TRACE", *RULES, *ONE_WORKER), Trace.MANY_GROUPS, is_alone=True),
     Run("gen", ("gen", *SHAPES[Trace.BUSY], "--events", "SIZE"), Trace.NONE, is_alone=True),
