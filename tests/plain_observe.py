@@ -1,0 +1,113 @@
+"""What observers of a group may print of a trace, read plainly: for checks of what psi_observe prints.
+
+It follows docs/FORMATS.md alone. Which samples are due of an observer, and what one must say after so many changes of its processor,
+is computed from the rules: states are read off the tasks, and the signals are those of docs/PRESSURE.md. How many changes a sample
+saw is open within its interval, and so is the order of the samples of different observers in one interval.
+"""
+from __future__ import annotations
+
+import dataclasses
+import re
+from collections.abc import Iterator
+
+from clocks import Clocks, Tick
+from must import Wrong, must, must_be
+from plain_pressure import Replay, Run
+
+# The length of a tick (ns).
+TICK = 2 * 10**9
+MOST_OBSERVERS, MOST_SAMPLES = 8, 1_000_000
+SAMPLE = re.compile(rb"sample observer=([0-9]+) cpu=[0-9]+ count=([0-9]+) .*")
+
+
+@dataclasses.dataclass
+class Due:
+    """A sample that is due of each observer: its tick, its processor, and after how many changes it is at least and at most."""
+
+    tick: Tick
+    cpu: int
+    least: int
+    most: int
+
+
+class Observed:
+    """What observers of a path may print of a trace: the samples that are due of each, in its order, and the lines behind them."""
+
+    def __init__(self, trace: str, path: str) -> None:
+        self.clocks = Clocks(trace, path, TICK)
+        self.due = list(self.all_due())
+        replay = Replay(Run("", trace, TICK, 0))
+        self.signals = sum(line.startswith("event ") for line in replay.output())
+        self.end = replay.end
+        # The texts behind the observer's number, by group, processor and count: many samples of a quiet trace are the same.
+        self.texts: dict[tuple[int | None, int, int], str] = {}
+
+    def all_due(self) -> Iterator[Due]:
+        """Of each tick at which the path is live a sample on each processor, from processor 0 on."""
+        before = [0] * len(self.clocks.changes)
+        for tick in self.clocks.ticks:
+            for cpu, (least, most) in enumerate(zip(before, tick.counts) if tick.group is not None else ()):
+                yield Due(tick, cpu, least, most)
+            before = tick.counts
+
+    def line(self, due: Due, observer: int, count: int) -> bytes:
+        """The line of an observer's sample after so many changes of its processor."""
+        key = due.tick.group, due.cpu, count
+        if key not in self.texts:
+            at = self.clocks.changes[due.cpu][count][0]
+            seven = self.clocks.times(due.tick, due.cpu, count, at)
+            self.texts[key] = f"cpu={due.cpu} count={count} at={at} {' '.join(map(str, seven))}"
+        return f"sample observer={observer} {self.texts[key]}".encode()
+
+    def last_lines(self, observers: int) -> list[bytes]:
+        """The lines behind all samples: what each observer read last of the board, and the end."""
+        board = f"tick={len(self.clocks.ticks)} events={self.signals} kills=0"
+        lines = [f"board observer={observer} {board}" for observer in range(observers)]
+        return [line.encode() for line in (*lines, f"end {self.end} samples={observers * len(self.due)}")]
+
+
+class Observer:
+    """An observer whose samples are taken off an output, one behind the other."""
+
+    def __init__(self, number: int, observed: Observed) -> None:
+        self.number, self.observed = number, observed
+        self.left = iter(observed.due)
+        # By processor, after how many changes its last sample is.
+        self.last: dict[int, int] = {}
+
+    def take(self, line: bytes, count: int) -> Tick:
+        """Takes its next sample, which has this count, and answers the tick of that."""
+        due = next(self.left, None)
+        if due is None:
+            raise Wrong("a sample that isn't due")
+        least = max(due.least, self.last.get(due.cpu, 0))
+        must(least <= count <= due.most, f"its count isn't from {least} to {due.most}, at {due.tick.moment} on processor {due.cpu}")
+        wanted = self.observed.line(due, self.number, count)
+        must(line == wanted, f"it isn't {wanted!r}")
+        self.last[due.cpu] = count
+        return due.tick
+
+
+def compare(printed: bytes, observed: Observed, observers: int) -> None:
+    """Refuses an output that so many observers may not print. Each sample stands in its interval: those of a tick behind those of the
+    tick before."""
+    *lines, behind = printed.split(b"\n")
+    must_be("what stands behind the last line", behind, b"")
+    count = observers * len(observed.due)
+    seen, moment = [Observer(number, observed) for number in range(observers)], 0
+    for number, line in enumerate(lines[:count], 1):
+        found = SAMPLE.fullmatch(line)
+        if not found or int(found[1]) >= observers:
+            raise Wrong(f"line {number} is {line!r}, no sample of one of {observers} observers")
+        try:
+            tick = seen[int(found[1])].take(line, int(found[2]))
+        except Wrong as wrong:
+            raise Wrong(f"line {number} is {line!r}: {wrong}") from None
+        must(moment <= tick.moment, f"line {number} is {line!r}: a sample of {tick.moment} behind one of {moment}")
+        moment = tick.moment
+    must_be("the lines behind the samples", lines[count:], observed.last_lines(observers))
+
+
+def is_too_many(cpus: int, ticks: int, observers: int) -> bool:
+    """Whether so many observers are refused, of a trace of so many processors and ticks, whatever the path is."""
+    return ticks * observers * cpus > MOST_SAMPLES
