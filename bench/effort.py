@@ -1,7 +1,8 @@
 #!/usr/bin/env python3
-"""Compares what small runs of psi_oomd cost with the figures that stand in bench/effort.json, and says what rose.
+"""Compares what small runs of the programs cost with the figures that stand in bench/effort.json, and says what rose.
 
-usage: bench/effort.py [--program PATH] [--store] [NAME ..]     (the built program, and all runs of bench/effort_runs.py)
+usage: bench/effort.py [--program PATH] [--store] [NAME ..]     (the built psi_oomd, and all runs of bench/effort_runs.py; of
+psi_observe PSI_OBSERVE, or the built one)
 
 Time depends on the machine, so what is counted is what doesn't:
 
@@ -33,7 +34,7 @@ import subprocess
 import sys
 import tempfile
 
-from built import Fault, built_program
+from built import program_of
 from effort_runs import RUNS, Run, write_inputs
 
 HERE = os.path.dirname(os.path.abspath(__file__))
@@ -113,7 +114,7 @@ def costs_of(run: Run) -> list[str]:
 
 
 def figures_of(run: Run, program: str, loading: dict[str, int], room: str) -> Figures:
-    """Measures a run. `loading` has the calls of a run without words."""
+    """Measures a run of a program. `loading` has the calls of a run of it without words."""
     small, large = ([program, *run.words_for(size, room)] for size in run.sizes)
     at_first = instructions_of(small, room)
     more = instructions_of(large, room) - at_first
@@ -171,17 +172,18 @@ def write_stored(figures: dict[str, Figures]) -> None:
         file.write("\n")
 
 
-def compare(runs: list[Run], program: str, is_stored: bool) -> bool:
-    """Measures these runs, tells their figures, and whether none is wrong. They are stored where that is wanted."""
+def compare(runs: list[Run], programs: dict[str, str], is_stored: bool) -> bool:
+    """Measures these runs of programs by name, tells their figures, and whether none is wrong. They are stored where that is
+    wanted."""
     where, stored = read_stored()
     if where != system():
         print(f"these figures are of {where}, and this is {system()}: what differs may be the system's", flush=True)
     is_right = True
     with tempfile.TemporaryDirectory() as room:
-        write_inputs(program, runs, room)
-        loading = calls_of([program], room, status=1)
+        write_inputs(programs["psi_oomd"], runs, room)
+        loading = {name: calls_of([program], room, status=1) for name, program in programs.items()}
         for run in runs:
-            found = figures_of(run, program, loading, room)
+            found = figures_of(run, programs[run.program], loading[run.program], room)
             print(f"{run.name}: " + ", ".join(f"{number:,} {name}" for name, number in found.items()), flush=True)
             wrong, lower = faults_of(run, stored.get(run.name, {}), found)
             if run.name in stored or not is_stored:
@@ -193,31 +195,37 @@ def compare(runs: list[Run], program: str, is_stored: bool) -> bool:
     return is_right or is_stored
 
 
-def words_of(given: list[str]) -> tuple[str | None, bool, list[Run]]:
-    """The program that is named, whether figures are to be stored, and the runs."""
-    program, is_stored = None, False
+def words_of(given: list[str]) -> tuple[list[str], bool, list[Run]]:
+    """The words that name the program, if any do, whether figures are to be stored, and the runs."""
+    named, is_stored = list[str](), False
     while given[:1] in (["--program"], ["--store"]):
         if given[0] == "--store":
             is_stored, given = True, given[1:]
         elif len(given) > 1:
-            program, given = os.path.abspath(given[1]), given[2:]
+            named, given = given[:2], given[2:]
         else:
             sys.exit(__doc__)
     unknown = set(given) - {run.name for run in RUNS}
     if unknown:
         sys.exit(f"effort: no run has the name {', '.join(sorted(unknown))}: {', '.join(run.name for run in RUNS)}")
-    return program, is_stored, [run for run in RUNS if not given or run.name in given]
+    return named, is_stored, [run for run in RUNS if not given or run.name in given]
+
+
+def programs_of(named: list[str], runs: list[Run]) -> dict[str, str]:
+    """The programs of these runs, and psi_oomd, which makes what they read."""
+    others = {run.program for run in runs} - {"psi_oomd"}
+    return {"psi_oomd": program_of(named)[0], **{name: program_of([], name)[0] for name in others}}
 
 
 def main(given: list[str]) -> int:
-    program, is_stored, runs = words_of(given)
+    named, is_stored, runs = words_of(given)
     missing = [tool for tool in TOOLS if shutil.which(tool) is None]
     if missing:
         print(f"effort: not found: {', '.join(missing)}, which are Debian's packages of these names", file=sys.stderr)
         return 2
     try:
-        is_right = compare(runs, program or built_program(), is_stored)
-    except (Failed, Fault, subprocess.CalledProcessError) as failed:
+        is_right = compare(runs, programs_of(named, runs), is_stored)
+    except (Failed, SystemExit, subprocess.CalledProcessError) as failed:
         print(f"effort: {failed}", file=sys.stderr)
         return 2
     return 0 if is_right else 1

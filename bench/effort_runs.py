@@ -43,7 +43,7 @@ TICK_NS = 2 * 10**9
 
 @dataclasses.dataclass(frozen=True)
 class Run:
-    """A run of the program in two sizes. In its words TRACE, RULES and SIZE stand for what it reads, and how much."""
+    """A run of a program in two sizes. In its words TRACE, RULES and SIZE stand for what it reads, and how much."""
 
     name: str
     words: tuple[str, ...]
@@ -54,6 +54,7 @@ class Run:
     is_alone: bool = False
     # By how much instructions and memory vary from run to run, in percent.
     varies_percent: float = 0.0
+    program: str = "psi_oomd"
 
     def words_for(self, size: int, room: str) -> list[str]:
         """The words, with what is written in this folder by `write_inputs`."""
@@ -83,6 +84,8 @@ RUNS = (
     Run("rules", ("replay", "TRACE", *RULES, *ONE_WORKER), Trace.MANY_GROUPS, is_alone=True),
     Run("gen", ("gen", *SHAPES[Trace.BUSY], "--events", "SIZE"), Trace.NONE, is_alone=True),
     Run("stress", ("stress", *SHAPES[Trace.BUSY], "--events", "SIZE", *MANY_WORKERS), Trace.NONE),
+    Run("observed", ("TRACE", "8", "/"), Trace.BUSY, varies_percent=2, program="psi_observe"),
+    Run("observed where it is never live", ("TRACE", "8", "/none"), Trace.BUSY, is_alone=True, program="psi_observe"),
 )
 
 
