@@ -5,23 +5,34 @@ use Rattle.observer_log.specs.declared.board.BoardState.{BoardState}
 use Rattle.observe_core.specs.Printed.{state_line, states_text}
 
 -- the lines up to a state, that of the state, and those behind it
+at_place : (first : ℕ) (states : List BoardState) (i observer : ℕ) (d : BoardState) → observer ≡ first + i → i < length states →
+    states_text first states
+    ≡ states_text first (take i states) ++ (state_line observer (get_or states i d) ++ states_text (observer + 1) (drop (suc i) states))
+at_place first [] i observer d same inside = absurd (omega (arith, inside))
+at_place first (state ∷ states) zero observer d same inside =
+    let here : first ≡ observer = omega (arith, same) in
+    subst (λ n. states_text first (state ∷ states) ≡ state_line n state ++ states_text (n + 1) states) here refl
+at_place first (state ∷ states) (suc i) observer d same inside =
+    ap (λ text. state_line first state ++ text) (at_place (first + 1) states i observer d (omega (arith, same)) (omega (arith, inside)))
+    ∙ sym (append_assoc (state_line first state) (states_text (first + 1) (take i states)) _)
+
 pub states_at : (first : ℕ) (states : List BoardState) (i observer : ℕ) (d : BoardState) → observer ≡ first + i → i < length states →
     states_text first states
     ≡ states_text first (take i states) ++ (state_line observer (get_or states i d) ++ states_text (observer + 1) (drop (i + 1) states))
-states_at first [] i observer d same inside = absurd (omega (arith, inside))
-states_at first (state ∷ states) zero observer d same inside =
-    let here : first ≡ observer = omega (arith, same) in
-    subst (λ n. states_text first (state ∷ states) ≡ state_line n state ++ states_text (n + 1) states) here refl
-states_at first (state ∷ states) (suc i) observer d same inside =
-    ap (λ text. state_line first state ++ text) (states_at (first + 1) states i observer d (omega (arith, same)) (omega (arith, inside)))
-    ∙ sym (append_assoc (state_line first state) (states_text (first + 1) (take i states)) _)
+states_at first states i observer d same inside =
+    let next : suc i ≡ i + 1 = omega arith in rw (← next) (at_place first states i observer d same inside)
 
 -- one state more has one line more
+one_more : (first : ℕ) (states : List BoardState) (i observer : ℕ) (d : BoardState) → observer ≡ first + i → i < length states →
+    states_text first (take (suc i) states) ≡ states_text first (take i states) ++ state_line observer (get_or states i d)
+one_more first [] i observer d same inside = absurd (omega (arith, inside))
+one_more first (state ∷ states) zero observer d same inside =
+    let here : first ≡ observer = omega (arith, same) in append-nil _ ∙ ap (λ n. state_line n state) here
+one_more first (state ∷ states) (suc i) observer d same inside =
+    ap (λ text. state_line first state ++ text) (one_more (first + 1) states i observer d (omega (arith, same)) (omega (arith, inside)))
+    ∙ sym (append_assoc (state_line first state) (states_text (first + 1) (take i states)) _)
+
 pub states_more : (first : ℕ) (states : List BoardState) (i observer : ℕ) (d : BoardState) → observer ≡ first + i → i < length states →
     states_text first (take (i + 1) states) ≡ states_text first (take i states) ++ state_line observer (get_or states i d)
-states_more first [] i observer d same inside = absurd (omega (arith, inside))
-states_more first (state ∷ states) zero observer d same inside =
-    let here : first ≡ observer = omega (arith, same) in append-nil _ ∙ ap (λ n. state_line n state) here
-states_more first (state ∷ states) (suc i) observer d same inside =
-    ap (λ text. state_line first state ++ text) (states_more (first + 1) states i observer d (omega (arith, same)) (omega (arith, inside)))
-    ∙ sym (append_assoc (state_line first state) (states_text (first + 1) (take i states)) _)
+states_more first states i observer d same inside =
+    let next : suc i ≡ i + 1 = omega arith in rw (← next) (one_more first states i observer d same inside)

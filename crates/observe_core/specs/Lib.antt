@@ -1,2 +1,5 @@
 pub mod Asked
 pub mod Printed
+pub mod Observing
+pub mod Driving
+pub mod Results

@@ -1,0 +1,215 @@
+-- What reading a trace, observing it and writing come to as a run, and what a status tells then.
+use Rattle.std.proofs.Common.{◌≡◌, ◌≢◌, ◌⊎◌, inl, inr, ℕ, ◌<◌, ◌≤◌, List, arith, refl, sym, ap, ◌∙◌, subst, Option, None, Some, Ok, Err}
+use Rattle.std.specs.Prelude.{IsErrOf, Result}
+use Rattle.std.specs.Io.KnownBytes.{Appends, Keeps}
+use Rattle.psi_base.specs.Gives.{no_memory}
+use Rattle.psi_base.specs.Outside.{Files, Lacks, Rose, told}
+use Rattle.psi_base.specs.declared.event.Refusal.{Refusal}
+use Rattle.psi_spec.specs.Grammar.{versions}
+use Rattle.psi_spec.specs.Trace.{Trace, last_moment, limits_of, trace_of}
+use Rattle.plan_laws.proofs.PlanStates.{legal_after}
+use Rattle.proc_plan.specs.Plans.{PlansView}
+use Rattle.run_spec.specs.Run.{RisesWhere, RunCounts}
+use Rattle.replay_core.specs.Reads.{CausesTraceFault, PlansRead, RefusalOf, TellsNothing}
+use Rattle.replay_core.specs.declared.trace.TraceFault.{TraceFault}
+use Rattle.replay_core.specs.declared.trace.TraceFault.TheVariants as fault
+use Rattle.replay_core.proofs.RunLaws.{keeps_same, stays}
+use Rattle.observe_spec.specs.declared.status.ObserveStatus.{ObserveStatus}
+use Rattle.observe_spec.specs.declared.status.ObserveStatus.TheVariants as status
+use Rattle.observe_spec.specs.Observed.{IsObservedText}
+use Rattle.observe_spec.specs.Run.{Ends, FailuresAreCounted, Runs, TakesTrace, accepts, most_samples, pace_on, samples_asked, tick_length}
+use Rattle.observe_spec.specs.Words.{Request}
+use Rattle.observe_core.specs.Results.{IsPlannedFor, IsStatusOf, WritesObserved}
+
+-- ---- a trace that was read
+
+-- it is planned for
+pub planned_for : (plans : PlansView) (number : ℕ) (path : List ℕ) (known : Option (List ℕ)) → (read : PlansRead plans number tick_length known) → IsPlannedFor plans read.trace number path
+planned_for plans number path known read = record {
+  numbered = read.numbered;
+  version = read.version;
+  planned = record {
+    counted = read.counted;
+    stand = read.stand;
+    accepted = read.accepted;
+    some = omega arith;
+    short = omega arith;
+    due = omega arith;
+  };
+}
+
+-- and taken
+pub takes_trace : (request : Request) (files : Option Files) (plans : PlansView) (number : ℕ) → (read : PlansRead plans number tick_length (told files request.trace)) → TakesTrace request files read.trace
+takes_trace request files plans number read = record {
+  cpus = read.counted;
+  known = read.known_verbs;
+  accepted = read.accepted;
+  read = read.read;
+}
+
+-- its end is no later than the last moment
+pub finish_early : (plans : PlansView) (trace : Trace) (number : ℕ) (path : List ℕ) → IsPlannedFor plans trace number path → plans.finish ≤ last_moment
+finish_early plans trace number path is =
+    let legal = legal_after (limits_of tick_length trace.cpus) trace.events is.planned.accepted.legal in
+    omega (arith, is.planned.stand.finish, legal.early)
+
+-- ---- counts
+
+-- the counts of a shelf stay where nothing failed there
+counts_same : (before now : RunCounts) (result : ObserveStatus) → now.shelf.faults ≡ before.shelf.faults → now.shelf.absent ≡ before.shelf.absent
+    → (result ≡ status.ReadFault → ⊥) → (result ≡ status.NoFile → ⊥) → RisesWhere (result ≡ status.WriteFault) before.writes now.writes → FailuresAreCounted before now result
+counts_same before now result faults absent no_read no_file writes = record {
+  faults = stays (result ≡ status.ReadFault) before.shelf.faults now.shelf.faults no_read faults;
+  absent = stays (result ≡ status.NoFile) before.shelf.absent now.shelf.absent no_file absent;
+  writes = writes;
+}
+
+-- all stay where nothing was done
+pub none_counted : (counts : RunCounts) (result : ObserveStatus) → (result ≡ status.ReadFault → ⊥) → (result ≡ status.NoFile → ⊥) → (result ≡ status.WriteFault → ⊥) → FailuresAreCounted counts counts result
+none_counted counts result no_read no_file no_write = counts_same counts counts result refl refl no_read no_file (stays (result ≡ status.WriteFault) counts.writes counts.writes no_write refl)
+
+-- ---- a trace that was observed
+
+pub runs_observed : (request : Request) (files : Option Files) (before now : RunCounts) (had has : Option (List ℕ)) (trace : Trace) (result : ObserveStatus) → TakesTrace request files trace → (Lacks files request.trace → ⊥)
+    → now.shelf.faults ≡ before.shelf.faults → now.shelf.absent ≡ before.shelf.absent → WritesObserved request trace before.writes now.writes had has result → Runs request files before now had has result
+runs_observed request files before now had has trace status.Done takes held faults absent wrote = record {
+  ends = (trace, takes, held, wrote.0, (wrote.1.0, wrote.1.1, wrote.1.2.0));
+  counts = counts_same before now status.Done faults absent (λ is. cc is) (λ is. cc is) (stays _ before.writes now.writes (λ is. cc is) wrote.1.2.1);
+}
+runs_observed request files before now had has trace status.WriteFault takes held faults absent wrote = record {
+  ends = (trace, takes, held, wrote.0, (wrote.1.0, wrote.1.1, wrote.1.2.0));
+  counts = counts_same before now status.WriteFault faults absent (λ is. cc is) (λ is. cc is) (record { rose = λ _. wrote.1.2.1; same = λ not. absurd (not refl) });
+}
+runs_observed request files before now had has trace (status.TooManySamples samples) takes held faults absent wrote = record {
+  ends = (wrote.0, held, (trace, takes, wrote.2, wrote.3));
+  counts = counts_same before now (status.TooManySamples samples) faults absent (λ is. cc is) (λ is. cc is) (stays _ before.writes now.writes (λ is. cc is) wrote.1);
+}
+runs_observed request files before now had has trace (status.NoMemory _) takes held faults absent wrote = record {
+  ends = wrote.0;
+  counts = counts_same before now (status.NoMemory no_memory) faults absent (λ is. cc is) (λ is. cc is) (stays _ before.writes now.writes (λ is. cc is) wrote.1);
+}
+runs_observed request files before now had has trace status.Usage takes held faults absent wrote = absurd wrote.1.2
+runs_observed request files before now had has trace status.NoFile takes held faults absent wrote = absurd wrote.1.2
+runs_observed request files before now had has trace status.ReadFault takes held faults absent wrote = absurd wrote.1.2
+runs_observed request files before now had has trace (status.Trace line why) takes held faults absent wrote = absurd wrote.1.2
+
+-- ---- a trace that couldn't be read
+
+pub runs_refused : {T : Type 0} → (request : Request) (files : Option Files) (before now : RunCounts) (had : Option (List ℕ)) (found : TraceFault) (result : ObserveStatus)
+    → ((bytes : List ℕ) → told files request.trace ≡ Some bytes → RefusalOf found (trace_of accepts bytes)) → (Lacks files request.trace → TellsNothing {A = Unit {0}} (Err found))
+    → (IsErrOf {T = T} (Err found) fault.NoFile → told files request.trace ≡ None) → CausesTraceFault {A = T} before.shelf now.shelf (Err found) → now.writes ≡ before.writes
+    → IsStatusOf found result → Runs request files before now had had result
+runs_refused request files before now had (fault.Refused refusal) result refused lacking missed causes writes is =
+    subst (Runs request files before now had had) (sym is) (record {
+      ends = (keeps_same had, lacking, refused);
+      counts = counts_same before now (status.Trace refusal.line refusal.cause) (causes.faults_same (λ e. cc e)) (causes.absent_same (λ e. cc e)) (λ e. cc e) (λ e. cc e) (stays _ before.writes now.writes (λ e. cc e) writes);
+    })
+runs_refused request files before now had fault.NoFile result refused lacking missed causes writes is =
+    subst (Runs request files before now had had) (sym is) (record {
+      ends = (keeps_same had, missed refl);
+      counts = record {
+        faults = stays _ before.shelf.faults now.shelf.faults (λ e. cc e) (causes.faults_same (λ e. cc e));
+        absent = record { rose = λ _. causes.missed refl; same = λ not. absurd (not refl) };
+        writes = stays _ before.writes now.writes (λ e. cc e) writes;
+      };
+    })
+runs_refused request files before now had fault.ReadFault result refused lacking missed causes writes is =
+    subst (Runs request files before now had had) (sym is) (record {
+      ends = keeps_same had;
+      counts = record {
+        faults = record { rose = λ _. causes.failed refl; same = λ not. absurd (not refl) };
+        absent = stays _ before.shelf.absent now.shelf.absent (λ e. cc e) (causes.absent_same (λ e. cc e));
+        writes = stays _ before.writes now.writes (λ e. cc e) writes;
+      };
+    })
+runs_refused request files before now had (fault.NoMemory _) result refused lacking missed causes writes is =
+    subst (Runs request files before now had had) (sym is) (record {
+      ends = keeps_same had;
+      counts = counts_same before now (status.NoMemory no_memory) (causes.faults_same (λ e. cc e)) (causes.absent_same (λ e. cc e)) (λ e. cc e) (λ e. cc e) (stays _ before.writes now.writes (λ e. cc e) writes);
+    })
+
+-- nothing was done, for want of memory
+pub runs_lacking : (request : Request) (files : Option Files) (counts : RunCounts) (had : Option (List ℕ)) → Runs request files counts counts had had (status.NoMemory no_memory)
+runs_lacking request files counts had = record {
+  ends = keeps_same had;
+  counts = none_counted counts (status.NoMemory no_memory) (λ e. cc e) (λ e. cc e) (λ e. cc e);
+}
+
+-- ---- what a status tells
+
+-- words that ask for something aren't those of Usage
+pub not_usage : (request : Request) (files : Option Files) (old new : Option (List ℕ)) (result : ObserveStatus) → Ends request files old new result → result ≡ status.Usage → ⊥
+not_usage request files old new result ends is = subst (Ends request files old new) is ends
+
+-- a text of the trace was written
+pub observed : (request : Request) (files : Option Files) (old new : Option (List ℕ)) (bytes : List ℕ) → told files request.trace ≡ Some bytes → Ends request files old new status.Done
+    → (trace : Trace) × (trace_of accepts bytes ≡ Ok trace) × ((text : List ℕ) × IsObservedText trace (pace_on request.path) request.path request.observers text × Appends old new text)
+observed request files old new bytes tells ends = (ends.0, ends.1.read bytes tells, ends.4)
+
+-- the trace that was taken is the one that the bytes are
+same_trace : (request : Request) (files : Option Files) (bytes : List ℕ) (one other : Trace) → told files request.trace ≡ Some bytes → TakesTrace request files one → trace_of accepts bytes ≡ Ok other → one ≡ other
+same_trace request files bytes one other tells takes read = let both : Ok one ≡ Ok other = sym (takes.read bytes tells) ∙ read in cc both
+
+pub completes : (request : Request) (files : Option Files) (before now : RunCounts) (old new : Option (List ℕ)) (result : ObserveStatus) (bytes : List ℕ) (trace : Trace) → Runs request files before now old new result
+    → told files request.trace ≡ Some bytes → trace_of accepts bytes ≡ Ok trace → samples_asked request trace ≤ most_samples → (Rose before.shelf.faults now.shelf.faults → ⊥) → (Rose before.writes now.writes → ⊥)
+    → (result ≡ status.Done) ⊎ (result ≡ status.NoMemory no_memory)
+completes request files before now old new status.Done bytes trace runs tells read few no_read no_write = inl refl
+completes request files before now old new (status.NoMemory _) bytes trace runs tells read few no_read no_write = inr refl
+completes request files before now old new status.WriteFault bytes trace runs tells read few no_read no_write = absurd (no_write (runs.counts.writes.rose refl))
+completes request files before now old new status.ReadFault bytes trace runs tells read few no_read no_write = absurd (no_read (runs.counts.faults.rose refl))
+completes request files before now old new status.NoFile bytes trace runs tells read few no_read no_write = absurd (let none = runs.ends.1 in let no : ⊥ = cc (tells, none) in no)
+completes request files before now old new (status.Trace line why) bytes trace runs tells read few no_read no_write = absurd (let refused = runs.ends.2 bytes tells in let no : ⊥ = cc (read, refused) in no)
+completes request files before now old new (status.TooManySamples samples) bytes trace runs tells read few no_read no_write =
+    let taken = runs.ends.2 in
+    let same = ap (samples_asked request) (same_trace request files bytes taken.0 trace tells taken.1 read) in
+    let is = taken.2 in
+    let many = taken.3 in
+    absurd (let no : ⊥ = omega (arith, same, is, many, few) in no)
+completes request files before now old new status.Usage bytes trace runs tells read few no_read no_write = absurd runs.ends
+
+pub too_many : (request : Request) (files : Option Files) (before now : RunCounts) (old new : Option (List ℕ)) (result : ObserveStatus) (bytes : List ℕ) (trace : Trace) → Runs request files before now old new result
+    → told files request.trace ≡ Some bytes → trace_of accepts bytes ≡ Ok trace → most_samples < samples_asked request trace → (Rose before.shelf.faults now.shelf.faults → ⊥)
+    → (result ≡ status.TooManySamples (samples_asked request trace)) ⊎ (result ≡ status.NoMemory no_memory)
+too_many request files before now old new (status.TooManySamples samples) bytes trace runs tells read many no_read =
+    let taken = runs.ends.2 in
+    let same = ap (samples_asked request) (same_trace request files bytes taken.0 trace tells taken.1 read) in
+    inl (ap (λ n. status.TooManySamples n) (taken.2 ∙ same))
+too_many request files before now old new (status.NoMemory _) bytes trace runs tells read many no_read = inr refl
+too_many request files before now old new status.Done bytes trace runs tells read many no_read =
+    let few = runs.ends.3 in
+    let same = ap (samples_asked request) (same_trace request files bytes runs.ends.0 trace tells runs.ends.1 read) in
+    absurd (let no : ⊥ = omega (arith, same, many, few) in no)
+too_many request files before now old new status.WriteFault bytes trace runs tells read many no_read =
+    let few = runs.ends.3 in
+    let same = ap (samples_asked request) (same_trace request files bytes runs.ends.0 trace tells runs.ends.1 read) in
+    absurd (let no : ⊥ = omega (arith, same, many, few) in no)
+too_many request files before now old new status.ReadFault bytes trace runs tells read many no_read = absurd (no_read (runs.counts.faults.rose refl))
+too_many request files before now old new status.NoFile bytes trace runs tells read many no_read = absurd (let none = runs.ends.1 in let no : ⊥ = cc (tells, none) in no)
+too_many request files before now old new (status.Trace line why) bytes trace runs tells read many no_read = absurd (let refused = runs.ends.2 bytes tells in let no : ⊥ = cc (read, refused) in no)
+too_many request files before now old new status.Usage bytes trace runs tells read many no_read = absurd runs.ends
+
+pub refuses : (request : Request) (files : Option Files) (before now : RunCounts) (old new : Option (List ℕ)) (result : ObserveStatus) (bytes : List ℕ) (refusal : Refusal) → Runs request files before now old new result
+    → told files request.trace ≡ Some bytes → trace_of accepts bytes ≡ Err refusal → (Rose before.shelf.faults now.shelf.faults → ⊥)
+    → (result ≡ status.Trace refusal.line refusal.cause) ⊎ (result ≡ status.NoMemory no_memory)
+refuses request files before now old new (status.Trace line why) bytes refusal runs tells read no_read =
+    let found = runs.ends.2 bytes tells in
+    let same : Err (record { line = line; cause = why }) ≡ Err refusal = sym found ∙ read in
+    let one : record { line = line; cause = why } ≡ refusal = cc same in
+    inl (ap (λ (r : Refusal). status.Trace r.line r.cause) one)
+refuses request files before now old new (status.NoMemory _) bytes refusal runs tells read no_read = inr refl
+refuses request files before now old new status.Done bytes refusal runs tells read no_read = absurd (let taken = runs.ends.1.read bytes tells in let no : ⊥ = cc (taken, read) in no)
+refuses request files before now old new status.WriteFault bytes refusal runs tells read no_read = absurd (let taken = runs.ends.1.read bytes tells in let no : ⊥ = cc (taken, read) in no)
+refuses request files before now old new (status.TooManySamples samples) bytes refusal runs tells read no_read = absurd (let taken = runs.ends.2.1.read bytes tells in let no : ⊥ = cc (taken, read) in no)
+refuses request files before now old new status.ReadFault bytes refusal runs tells read no_read = absurd (no_read (runs.counts.faults.rose refl))
+refuses request files before now old new status.NoFile bytes refusal runs tells read no_read = absurd (let none = runs.ends.1 in let no : ⊥ = cc (tells, none) in no)
+refuses request files before now old new status.Usage bytes refusal runs tells read no_read = absurd runs.ends
+
+pub quiet : (request : Request) (files : Option Files) (old new : Option (List ℕ)) (result : ObserveStatus) → Ends request files old new result → result ≢ status.Done → result ≢ status.WriteFault → Keeps old new
+quiet request files old new status.Done ends not_done no_fault = absurd (not_done refl)
+quiet request files old new status.WriteFault ends not_done no_fault = absurd (no_fault refl)
+quiet request files old new (status.Trace line why) ends not_done no_fault = ends.0
+quiet request files old new (status.TooManySamples samples) ends not_done no_fault = ends.0
+quiet request files old new status.NoFile ends not_done no_fault = ends.0
+quiet request files old new status.ReadFault ends not_done no_fault = ends
+quiet request files old new (status.NoMemory _) ends not_done no_fault = ends
+quiet request files old new status.Usage ends not_done no_fault = absurd ends

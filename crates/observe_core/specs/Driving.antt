@@ -1,0 +1,218 @@
+-- Observers beside a replay: how they are readied for an interval, and what they have seen after some ticks.
+use Rattle.std.specs.Prelude.{◌≡◌, ℕ, ◌+◌, ◌<◌, ◌≤◌, false, List, [], ◌∷◌, length, map, slice_get, slice_index_or, Option, Some}
+use Rattle.std.specs.List.{All, flat_map, range_with_len}
+use Rattle.ruleset_json.specs.declared.types.Rule.{Rule}
+use Rattle.atomic_table.specs.Seated.{TableId}
+use Rattle.psi_spec.specs.Changes.{RiseWithin}
+use Rattle.psi_spec.specs.Trace.{Trace}
+use Rattle.plan_laws.specs.Plan.{IsClock}
+use Rattle.pressure_spec.specs.Ticks.{tick_moment}
+use Rattle.run_spec.specs.Live.{Watch, live_slot_at}
+use Rattle.run_spec.specs.Replay.{Pace, signals_until, tick_count}
+use Rattle.observe_spec.specs.Samples.{AreDone, Due, Look, counts_by, due_at}
+use Rattle.proc_plan.specs.Plans.{PlansView, plan_at}
+use Rattle.clock_row.specs.declared.reader.Sample.{Sample}
+use Rattle.clock_row.specs.Ends.{ReaderEnd}
+use Rattle.clock_row.specs.Steps.{count_shown}
+use Rattle.replay_workers.specs.Crew.{CrewView, clocks_at, row_at}
+use Rattle.replay_ticks.specs.Replays.{IsReplay, IsSomeReplay, ReplayView}
+use Rattle.observer_log.specs.declared.board.BoardState.{BoardState}
+use Rattle.observer_log.specs.declared.entry.Entry.{Entry}
+use Rattle.observer_log.specs.Entries.{AreBy}
+use Rattle.observer_log.specs.Lending.{with_reader}
+use Rattle.observer_log.specs.Watch.{AreReaders, WatcherView, named_by, reader_at}
+use Rattle.observe_core.specs.Observing.{ObserverView, last_at}
+
+-- ---- the start
+
+-- A watcher of all processors that an observer with a number begins with, beside a replay: it has no entry.
+pub record IsNewWatcher (number : ℕ) (replay : ReplayView) (watcher : WatcherView) : Type 0 where
+  pub number_is : watcher.observer ≡ number
+  pub plans_are : watcher.plans ≡ replay.plans
+  pub readers_are : AreReaders replay.plans watcher.readers
+  pub rows_are : (cpu : ℕ) → cpu < length replay.plans.plans → Some (reader_at watcher.readers cpu).row ≡ row_at replay.crew.rows cpu
+  pub none : watcher.own ≡ []
+
+-- ---- before an interval
+
+-- A watcher with these last samples may be readied for a slot by a replay: they are of the same plans, and its readers are of the
+-- rows of the replay's clocks.
+pub record MayReady (replay : ReplayView) (slot : ℕ) (watcher : WatcherView) (lasts : List Sample) : Type 0 where
+  pub some : IsSomeReplay replay
+  pub few : length replay.plans.plans ≤ 64
+  pub slot_is : slot < length replay.plans.lives
+  pub plans_are : watcher.plans ≡ replay.plans
+  pub readers_are : length watcher.readers ≡ length replay.plans.plans
+  pub rows_are : (cpu : ℕ) → cpu < length replay.plans.plans → Some (reader_at watcher.readers cpu).row ≡ row_at replay.crew.rows cpu
+  pub lasts_are : length lasts ≡ length replay.plans.plans
+
+-- how many changes of a processor a crew has made
+abbrev pub made_by : CrewView → ℕ → ℕ
+made_by crew cpu = (clocks_at crew.clocks cpu).made
+
+-- The clocks of a processor met the reader of a watcher there: it has seen what they made, which isn't less than it saw before.
+pub record HasMet (cpu made : ℕ) (old new : WatcherView) : Type 0 where
+  pub reader : ReaderEnd
+  pub are : new ≡ with_reader old cpu reader
+  pub row : reader.row ≡ (reader_at old.readers cpu).row
+  pub knows : reader.knows ≡ count_shown made (reader_at old.readers cpu).knows
+  pub before : (reader_at old.readers cpu).knows.seen ≤ made
+
+-- A watcher is readied on the first of the processors: its readers there have seen what was made, which isn't less than they saw
+-- before. Nothing else of it changed.
+pub record IsReadied (made : ℕ → ℕ) (cpus : ℕ) (old new : WatcherView) : Type 0 where
+  pub observer_is : new.observer ≡ old.observer
+  pub plans_are : new.plans ≡ old.plans
+  pub own_is : new.own ≡ old.own
+  pub readers_are : length new.readers ≡ length old.readers
+  pub rows : (cpu : ℕ) → (reader_at new.readers cpu).row ≡ (reader_at old.readers cpu).row
+  pub names : (cpu : ℕ) → named_by new.readers cpu ≡ named_by old.readers cpu
+  pub seen : (cpu : ℕ) → cpu < cpus → (reader_at new.readers cpu).knows.seen ≡ made cpu
+  pub before : (cpu : ℕ) → cpu < cpus → (reader_at old.readers cpu).knows.seen ≤ made cpu
+  pub later : (cpu : ℕ) → cpus ≤ cpu → reader_at new.readers cpu ≡ reader_at old.readers cpu
+
+-- The last samples of the first processors are the clocks of a slot there, after what was made.
+pub record AreLasts (plans : PlansView) (slot : ℕ) (made : ℕ → ℕ) (cpus : ℕ) (lasts : List Sample) : Type 0 where
+  pub counts : (cpu : ℕ) → cpu < cpus → (last_at lasts cpu).count ≡ made cpu
+  pub clocks : (cpu : ℕ) → cpu < cpus → IsClock (last_at lasts cpu).clock (plan_at plans cpu) slot (last_at lasts cpu).count
+
+-- An observer is ready to watch a slot.
+pub record IsReady (plans : PlansView) (slot : ℕ) (made : ℕ → ℕ) (old new : ObserverView) : Type 0 where
+  pub pass_is : new.pass ≡ old.pass
+  pub parts_are : new.parts ≡ old.parts
+  pub failed_is : new.failed ≡ old.failed
+  pub many : length new.lasts ≡ length old.lasts
+  pub readied : IsReadied made (length old.lasts) old.watcher new.watcher
+  pub lasts_are : AreLasts plans slot made (length old.lasts) new.lasts
+
+-- so are all
+pub record AreReady (plans : PlansView) (slot : ℕ) (made : ℕ → ℕ) (old new : List ObserverView) : Type 0 where
+  pub many : length new ≡ length old
+  pub each : (number : ℕ) (d : ObserverView) → number < length old → IsReady plans slot made (slice_index_or old number d) (slice_index_or new number d)
+
+-- ---- after some ticks
+
+-- the sample that an entry is
+abbrev pub look_of : Entry → Look
+look_of entry = record { observer = entry.observer; cpu = entry.cpu.0; slot = entry.slot.0; count = entry.count }
+
+-- the samples that entries are
+abbrev pub looks_of : List Entry → List Look
+looks_of entries = map look_of entries
+
+-- an entry is of a processor and a group that there are, and has the processor's plan
+pub record IsOn (plans : PlansView) (entry : Entry) : Type 0 where
+  pub cpu : entry.cpu.0 < length plans.plans
+  pub plan : entry.plan.now ≡ plan_at plans entry.cpu.0
+
+-- so are all
+abbrev pub AreOn : PlansView → List Entry → Type 0
+AreOn plans [] = Unit {0}
+AreOn plans (entry ∷ entries) = IsOn plans entry × AreOn plans entries
+
+-- What stays the same while a trace is replayed beside observers: the plans, the rows of all processors, the board, the trace, its
+-- pace, and the path that is observed.
+pub record Setting : Type 0 where
+  pub plans : PlansView
+  pub rows : List (Option TableId)
+  pub board : TableId
+  pub trace : Trace
+  pub pace : Pace
+  pub path : List ℕ
+
+-- the slot that the path has at a tick
+abbrev pub slot_in : Setting → ℕ → Option ℕ
+slot_in set i = live_slot_at set.trace.events set.path (tick_moment set.pace.length i)
+
+-- the samples that are due of each observer at a tick
+abbrev pub due_in : Setting → ℕ → List Due
+due_in set i = due_at set.trace set.pace.length i (slot_in set i)
+
+-- those of the first so many ticks
+abbrev pub due_until : Setting → ℕ → List Due
+due_until set count = flat_map (due_in set) (range_with_len 1 count)
+
+-- What holds of each observer, by its number: it is of the plans and of the board, its readers are of the rows, and it has a place
+-- for the last sample of each processor, and one part of the journal's ledger. Memory wasn't wanting.
+pub record IsPlaced (set : Setting) (number : ℕ) (observer : ObserverView) : Type 0 where
+  pub number_is : observer.watcher.observer ≡ number
+  pub plans_are : observer.watcher.plans ≡ set.plans
+  pub readers_are : AreReaders set.plans observer.watcher.readers
+  pub rows_are : (cpu : ℕ) → cpu < length set.plans.plans → Some (reader_at observer.watcher.readers cpu).row ≡ row_at set.rows cpu
+  pub lasts_are : length observer.lasts ≡ length set.plans.plans
+  pub board_is : observer.pass.board ≡ set.board
+  pub backed : observer.parts ≡ 1
+  pub whole : observer.failed ≡ false
+
+-- A list has the samples of an observer, by its number, that were due at the first so many ticks; and their counts on a processor
+-- never fall, up to what its reader has seen.
+pub record HasTaken (set : Setting) (i number : ℕ) (readers : List ReaderEnd) (own : List Entry) : Type 0 where
+  pub by : AreBy number own
+  pub on : AreOn set.plans own
+  pub done : AreDone (due_until set i) (looks_of own)
+  pub rise : (cpu : ℕ) → RiseWithin 0 (counts_by number cpu (looks_of own)) (reader_at readers cpu).knows.seen
+
+-- An observer with a number has taken the samples that were due at the first so many ticks.
+pub record HasObserved (set : Setting) (i number : ℕ) (observer : ObserverView) : Type 0 where
+  pub placed : IsPlaced set number observer
+  pub taken : HasTaken set i number observer.watcher.readers observer.watcher.own
+
+-- So have all observers, by their numbers.
+abbrev pub HaveObserved : Setting → ℕ → List ObserverView → Type 0
+HaveObserved set i observers =
+    (number : ℕ) (d : ObserverView) → number < length observers → HasObserved set i number (slice_index_or observers number d)
+
+-- A new observer has taken nothing.
+pub record IsNew (set : Setting) (number : ℕ) (observer : ObserverView) : Type 0 where
+  pub placed : IsPlaced set number observer
+  pub none : observer.watcher.own ≡ []
+
+-- Observers may begin in a setting beside a replay: it has these plans and rows.
+pub record MayBegin (set : Setting) (replay : ReplayView) : Type 0 where
+  pub plans_are : replay.plans ≡ set.plans
+  pub rows_are : replay.crew.rows ≡ set.rows
+
+-- A replay, which watches the path, has made the first so many ticks.
+pub record IsReached (set : Setting) (replay : ReplayView) (i : ℕ) : Type 0 where
+  pub plans_are : replay.plans ≡ set.plans
+  pub rows_are : replay.crew.rows ≡ set.rows
+  pub replayed : IsReplay replay set.trace set.pace [] i
+  pub watch : set.pace.watch ≡ Some (record { path = set.path; count = 1 })
+
+-- A replay has made the first so many ticks, and observers have taken their samples beside it.
+pub record IsObserved (set : Setting) (replay : ReplayView) (observers : List ObserverView) (i : ℕ) : Type 0 where
+  pub reached : IsReached set replay i
+  pub observed : HaveObserved set i observers
+
+-- so it is beside this board, before the first tick
+abbrev pub IsToBegin : TableId → ReplayView → List ObserverView → Type 0
+IsToBegin board replay observers = (set : Setting) × (set.board ≡ board) × IsObserved set replay observers 0
+
+-- so it is beside this board, with a tick left
+abbrev pub IsToGo : TableId → ReplayView → List ObserverView → Type 0
+IsToGo board replay observers =
+    (set : Setting) × (i : ℕ) × (set.board ≡ board) × IsObserved set replay observers i × (i < tick_count set.trace set.pace)
+
+-- memory wasn't wanting to any
+abbrev pub AreWhole : List ObserverView → Type 0
+AreWhole observers = All (λ (observer : ObserverView). observer.failed ≡ false) observers
+
+-- ---- the board
+
+-- the state of a tick
+abbrev pub state_at : Trace → Pace → ℕ → BoardState
+state_at trace pace i = record { tick = i; events = signals_until trace pace i; kills = 0 }
+
+-- the states of the first so many ticks are on the board, the last one last
+pub record AreShown (trace : Trace) (pace : Pace) (i : ℕ) (states : List BoardState) : Type 0 where
+  pub many : length states ≡ i + 1
+  pub last : slice_get states i ≡ Some (state_at trace pace i)
+
+-- ---- one tick of the replay
+
+-- a replay made its next tick, over the same plans and rows
+pub record HasPassed (old new : ReplayView) : Type 0 where
+  pub plans_are : new.plans ≡ old.plans
+  pub rows_are : new.crew.rows ≡ old.crew.rows
+  pub passed : (trace : Trace) (pace : Pace) (rules : List Rule) (i : ℕ) → IsReplay old trace pace rules i → i < tick_count trace pace →
+      IsReplay new trace pace rules (i + 1)

@@ -1,0 +1,82 @@
+-- Observers: what each has, when it may watch a slot, and what it did then.
+use Rattle.std.specs.Prelude.{◌≡◌, Bool, false, ℕ, ◌+◌, ◌<◌, ◌≤◌, List, ◌++◌, length, slice_get, slice_index_or, Some}
+use Rattle.atomic_table.specs.Seated.{TableId}
+use Rattle.psi_counts.specs.Clock.{zero_clock}
+use Rattle.plan_laws.specs.Plan.{IsClock}
+use Rattle.proc_plan.specs.Plans.{PlansView, plan_at}
+use Rattle.clock_row.specs.declared.reader.Sample.{Sample}
+use Rattle.observer_log.specs.declared.board.BoardState.{BoardState}
+use Rattle.observer_log.specs.declared.entry.Entry.{Entry}
+use Rattle.observer_log.specs.Board.{BoardEnd, after_read}
+use Rattle.observer_log.specs.Watch.{AreReaders, IsTakenBy, WatcherView, named_by, reader_at}
+
+-- ---- looks at all processors
+
+abbrev pub no_sample : Sample
+no_sample = record { count = 0; clock = zero_clock }
+
+-- the last sample on a processor
+abbrev pub last_at : List Sample → ℕ → Sample
+last_at lasts cpu = slice_index_or lasts cpu no_sample
+
+-- A watcher may look at a slot on each processor: it has a reader and a last sample of each, which is the slot's clock after as
+-- many changes as the reader has seen.
+pub record CanLook (slot : ℕ) (lasts : List Sample) (watcher : WatcherView) : Type 0 where
+  pub few : length watcher.plans.plans ≤ 64
+  pub lasts_are : length lasts ≡ length watcher.plans.plans
+  pub readers_are : AreReaders watcher.plans watcher.readers
+  pub slots : (cpu : ℕ) → cpu < length watcher.plans.plans → slot < length (plan_at watcher.plans cpu).parents
+  pub clocks : (cpu : ℕ) → cpu < length watcher.plans.plans → IsClock (last_at lasts cpu).clock (plan_at watcher.plans cpu) slot (last_at lasts cpu).count
+  pub seen : (cpu : ℕ) → cpu < length watcher.plans.plans → (last_at lasts cpu).count ≡ (reader_at watcher.readers cpu).knows.seen
+
+-- These entries are one of each of the first processors, in their order, none earlier than the last sample there.
+pub record AreTaken (observer : ℕ) (plans : PlansView) (slot : ℕ) (lasts : List Sample) (cpus : ℕ) (taken : List Entry) : Type 0 where
+  pub many : length taken ≡ cpus
+  pub each : (cpu : ℕ) (entry : Entry) → slice_get taken cpu ≡ Some entry → IsTakenBy observer plans cpu slot (last_at lasts cpu).count entry
+
+-- A watcher looked at a slot on each of the first processors: the entries stand at the end of its list, and each of these
+-- readers has seen as many changes as its entry is after.
+pub record HaveLooked (slot : ℕ) (lasts : List Sample) (cpus : ℕ) (old new : WatcherView) : Type 0 where
+  pub observer_is : new.observer ≡ old.observer
+  pub plans_are : new.plans ≡ old.plans
+  pub taken : List Entry
+  pub own_is : new.own ≡ old.own ++ taken
+  pub taken_are : AreTaken old.observer old.plans slot lasts cpus taken
+  pub readers_are : length new.readers ≡ length old.readers
+  pub rows : (cpu : ℕ) → (reader_at new.readers cpu).row ≡ (reader_at old.readers cpu).row
+  pub names : (cpu : ℕ) → named_by new.readers cpu ≡ named_by old.readers cpu
+  pub seen : (cpu : ℕ) (entry : Entry) → slice_get taken cpu ≡ Some entry → (reader_at new.readers cpu).knows.seen ≡ entry.count
+  pub later : (cpu : ℕ) → cpus ≤ cpu → reader_at new.readers cpu ≡ reader_at old.readers cpu
+
+-- ---- observers
+
+-- An observer: its watcher, its pass of the board, the parts of its share of the journal, its last sample on each processor, and
+-- whether memory was wanting for an entry.
+pub record ObserverView : Type 0 where
+  pub watcher : WatcherView
+  pub pass : BoardEnd
+  pub parts : ℕ
+  pub lasts : List Sample
+  pub failed : Bool
+
+-- The observer may watch a slot beside this board.
+pub record CanWatch (board : TableId) (slot : ℕ) (observer : ObserverView) : Type 0 where
+  pub board_is : observer.pass.board ≡ board
+  pub backed : 0 < observer.parts
+  pub can : CanLook slot observer.lasts observer.watcher
+
+-- An observer watched a slot: it read the board once, and looked at the slot on each processor, unless memory was wanting.
+pub record HasWatched (slot : ℕ) (old new : ObserverView) : Type 0 where
+  pub board_is : new.pass.board ≡ old.pass.board
+  pub parts_are : new.parts ≡ old.parts
+  pub lasts_are : new.lasts ≡ old.lasts
+  pub state : BoardState
+  pub later : old.pass.knows.least ≤ state.tick
+  pub read : new.pass.knows ≡ after_read state old.pass.knows
+  pub kept : new.failed ≡ false → old.failed ≡ false
+  pub looked : new.failed ≡ false → HaveLooked slot old.lasts (length old.lasts) old.watcher new.watcher
+
+-- All observers watched a slot.
+pub record HaveAllWatched (slot : ℕ) (old new : List ObserverView) : Type 0 where
+  pub many : length new ≡ length old
+  pub each : (number : ℕ) (d : ObserverView) → number < length old → HasWatched slot (slice_index_or old number d) (slice_index_or new number d)

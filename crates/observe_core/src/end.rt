@@ -1,0 +1,69 @@
+//! Observers end, and their lists are put in the order of the journal.
+ghost use Rattle.std.specs.Prelude.{◌≡◌, ◌+◌, ℕ, IfOk, length, map};
+ghost use Rattle.std.specs.List.{All};
+ghost use Rattle.observer_log.specs.Board.{IsLast};
+ghost use Rattle.observer_log.specs.Entries.{AreOwn, by, list_of};
+ghost use Rattle.observe_core.specs.Observing.{ObserverView};
+
+use crate::observer::Observer;
+use observer_log::{Board, BoardState, DriverPass, Entry, Journal, Own};
+use psi_base::NoMemory;
+use std::alloc::Global;
+use std::sync::Wait;
+use std::sync::ledger::{Ledger, Share};
+
+/// What observers leave behind, by their numbers.
+#[derive(Drop)]
+pub(crate) struct Ended<'a> {
+    /// Their lists.
+    pub(crate) own: Vec<Own<'a>>,
+    /// What each read of the board last.
+    pub(crate) states: Vec<BoardState>,
+}
+
+/// Ends all observers, one after the other. Their shares go to the others. NoMemory where there was none for an entry.
+pub(crate) fn end_all<'a, L: Ledger, R: Wait>(
+    rt: &R,
+    alloc: Global,
+    observers: Vec<Observer<'_, 'a, L>>,
+    board: &Board,
+    driver: &mut DriverPass,
+    all: &mut Share<L>,
+) -> Result<Ended<'a>, NoMemory>
+    requires driver { driver.old.board ≡ board.now }
+    requires board { All (λ (observer : ObserverView). observer.pass.board ≡ board.now)
+        observers.items }
+    requires parts { All (λ (observer : ObserverView). observer.parts ≡ 1) observers.items }
+    ensures own { IfOk result (λ ended. ended.own.items
+        ≡ map (λ (observer : ObserverView). observer.watcher.own) observers.entry.items) }
+    ensures many { IfOk result (λ ended.
+        length ended.states.items ≡ length observers.entry.items) }
+    ensures last { IfOk result (λ ended. All (IsLast driver.old.states) ended.states.items) }
+    ensures parts { IfOk result (λ _.
+        all.new.parts ≡ all.old.parts + length observers.entry.items) }
+{
+    let mut own = Vec::new(alloc);
+    let mut states = Vec::new(alloc);
+    'observers: for observer in observers {
+        let (list, state) = observer.end(rt, board, driver, all)?;
+        own.push(list)?;
+        states.push(state)?;
+    }
+    Ok(Ended { own, states })
+}
+
+/// The entries of the lists, in the order of the journal. All shares have come back.
+pub(crate) fn ordered<'a, L: Ledger>(
+    mut journal: Journal<'a, L>,
+    all: &mut Share<L>,
+    own: &[Own<'a>],
+) -> Result<Vec<Entry<'a>>, NoMemory>
+    requires whole { all.old.parts ≡ L.parts }
+    requires own { AreOwn own.now }
+    ensures own { IfOk result (λ entries. (observer : ℕ) →
+        by observer entries.items ≡ list_of own.now observer) }
+{
+    // There are as many entries as were added by the shares.
+    journal.audit(all);
+    journal.order(own)
+}

@@ -1,0 +1,40 @@
+//! Looks at all processors, one after the other.
+ghost use Rattle.std.specs.Prelude.{◌≡◌, ◌<◌, length, IfOk};
+ghost use Rattle.observe_core.specs.Observing.{CanLook, HaveLooked};
+
+use clock_row::Sample;
+use observer_log::{AddFault, Journal, Watcher};
+use psi_base::{Cpu, Gate, NoMemory, Slot};
+use std::sync::ledger::{Ledger, Share};
+use std::sync::{Mutex, Wait};
+
+/// Looks at a slot on each processor, after the last sample there, and adds each entry to the journal: one that falls stays out
+/// of it. Tells the gate once an entry was added.
+pub(crate) fn look_at_all<'a, L: Ledger, R: Wait, G: Gate>(
+    rt: &R,
+    journal: &Mutex<Journal<'a, L>>,
+    watcher: &mut Watcher<'a>,
+    share: &mut Share<L>,
+    lasts: &[Sample],
+    slot: Slot,
+    gate: &G,
+) -> Result<(), NoMemory>
+    requires can { CanLook slot.0 lasts.now watcher.old }
+    requires backed { 0 < share.old.parts }
+    ensures looked { IfOk result (λ _.
+        HaveLooked slot.0 lasts.now (length lasts.now) watcher.old watcher.new) }
+    ensures parts { share.new.parts ≡ share.old.parts }
+{
+    'cpus: for place in 0..lasts.len() {
+        let cpu = Cpu(place as u32);
+        watcher.look(cpu, slot, &lasts[place], gate)?;
+        let entries = watcher.own().entries();
+        let entry = entries[entries.len() - 1];
+        match journal.lock(rt).add(entry, share) {
+            Ok(()) | Err(AddFault::Falls { .. }) => {}
+            Err(AddFault::NoMemory(none)) => return Err(none),
+        }
+        gate.sampled(cpu, entry.count);
+    }
+    Ok(())
+}

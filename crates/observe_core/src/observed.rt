@@ -1,0 +1,94 @@
+//! A trace that was taken apart is replayed, and observed beside the replay.
+ghost use Rattle.std.specs.Prelude.{◌≡◌, Some, IfOk, length};
+ghost use Rattle.psi_spec.specs.Trace.{Trace};
+ghost use Rattle.run_spec.specs.Words.{IsWithin};
+ghost use Rattle.observe_spec.specs.Observed.{IsObservedText};
+ghost use Rattle.observe_spec.specs.Run.{options_on, pace_on};
+ghost use Rattle.observe_core.specs.Printed.{printed};
+ghost use Rattle.observe_core.specs.Results.{IsPlannedFor};
+
+use crate::end::{end_all, ordered};
+use crate::start::make_observers;
+use crate::ticks::all_ticks;
+use crate::words::Request;
+use observer_log::{Board, BoardState, Entry, Journal};
+use proc_plan::Plans;
+use psi_base::{Gate, NoMemory, Path};
+use replay_ticks::prepare;
+use run_spec::Options;
+use std::alloc::Global;
+use std::sync::ledger::{Blank, Ledger};
+use std::sync::{Mutex, Wait};
+use std::thread::Threads;
+
+/// What was observed of a trace.
+#[derive(Drop)]
+pub(crate) struct Observed<'a> {
+    /// The samples.
+    pub(crate) entries: Vec<Entry<'a>>,
+    /// What each observer read of the board last, by their numbers.
+    pub(crate) states: Vec<BoardState>,
+}
+
+// The options of a replay beside observers of a path.
+fn options(alloc: Global, path: &Path) -> Result<Options, NoMemory>
+    ensures { IfOk result (λ options. options ≡ options_on (Some path.now)) }
+{
+    Ok(Options {
+        rules: None,
+        drop_in: None,
+        tick_ms: 2000,
+        interval_s: 5,
+        report_s: 10,
+        workers: 64,
+        live: Some(path.copy(alloc)?),
+        live_count: 1,
+    })
+}
+
+/// What so many observers observe of a trace of a version that was taken apart, each in a thread of its own where one can be
+/// started. The blank ledger has a part for each.
+pub(crate) fn observe_trace<'a, L: Ledger + Send + Sync, R: Threads + Wait + Sync, G: Gate>(
+    rt: &R,
+    alloc: Global,
+    blank: Blank,
+    version: u32,
+    plans: &'a Plans,
+    request: &Request<'_>,
+    gate: &G,
+) -> Result<Observed<'a>, NoMemory>
+    requires name { blank.name ≡ L.name }
+    requires parts { (blank.parts ≡ L.parts) × (L.parts ≡ request.now.observers) }
+    requires within { IsWithin 1 8 request.now.observers }
+    requires planned { (trace : Trace) × IsPlannedFor plans.now trace version request.now.path }
+    ensures states { IfOk result (λ observed.
+        length observed.states.items ≡ request.now.observers) }
+    ensures observed { IfOk result (λ observed. (trace : Trace) →
+        IsPlannedFor plans.now trace version request.now.path →
+        IsObservedText trace (pace_on request.now.path) request.now.path request.now.observers
+        (printed observed.entries.items observed.states.items plans.now.finish)) }
+{
+    let options = options(alloc, &request.path)?;
+    let mut replay = prepare(alloc, version, plans, None, &options)?;
+    let (book, mut all) = blank.open::<L>();
+    let journal = Mutex::new(Journal::make(alloc, book));
+    let (board, mut driver) = Board::make(alloc)?;
+    let observers = make_observers(
+        rt,
+        alloc,
+        request.observers,
+        plans,
+        &mut replay,
+        &journal,
+        &board,
+        &mut driver,
+        &mut all,
+    )?;
+    let observers = all_ticks(rt, replay, observers, &board, &mut driver, gate)?;
+    let ended = end_all(rt, alloc, observers, &board, &mut driver, &mut all)?;
+    let entries = ordered(journal.into_inner(), &mut all, &ended.own)?;
+    Ok(Observed {
+        entries,
+        states: ended.states,
+    })
+}

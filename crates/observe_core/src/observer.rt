@@ -1,0 +1,129 @@
+//! One observer.
+ghost use Rattle.std.specs.Prelude.{◌≡◌, ◌+◌, false, is_some, IfOk};
+ghost use Rattle.observer_log.specs.Board.{IsLast};
+ghost use Rattle.observe_core.specs.Observing.{CanWatch, HasWatched};
+
+use crate::looks::look_at_all;
+use clock_row::Sample;
+use observer_log::{Board, BoardPass, BoardState, DriverPass, Journal, Own, Watcher};
+use psi_base::{Gate, NoMemory, Slot};
+use std::marker::Model;
+use std::sync::ledger::{Ledger, Share};
+use std::sync::{Mutex, Wait};
+
+/// One observer. It may go to another thread. Contracts see its watcher, its pass of the board, the parts of its share of the
+/// journal, its last samples, and whether memory was wanting.
+#[derive(Drop)]
+pub struct Observer<'j, 'a, L: Ledger> {
+    pub(crate) journal: &'j Mutex<Journal<'a, L>>,
+    pub(crate) watcher: Watcher<'a>,
+    pub(crate) pass: BoardPass,
+    pub(crate) share: Share<L>,
+    /// The last sample on each processor: the writer's own clock, before an interval.
+    pub(crate) lasts: Vec<Sample>,
+    /// There was no memory for an entry.
+    pub(crate) failed: Option<NoMemory>,
+}
+
+impl<'j, 'a, L: Ledger> Model for Observer<'j, 'a, L> {
+    ghost use Rattle.std.specs.Prelude.{is_some};
+    ghost use Rattle.observe_core.specs.Observing.{ObserverView};
+
+    ghost Value = { ObserverView };
+
+    ghost view = { λ o. record {
+      watcher = o.watcher;
+      pass = o.pass;
+      parts = o.share.parts;
+      lasts = o.lasts.items;
+      failed = is_some o.failed;
+    } };
+}
+
+impl<'j, 'a, L: Ledger> Observer<'j, 'a, L> {
+    /// An observer of these parts.
+    pub fn new(
+        journal: &'j Mutex<Journal<'a, L>>,
+        watcher: Watcher<'a>,
+        pass: BoardPass,
+        share: Share<L>,
+        lasts: Vec<Sample>,
+    ) -> Observer<'j, 'a, L>
+        ensures watcher { result.watcher ≡ watcher.entry }
+        ensures pass { result.pass ≡ pass }
+        ensures parts { result.parts ≡ share.parts }
+        ensures lasts { result.lasts ≡ lasts.items }
+        ensures failed { result.failed ≡ false }
+    {
+        Observer {
+            journal,
+            watcher,
+            pass,
+            share,
+            lasts,
+            failed: None,
+        }
+    }
+
+    /// Reads the board once, and looks at a slot on each processor.
+    pub(crate) fn watch<R: Wait, G: Gate>(&mut self, rt: &R, board: &Board, slot: Slot, gate: &G)
+        requires { CanWatch board.now slot.0 self.old }
+        ensures { HasWatched slot.0 self.old self.new }
+    {
+        board.read(rt, &mut self.pass);
+        match look_at_all(
+            rt,
+            self.journal,
+            &mut self.watcher,
+            &mut self.share,
+            &self.lasts,
+            slot,
+            gate,
+        ) {
+            Ok(()) => {}
+            Err(none) => self.failed = Some(none),
+        }
+    }
+
+    /// Whether memory was wanting for an entry.
+    pub fn failed(&self) -> Option<NoMemory>
+        ensures { is_some result ≡ self.now.failed }
+    {
+        self.failed
+    }
+
+    /// Ends an observer: it is told all that was published, reads the board for the last time, and is told again. Its list and
+    /// what it read come back, and its share goes to the others. NoMemory where there was none for an entry.
+    pub fn end<R: Wait>(
+        self,
+        rt: &R,
+        board: &Board,
+        driver: &mut DriverPass,
+        all: &mut Share<L>,
+    ) -> Result<(Own<'a>, BoardState), NoMemory>
+        requires driver { driver.old.board ≡ board.now }
+        requires board { self.pass.board ≡ board.now }
+        ensures driver { driver.new ≡ driver.old }
+        ensures own { IfOk result (λ ended. ended.0 ≡ self.entry.watcher.own) }
+        ensures last { IfOk result (λ ended. IsLast driver.old.states ended.1) }
+        ensures whole { IfOk result (λ _. self.entry.failed ≡ false) }
+        ensures parts { all.new.parts ≡ all.old.parts + self.entry.parts }
+    {
+        let Observer {
+            journal: _,
+            watcher,
+            mut pass,
+            share,
+            lasts: _,
+            failed,
+        } = self;
+        all.merge(share);
+        board.tell(rt, driver, &mut pass)?;
+        let state = board.read(rt, &mut pass);
+        board.tell(rt, driver, &mut pass)?;
+        match failed {
+            None => Ok((watcher.into_own(), state)),
+            Some(none) => Err(none),
+        }
+    }
+}

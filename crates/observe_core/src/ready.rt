@@ -1,0 +1,82 @@
+//! Observers are readied for an interval: their readers learn how many changes were made, and their last samples are the clocks
+//! themselves.
+ghost use Rattle.std.specs.Prelude.{◌≡◌, ◌<◌, Some, length};
+ghost use Rattle.std.specs.List.{All};
+ghost use Rattle.replay_ticks.specs.Replays.{IsSomeReplay};
+ghost use Rattle.replay_workers.specs.Crew.{row_at};
+ghost use Rattle.observer_log.specs.Watch.{reader_at};
+ghost use Rattle.observe_core.specs.Driving.{AreLasts, AreReady, HasMet, IsReadied, IsReady, MayReady, made_by};
+ghost use Rattle.observe_core.specs.Observing.{ObserverView};
+
+use crate::observer::Observer;
+use clock_row::Sample;
+use observer_log::Watcher;
+use psi_base::{Cpu, Slot};
+use replay_ticks::Replay;
+use std::sync::ledger::Ledger;
+
+// The clocks of a processor learn what a watcher's reader has seen there, and tell it how many changes they made.
+fn meet(replay: &mut Replay<'_>, watcher: &mut Watcher<'_>, cpu: Cpu)
+    requires replay { IsSomeReplay replay.old }
+    requires cpu { cpu.0 < length replay.old.plans.plans }
+    requires plans { watcher.old.plans ≡ replay.old.plans }
+    requires row { Some (reader_at watcher.old.readers cpu.0).row
+        ≡ row_at replay.old.crew.rows cpu.0 }
+    ensures same { replay.new ≡ replay.old }
+    ensures met { HasMet cpu.0 (made_by replay.old.crew cpu.0) watcher.old watcher.new }
+{
+    let reader = watcher.reader(cpu);
+    replay.settle(cpu, reader);
+    replay.meet(cpu, reader);
+}
+
+// Readies a watcher for a slot: its last samples are those of the clocks.
+fn ready(
+    replay: &mut Replay<'_>,
+    watcher: &mut Watcher<'_>,
+    lasts: &mut Vec<Sample>,
+    slot: Slot,
+)
+    requires { MayReady replay.old slot.0 watcher.old lasts.old.items }
+    ensures same { replay.new ≡ replay.old }
+    ensures readied { IsReadied (made_by replay.old.crew) (length lasts.old.items)
+        watcher.old watcher.new }
+    ensures many { length lasts.new.items ≡ length lasts.old.items }
+    ensures lasts { AreLasts replay.old.plans slot.0 (made_by replay.old.crew)
+        (length lasts.old.items) lasts.new.items }
+{
+    'cpus: for place in 0..lasts.len() {
+        let cpu = Cpu(place as u32);
+        meet(replay, watcher, cpu);
+        lasts[place] = replay.last(cpu, slot);
+    }
+}
+
+impl<'j, 'a, L: Ledger> Observer<'j, 'a, L> {
+    // Readies the observer for a slot.
+    fn ready(&mut self, replay: &mut Replay<'_>, slot: Slot)
+        requires { MayReady replay.old slot.0 self.old.watcher self.old.lasts }
+        ensures same { replay.new ≡ replay.old }
+        ensures ready { IsReady replay.old.plans slot.0 (made_by replay.old.crew)
+            self.old self.new }
+    {
+        ready(replay, &mut self.watcher, &mut self.lasts, slot);
+    }
+}
+
+/// Readies all observers for a slot.
+pub(crate) fn ready_all<L: Ledger>(
+    replay: &mut Replay<'_>,
+    observers: &mut [Observer<'_, '_, L>],
+    slot: Slot,
+)
+    requires { All (λ (observer : ObserverView).
+        MayReady replay.old slot.0 observer.watcher observer.lasts) observers.old }
+    ensures same { replay.new ≡ replay.old }
+    ensures ready { AreReady replay.old.plans slot.0 (made_by replay.old.crew)
+        observers.old observers.new }
+{
+    'observers: for observer in observers.iter_mut() {
+        observer.ready(replay, slot);
+    }
+}

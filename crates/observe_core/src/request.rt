@@ -1,0 +1,151 @@
+//! What is asked for is observed, and written.
+ghost use Rattle.std.specs.Prelude.{◌≡◌, ◌+◌, ◌*◌, ◌/◌, ◌≤◌, ◌<◌, [], IfOk, length};
+ghost use Rattle.psi_base.specs.Outside.{HasCause, PutsAll};
+ghost use Rattle.psi_spec.specs.Grammar.{version_of};
+ghost use Rattle.psi_spec.specs.Trace.{Trace, last_moment};
+ghost use Rattle.run_spec.specs.MostRead.{most_of_trace};
+ghost use Rattle.run_spec.specs.Run.{run_counts};
+ghost use Rattle.run_spec.specs.Words.{IsWithin};
+ghost use Rattle.observe_spec.specs.Run.{Runs};
+ghost use Rattle.observe_core.specs.Asked.{request_in};
+ghost use Rattle.observe_core.specs.Printed.{printed};
+ghost use Rattle.observe_core.specs.Results.{IsPlannedFor, IsStatusOf, WritesObserved, WritesText};
+
+use crate::lines::put_observed;
+use crate::observed::{Observed, observe_trace};
+use crate::words::Request;
+use observe_spec::ObserveStatus;
+use observer_log::{BoardState, Entry};
+use proc_plan::Plans;
+use psi_base::{BufferedSink, Gate, Ns, Pending, Shelf, Sink, WriteFailed};
+use replay_core::{TraceFault, read_plans};
+use std::alloc::Global;
+use std::marker::Brand;
+use std::sync::Wait;
+use std::sync::ledger::Blank;
+use std::thread::Threads;
+
+/// The length of a tick (ns).
+const TICK: Ns = 2_000_000_000;
+
+/// The most samples that are taken.
+const MOST_SAMPLES: u64 = 1_000_000;
+
+// The status of a trace that can't be read.
+fn fault_status(fault: TraceFault) -> ObserveStatus
+    ensures status { IsStatusOf fault result }
+{
+    match fault {
+        TraceFault::Refused(refusal) => ObserveStatus::Trace {
+            line: refusal.line,
+            cause: refusal.cause,
+        },
+        TraceFault::NoFile => ObserveStatus::NoFile,
+        TraceFault::ReadFault => ObserveStatus::ReadFault,
+        TraceFault::NoMemory(none) => ObserveStatus::NoMemory(none),
+    }
+}
+
+// How many samples so many observers of a trace take at most: one at each tick, of each observer, on each processor.
+fn samples_asked(plans: &Plans, observers: u32) -> u64
+    requires early { plans.now.finish ≤ last_moment }
+    requires few { length plans.now.plans ≤ 64 }
+    requires within { observers ≤ 8 }
+    ensures { result ≡ plans.now.finish / 2000000000 * observers * length plans.now.plans }
+{
+    plans.finish() / TICK * u64::from(observers) * u64::from(plans.cpus())
+}
+
+// Sends all lines on in large pieces.
+fn send<K: Sink>(
+    pending: &mut Pending,
+    entries: &[Entry<'_>],
+    states: &[BoardState],
+    finish: Ns,
+    out: &mut K,
+) -> Result<(), WriteFailed>
+    requires none { pending.old ≡ [] }
+    requires few { length states.now ≤ 8 }
+    ensures bytes { PutsAll (K.has out.old) (K.has out.new) result
+        (printed entries.now states.now finish) }
+    ensures cause { HasCause (K.faults out.old) (K.faults out.new) result }
+{
+    let mut buffered = BufferedSink::new(out, pending);
+    match put_observed(&mut buffered, entries, states, finish) {
+        Ok(()) => buffered.flush(),
+        Err(failed) => Err(failed),
+    }
+}
+
+// Writes what was observed.
+fn write<K: Sink>(
+    pending: &mut Pending,
+    observed: &Observed<'_>,
+    finish: Ns,
+    out: &mut K,
+) -> ObserveStatus
+    requires none { pending.old ≡ [] }
+    requires few { length observed.now.states.items ≤ 8 }
+    ensures writes { WritesText (printed observed.now.entries.items observed.now.states.items finish)
+        (K.faults out.old) (K.faults out.new) (K.has out.old) (K.has out.new) result }
+{
+    match send(pending, &observed.entries, &observed.states, finish, out) {
+        Ok(()) => ObserveStatus::Done,
+        Err(WriteFailed) => ObserveStatus::WriteFault,
+    }
+}
+
+// Observes a trace of a version that was taken apart, and writes what was observed. Where there would be too many samples, or memory
+// is wanting, nothing is written.
+fn write_observed<R: Threads + Wait + Sync, K: Sink, G: Gate>(
+    rt: &R,
+    alloc: Global,
+    version: u32,
+    plans: &Plans,
+    request: &Request<'_>,
+    out: &mut K,
+    gate: &G,
+) -> ObserveStatus
+    requires within { IsWithin 1 8 request.now.observers }
+    requires planned { (trace : Trace) × IsPlannedFor plans.now trace version request.now.path }
+    ensures writes { (trace : Trace) → IsPlannedFor plans.now trace version request.now.path →
+        WritesObserved (request_in request.now) trace (K.faults out.old) (K.faults out.new)
+        (K.has out.old) (K.has out.new) result }
+{
+    let samples = samples_asked(plans, request.observers);
+    if samples > MOST_SAMPLES {
+        return ObserveStatus::TooManySamples { samples };
+    }
+    let mut pending = match Pending::new(alloc) {
+        Ok(pending) => pending,
+        Err(none) => return ObserveStatus::NoMemory(none),
+    };
+    let blank = Blank::new(u64::from(request.observers));
+    match observe_trace::<Brand, R, G>(rt, alloc, blank, version, plans, request, gate) {
+        Ok(observed) => write(&mut pending, &observed, plans.finish(), out),
+        Err(none) => ObserveStatus::NoMemory(none),
+    }
+}
+
+/// Observes what is asked for.
+pub(crate) fn run_request<R: Threads + Wait + Sync, S: Shelf, K: Sink, G: Gate>(
+    rt: &R,
+    alloc: Global,
+    request: &Request<'_>,
+    shelf: &mut S,
+    out: &mut K,
+    gate: &G,
+) -> ObserveStatus
+    requires within { IsWithin 1 8 request.now.observers }
+    ensures kept { S.holds shelf.new ≡ S.holds shelf.old }
+    ensures runs { Runs (request_in request.now) (S.holds shelf.old)
+        (run_counts (S.faults shelf.old) (S.absent shelf.old) (K.faults out.old))
+        (run_counts (S.faults shelf.new) (S.absent shelf.new) (K.faults out.new))
+        (K.has out.old) (K.has out.new) result }
+    ensures reads { S.given shelf.new ≤ S.given shelf.old + most_of_trace }
+{
+    match read_plans(alloc, request.trace, shelf, TICK) {
+        Ok((version, plans)) => write_observed(rt, alloc, version, &plans, request, out, gate),
+        Err(fault) => fault_status(fault),
+    }
+}

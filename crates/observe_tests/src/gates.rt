@@ -1,0 +1,155 @@
+//! Observers and the threads of the replay at a gate that holds each of them until it has met another.
+
+use crate::runs::{is_run, line_of, run_gated};
+use observe_core::ObserveStatus;
+use psi_base::{Cpu, Gate};
+use std::sync::atomic::AtomicBool;
+use std::sync::atomic::Ordering::SeqCst;
+use std::test::Fail;
+
+/// How often a thread looks for another one before it gives up.
+const TURNS: u32 = 200_000_000;
+
+/// A task runs on the one processor, waits for IO for a second, and is ready to the end.
+pub const ONE_PROCESSOR: &str = "psitrace 1 cpus=1\n\
+    0 fork 1 / 0\n\
+    0 switch 0 1 idle\n\
+    500000000 switch 0 0 iowait\n\
+    1500000000 wake 1 0\n\
+    2000000000 end\n";
+
+/// What one observer prints of it that samples after the third change.
+const AFTER_THREE: &str = "sample observer=0 cpu=0 count=3 at=500000000 0 0 0 0 0 0 500000000\n\
+    board observer=0 tick=1 events=0 kills=0\n\
+    end 2000000000 samples=1\n";
+
+/// A group whose task runs, waits for IO for a second and is ready; it goes once the task has left it, and comes again.
+const COMES_AGAIN: &str = "psitrace 1 cpus=1\n\
+    0 group /a\n\
+    0 fork 1 /a 0\n\
+    0 switch 0 1 idle\n\
+    500000000 switch 0 0 iowait\n\
+    1500000000 wake 1 0\n\
+    4500000000 move 1 /\n\
+    4500000000 rmgroup /a\n\
+    6500000000 group /a\n\
+    8000000000 end\n";
+
+/// What one observer prints of it that first samples after the third change. At the third tick the group isn't live, and at the
+/// fourth it is another one, in which no time has passed.
+const BOTH_LIVES: &str = "sample observer=0 cpu=0 count=3 at=500000000 0 0 0 0 0 0 500000000\n\
+    sample observer=0 cpu=0 count=4 at=1500000000 1000000000 1000000000 0 0 0 0 1500000000\n\
+    sample observer=0 cpu=0 count=5 at=4500000000 0 0 0 0 0 0 0\n\
+    board observer=0 tick=4 events=0 kills=0\n\
+    end 8000000000 samples=3\n";
+
+/// Waits until another thread has come, and tells of it where it didn't.
+fn wait_for(other: &AtomicBool, is_missed: &AtomicBool) {
+    for _ in 0..TURNS {
+        if other.load(SeqCst) {
+            return;
+        }
+    }
+    is_missed.store(true, SeqCst);
+}
+
+/// A gate at which the third change of processor 0 and observer 0's first sample there wait for one another: the sample is taken
+/// once the change is made, and the next change is made once it is taken.
+#[derive(Drop)]
+struct AfterThird {
+    is_moved: AtomicBool,
+    is_sampled: AtomicBool,
+    is_missed: AtomicBool,
+}
+
+impl AfterThird {
+    fn new() -> AfterThird {
+        AfterThird {
+            is_moved: AtomicBool::new(false),
+            is_sampled: AtomicBool::new(false),
+            is_missed: AtomicBool::new(false),
+        }
+    }
+
+    /// Whether both came in time.
+    fn is_met(&self) -> bool {
+        self.is_moved.load(SeqCst) && self.is_sampled.load(SeqCst) && !self.is_missed.load(SeqCst)
+    }
+}
+
+impl Gate for AfterThird {
+    fn moved(&self, cpu: Cpu, count: u64) {
+        if cpu.0 == 0 && count == 3 {
+            self.is_moved.store(true, SeqCst);
+            wait_for(&self.is_sampled, &self.is_missed);
+        }
+    }
+
+    fn before_sample(&self, cpu: Cpu, index: u32) {
+        if cpu.0 == 0 && index == 0 {
+            wait_for(&self.is_moved, &self.is_missed);
+        }
+    }
+
+    fn sampled(&self, _cpu: Cpu, _count: u64) {
+        self.is_sampled.store(true, SeqCst);
+    }
+}
+
+#[test]
+fn samples_while_the_replay_goes_on(rt: HostRuntime) -> Result<(), Fail> {
+    let gate = AfterThird::new();
+    let ran = run_gated(&rt, "t 1 /", ONE_PROCESSOR, &gate)?;
+    assert!(rt; is_run(&ran, ObserveStatus::Done, AFTER_THREE, ""));
+    assert!(rt; gate.is_met(), "a thread waited in vain");
+    Ok(())
+}
+
+#[test]
+fn a_group_goes_and_comes_again(rt: HostRuntime) -> Result<(), Fail> {
+    let gate = AfterThird::new();
+    let ran = run_gated(&rt, "t 1 /a", COMES_AGAIN, &gate)?;
+    assert!(rt; is_run(&ran, ObserveStatus::Done, BOTH_LIVES, ""));
+    assert!(rt; gate.is_met(), "a thread waited in vain");
+    Ok(())
+}
+
+/// A gate at which observer 0 waits until another one has added its sample to the journal.
+#[derive(Drop)]
+struct OtherFirst {
+    is_sampled: AtomicBool,
+    is_missed: AtomicBool,
+}
+
+impl Gate for OtherFirst {
+    fn moved(&self, _cpu: Cpu, _count: u64) {}
+
+    fn before_sample(&self, _cpu: Cpu, index: u32) {
+        if index == 0 {
+            wait_for(&self.is_sampled, &self.is_missed);
+        }
+    }
+
+    fn sampled(&self, _cpu: Cpu, _count: u64) {
+        self.is_sampled.store(true, SeqCst);
+    }
+}
+
+// The samples stand in the order of the journal, and the states of the board in that of the observers.
+#[test]
+fn observers_in_the_order_of_the_journal(rt: HostRuntime) -> Result<(), Fail> {
+    let gate = OtherFirst {
+        is_sampled: AtomicBool::new(false),
+        is_missed: AtomicBool::new(false),
+    };
+    let ran = run_gated(&rt, "t 2 /", ONE_PROCESSOR, &gate)?;
+    assert!(rt; ran.status == ObserveStatus::Done);
+    assert!(rt; !gate.is_missed.load(SeqCst), "observer 0 waited in vain");
+    assert!(rt; line_of(&ran.output, 0).starts_with(b"sample observer=1 cpu=0 "));
+    assert!(rt; line_of(&ran.output, 1).starts_with(b"sample observer=0 cpu=0 "));
+    let end = b"\nboard observer=0 tick=1 events=0 kills=0\n\
+        board observer=1 tick=1 events=0 kills=0\n\
+        end 2000000000 samples=2\n";
+    assert!(rt; ran.output.ends_with(end));
+    Ok(())
+}

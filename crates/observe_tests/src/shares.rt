@@ -1,0 +1,82 @@
+//! Each observer takes a sample of each processor at each tick.
+
+use crate::gates::ONE_PROCESSOR;
+use crate::runs::{Ran, line_of, run_open};
+use observe_core::ObserveStatus;
+use std::test::Fail;
+
+/// What a line says, behind its observer's number, of the one processor after so many changes.
+const LOOKS: [&str; 5] = [
+    " cpu=0 count=0 at=0 0 0 0 0 0 0 0",
+    " cpu=0 count=1 at=0 0 0 0 0 0 0 0",
+    " cpu=0 count=2 at=0 0 0 0 0 0 0 0",
+    " cpu=0 count=3 at=500000000 0 0 0 0 0 0 500000000",
+    " cpu=0 count=4 at=1500000000 1000000000 1000000000 0 0 0 0 1500000000",
+];
+
+/// Two processors with three ticks, whose changes all come before the first one.
+const THREE_TICKS: &str = "psitrace 1 cpus=2\n\
+    0 fork 1 / 0\n\
+    0 switch 0 1 idle\n\
+    500000000 switch 0 0 sleep\n\
+    1500000000 wake 1 1\n\
+    6000000000 end\n";
+
+/// What a line says of it at the second and the third tick.
+const SETTLED: [&str; 2] = [
+    " cpu=0 count=4 at=1500000000 0 0 0 0 0 0 500000000",
+    " cpu=1 count=1 at=1500000000 0 0 0 0 0 0 0",
+];
+
+/// How many observers there are.
+const OBSERVERS: usize = 8;
+
+/// What a line says behind the number of its observer, where it is this one's.
+fn look_of(line: &[u8], observer: u8) -> Option<&[u8]> {
+    let rest = line.strip_prefix(b"sample observer=")?;
+    rest.strip_prefix(&[b'0' + observer])
+}
+
+/// How many lines of an output are an observer's and are among these texts.
+fn looks_among(output: &[u8], observer: u8, looks: &[&str]) -> usize {
+    output
+        .split(|byte| *byte == b'\n')
+        .filter_map(|line| look_of(line, observer))
+        .filter(|look| looks.iter().any(|text| text.as_bytes() == *look))
+        .count()
+}
+
+/// Each observer has one line of one processor, after any number of its changes.
+fn is_shared(ran: &Ran) -> bool {
+    let end = b"\nend 2000000000 samples=8\n".as_slice();
+    ran.status == ObserveStatus::Done
+        && (0..8u8).all(|observer| looks_among(&ran.output, observer, &LOOKS) == 1)
+        && ran.output.ends_with(end)
+        && line_of(&ran.output, OBSERVERS) == b"board observer=0 tick=1 events=0 kills=0".as_slice()
+}
+
+#[test]
+fn a_sample_of_each_observer(rt: HostRuntime) -> Result<(), Fail> {
+    let ran = run_open(&rt, "t 8 /", ONE_PROCESSOR)?;
+    assert!(rt; is_shared(&ran));
+    Ok(())
+}
+
+#[test]
+fn processors_tick_by_tick(rt: HostRuntime) -> Result<(), Fail> {
+    let ran = run_open(&rt, "t 8 /", THREE_TICKS)?;
+    assert!(rt; ran.status == ObserveStatus::Done);
+    assert!(rt; ran.output.ends_with(b"\nend 6000000000 samples=48\n"));
+    for observer in 0..8u8 {
+        let mut looks = ran
+            .output
+            .split(|byte| *byte == b'\n')
+            .filter_map(|line| look_of(line, observer));
+        let _ = (looks.next(), looks.next());
+        let text = SETTLED.map(|look| look.as_bytes());
+        let settled = [looks.next(), looks.next(), looks.next(), looks.next()];
+        assert!(rt; settled == [Some(text[0]), Some(text[1]), Some(text[0]), Some(text[1])]);
+        assert!(rt; looks.next().is_none());
+    }
+    Ok(())
+}

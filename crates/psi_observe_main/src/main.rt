@@ -1,0 +1,71 @@
+//! The program: it makes the real files and streams, calls `observe`, and ends with its status.
+#![tactic(auto)]
+
+ghost use Rattle.std.specs.Prelude.{◌≡◌, IfOk, None, OnErr, map, string_bytes};
+ghost use Rattle.std.specs.Process.{exit_status};
+ghost use Rattle.psi_base.specs.Gives.{no_memory};
+ghost use Rattle.run_spec.specs.Run.{run_counts};
+ghost use Rattle.observe_spec.specs.declared.status.ObserveStatus.{ObserveStatus};
+ghost use Rattle.observe_spec.specs.Status.{code_of};
+ghost use Rattle.observe_spec.specs.Words.{request_of};
+ghost use Rattle.psi_observe_main.specs.End.{EndsAs, RanAs};
+
+use host_files::{HostShelf, HostSink, words_of};
+use observe_core::{ObserveStatus, observe};
+use psi_base::{NoMemory, OpenGate, Shelf, Sink, put_all};
+use std::alloc::Global;
+use std::env;
+use std::process::ExitCode;
+use std::sync::Wait;
+use std::thread::Threads;
+
+// The exit status of a run.
+fn exit_code(status: ObserveStatus) -> ExitCode
+    ensures { exit_status result ≡ code_of status }
+{
+    ExitCode::from(status.code())
+}
+
+// Ends where there was no memory for the words.
+fn end_without_words<N: Sink>(none: NoMemory, note: &mut N) -> ExitCode
+    ensures { EndsAs None (ObserveStatus.NoMemory no_memory) (exit_status result)
+        (N.faults note.old) (N.faults note.new) (N.has note.old) (N.has note.new) }
+{
+    let _ = put_all(note, b"out of memory\n");
+    exit_code(ObserveStatus::NoMemory(none))
+}
+
+// Runs the words and ends as the run did: what a run promises of a status, of the trace, output and counts, holds of the status that
+// the exit and the note tell of.
+fn end_of<R: Threads + Wait + Sync, S: Shelf, K: Sink, N: Sink>(
+    rt: &R,
+    alloc: Global,
+    words: Result<Vec<String>, NoMemory>,
+    shelf: &mut S,
+    out: &mut K,
+    note: &mut N,
+) -> ExitCode
+    ensures words { IfOk words (λ given. (status : ObserveStatus)
+        × EndsAs (request_of (map string_bytes given.items)) status (exit_status result)
+        (N.faults note.old) (N.faults note.new) (N.has note.old) (N.has note.new)
+        × RanAs (request_of (map string_bytes given.items)) status (S.holds shelf.old)
+        (run_counts (S.faults shelf.old) (S.absent shelf.old) (K.faults out.old))
+        (run_counts (S.faults shelf.new) (S.absent shelf.new) (K.faults out.new))
+        (K.has out.old) (K.has out.new)) }
+    ensures none { OnErr words (EndsAs None (ObserveStatus.NoMemory no_memory)
+        (exit_status result)
+        (N.faults note.old) (N.faults note.new) (N.has note.old) (N.has note.new)) }
+{
+    match words {
+        Ok(words) => exit_code(observe(rt, alloc, &words, shelf, out, note, &OpenGate)),
+        Err(none) => end_without_words(none, note),
+    }
+}
+
+fn main(rt: HostRuntime) -> ExitCode {
+    let words = words_of(rt.alloc(), env::args(&rt));
+    let mut shelf = HostShelf::new(&rt, rt.stdin());
+    let mut out = HostSink::new(rt.stdout());
+    let mut note = HostSink::new(rt.stderr());
+    end_of(&rt, rt.alloc(), words, &mut shelf, &mut out, &mut note)
+}
