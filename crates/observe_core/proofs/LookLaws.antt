@@ -46,12 +46,12 @@ seen_push : (readers : List ReaderEnd) (new : List ReaderEnd) (k : ℕ) (r : Rea
     → (cpu : ℕ) (entry : Entry) → slice_get (taken ++ e ∷ []) cpu ≡ Some entry → (reader_at new cpu).knows.seen ≡ entry.count
 seen_push readers new k r taken e inside many are seen before cpu entry at =
     ⊎_elim (λ was. let below = at_below taken cpu entry was in
-        ap (λ (l : List ReaderEnd). (reader_at l cpu).knows.seen) are ∙ ap (λ (z : ReaderEnd). z.knows.seen) (get_or-set_other readers k cpu r no_reader (λ e. omega (arith, below, many, e))) ∙ before cpu entry was)
-      (λ (last : (cpu ≡ length taken) × (e ≡ entry)).
-        let here : k ≡ cpu = sym (last.0 ∙ many) in
-        subst (λ (n : ℕ). (reader_at new n).knows.seen ≡ entry.count) here
-        (ap (λ (l : List ReaderEnd). (reader_at l k).knows.seen) are ∙ ap (λ (z : ReaderEnd). z.knows.seen) (get_or-set_same readers k r no_reader inside) ∙ seen ∙ ap (λ (z : Entry). z.count) last.1))
-      (at_push taken e cpu entry at)
+    ap (λ (l : List ReaderEnd). (reader_at l cpu).knows.seen) are ∙ ap (λ (z : ReaderEnd). z.knows.seen) (get_or-set_other readers k cpu r no_reader (λ e. omega (arith, below, many, e))) ∙ before cpu entry was)
+    (λ (last : (cpu ≡ length taken) × (e ≡ entry)).
+    let here : k ≡ cpu = sym (last.0 ∙ many) in
+    subst (λ (n : ℕ). (reader_at new n).knows.seen ≡ entry.count) here
+    (ap (λ (l : List ReaderEnd). (reader_at l k).knows.seen) are ∙ ap (λ (z : ReaderEnd). z.knows.seen) (get_or-set_same readers k r no_reader inside) ∙ seen ∙ ap (λ (z : Entry). z.count) last.1))
+    (at_push taken e cpu entry at)
 
 -- one look more
 pub looked_more : (slot : ℕ) (lasts : List Sample) (k count : ℕ) (first old new : WatcherView) → HaveLooked slot lasts k first old → HasLooked k slot count old new → count ≡ (last_at lasts k).count → k < length first.readers → HaveLooked slot lasts (k + 1) first new

@@ -40,8 +40,8 @@ readied_more made k first old new all one inside =
     let are : new.readers ≡ set old.readers k one.reader = ap (λ (w : WatcherView). w.readers) one.are in
     let plan : one.reader.knows.plan ≡ (reader_at old.readers k).knows.plan = ap (λ (r : ReaderView). r.plan) one.knows in
     let here : (reader_at new.readers k).knows.seen ≡ made k =
-        ap (λ (l : List ReaderEnd). (reader_at l k).knows.seen) are ∙ ap (λ (r : ReaderEnd). r.knows.seen) (get_or-set_same old.readers k one.reader no_reader within)
-        ∙ seen_met (made k) (reader_at old.readers k).knows one.reader.knows one.before (ap (λ (r : ReaderView). r.seen) one.knows) in
+    ap (λ (l : List ReaderEnd). (reader_at l k).knows.seen) are ∙ ap (λ (r : ReaderEnd). r.knows.seen) (get_or-set_same old.readers k one.reader no_reader within)
+    ∙ seen_met (made k) (reader_at old.readers k).knows one.reader.knows one.before (ap (λ (r : ReaderView). r.seen) one.knows) in
     let was : reader_at old.readers k ≡ reader_at first.readers k = all.later k (omega arith) in
     record {
       observer_is = ap (λ (w : WatcherView). w.observer) one.are ∙ all.observer_is;
@@ -114,6 +114,6 @@ each_pushed P xs x count many before last k d below =
     ⊎_elim
     (λ (less : k < count). subst (P k) (sym (push_at xs x k d (omega (arith, less, many)))) (before k d less))
     (λ (same : k ≡ count).
-        let place : k ≡ length xs = same ∙ sym many in
-        subst (P k) (sym (ap (λ (n : ℕ). get_or (xs ++ x ∷ []) n d) place ∙ push_last xs x d)) (subst (λ (n : ℕ). P n x) (sym same) last))
+    let place : k ≡ length xs = same ∙ sym many in
+    subst (P k) (sym (ap (λ (n : ℕ). get_or (xs ++ x ∷ []) n d) place ∙ push_last xs x d)) (subst (λ (n : ℕ). P n x) (sym same) last))
     (either_next k count below)

@@ -95,11 +95,13 @@ from_by observer plans slot lasts k (entry ∷ taken) from =
 from_on : (observer : ℕ) (plans : PlansView) (slot : ℕ) (lasts : List Sample) (k : ℕ) (taken : List Entry) → AreFrom observer plans slot lasts k taken → k + length taken ≤ length plans.plans → AreOn plans taken
 from_on observer plans slot lasts k [] from within = tt
 from_on observer plans slot lasts k (entry ∷ taken) from within =
-    let first = from_first observer plans slot lasts k entry taken from in
-    (record {
-       cpu = let here = first.cpu_is in omega (arith, here, within);
-       plan = first.plan_is ∙ ap (plan_at plans) (sym first.cpu_is);
-     }, from_on observer plans slot lasts (k + 1) taken (from_rest observer plans slot lasts k entry taken from) (omega (arith, within)))
+    let first = from_first observer plans slot lasts k entry taken from in (
+      record {
+        cpu = let here = first.cpu_is in omega (arith, here, within);
+        plan = first.plan_is ∙ ap (plan_at plans) (sym first.cpu_is);
+      },
+      from_on observer plans slot lasts (k + 1) taken (from_rest observer plans slot lasts k entry taken from) (omega (arith, within)),
+    )
 
 -- they are those that are due
 from_done : (observer : ℕ) (plans : PlansView) (slot : ℕ) (lasts : List Sample) (least : ℕ → ℕ) (k : ℕ) (taken : List Entry) → AreFrom observer plans slot lasts k taken
@@ -187,23 +189,23 @@ rise_more set i slot number made lasts old mid new took cpu rise =
     let many : length taken ≡ length lasts = took.looked.taken_are.many in
     ⊎_elim
     (λ (below : cpu < length lasts).
-        let found = there taken cpu (omega (arith, below, many)) in
-        let zero_plus : 0 + cpu ≡ cpu = omega arith in
-        let one = from_one number set.plans slot lasts cpu 0 taken found.0 from cpu zero_plus found.1 in
-        let seen = took.looked.seen cpu found.0 found.1 in
-        let before = took.readied.before cpu below in
-        let count = took.lasts_are.counts cpu below in
-        let later : (last_at lasts cpu).count ≤ found.0.count = subst (λ (n : ℕ). (last_at lasts n).count ≤ found.0.count) zero_plus (from cpu found.0 found.1).later in
-        let low : (reader_at old.readers cpu).knows.seen ≤ found.0.count = omega (arith, before, count, later) in
-        subst (λ (more : List ℕ). RiseWithin 0 (counts_by number cpu (looks_of old.own) ++ more) (reader_at new.readers cpu).knows.seen) (sym one)
-        (subst (λ (high : ℕ). RiseWithin 0 (counts_by number cpu (looks_of old.own) ++ found.0.count ∷ []) high) (sym seen)
-        (rise_append 0 (reader_at old.readers cpu).knows.seen found.0.count (counts_by number cpu (looks_of old.own)) (found.0.count ∷ []) rise (low, omega arith))))
+    let found = there taken cpu (omega (arith, below, many)) in
+    let zero_plus : 0 + cpu ≡ cpu = omega arith in
+    let one = from_one number set.plans slot lasts cpu 0 taken found.0 from cpu zero_plus found.1 in
+    let seen = took.looked.seen cpu found.0 found.1 in
+    let before = took.readied.before cpu below in
+    let count = took.lasts_are.counts cpu below in
+    let later : (last_at lasts cpu).count ≤ found.0.count = subst (λ (n : ℕ). (last_at lasts n).count ≤ found.0.count) zero_plus (from cpu found.0 found.1).later in
+    let low : (reader_at old.readers cpu).knows.seen ≤ found.0.count = omega (arith, before, count, later) in
+    subst (λ (more : List ℕ). RiseWithin 0 (counts_by number cpu (looks_of old.own) ++ more) (reader_at new.readers cpu).knows.seen) (sym one)
+    (subst (λ (high : ℕ). RiseWithin 0 (counts_by number cpu (looks_of old.own) ++ found.0.count ∷ []) high) (sym seen)
+    (rise_append 0 (reader_at old.readers cpu).knows.seen found.0.count (counts_by number cpu (looks_of old.own)) (found.0.count ∷ []) rise (low, omega arith))))
     (λ (past : length lasts ≤ cpu).
-        let none = from_none number set.plans slot lasts cpu 0 taken from (inr (omega (arith, past, many))) in
-        let same = took.looked.later cpu past ∙ took.readied.later cpu past in
-        subst (λ (more : List ℕ). RiseWithin 0 (counts_by number cpu (looks_of old.own) ++ more) (reader_at new.readers cpu).knows.seen) (sym none)
-        (subst (λ (numbers : List ℕ). RiseWithin 0 numbers (reader_at new.readers cpu).knows.seen) (sym (append-nil (counts_by number cpu (looks_of old.own))))
-        (subst (λ reader. RiseWithin 0 (counts_by number cpu (looks_of old.own)) reader.knows.seen) (sym same) rise)))
+    let none = from_none number set.plans slot lasts cpu 0 taken from (inr (omega (arith, past, many))) in
+    let same = took.looked.later cpu past ∙ took.readied.later cpu past in
+    subst (λ (more : List ℕ). RiseWithin 0 (counts_by number cpu (looks_of old.own) ++ more) (reader_at new.readers cpu).knows.seen) (sym none)
+    (subst (λ (numbers : List ℕ). RiseWithin 0 numbers (reader_at new.readers cpu).knows.seen) (sym (append-nil (counts_by number cpu (looks_of old.own))))
+    (subst (λ reader. RiseWithin 0 (counts_by number cpu (looks_of old.own)) reader.knows.seen) (sym same) rise)))
     (let case : (cpu < length lasts) ⊎ (length lasts ≤ cpu) = grind arith in case)
 
 -- what was due of the tick was taken
@@ -217,11 +219,11 @@ done_more set i slot number made lasts old mid new took here cpus reached =
     let all : length taken ≡ set.trace.cpus = many ∙ took.many ∙ cpus in
     let back : i ≡ i + 1 - 1 = omega arith in
     let due = from_done number set.plans slot lasts (λ cpu. changes_until set.trace set.pace.length cpu (i + 1 - 1)) 0 taken from
-        (λ cpu below.
-            let inside : cpu < set.trace.cpus = omega (arith, below, all) in
-            let count = took.lasts_are.counts cpu (omega (arith, below, many)) in
-            let made_is = reached cpu inside ∙ ap (changes_until set.trace set.pace.length cpu) back in
-            omega (arith, count, made_is)) in
+    (λ cpu below.
+    let inside : cpu < set.trace.cpus = omega (arith, below, all) in
+    let count = took.lasts_are.counts cpu (omega (arith, below, many)) in
+    let made_is = reached cpu inside ∙ ap (changes_until set.trace set.pace.length cpu) back in
+    omega (arith, count, made_is)) in
     subst (λ (s : Option ℕ). AreDone (due_at set.trace set.pace.length (i + 1) s) (looks_of taken)) (sym here)
     (subst (λ (n : ℕ). AreDone (map (λ cpu. record { cpu = cpu; slot = slot; least = changes_until set.trace set.pace.length cpu (i + 1 - 1) }) (range_with_len 0 n)) (looks_of taken)) all due)
 

@@ -99,8 +99,8 @@ right plans trace pace entry stands on =
 right_line : (trace : Trace) (entry : Entry) → IsRight trace entry → entry_line entry ≡ sample_line trace (look_of entry)
 right_line trace entry is =
     let form : ℕ → List ℕ → List ℕ = λ at seven.
-        line_of (codes "sample" ∷ labelled (codes "observer=") entry.observer ∷ labelled (codes "cpu=") entry.cpu.0
-        ∷ labelled (codes "count=") entry.count ∷ labelled (codes "at=") at ∷ map decimal seven) in
+    line_of (codes "sample" ∷ labelled (codes "observer=") entry.observer ∷ labelled (codes "cpu=") entry.cpu.0
+    ∷ labelled (codes "count=") entry.count ∷ labelled (codes "at=") at ∷ map decimal seven) in
     ap (λ (at : ℕ). form at entry.seven) is.at ∙ ap (form (moment_after trace entry.cpu.0 entry.count)) is.times
 
 -- ---- all lines
@@ -131,7 +131,7 @@ unfolding observed_text
 text_is plans trace pace observers entries states planned on last many =
     ap (λ (lines : List ℕ). lines ++ states_text 0 states ++ end_line plans.finish (length entries)) (entries_lines plans trace pace entries planned on)
     ∙ ap (λ (lines : List ℕ). flat_map (sample_line trace) (looks_of entries) ++ lines ++ end_line plans.finish (length entries))
-        (states_lines trace pace 0 states last ∙ ap (λ (n : ℕ). flat_map (board_line trace pace) (range_with_len 0 n)) many)
+    (states_lines trace pace 0 states last ∙ ap (λ (n : ℕ). flat_map (board_line trace pace) (range_with_len 0 n)) many)
     ∙ ap (λ (n : ℕ). flat_map (sample_line trace) (looks_of entries) ++ flat_map (board_line trace pace) (range_with_len 0 observers) ++ end_line plans.finish n) (sym (length-looks entries))
     ∙ ap (λ (finish : ℕ). flat_map (sample_line trace) (looks_of entries) ++ flat_map (board_line trace pace) (range_with_len 0 observers) ++ end_line finish (length (looks_of entries))) planned.stand.finish
 
@@ -253,11 +253,11 @@ are_observed set observers entries planned all same =
       rise = λ number cpu.
           subst (λ (counts : List ℕ). RiseWithin 0 counts (length (changes_of cpu set.trace.events))) (sym (counts_own number cpu (looks_of entries) ∙ ap (counts_by number cpu) (own number)))
           (⊎_elim (λ (below : number < length observers).
-              subst (λ (list : List Entry). RiseWithin 0 (counts_by number cpu (looks_of list)) (length (changes_of cpu set.trace.events))) (sym (list_is observers number below))
-              (let taken = (all number no_observer below).taken in
-               counts_within set.plans set.trace set.pace number cpu 0 (reader_at (get_or observers number no_observer).watcher.readers cpu).knows.seen (get_or observers number no_observer).watcher.own planned taken.on (omega arith) (taken.rise cpu)))
+          subst (λ (list : List Entry). RiseWithin 0 (counts_by number cpu (looks_of list)) (length (changes_of cpu set.trace.events))) (sym (list_is observers number below))
+          (let taken = (all number no_observer below).taken in
+          counts_within set.plans set.trace set.pace number cpu 0 (reader_at (get_or observers number no_observer).watcher.readers cpu).knows.seen (get_or observers number no_observer).watcher.own planned taken.on (omega arith) (taken.rise cpu)))
           (λ (past : length observers ≤ number).
-              subst (λ (list : List Entry). RiseWithin 0 (counts_by number cpu (looks_of list)) (length (changes_of cpu set.trace.events))) (sym (list_past lists number (omega (arith, past, many)))) (omega arith))
+          subst (λ (list : List Entry). RiseWithin 0 (counts_by number cpu (looks_of list)) (length (changes_of cpu set.trace.events))) (sym (list_past lists number (omega (arith, past, many)))) (omega arith))
           (either number (length observers)));
     }
 

@@ -226,7 +226,7 @@ pub shown_next : (trace : Trace) (pace : Pace) (i tick events : ℕ) (old new : 
 shown_next trace pace i tick events old new shown ticks signals is =
     let state : BoardState = record { tick = tick; events = events; kills = 0 } in
     let same : state ≡ state_at trace pace (i + 1) =
-        ap (λ (n : ℕ). let s : BoardState = record { tick = n; events = events; kills = 0 } in s) ticks ∙ ap (λ (n : ℕ). let s : BoardState = record { tick = i + 1; events = n; kills = 0 } in s) signals in
+    ap (λ (n : ℕ). let s : BoardState = record { tick = n; events = events; kills = 0 } in s) ticks ∙ ap (λ (n : ℕ). let s : BoardState = record { tick = i + 1; events = n; kills = 0 } in s) signals in
     record {
       many = ap length is ∙ length-append old (state ∷ []) ∙ ap (λ (n : ℕ). n + 1) shown.many;
       last = ap (λ (l : List BoardState). slice_get l (i + 1)) is ∙ ap (slice_get (old ++ state ∷ [])) (sym shown.many) ∙ state_last old state ∙ ap (λ (s : BoardState). Some s) same;

@@ -31,12 +31,7 @@ fn meet(replay: &mut Replay<'_>, watcher: &mut Watcher<'_>, cpu: Cpu)
 }
 
 // Readies a watcher for a slot: its last samples are those of the clocks.
-fn ready(
-    replay: &mut Replay<'_>,
-    watcher: &mut Watcher<'_>,
-    lasts: &mut Vec<Sample>,
-    slot: Slot,
-)
+fn ready(replay: &mut Replay<'_>, watcher: &mut Watcher<'_>, lasts: &mut Vec<Sample>, slot: Slot)
     requires { MayReady replay.old slot.0 watcher.old lasts.old.items }
     ensures same { replay.new ≡ replay.old }
     ensures readied { IsReadied (made_by replay.old.crew) (length lasts.old.items)

@@ -119,9 +119,7 @@ pub(crate) fn make_observers<'j, 'a, L: Ledger, R: Wait>(
     'observers: for number in 0..count {
         let pass = board.pass(rt, driver)?;
         let share = all.split_off(1, 0);
-        observers.push(observer_of(
-            alloc, number, plans, replay, journal, pass, share,
-        )?)?;
+        observers.push(observer_of(alloc, number, plans, replay, journal, pass, share)?)?;
     }
     Ok(observers)
 }

@@ -6,5 +6,8 @@ pub cpus-init : goal.cpus-init
 cpus-init g c = (looked_none c.args.slot.0 c.args.lasts.now c.args.watcher.now, refl)
 
 pub cpus-preserved : goal.cpus-preserved
-cpus-preserved g c = (looked_more _ _ _ _ _ _ _ c.cpus.invariant.0 c.in_ok-look.ensures.looked
-    (last_found c.args.lasts.now c.cpus.place c.index-lasts-place.result c.index-lasts-place.is (search rules)) (search rules), search rules)
+cpus-preserved g c = (
+  looked_more _ _ _ _ _ _ _ c.cpus.invariant.0 c.in_ok-look.ensures.looked
+      (last_found c.args.lasts.now c.cpus.place c.index-lasts-place.result c.index-lasts-place.is (search rules)) (search rules),
+  search rules,
+)

@@ -18,8 +18,8 @@ observers-preserved g c =
     let replay = c.args.replay.now in
     let below : index < length now = search rules in
     let here : (d : ObserverView) → IsReady replay.plans slot (made_by replay.crew) (slice_index_or start index d) new = λ d.
-        subst (λ (old : ObserverView). IsReady replay.plans slot (made_by replay.crew) old new) (get_or_default now index c.observer-item.result d below ∙ i.left index d (omega arith))
-        (subst (λ (r : ReplayView). IsReady r.plans slot (made_by r.crew) (slice_index_or now index c.observer-item.result) new) i.same c.ready.ensures.ready) in
+    subst (λ (old : ObserverView). IsReady replay.plans slot (made_by replay.crew) old new) (get_or_default now index c.observer-item.result d below ∙ i.left index d (omega arith))
+    (subst (λ (r : ReplayView). IsReady r.plans slot (made_by r.crew) (slice_index_or now index c.observer-item.result) new) i.same c.ready.ensures.ready) in
     record {
       same = c.ready.ensures.same ∙ i.same;
       many = length-set now index new ∙ i.many;
