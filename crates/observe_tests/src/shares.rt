@@ -34,7 +34,12 @@ const OBSERVERS: usize = 8;
 /// What a line says behind the number of its observer, where it is this one's.
 fn look_of(line: &[u8], observer: u8) -> Option<&[u8]> {
     let rest = line.strip_prefix(b"sample observer=")?;
-    rest.strip_prefix(&[b'0' + observer])
+    let (digit, look) = rest.split_first()?;
+    if digit.checked_sub(b'0') == Some(observer) {
+        Some(look)
+    } else {
+        None
+    }
 }
 
 /// How many lines of an output are an observer's and are among these texts.
@@ -62,21 +67,25 @@ fn a_sample_of_each_observer(rt: HostRuntime) -> Result<(), Fail> {
     Ok(())
 }
 
+/// Whether an observer has a line of each processor at each of three ticks, by tick, of which the last four are settled.
+fn is_settled(output: &[u8], observer: u8) -> bool {
+    let lines = output.split(|byte| *byte == b'\n');
+    let count = lines.filter_map(|line| look_of(line, observer)).count();
+    let lines = output.split(|byte| *byte == b'\n');
+    let looks = lines.filter_map(|line| look_of(line, observer)).enumerate();
+    count == 6
+        && looks
+            .skip(2)
+            .all(|(place, look)| look == SETTLED[place % 2].as_bytes())
+}
+
 #[test]
 fn processors_tick_by_tick(rt: HostRuntime) -> Result<(), Fail> {
     let ran = run_open(&rt, "t 8 /", THREE_TICKS)?;
     assert!(rt; ran.status == ObserveStatus::Done);
     assert!(rt; ran.output.ends_with(b"\nend 6000000000 samples=48\n"));
     for observer in 0..8u8 {
-        let mut looks = ran
-            .output
-            .split(|byte| *byte == b'\n')
-            .filter_map(|line| look_of(line, observer));
-        let _ = (looks.next(), looks.next());
-        let text = SETTLED.map(|look| look.as_bytes());
-        let settled = [looks.next(), looks.next(), looks.next(), looks.next()];
-        assert!(rt; settled == [Some(text[0]), Some(text[1]), Some(text[0]), Some(text[1])]);
-        assert!(rt; looks.next().is_none());
+        assert!(rt; is_settled(&ran.output, observer), "{observer}");
     }
     Ok(())
 }
