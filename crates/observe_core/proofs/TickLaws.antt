@@ -1,7 +1,8 @@
 -- Observers beside a replay, from tick to tick.
-use Rattle.std.proofs.Common.{◌≡◌, ℕ, ◌+◌, ◌<◌, ◌≤◌, false, zero, suc, List, [], ◌∷◌, ◌++◌, length, get_or, refl, sym, ap, ◌∙◌, subst, arith, Option, None, Some}
+use Rattle.std.proofs.Common.{◌≡◌, ℕ, ◌+◌, ◌<◌, ◌≤◌, false, zero, suc, List, [], ◌∷◌, ◌++◌, drop, length, get_or, take, refl, sym, ap, ◌∙◌, subst, arith, Option, None, Some}
 use Rattle.std.specs.Prelude.{slice_get, slice_index_or}
 use Rattle.std.specs.List.{All}
+use Rattle.std.proofs.Math.Seq.{take-append_seam}
 use Rattle.std.proofs.lemmas.List.{length-append}
 use Rattle.psi_base.specs.declared.event.Slot.{Slot}
 use Rattle.psi_spec.specs.Stall.{number_of_slot}
@@ -160,6 +161,10 @@ observed_next set i number slot replay old mid new is here was ready watched who
 }
 
 -- ---- all observers
+
+-- a slice of the whole that was written over is what was written
+pub written_back : {X : Type 0} (xs new : List X) (n : ℕ) → n ≡ length new → take n (new ++ drop (length new) xs) ≡ new
+written_back xs new n size = rw size (take-append_seam new (drop (length new) xs))
 
 -- all may be readied
 pub all_may_ready : (set : Setting) (i slot : ℕ) (replay : ReplayView) (observers : List ObserverView) → IsObserved set replay observers i → slot < length replay.plans.lives

@@ -1,10 +1,9 @@
 use Rattle.std.proofs.Common.{◌≡◌, ◌+◌, ◌++◌, List, [], arith, drop, length, subst, take}
 use Rattle.std.specs.Prelude.{None, Some}
 use Rattle.replay_ticks.specs.Replays.{ReplayView}
-use Rattle.std.proofs.Math.Seq.{take-append_seam}
 use Rattle.observe_core.specs.Observing.{HaveAllWatched, ObserverView}
 use Rattle.observe_core.specs.Driving.{AreReady, HasPassed, made_by, slot_in}
-use Rattle.observe_core.proofs.TickLaws.{passed_next, slot_found, watched_next}
+use Rattle.observe_core.proofs.TickLaws.{passed_next, slot_found, watched_next, written_back}
 use Rattle.observe_core.proofs.interval.tick.Goals as goal
 
 pub returns-in-Some-clause-observed : goal.returns-in-Some-clause-observed
@@ -15,8 +14,7 @@ returns-in-Some-clause-observed g c = λ set i board is left whole.
     let mid = c.ready_all.new.observers in
     let here : slot_in set (i + 1) ≡ Some slot = slot_found set i replay (Some c.in-Some.slot) is.reached (c.in-Some.ensures.slot set.trace set.pace [] i is.reached.replayed left) in
     let ready : AreReady replay.plans slot (made_by replay.crew) old mid = subst (λ (observers : List ObserverView). AreReady replay.plans slot (made_by replay.crew) observers mid) c.deref_mut.ensures.value c.ready_all.ensures.ready in
-    let size : c.args.observers.len ≡ length mid = omega (arith, c.deref_mut.ensures.len, c.ready_all.ensures.ready.many) in
-    let back : take c.args.observers.len (mid ++ drop (length mid) old) ≡ mid = rw (size) (take-append_seam mid (drop (length mid) old)) in
+    let back : take c.args.observers.len (mid ++ drop (length mid) old) ≡ mid = written_back old mid c.args.observers.len (omega (arith, c.deref_mut.ensures.len, c.ready_all.ensures.ready.many)) in
     let all : HaveAllWatched slot mid c.interval.result.1.items = subst (λ (observers : List ObserverView). HaveAllWatched slot observers c.interval.result.1.items) back c.interval.ensures.watched in
     let has : HasPassed replay c.interval.result.0 = subst (λ (r : ReplayView). HasPassed r c.interval.result.0) c.ready_all.ensures.same c.interval.ensures.passed in
     watched_next set i slot replay c.interval.result.0 old mid c.interval.result.1.items is left here ready has all whole
