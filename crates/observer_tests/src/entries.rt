@@ -6,7 +6,7 @@ ghost use Rattle.observer_log.specs.Entries.{AreBy};
 use clock_row::{Row, Sample};
 use observer_log::{Entry, Own, Watcher};
 use proc_plan::{PlainClocks, Plan, Plans, ProcClocks};
-use psi_base::{Cpu, NoMemory, OpenGate, Slot};
+use psi_base::{Cpu, Gate, NoMemory, OpenGate, Slot};
 use std::alloc::Global;
 
 const ROOT: Slot = Slot(0);
@@ -36,8 +36,13 @@ pub fn entry_after<'a>(
     Ok(Entry::take(observer, plan, FIRST, ROOT, &sample))
 }
 
-/// The list of an observer that looked once at the root, before its first change.
-pub fn one_look(alloc: Global, observer: u32, plans: &Plans) -> Result<Own<'_>, NoMemory>
+/// The list of an observer that looked once at the root, before its first change, where a gate is called ahead of the sample.
+pub fn look_at_gate<'a, G: Gate>(
+    alloc: Global,
+    observer: u32,
+    plans: &'a Plans,
+    gate: &G,
+) -> Result<Own<'a>, NoMemory>
     requires one { length plans.now.plans ≡ 1 }
     requires root { length plans.now.lives ≡ 1 }
     ensures by { IfOk result (AreBy observer) }
@@ -50,6 +55,15 @@ pub fn one_look(alloc: Global, observer: u32, plans: &Plans) -> Result<Own<'_>, 
         count: writer.count(),
         clock: writer.own(ROOT),
     };
-    watcher.look(FIRST, ROOT, &last, &OpenGate)?;
+    watcher.look(FIRST, ROOT, &last, gate)?;
     Ok(watcher.into_own())
+}
+
+/// The list of an observer that looked once at the root, before its first change.
+pub fn one_look(alloc: Global, observer: u32, plans: &Plans) -> Result<Own<'_>, NoMemory>
+    requires one { length plans.now.plans ≡ 1 }
+    requires root { length plans.now.lives ≡ 1 }
+    ensures by { IfOk result (AreBy observer) }
+{
+    look_at_gate(alloc, observer, plans, &OpenGate)
 }

@@ -7,10 +7,12 @@ mod entries;
 mod journals;
 
 pub use boards::{Readings, beside};
-pub use entries::{entry_after, one_look};
+pub use entries::{entry_after, look_at_gate, one_look};
 pub use journals::{Added, add_both, ordered};
 
 #[cfg(test)]
 mod added;
+#[cfg(test)]
+mod gated;
 #[cfg(test)]
 mod shown;
