@@ -161,6 +161,11 @@ pub enum Act {
         cpu: Cpu,
         ns: u64,
     },
+    /// `pressure`: the account of a group is switched on, or off.
+    Pressure {
+        path: Path,
+        on: bool,
+    },
     /// `end`: the trace ends.
     End,
 }
@@ -252,6 +257,10 @@ pub enum Cause {
     NoEnd,
     /// Interrupts took more than a second, or more than passed since the last `irq` line of the processor.
     IrqTooLong,
+    /// The account of the root is switched.
+    RootPressure,
+    /// 65,536 `pressure` lines came before.
+    TooManyPressures,
 }
 
 /// The first refused line of a trace.

@@ -12,11 +12,12 @@ use Rattle.psi_base.specs.declared.event.Act.TheVariants as act
 use Rattle.psi_base.specs.declared.event.Event.{Event}
 use Rattle.psi_base.specs.declared.event.Cause.TheVariants as cause
 use Rattle.psi_spec.specs.declared.machine.GroupLife.{GroupLife}
-use Rattle.psi_spec.specs.World.{World, Limits, root, is_live, is_root, slot_from, slot_of, parent_path, as_slot, new_group, marked_removed, groups_after}
+use Rattle.psi_spec.specs.World.{World, Limits, root, is_live, is_root, slot_from, slot_of, parent_path, as_slot, new_group, marked_removed, marked_switched, groups_after}
 use Rattle.psi_spec.specs.Refusal.{cause_of, applies, cause_order, has_child, has_member}
 use Rattle.psi_spec.specs.Stall.{number_of_slot, parents_of, climbs, is_under}
 use Rattle.psi_spec.specs.Groups.{AreOlder, HaveParents, path_at, AreAbove, IsOneLive, AreGroups, leads_to, new_parents, AreGroupsFirst, AreGroupsKept, ParentsKept, ClimbsKept, UnderByStep, AncestorsAreOlder, RootIsAbove}
 use Rattle.psi_spec.proofs.RefusalLaws.{is_none, passed, second_true}
+use Rattle.psi_spec.proofs.SwitchLaws.{one_live_switched, parents_switched, paths_switched, root_unswitched}
 
 -- ---- the groups above a group
 
@@ -432,6 +433,24 @@ groups_removed groups path at other are =
       one_live = one_live_without path at groups are.one_live;
     }
 
+-- the account of a group is switched
+pub groups_switched : (groups : List GroupLife) (path : List ℕ) (on : Bool) → is_root path ≡ false → AreGroups groups → AreGroups (map (marked_switched path on) groups)
+groups_switched groups path on other are =
+    let len : length (map (marked_switched path on) groups) ≡ length groups = length-map groups (marked_switched path on) in
+    let parents = parents_switched path on groups in
+    let few = are.few in
+    record {
+      few = omega (arith, len, few);
+      rooted = take-map (marked_switched path on) 1 groups ∙ ap (map (marked_switched path on)) are.rooted ∙ ap (λ group. group ∷ []) (root_unswitched path on other);
+      older = subst AreOlder (sym parents) are.older;
+      parented = subst HaveParents (sym parents) are.parented;
+      above = λ slot parent is.
+          let paths = paths_switched path on groups in
+          let was = are.above slot parent (ap (λ ps. slice_index_or ps slot None) (sym parents) ∙ is) in
+          ap (λ ps. slice_index_or ps parent []) paths ∙ was ∙ ap (λ ps. parent_path (slice_index_or ps slot [])) (sym paths);
+      one_live = one_live_switched path on groups are.one_live;
+    }
+
 -- the root alone has no parent
 first_alone : (slot parent : ℕ) → slice_index_or (parents_of (root ∷ [])) slot None ≡ Some parent → ⊥
 first_alone zero parent is = cc is
@@ -473,13 +492,16 @@ unfolding cause_of
 groups_act limits w at (act.Group path) legal are =
     let event : Event = record { at = at; act = act.Group path } in
     let few = passed (λ why. applies why limits w event) cause_order 4 cause.TooManyGroups legal refl in
-    let new = passed (λ why. applies why limits w event) cause_order 8 cause.GroupExists legal refl in
-    let over = the_some (slot_of w.groups (parent_path path)) (passed (λ why. applies why limits w event) cause_order 9 cause.NoParent legal refl) in
+    let new = passed (λ why. applies why limits w event) cause_order 9 cause.GroupExists legal refl in
+    let over = the_some (slot_of w.groups (parent_path path)) (passed (λ why. applies why limits w event) cause_order 10 cause.NoParent legal refl) in
     groups_made w.groups path at over.0 (fewer (length w.groups) few) (is_none (slot_of w.groups path) new) over.1 are
 groups_act limits w at (act.Remove path) legal are =
     let event : Event = record { at = at; act = act.Remove path } in
-    let busy = passed (λ why. applies why limits w event) cause_order 10 cause.GroupBusy legal refl in
+    let busy = passed (λ why. applies why limits w event) cause_order 11 cause.GroupBusy legal refl in
     groups_removed w.groups path at (first_false (is_root path) (has_child w.groups (slot_of w.groups path)) (has_member w.tasks (slot_of w.groups path)) busy) are
+groups_act limits w at (act.Pressure path on) legal are =
+    let event : Event = record { at = at; act = act.Pressure path on } in
+    groups_switched w.groups path on (passed (λ why. applies why limits w event) cause_order 12 cause.RootPressure legal refl) are
 groups_act limits w at (act.Prefer path preference) legal are = are
 groups_act limits w at _ legal are = are
 
@@ -496,6 +518,7 @@ nothing_behind parents = sym (append-nil parents)
 parents_act : (at : ℕ) (groups : List GroupLife) (a : Act) → parents_of (groups_after at groups a) ≡ parents_of groups ++ new_parents groups a
 parents_act at groups (act.Group path) = parents_behind groups (new_group groups path at) ∙ ap (λ o. parents_of groups ++ o ∷ []) (slot_number (slot_of groups (parent_path path)))
 parents_act at groups (act.Remove path) = parents_without path at groups ∙ nothing_behind (parents_of groups)
+parents_act at groups (act.Pressure path on) = parents_switched path on groups ∙ nothing_behind (parents_of groups)
 parents_act at groups _ = nothing_behind (parents_of groups)
 
 pub parents_kept : ParentsKept

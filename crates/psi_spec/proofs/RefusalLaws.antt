@@ -38,12 +38,12 @@ unfolding cause_of
 none_stands limits w event legal =
     let off : (at : ℕ) (why : Cause) → slice_get cause_order at ≡ Some why → applies why limits w event ≡ false = λ at why is. passed (λ why. applies why limits w event) cause_order at why legal is in
     record {
-      unknown_group = off 7 cause.UnknownGroup refl;
-      unknown_task = off 11 cause.UnknownTask refl;
-      task_exists = off 12 cause.TaskExists refl;
-      bad_cpu = off 14 cause.BadCpu refl;
-      not_ready = off 16 cause.NotReady refl;
-      wrong_how = off 18 cause.WrongHow refl;
+      unknown_group = off 8 cause.UnknownGroup refl;
+      unknown_task = off 13 cause.UnknownTask refl;
+      task_exists = off 14 cause.TaskExists refl;
+      bad_cpu = off 16 cause.BadCpu refl;
+      not_ready = off 18 cause.NotReady refl;
+      wrong_how = off 20 cause.WrongHow refl;
     }
 
 -- a negation that fails

@@ -1,10 +1,10 @@
 -- Which events change a processor, and what is so after some of its changes.
-use Rattle.std.specs.Prelude.{ℕ, ◌-◌, ◌≤◌, List, [], ◌∷◌, length, map, take, filter, slice_get, slice_index_or, ◌==◌, ◌||◌, Bool, false, Option, None, Some}
+use Rattle.std.specs.Prelude.{ℕ, ◌-◌, ◌≤◌, List, [], ◌∷◌, length, map, take, filter, slice_get, slice_index_or, ◌==◌, ◌||◌, Bool, true, false, Option, None, Some}
 use Rattle.std.specs.List.{range_with_len}
 use Rattle.psi_base.specs.declared.event.Act.{Act}
 use Rattle.psi_base.specs.declared.event.Event.{Event}
 use Rattle.psi_spec.specs.declared.machine.Task.{Task}
-use Rattle.psi_spec.specs.World.{Effect, forks, interrupts, moves, none, readies, stalls, switches, effect_of}
+use Rattle.psi_spec.specs.World.{Effect, forks, gates, interrupts, moves, none, readies, stalls, switches, effect_of}
 use Rattle.psi_spec.specs.World.{World, Tasks, task_of, test_task, task_part, running_on, after, up_to}
 use Rattle.psi_spec.specs.Stall.{stall, states}
 
@@ -20,6 +20,7 @@ before_effect tasks (stalls pid stalled) = task_of tasks pid.0
 before_effect tasks (moves pid path) = task_of tasks pid.0
 before_effect tasks (switches cpu next how) = task_part (running_on tasks cpu.0)
 before_effect tasks (interrupts cpu) = None
+before_effect tasks gates = None
 
 -- the one task whose counts an act changes, before it
 abbrev pub before : Tasks → Act → Option Task
@@ -30,8 +31,8 @@ abbrev pub is_at : ℕ → Task → Bool
 is_at cpu task = task.cpu.0 == cpu
 
 -- An effect touches a processor, by the task that it changes as it is before: the processor that a fork or a switch names, the
--- one that a task comes to and the one that it was on where it is put on a run queue, the task's where it stays there, and the
--- one that interrupts hold up.
+-- one that a task comes to and the one that it was on where it is put on a run queue, the task's where it stays there, the one
+-- that interrupts hold up, and every one where the account of a group is switched.
 abbrev pub touched_by : Effect → Option Task → ℕ → Bool
 touched_by none old cpu = false
 touched_by (forks pid path named) old cpu = named.0 == cpu
@@ -40,6 +41,7 @@ touched_by (stalls pid stalled) old cpu = test_task old (is_at cpu)
 touched_by (moves pid path) old cpu = test_task old (is_at cpu)
 touched_by (switches named next how) old cpu = named.0 == cpu
 touched_by (interrupts named) old cpu = named.0 == cpu
+touched_by gates old cpu = true
 
 -- An act touches a processor of the machine, by the task that it changes as it is before. It is asked of processors that there
 -- are alone: an act that touches every processor touches whichever is asked for.

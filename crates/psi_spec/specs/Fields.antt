@@ -1,5 +1,5 @@
 -- The kinds of fields that an event line has: the values of each, and the one word that spells a value.
-use Rattle.std.specs.Prelude.{◌≡◌, ◌⊎◌, ℕ, ◌≤◌, ◌<◌, ◌^◌, List, [], ◌∷◌, nat_lt, nat_le, ◌&&◌, Bool, true, if◌then◌else◌, codes, decimal, Option, None, Some, IfSome, option_map}
+use Rattle.std.specs.Prelude.{◌≡◌, ◌⊎◌, ℕ, ◌≤◌, ◌<◌, ◌^◌, List, [], ◌∷◌, nat_lt, nat_le, ◌&&◌, Bool, true, false, if◌then◌else◌, codes, decimal, Option, None, Some, IfSome, option_map}
 use Rattle.std.specs.Str.{bytes_eq}
 use Rattle.psi_base.specs.Number.{number_of}
 use Rattle.psi_base.specs.Path.{is_path}
@@ -16,7 +16,7 @@ use Rattle.psi_base.specs.declared.event.Level.TheVariants.{SomeStalled, FullSta
 
 -- what a field of an event line speaks of: a task, the task that runs next or none, a processor, a group by its path,
 -- how a task leaves its processor, a group's preference, a size or quantity of at most 2^60, any number of 64 bits,
--- a resource, and whether some or all tasks stall
+-- a resource, whether some or all tasks stall, and whether the account of a group is on
 pub data Kind : Type 0 where
   pid : Kind
   next : Kind
@@ -28,6 +28,7 @@ pub data Kind : Type 0 where
   number : Kind
   resource : Kind
   level : Kind
+  account : Kind
 
 -- the values of a kind
 abbrev pub Value : Kind → Type 0
@@ -41,6 +42,7 @@ Value amount = ℕ
 Value number = ℕ
 Value resource = Res
 Value level = Level
+Value account = Bool
 
 -- a task's number is from 1 to 2^32 - 1
 abbrev pub IsPid : Pid → Type 0
@@ -58,6 +60,7 @@ InRange amount n = n ≤ 2 ^ 60
 InRange number n = n < 2 ^ 64
 InRange resource which = Unit {0}
 InRange level which = Unit {0}
+InRange account on = Unit {0}
 
 -- the task that runs next, or 0
 abbrev pub next_word : Option Pid → List ℕ
@@ -89,6 +92,11 @@ abbrev pub level_word : Level → List ℕ
 level_word SomeStalled = codes "some"
 level_word FullStalled = codes "full"
 
+-- whether the account of a group is on
+abbrev pub account_word : Bool → List ℕ
+account_word true = codes "on"
+account_word false = codes "off"
+
 -- the one word that spells a value
 abbrev pub word : (kind : Kind) → Value kind → List ℕ
 word pid task = decimal task.0
@@ -101,6 +109,7 @@ word amount n = decimal n
 word number n = decimal n
 word resource which = resource_word which
 word level which = level_word which
+word account on = account_word on
 
 -- the first of these that is called so
 abbrev pub named : {A : Type 0} → (A → List ℕ) → List A → List ℕ → Option A
@@ -141,6 +150,10 @@ resources = Io ∷ Memory ∷ CpuRes ∷ []
 abbrev pub levels : List Level
 levels = SomeStalled ∷ FullStalled ∷ []
 
+-- an account is on, or off
+abbrev pub accounts : List Bool
+accounts = true ∷ false ∷ []
+
 -- the value that a word spells
 unfoldable pub value_of : (kind : Kind) → List ℕ → Option (Value kind)
 value_of pid text = option_map (λ n. let task : Pid = record { 0 = n } in task) (number_in (λ n. nat_lt 0 n && nat_lt n (2 ^ 32)) text)
@@ -153,3 +166,4 @@ value_of amount text = number_in (λ n. nat_le n (2 ^ 60)) text
 value_of number text = number_of text
 value_of resource text = named resource_word resources text
 value_of level text = named level_word levels text
+value_of account text = named account_word accounts text

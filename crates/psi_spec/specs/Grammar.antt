@@ -70,6 +70,7 @@ pub data Verb : Type 0 where
   Host : Verb
   Trigger : Verb
   Irq : Verb
+  Pressure : Verb
   End : Verb
 
 -- the word of a verb, the kinds of its fields, and the act that their values make
@@ -98,6 +99,7 @@ form_of Mem = form (codes "mem") (kind.path ∷ kind.amount ∷ kind.amount ∷ 
 form_of Host = form (codes "host") (kind.amount ∷ kind.amount ∷ kind.amount ∷ []) (λ v. act.Host v.0 v.1.0 v.1.1.0)
 form_of Trigger = form (codes "trigger") (kind.path ∷ kind.resource ∷ kind.level ∷ kind.number ∷ kind.number ∷ []) (λ v. act.Trigger v.0 v.1.0 v.1.1.0 v.1.1.1.0 v.1.1.1.1.0)
 form_of Irq = form (codes "irq") (kind.cpu ∷ kind.number ∷ []) (λ v. act.Irq v.0 v.1.0)
+form_of Pressure = form (codes "pressure") (kind.path ∷ kind.account ∷ []) (λ v. act.Pressure v.0 v.1.0)
 form_of End = form (codes "end") [] (λ v. act.End)
 
 -- how a verb is written
@@ -115,7 +117,7 @@ first_verbs = Switch ∷ Wake ∷ Stall ∷ Unstall ∷ Migrate ∷ Move ∷ For
 -- the verbs that a version has besides
 abbrev pub more_verbs : Version → List Verb
 more_verbs One = []
-more_verbs Two = Irq ∷ []
+more_verbs Two = Irq ∷ Pressure ∷ []
 
 -- the verbs of a version; no two are written alike
 abbrev pub verbs_of : Version → List Verb
@@ -146,6 +148,7 @@ phrase_of (act.Mem path current swap scan) = phrase Mem (path, (current, (swap, 
 phrase_of (act.Host mem_total swap_total swap_free) = phrase Host (mem_total, (swap_total, (swap_free, tt)))
 phrase_of (act.Trigger path res level threshold_us window_us) = phrase Trigger (path, (res, (level, (threshold_us, (window_us, tt)))))
 phrase_of (act.Irq cpu ns) = phrase Irq (cpu, (ns, tt))
+phrase_of (act.Pressure path on) = phrase Pressure (path, (on, tt))
 phrase_of act.End = phrase End tt
 
 -- ---- spelling

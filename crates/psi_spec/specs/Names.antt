@@ -1,22 +1,23 @@
 -- What the line of an act names, one row a verb.
-use Rattle.std.specs.Prelude.{ℕ, List, Option, None, Some}
+use Rattle.std.specs.Prelude.{ℕ, List, Bool, Option, None, Some}
 use Rattle.psi_base.specs.declared.event.Pid.{Pid}
 use Rattle.psi_base.specs.declared.event.Act.{Act}
 use Rattle.psi_base.specs.declared.event.Act.TheVariants as act
 
--- what an act names: the paths of a group that has to be live, of one that is made and of one that is removed, a task that has
--- to be live and one that is made, and a processor that has to be there
+-- what an act names: the paths of a group that has to be live, of one that is made and of one that is removed, that of one whose
+-- account is switched and whether on, a task that has to be live and one that is made, and a processor that has to be there
 pub record Names : Type 0 where
   pub live_path : Option (List ℕ)
   pub new_path : Option (List ℕ)
   pub removed_path : Option (List ℕ)
+  pub switched : Option (List ℕ × Bool)
   pub live_task : Option Pid
   pub new_task : Option Pid
   pub cpu : Option ℕ
 
 -- an act that names nothing
 abbrev pub no_names : Names
-no_names = record { live_path = None; new_path = None; removed_path = None; live_task = None; new_task = None; cpu = None }
+no_names = record { live_path = None; new_path = None; removed_path = None; switched = None; live_task = None; new_task = None; cpu = None }
 
 -- what each act names
 abbrev pub names : Act → Names
@@ -34,4 +35,5 @@ names (act.Mem path current swap scan) = record no_names { live_path = Some path
 names (act.Host mem_total swap_total swap_free) = no_names
 names (act.Trigger path res level threshold_us window_us) = record no_names { live_path = Some path }
 names (act.Irq cpu ns) = record no_names { cpu = Some cpu.0 }
+names (act.Pressure path on) = record no_names { live_path = Some path; switched = Some (path, on) }
 names act.End = no_names

@@ -14,7 +14,7 @@ use Rattle.psi_base.specs.declared.event.Cause.TheVariants as cause
 use Rattle.psi_spec.specs.declared.machine.Task.{Task}
 use Rattle.psi_spec.specs.declared.machine.GroupLife.{GroupLife}
 use Rattle.psi_spec.specs.Names.{names}
-use Rattle.psi_spec.specs.World.{World, Limits, Tasks, task_of, test_task, running_on, task_part, is_running, is_ready, is_active, is_ready_on, is_live, is_trigger, slot_of, parent_path, is_root, after_event, most_groups, most_tasks, most_events, longest_irq}
+use Rattle.psi_spec.specs.World.{World, Limits, Tasks, task_of, test_task, running_on, task_part, is_running, is_ready, is_active, is_ready_on, is_live, is_trigger, is_pressure, slot_of, parent_path, is_root, after_event, most_groups, most_tasks, most_events, most_pressures, longest_irq}
 
 -- ---- single tests
 
@@ -60,6 +60,11 @@ has_member tasks slot = list_any (λ task. is_slot slot (Some task.slot)) (tasks
 abbrev pub is_busy : World → Option (List ℕ) → Bool
 is_busy w None = false
 is_busy w (Some path) = is_root path || has_child w.groups (slot_of w.groups path) || has_member w.tasks (slot_of w.groups path)
+
+-- the group whose account is to be switched is the root
+abbrev pub switches_root : Option (List ℕ × Bool) → Bool
+switches_root None = false
+switches_root (Some switched) = is_root switched.0
 
 -- a task that has to be new is live
 abbrev pub has_task : Tasks → Option Pid → Bool
@@ -142,10 +147,12 @@ applies cause.TooManyEvents limits w event = nat_le most_events w.lines
 applies cause.TooManyGroups limits w event = is_some (names event.act).new_path && nat_le most_groups (length w.groups)
 applies cause.TooManyTasks limits w event = is_some (names event.act).new_task && nat_le most_tasks (tasks_by.len w.tasks)
 applies cause.TooManyTriggers limits w event = is_trigger event.act && nat_le 256 w.triggers
+applies cause.TooManyPressures limits w event = is_pressure event.act && nat_le most_pressures w.pressures
 applies cause.UnknownGroup limits w event = lacks_group w.groups (names event.act).live_path
 applies cause.GroupExists limits w event = has_group w.groups (names event.act).new_path
 applies cause.NoParent limits w event = lacks_parent w.groups (names event.act).new_path
 applies cause.GroupBusy limits w event = is_busy w (names event.act).removed_path
+applies cause.RootPressure limits w event = switches_root (names event.act).switched
 applies cause.UnknownTask limits w event = lacks_task w.tasks (names event.act).live_task
 applies cause.TaskExists limits w event = has_task w.tasks (names event.act).new_task
 applies cause.BadWindow limits w event = bad_window event.act
@@ -168,8 +175,8 @@ applies cause.NoEnd limits w event = false
 abbrev pub cause_order : List Cause
 cause_order =
     cause.AfterEnd ∷ cause.TimeBack ∷ cause.TimeTooLate
-    ∷ cause.TooManyEvents ∷ cause.TooManyGroups ∷ cause.TooManyTasks ∷ cause.TooManyTriggers
-    ∷ cause.UnknownGroup ∷ cause.GroupExists ∷ cause.NoParent ∷ cause.GroupBusy
+    ∷ cause.TooManyEvents ∷ cause.TooManyGroups ∷ cause.TooManyTasks ∷ cause.TooManyTriggers ∷ cause.TooManyPressures
+    ∷ cause.UnknownGroup ∷ cause.GroupExists ∷ cause.NoParent ∷ cause.GroupBusy ∷ cause.RootPressure
     ∷ cause.UnknownTask ∷ cause.TaskExists ∷ cause.BadWindow ∷ cause.BadCpu
     ∷ cause.NotRunning ∷ cause.NotReady ∷ cause.NotBlocked ∷ cause.WrongHow ∷ cause.InStall ∷ cause.NotInStall
     ∷ cause.IrqTooLong ∷ []

@@ -10,7 +10,7 @@ use Rattle.psi_base.specs.declared.event.Act.TheVariants as act
 use Rattle.psi_base.specs.declared.event.Event.{Event}
 use Rattle.psi_spec.specs.declared.machine.Task.{Task}
 use Rattle.psi_spec.specs.declared.machine.GroupLife.{GroupLife}
-use Rattle.psi_spec.specs.World.{World, Tasks, is_waiting, is_ready, is_running, is_active, after}
+use Rattle.psi_spec.specs.World.{World, Tasks, is_on, is_waiting, is_ready, is_running, is_active, after}
 
 -- ---- groups below groups
 
@@ -90,9 +90,9 @@ state_number Nonidle = 6
 abbrev pub states : List State
 states = IoSome ∷ IoFull ∷ MemSome ∷ MemFull ∷ CpuSome ∷ CpuFull ∷ Nonidle ∷ []
 
--- a group is in a state on a processor
+-- a group is in a state on a processor: its account is on, and the tasks that count for it there tell so
 unfoldable pub holds : State → ℕ → ℕ → World → Bool
-holds state cpu slot w = holds_of state (tasks_in (parents_of w.groups) cpu slot w.tasks)
+holds state cpu slot w = is_on w.groups slot && holds_of state (tasks_in (parents_of w.groups) cpu slot w.tasks)
 
 -- ---- stall time
 
@@ -120,10 +120,10 @@ irq_told cpu (act.Irq named ns) = if named.0 == cpu then ns else 0
 irq_told cpu _ = 0
 
 -- the time (ns) that interrupts took from a group on a processor, by an event, if there is one, in a world: what the event
--- tells, where a task of the group runs there
+-- tells, where the group's account is on and a task of it runs there
 abbrev pub irq_from : ℕ → ℕ → World → Option Event → ℕ
 irq_from cpu slot w None = 0
-irq_from cpu slot w (Some event) = if has_running cpu slot w then irq_told cpu event.act else 0
+irq_from cpu slot w (Some event) = if is_on w.groups slot && has_running cpu slot w then irq_told cpu event.act else 0
 
 -- the time (ns) that interrupts took from a group on a processor by the event with a number from 1, in the world before it
 abbrev pub irq_by : ℕ → ℕ → List Event → ℕ → ℕ

@@ -1,5 +1,5 @@
 -- The tasks and groups of a machine, and what an event does to them.
-use Rattle.std.specs.Prelude.{ℕ, ◌+◌, List, [], ◌∷◌, ◌++◌, map, filter, nat_le, ◌==◌, ◌&&◌, ◌||◌, not, Bool, true, false, if◌then◌else◌, codes, Option, None, Some, is_some, find, unwrap_or, replicate, slice_set}
+use Rattle.std.specs.Prelude.{ℕ, ◌+◌, List, [], ◌∷◌, ◌++◌, map, filter, nat_le, ◌==◌, ◌&&◌, ◌||◌, not, Bool, true, false, if◌then◌else◌, codes, Option, None, Some, is_some, find, unwrap_or, replicate, slice_get, slice_set}
 use Rattle.std.specs.List.{list_any}
 use Rattle.std.specs.Str.{bytes_eq}
 use Rattle.std.specs.Ordering.{nat_cmp}
@@ -127,25 +127,41 @@ as_slot (Some n) = Some (record { 0 = n })
 
 -- the group that the machine starts with
 abbrev pub root : GroupLife
-root = record { path = codes "/"; parent = None; made = 0; gone = None }
+root = record { path = codes "/"; parent = None; made = 0; gone = None; on = true }
 
--- a new group under the live one with its parent's path
+-- a new group under the live one with its parent's path, whose own account is on
 abbrev pub new_group : List GroupLife → List ℕ → ℕ → GroupLife
-new_group groups path at = record { path = path; parent = as_slot (slot_of groups (parent_path path)); made = at; gone = None }
+new_group groups path at = record { path = path; parent = as_slot (slot_of groups (parent_path path)); made = at; gone = None; on = true }
 
 -- a group after the live one with a path was removed
 abbrev pub marked_removed : List ℕ → ℕ → GroupLife → GroupLife
 marked_removed path at group = if is_live group && bytes_eq group.path path then record group { gone = Some at } else group
 
+-- a group after the account of the live one with a path was switched on, or off
+abbrev pub marked_switched : List ℕ → Bool → GroupLife → GroupLife
+marked_switched path on group = if is_live group && bytes_eq group.path path then record group { on = on } else group
+
+-- the account of a group that may be missing is on: of one that isn't made nothing was switched
+abbrev pub is_on_life : Option GroupLife → Bool
+is_on_life None = true
+is_on_life (Some life) = life.on
+
+-- the account of the group in a slot is on
+abbrev pub is_on : List GroupLife → ℕ → Bool
+is_on groups slot = is_on_life (slice_get groups slot)
+
 -- ---- the world
 
--- how many processors a machine may have, how many event lines its trace, how many groups there may ever be, the root among
--- them, and how many live tasks
+-- how many processors a machine may have, how many event lines its trace, and how many `pressure` lines; how many groups there
+-- may ever be, the root among them, and how many live tasks
 abbrev pub most_cpus : ℕ
 most_cpus = 64
 
 abbrev pub most_events : ℕ
 most_events = 4000000
+
+abbrev pub most_pressures : ℕ
+most_pressures = 65536
 
 abbrev pub most_groups : ℕ
 most_groups = 1024
@@ -163,19 +179,21 @@ pub record Limits : Type 0 where
   pub latest : ℕ
 
 -- the live tasks, all groups ever made in the order of their slots, for each processor the moment (ns) of its last `irq` line
--- or 0, how many triggers and event lines there were, the moment of the last line (ns), and whether the trace has ended
+-- or 0, how many triggers, `pressure` lines and event lines there were, the moment of the last line (ns), and whether the trace
+-- has ended
 pub record World : Type 0 where
   pub tasks : Tasks
   pub groups : List GroupLife
   pub irqs : List ℕ
   pub triggers : ℕ
+  pub pressures : ℕ
   pub lines : ℕ
   pub last : ℕ
   pub ended : Bool
 
 -- the root alone, and no task
 abbrev pub first_world : World
-first_world = record { tasks = no_tasks; groups = root ∷ []; irqs = replicate most_cpus 0; triggers = 0; lines = 0; last = 0; ended = false }
+first_world = record { tasks = no_tasks; groups = root ∷ []; irqs = replicate most_cpus 0; triggers = 0; pressures = 0; lines = 0; last = 0; ended = false }
 
 -- ---- effects
 
@@ -220,8 +238,9 @@ start None tasks = tasks
 start (Some pid) tasks = change tasks pid.0 (λ task. record task { mode = Running })
 
 -- what an act does to tasks: nothing; a task is made in a group on a processor, is put on the run queue of a processor, starts
--- or ends a memory stall, or goes to another group; the task that runs on a processor leaves, and the next starts; or the one
--- that runs there is held up by interrupts, and is as before
+-- or ends a memory stall, or goes to another group; the task that runs on a processor leaves, and the next starts; the one that
+-- runs there is held up by interrupts, and is as before; or the account of a group is switched, on all processors, and all tasks
+-- are as before
 pub data Effect : Type 0 where
   none : Effect
   forks : Pid → List ℕ → Cpu → Effect
@@ -230,6 +249,7 @@ pub data Effect : Type 0 where
   moves : Pid → List ℕ → Effect
   switches : Cpu → Option Pid → How → Effect
   interrupts : Cpu → Effect
+  gates : Effect
 
 -- what each act does to tasks
 abbrev pub effect_of : Act → Effect
@@ -247,6 +267,7 @@ effect_of (act.Mem path current swap scan) = none
 effect_of (act.Host mem_total swap_total swap_free) = none
 effect_of (act.Trigger path res level threshold_us window_us) = none
 effect_of (act.Irq cpu ns) = interrupts cpu
+effect_of (act.Pressure path on) = gates
 effect_of act.End = none
 
 -- the tasks after an effect
@@ -258,6 +279,7 @@ tasks_by_effect groups tasks (stalls pid stalled) = change tasks pid.0 (λ task.
 tasks_by_effect groups tasks (moves pid path) = change tasks pid.0 (λ task. record task { slot = record { 0 = unwrap_or (slot_of groups path) 0 } })
 tasks_by_effect groups tasks (switches cpu next how) = start next (leave how tasks (running_on tasks cpu.0))
 tasks_by_effect groups tasks (interrupts cpu) = tasks
+tasks_by_effect groups tasks gates = tasks
 
 -- what an act does to the tasks
 abbrev pub tasks_after : List GroupLife → Tasks → Act → Tasks
@@ -273,9 +295,14 @@ abbrev pub with_removed : ℕ → Option (List ℕ) → List GroupLife → List 
 with_removed at None groups = groups
 with_removed at (Some path) groups = map (marked_removed path at) groups
 
+-- the groups after the account of one was switched, if one is
+abbrev pub with_switched : Option (List ℕ × Bool) → List GroupLife → List GroupLife
+with_switched None groups = groups
+with_switched (Some switched) groups = map (marked_switched switched.0 switched.1) groups
+
 -- what an act at a moment does to the groups
 abbrev pub groups_after : ℕ → List GroupLife → Act → List GroupLife
-groups_after at groups what = with_new at (names what).new_path (with_removed at (names what).removed_path groups)
+groups_after at groups what = with_new at (names what).new_path (with_removed at (names what).removed_path (with_switched (names what).switched groups))
 
 -- the moments (ns) of the last `irq` lines of all processors after an act at a moment
 abbrev pub irqs_after : ℕ → List ℕ → Act → List ℕ
@@ -286,6 +313,11 @@ irqs_after at irqs _ = irqs
 abbrev pub is_trigger : Act → Bool
 is_trigger (act.Trigger path res level threshold_us window_us) = true
 is_trigger _ = false
+
+-- the act switches the account of a group
+abbrev pub is_pressure : Act → Bool
+is_pressure (act.Pressure path on) = true
+is_pressure _ = false
 
 -- the act ends the trace
 abbrev pub ends : Act → Bool
@@ -299,6 +331,7 @@ after_event w event = record {
   groups = groups_after event.at w.groups event.act;
   irqs = irqs_after event.at w.irqs event.act;
   triggers = w.triggers + (if is_trigger event.act then 1 else 0);
+  pressures = w.pressures + (if is_pressure event.act then 1 else 0);
   lines = w.lines + 1;
   last = event.at;
   ended = w.ended || ends event.act;

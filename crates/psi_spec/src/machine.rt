@@ -9,6 +9,8 @@ pub struct GroupLife {
     pub parent: Option<Slot>,
     pub made: Ns,
     pub gone: Option<Ns>,
+    /// Its account is on: stalls and interrupts are counted for it. Groups above and below have accounts of their own.
+    pub on: bool,
 }
 
 /// What a live task does.
