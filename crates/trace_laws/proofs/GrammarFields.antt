@@ -17,7 +17,7 @@ use Rattle.psi_base.specs.declared.event.Res.{Res}
 use Rattle.psi_base.specs.declared.event.Res.TheVariants.{Io, Memory, Cpu as CpuRes}
 use Rattle.psi_base.specs.declared.event.Level.{Level}
 use Rattle.psi_base.specs.declared.event.Level.TheVariants.{SomeStalled, FullStalled}
-use Rattle.psi_spec.specs.Fields.{Kind, pid, next, cpu, path, how, preference, amount, number, resource, level, Value, InRange, IsAmong, IsPid, word, value_of, named, kept, number_in, task_or_none, next_word, how_word, preference_word, resource_word, level_word, hows, preferences, resources, levels}
+use Rattle.psi_spec.specs.Fields.{Kind, pid, next, cpu, path, how, preference, amount, number, resource, level, account, Value, InRange, IsAmong, IsPid, word, value_of, named, kept, number_in, task_or_none, next_word, how_word, preference_word, resource_word, level_word, account_word, hows, preferences, resources, levels, accounts}
 
 if_some : {A : Type 0} (test : Bool) (x y : A) (rest : Option A) → (if test then Some x else rest) ≡ Some y → ((test ≡ true) × (x ≡ y)) ⊎ (rest ≡ Some y)
 if_some true x y rest is = inl (refl, cc)
@@ -134,6 +134,7 @@ value_spells number text value is =
     (read.1, read.0)
 value_spells resource text value is = (tt, named_spells resource_word resources text value is)
 value_spells level text value is = (tt, named_spells level_word levels text value is)
+value_spells account text value is = (tt, named_spells account_word accounts text value is)
 
 next_again : (task : Option Pid) → IfSome task IsPid → option_map task_or_none (number_in (λ n. nat_lt n (2 ^ 32)) (next_word task)) ≡ Some task
 next_again None is = ap (λ text. option_map task_or_none (number_in (λ n. nat_lt n (2 ^ 32)) text)) (sym (decimal_digit 0 (omega arith))) ∙ ap (option_map task_or_none) (number_in_again (λ n. nat_lt n (2 ^ 32)) 0 (omega arith) (grind arith))
@@ -164,6 +165,11 @@ unfolding value_of
 level_again SomeStalled = refl
 level_again FullStalled = refl
 
+account_again : (on : Bool) → value_of account (account_word on) ≡ Some on
+unfolding value_of
+account_again true = refl
+account_again false = refl
+
 -- a value in range is read from its word
 pub value_again : (k : Kind) (value : Value k) → InRange k value → value_of k (word k value) ≡ Some value
 unfolding value_of
@@ -177,3 +183,4 @@ value_again amount value fits = number_in_again _ value (omega arith) (grind (ar
 value_again number value fits = number_of-decimal value fits
 value_again resource value fits = resource_again value
 value_again level value fits = level_again value
+value_again account value fits = account_again value

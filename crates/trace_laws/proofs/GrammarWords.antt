@@ -16,7 +16,7 @@ use Rattle.psi_base.specs.declared.event.Res.{Res}
 use Rattle.psi_base.specs.declared.event.Res.TheVariants.{Io, Memory, Cpu as CpuRes}
 use Rattle.psi_base.specs.declared.event.Level.{Level}
 use Rattle.psi_base.specs.declared.event.Level.TheVariants.{SomeStalled, FullStalled}
-use Rattle.psi_spec.specs.Fields.{Kind, pid, next, cpu, path, how, preference, amount, number, resource, level, Value, InRange, IsPid, word, next_word, how_word, preference_word, resource_word, level_word}
+use Rattle.psi_spec.specs.Fields.{Kind, pid, next, cpu, path, how, preference, amount, number, resource, level, account, Value, InRange, IsPid, word, next_word, how_word, preference_word, resource_word, level_word, account_word}
 use Rattle.trace_laws.proofs.GrammarParts.{IsPrinted}
 
 digits_printed : (bytes : List ℕ) → all_ascii_digits bytes ≡ true → IsPrinted bytes
@@ -133,6 +133,10 @@ level_shape : (which : Level) → IsShort (level_word which) 4
 level_shape SomeStalled = record { printed = refl; short = lit≤ tt }
 level_shape FullStalled = record { printed = refl; short = lit≤ tt }
 
+account_shape : (on : Bool) → IsShort (account_word on) 3
+account_shape true = record { printed = refl; short = lit≤ tt }
+account_shape false = record { printed = refl; short = lit≤ tt }
+
 -- the most bytes that a word of a kind has
 abbrev pub longest : Kind → ℕ
 longest pid = 20
@@ -145,6 +149,7 @@ longest amount = 20
 longest number = 20
 longest resource = 6
 longest level = 4
+longest account = 3
 
 word_shape : (k : Kind) (value : Value k) → InRange k value → IsShort (word k value) (longest k)
 word_shape pid value fits = number_shape value.0 (omega arith)
@@ -157,6 +162,7 @@ word_shape amount value fits = number_shape value (omega arith)
 word_shape number value fits = number_shape value fits
 word_shape resource value fits = resource_shape value
 word_shape level value fits = level_shape value
+word_shape account value fits = account_shape value
 
 pub word_printed : (k : Kind) (value : Value k) → InRange k value → IsPrinted (word k value)
 word_printed k value fits = (word_shape k value fits).printed
