@@ -44,7 +44,7 @@ few_told irqs at _ cpu off = omega arith
 
 pub not_too_long : (limits : Limits) (w : World) (event : Event) → cause_of limits w event ≡ None → irq_too_long w.irqs event.at event.act ≡ false
 unfolding cause_of
-not_too_long limits w event legal = passed (λ why. applies why limits w event) cause_order 21 cause.IrqTooLong legal refl
+not_too_long limits w event legal = passed (λ why. applies why limits w event) cause_order 23 cause.IrqTooLong legal refl
 
 -- a legal event tells of a second of interrupts at most
 pub told_few : (limits : Limits) (w : World) (event : Event) → cause_of limits w event ≡ None → (cpu : ℕ) → irq_told cpu event.act ≤ longest_irq

@@ -16,7 +16,7 @@ use Rattle.psi_spec.specs.declared.machine.Task.{Task}
 use Rattle.psi_counts.specs.declared.changes.Change.{Change}
 use Rattle.psi_counts.specs.declared.changes.Counts.{Counts}
 use Rattle.psi_spec.specs.declared.machine.GroupLife.{GroupLife}
-use Rattle.psi_spec.specs.World.{World, Limits, Tasks, after, after_from, first_world, task_of, test_task, task_part, running_on, is_trigger, tasks_after, after_event}
+use Rattle.psi_spec.specs.World.{World, Limits, Tasks, after, after_from, first_world, task_of, test_task, task_part, running_on, is_trigger, is_pressure, tasks_after, after_event}
 use Rattle.psi_spec.specs.Refusal.{cause_of, applies, cause_order, AreLegal}
 use Rattle.psi_spec.specs.Stall.{is_under, is_in, parents_of, number_of_slot, tasks_in}
 use Rattle.psi_counts.specs.Counts.{counts_among, how_many}
@@ -88,6 +88,10 @@ one_trigger : (b : Bool) (n : ℕ) → (b && nat_le 256 n) ≡ false → n ≤ 2
 one_trigger true n h few = grind (arith, nat_tests)
 one_trigger false n h few = omega (arith, few)
 
+one_pressure : (b : Bool) (n : ℕ) → (b && nat_le 65536 n) ≡ false → n ≤ 65536 → n + (if b then 1 else 0) ≤ 65536
+one_pressure true n h few = grind (arith, nat_tests)
+one_pressure false n h few = omega (arith, few)
+
 one_line : (n : ℕ) → nat_le 4000000 n ≡ false → n + 1 ≤ 4000000
 one_line n h = grind (arith, nat_tests)
 
@@ -121,6 +125,7 @@ legal_first limits = record {
   once = runs_once_first;
   few_tasks = omega (arith, fin.len-empty nat_cmp Task);
   few_triggers = omega arith;
+  few_pressures = omega arith;
   few_lines = omega arith;
   early = omega arith;
 }
@@ -133,6 +138,7 @@ legal_kept limits w event legal world = record {
   once = runs_once_kept limits w event legal world.once;
   few_tasks = omega (arith, few_act limits w event.at event.act legal (omega (arith, counted_all w.tasks, world.few_tasks)), counted_all (after_event w event).tasks);
   few_triggers = one_trigger (is_trigger event.act) w.triggers (passed (λ why. applies why limits w event) cause_order 6 cause.TooManyTriggers legal refl) world.few_triggers;
+  few_pressures = one_pressure (is_pressure event.act) w.pressures (passed (λ why. applies why limits w event) cause_order 7 cause.TooManyPressures legal refl) world.few_pressures;
   few_lines = one_line w.lines (passed (λ why. applies why limits w event) cause_order 3 cause.TooManyEvents legal refl);
   early = in_time limits.latest event.at (passed (λ why. applies why limits w event) cause_order 2 cause.TimeTooLate legal refl);
 }
@@ -202,7 +208,7 @@ all_follow old first middle new minus plus more_minus more_plus one others = rec
 -- the change of a touched processor has the parts of the task that the event changes
 change_parts : (w : World) (event : Event) (cpu : ℕ) (change : Change) → change_of w event cpu ≡ Some change → (change.minus ≡ part cpu (before w.tasks event.act)) × (change.plus ≡ part cpu (task_after w.groups w.tasks event.act))
 unfolding change_of
-change_parts w event cpu change is = parts_then (touched event.act (before w.tasks event.act) cpu) (change_on event (before w.tasks event.act) (task_after w.groups w.tasks event.act) (tasks_after w.groups w.tasks event.act) cpu) change is
+change_parts w event cpu change is = parts_then (touched event.act (before w.tasks event.act) cpu) (change_on w.groups event (before w.tasks event.act) (task_after w.groups w.tasks event.act) (tasks_after w.groups w.tasks event.act) cpu) change is
   where
     parts_then : (b : Bool) (made other : Change) → (if b then Some made else None) ≡ Some other → (other.minus ≡ made.minus) × (other.plus ≡ made.plus)
     parts_then true made other same = let e : made ≡ other = cc same in (ap (λ (x : Change). x.minus) (sym e), ap (λ (x : Change). x.plus) (sym e))

@@ -1,5 +1,6 @@
 pub mod ClockLaws
 pub mod CountLaws
+pub mod GateLaws
 pub mod IrqLaws
 pub mod MaskLaws
 pub mod TouchCounts

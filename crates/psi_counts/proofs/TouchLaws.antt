@@ -22,6 +22,7 @@ use Rattle.psi_counts.specs.Counts.{how_many, counts_among, is_up_stalled, runs_
 use Rattle.psi_counts.specs.Touch.{changed, task_after, part, shown, change_on, change_of, no_counts, on_chain, RunsOnce, is_current_in, is_current_stalled, CountsFollow, RunsOnceFirst, RunsOnceKept, CurrentTells, StaysUntouched}
 use Rattle.psi_spec.specs.Changes.{before, is_at, touched}
 use Rattle.psi_counts.proofs.CountLaws.{one, how_many-cons, any_counted}
+use Rattle.psi_counts.proofs.GateLaws.{ungated}
 use Rattle.psi_counts.proofs.IrqLaws.{untold}
 use Rattle.psi_spec.proofs.RefusalLaws.{first_true, is_none, none_stands, not_false, second_true}
 use Rattle.psi_spec.proofs.TaskLaws.{no_entries, task_placed}
@@ -282,7 +283,7 @@ not_then false change h = refl
 untouched : (w : World) (event : Event) (cpu : ℕ) → change_of w event cpu ≡ None → touched event.act (before w.tasks event.act) cpu ≡ false
 unfolding change_of
 untouched w event cpu h =
-    not_then (touched event.act (before w.tasks event.act) cpu) (change_on event (before w.tasks event.act) (task_after w.groups w.tasks event.act) (tasks_after w.groups w.tasks event.act) cpu) h
+    not_then (touched event.act (before w.tasks event.act) cpu) (change_on w.groups event (before w.tasks event.act) (task_after w.groups w.tasks event.act) (tasks_after w.groups w.tasks event.act) cpu) h
 
 -- so it is of each count of a group
 quiet_many : (limits : Limits) (w : World) (event : Event) → cause_of limits w event ≡ None → (cpu : ℕ) → change_of w event cpu ≡ None → (parents : List (Option ℕ)) (slot : ℕ) (kind : Task → Bool) → how_many kind (tasks_in parents cpu slot (after_event w event).tasks) ≡ how_many kind (tasks_in parents cpu slot w.tasks)
@@ -306,6 +307,7 @@ stays_untouched limits w event legal cpu none parents slot =
         it_is_stalled = told.it_is_stalled ∙ any_same runs_stalled (tasks_in parents cpu slot w.tasks) (tasks_in parents cpu slot (after_event w event).tasks) (same runs_stalled);
       },
       untold w.tasks event.act cpu (untouched w event cpu none),
+      ungated w.groups w.tasks event.act cpu (untouched w event cpu none),
     )
 
 -- ---- at most one task runs on each processor

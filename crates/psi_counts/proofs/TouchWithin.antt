@@ -24,9 +24,10 @@ use Rattle.psi_spec.specs.Names.{names}
 use Rattle.psi_spec.specs.Refusal.{cause_of}
 use Rattle.psi_spec.specs.Stall.{irq_told, tasks_in, runs, waits, stalls, is_up}
 use Rattle.psi_counts.specs.Counts.{how_many, counts_among, is_up_stalled, IsRunningTold}
-use Rattle.psi_counts.specs.Touch.{changed, left_if, task_after, part, shown, change_on, change_of, told_first, told_of, IsBeside, AllTouched, HasSlotsBelow, AreAtMost, IsOfOne, AreWithin, WithinFirst, WithinKept, ChangesAreWithin, on_chain, Follows, irq_in, is_current_in, is_current_stalled, ChangeTells, RunsOnce, TouchesItsOwn}
+use Rattle.psi_counts.specs.Touch.{changed, left_if, task_after, part, shown, gate_of, change_on, change_of, told_first, told_of, IsBeside, AllTouched, HasSlotsBelow, AreAtMost, IsOfOne, AreWithin, WithinFirst, WithinKept, ChangesAreWithin, on_chain, Follows, irq_in, is_current_in, is_current_stalled, ChangeTells, RunsOnce, TouchesItsOwn}
 use Rattle.psi_spec.specs.Changes.{before, is_at, touched}
 use Rattle.psi_counts.proofs.CountLaws.{one, how_many-cons}
+use Rattle.psi_counts.proofs.GateLaws.{gate_alone}
 use Rattle.psi_counts.proofs.IrqLaws.{told_alone, told_few}
 use Rattle.psi_spec.proofs.TaskLaws.{itself, task_placed}
 use Rattle.psi_counts.proofs.TouchCounts.{running_found}
@@ -168,17 +169,18 @@ either_cpu cpus slots named cpu o fits room either =
       | false ↦ λ _ at. task_cpu cpus slots cpu o fits at
     ] refl either
 
--- a processor that a legal act touches is one that there is
-touched_room : (limits : Limits) (w : World) (at : ℕ) (a : Act) → cause_of limits w (record { at = at; act = a }) ≡ None → AreWithin limits.cpus (length w.groups) w.tasks → (cpu : ℕ) → touched a (before w.tasks a) cpu ≡ true → cpu < limits.cpus
-touched_room limits w at (act.Fork pid path named) h within cpu on = same_cpu named.0 cpu limits.cpus on (room_of limits.cpus named.0 (none_stands limits w _ h).bad_cpu)
-touched_room limits w at (act.Wake pid named) h within cpu on = either_cpu limits.cpus (length w.groups) named.0 cpu (task_of w.tasks pid.0) (within pid.0) (room_of limits.cpus named.0 (none_stands limits w _ h).bad_cpu) on
-touched_room limits w at (act.Switch named next how) h within cpu on = same_cpu named.0 cpu limits.cpus on (room_of limits.cpus named.0 (none_stands limits w _ h).bad_cpu)
-touched_room limits w at (act.Stall pid) h within cpu on = task_cpu limits.cpus (length w.groups) cpu (task_of w.tasks pid.0) (within pid.0) on
-touched_room limits w at (act.Unstall pid) h within cpu on = task_cpu limits.cpus (length w.groups) cpu (task_of w.tasks pid.0) (within pid.0) on
-touched_room limits w at (act.Migrate pid named) h within cpu on = either_cpu limits.cpus (length w.groups) named.0 cpu (task_of w.tasks pid.0) (within pid.0) (room_of limits.cpus named.0 (none_stands limits w _ h).bad_cpu) on
-touched_room limits w at (act.Move pid path) h within cpu on = task_cpu limits.cpus (length w.groups) cpu (task_of w.tasks pid.0) (within pid.0) on
-touched_room limits w at (act.Irq named ns) h within cpu on = same_cpu named.0 cpu limits.cpus on (room_of limits.cpus named.0 (none_stands limits w _ h).bad_cpu)
-touched_room limits w at _ h within cpu on = absurd (cc on)
+-- a processor that a legal act touches, and not all of them, is one that there is
+touched_room : (limits : Limits) (w : World) (at : ℕ) (a : Act) → cause_of limits w (record { at = at; act = a }) ≡ None → AreWithin limits.cpus (length w.groups) w.tasks → (cpu : ℕ) → touched a (before w.tasks a) cpu ≡ true → gate_of w.groups a ≡ None → cpu < limits.cpus
+touched_room limits w at (act.Fork pid path named) h within cpu on plain = same_cpu named.0 cpu limits.cpus on (room_of limits.cpus named.0 (none_stands limits w _ h).bad_cpu)
+touched_room limits w at (act.Wake pid named) h within cpu on plain = either_cpu limits.cpus (length w.groups) named.0 cpu (task_of w.tasks pid.0) (within pid.0) (room_of limits.cpus named.0 (none_stands limits w _ h).bad_cpu) on
+touched_room limits w at (act.Switch named next how) h within cpu on plain = same_cpu named.0 cpu limits.cpus on (room_of limits.cpus named.0 (none_stands limits w _ h).bad_cpu)
+touched_room limits w at (act.Stall pid) h within cpu on plain = task_cpu limits.cpus (length w.groups) cpu (task_of w.tasks pid.0) (within pid.0) on
+touched_room limits w at (act.Unstall pid) h within cpu on plain = task_cpu limits.cpus (length w.groups) cpu (task_of w.tasks pid.0) (within pid.0) on
+touched_room limits w at (act.Migrate pid named) h within cpu on plain = either_cpu limits.cpus (length w.groups) named.0 cpu (task_of w.tasks pid.0) (within pid.0) (room_of limits.cpus named.0 (none_stands limits w _ h).bad_cpu) on
+touched_room limits w at (act.Move pid path) h within cpu on plain = task_cpu limits.cpus (length w.groups) cpu (task_of w.tasks pid.0) (within pid.0) on
+touched_room limits w at (act.Irq named ns) h within cpu on plain = same_cpu named.0 cpu limits.cpus on (room_of limits.cpus named.0 (none_stands limits w _ h).bad_cpu)
+touched_room limits w at (act.Pressure path switched) h within cpu on plain = absurd (cc plain)
+touched_room limits w at _ h within cpu on plain = absurd (cc on)
 
 -- a part's slot is one that there is
 part_slot : (cpus slots cpu : ℕ) (o : Option Task) → Fits cpus slots o → IfSome (part cpu o) (λ p. p.0.0 < slots)
@@ -209,6 +211,11 @@ is_then : (b : Bool) (change other : Change) → (if b then Some change else Non
 is_then true change other h = (refl, cc h)
 is_then false change other h = absurd (cc h)
 
+-- a gate's slot is one that there is
+gate_slot : (limits : Limits) (w : World) (at : ℕ) (a : Act) → cause_of limits w (record { at = at; act = a }) ≡ None → IfSome (gate_of w.groups a) (λ gate. gate.0.0 < length w.groups)
+gate_slot limits w at (act.Pressure path on) h = slot_room w.groups path (none_stands limits w _ h).unknown_group
+gate_slot limits w at _ h = tt
+
 -- all of it for a change
 pub changes_are_within : ChangesAreWithin
 unfolding change_of
@@ -216,20 +223,22 @@ changes_are_within limits w event legal within cpu change is =
     let old = before w.tasks event.act in
     let new = task_after w.groups w.tasks event.act in
     let tasks = tasks_after w.groups w.tasks event.act in
-    let both = is_then (touched event.act old cpu) (change_on event old new tasks cpu) change is in
+    let both = is_then (touched event.act old cpu) (change_on w.groups event old new tasks cpu) change is in
     let later = within_kept limits w event legal within in
-    let slots : HasSlotsBelow (length w.groups) (change_on event old new tasks cpu) = record {
+    let slots : HasSlotsBelow (length w.groups) (change_on w.groups event old new tasks cpu) = record {
       minus = part_slot limits.cpus (length w.groups) cpu old (fits_before limits.cpus (length w.groups) w.tasks within event.act);
       plus = part_slot limits.cpus (length w.groups) cpu new (fits_after limits w event.at event.act legal within);
       current = shown_slot limits.cpus (length w.groups) (running_on tasks cpu) (fits_running limits.cpus (length w.groups) tasks later cpu (running_on tasks cpu) refl);
+      gate = gate_slot limits w event.at event.act legal;
     } in
-    let ones : IsOfOne (change_on event old new tasks cpu) = record {
+    let ones : IsOfOne (change_on w.groups event old new tasks cpu) = record {
       minus = part_one cpu old;
       plus = part_one cpu new;
       irq = told_few limits w event legal cpu;
       alone = told_alone w.groups w.tasks event.act cpu;
+      gate = gate_alone w.groups w.tasks event.act cpu;
     } in
-    (touched_room limits w event.at event.act legal within cpu both.0, subst (HasSlotsBelow (length w.groups)) both.1 slots, subst IsOfOne both.1 ones, ap (λ (c : Change). c.at) (sym both.1))
+    (λ plain. touched_room limits w event.at event.act legal within cpu both.0 (ap (λ (c : Change). c.gate) both.1 ∙ plain), subst (HasSlotsBelow (length w.groups)) both.1 slots, subst IsOfOne both.1 ones, ap (λ (c : Change). c.at) (sym both.1))
 
 -- ---- what is so of each change of a processor is so of each in a touch
 
@@ -275,13 +284,14 @@ change_tells limits w event legal once cpu change is parents slot =
     let old = before w.tasks event.act in
     let new = task_after w.groups w.tasks event.act in
     let tasks = tasks_after w.groups w.tasks event.act in
-    let both = is_then (touched event.act old cpu) (change_on event old new tasks cpu) change is in (
+    let both = is_then (touched event.act old cpu) (change_on w.groups event old new tasks cpu) change is in (
       subst (λ (c : Change). Follows (counts_among (tasks_in parents cpu slot w.tasks)) (on_chain parents slot c.minus) (on_chain parents slot c.plus) (counts_among (tasks_in parents cpu slot (after_event w event).tasks))) both.1
           (counts_follow limits w event legal parents cpu slot),
       subst (λ (c : Change). IsRunningTold (tasks_in parents cpu slot (after_event w event).tasks) (is_current_in parents slot c.current) (is_current_stalled c.current)) both.1
           (current_tells (after_event w event).tasks (runs_once_kept limits w event legal once) parents cpu slot),
       subst (λ (c : Change). irq_in parents slot c ≡ (if list_any runs (tasks_in parents cpu slot w.tasks) then irq_told cpu event.act else 0)) both.1
           (same_runner w.groups w.tasks event.act once parents cpu slot),
+      ap (λ (c : Change). c.gate) (sym both.1),
     )
 
 -- ---- an act touches the processors that it names and those of its task
@@ -326,6 +336,7 @@ touches_before w (act.Wake pid named) cpu at = or_second (named.0 == cpu) (test_
 touches_before w (act.Switch named next how) cpu at = leaver_there w.tasks named.0 cpu (running_on w.tasks named.0) refl at
 touches_before w (act.Migrate pid named) cpu at = or_second (named.0 == cpu) (test_task (task_of w.tasks pid.0) (is_at cpu)) at
 touches_before w (act.Irq named ns) cpu at = cc at
+touches_before w (act.Pressure path on) cpu at = refl
 touches_before w _ cpu at = at
 
 -- a task that comes to a processor, one that stays where it was, and one that leaves
@@ -356,6 +367,7 @@ touches_after w (act.Unstall pid) cpu at = stayed_there cpu (λ task. record tas
 touches_after w (act.Migrate pid named) cpu at = or_first (named.0 == cpu) (test_task (task_of w.tasks pid.0) (is_at cpu)) (came_there named.0 cpu (task_of w.tasks pid.0) at)
 touches_after w (act.Move pid path) cpu at = stayed_there cpu (λ task. record task { slot = record { 0 = unwrap_or (slot_of w.groups path) 0 } }) (λ _. refl) (task_of w.tasks pid.0) at
 touches_after w (act.Irq named ns) cpu at = cc at
+touches_after w (act.Pressure path on) cpu at = refl
 touches_after w _ cpu at = at
 
 -- all three

@@ -2,7 +2,7 @@
 use Rattle.std.specs.Prelude.{◌≡◌, ℕ, ◌≤◌, List, ◌++◌, length, Option, None, ◌+◌, [], ◌∷◌, Some}
 use Rattle.std.specs.FinMap as tasks_by
 use Rattle.psi_base.specs.declared.event.Event.{Event}
-use Rattle.psi_spec.specs.World.{World, Limits, first_world, after_event, after, most_tasks, most_events}
+use Rattle.psi_spec.specs.World.{World, Limits, first_world, after_event, after, most_tasks, most_events, most_pressures}
 use Rattle.psi_spec.specs.Refusal.{cause_of, AreLegal}
 use Rattle.psi_spec.specs.Stall.{parents_of, tasks_in}
 use Rattle.psi_counts.specs.Counts.{counts_among}
@@ -12,13 +12,14 @@ use Rattle.psi_counts.specs.declared.changes.Change.{Change}
 use Rattle.psi_counts.specs.declared.changes.Counts.{Counts}
 
 -- What holds of each legal world: its groups are so; each task is on a processor and in a slot that there is; at most one
--- runs on a processor; tasks, triggers and lines are few, and the last moment isn't too late.
+-- runs on a processor; tasks, triggers, `pressure` lines and all lines are few, and the last moment isn't too late.
 pub record IsLegalWorld (limits : Limits) (w : World) : Type 0 where
   pub groups : AreGroups w.groups
   pub within : AreWithin limits.cpus (length w.groups) w.tasks
   pub once : RunsOnce w.tasks
   pub few_tasks : tasks_by.len w.tasks ≤ most_tasks
   pub few_triggers : w.triggers ≤ 256
+  pub few_pressures : w.pressures ≤ most_pressures
   pub few_lines : w.lines ≤ most_events
   pub early : w.last ≤ limits.latest
 

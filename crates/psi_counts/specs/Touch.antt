@@ -13,11 +13,13 @@ use Rattle.psi_counts.specs.declared.changes.Change.{Change}
 use Rattle.psi_counts.specs.declared.changes.Touch.{Touch}
 use Rattle.psi_spec.specs.declared.machine.GroupLife.{GroupLife}
 use Rattle.psi_spec.specs.Names.{names}
-use Rattle.psi_spec.specs.World.{Effect, forks, interrupts, moves, none, readies, stalls, switches, effect_of}
-use Rattle.psi_spec.specs.World.{World, Limits, Tasks, no_tasks, task_of, test_task, task_part, running_on, is_running_on, new_task, readied, left_by, slot_of, tasks_after, after_event, longest_irq}
+use Rattle.psi_spec.specs.World.{Effect, forks, gates, interrupts, moves, none, readies, stalls, switches, effect_of}
+use Rattle.psi_spec.specs.World.{World, Limits, Tasks, no_tasks, task_of, test_task, task_part, running_on, is_running_on, new_task, readied, left_by, slot_of, is_on, tasks_after, after_event, longest_irq}
 use Rattle.psi_spec.specs.Refusal.{cause_of}
 use Rattle.psi_spec.specs.Stall.{irq_told, is_under, runs, tasks_in}
 use Rattle.psi_spec.specs.Changes.{before, is_at, touched}
+use Rattle.psi_spec.specs.Groups.{AreGroups}
+use Rattle.psi_spec.specs.Told.{slot_named}
 use Rattle.psi_counts.specs.Counts.{how_many, counts_among, IsRunningTold}
 
 -- ---- the task whose counts an act changes
@@ -41,10 +43,28 @@ after_effect groups tasks (stalls pid stalled) = changed (λ task. record task {
 after_effect groups tasks (moves pid path) = changed (λ task. record task { slot = record { 0 = unwrap_or (slot_of groups path) 0 } }) (task_of tasks pid.0)
 after_effect groups tasks (switches cpu next how) = left_if how (task_part (running_on tasks cpu.0))
 after_effect groups tasks (interrupts cpu) = None
+after_effect groups tasks gates = None
 
 -- the task whose counts an act changes, after it
 abbrev pub task_after : List GroupLife → Tasks → Act → Option Task
 task_after groups tasks act = after_effect groups tasks (effect_of act)
+
+-- ---- gates
+
+-- A gate is the slot of a group whose account is switched, and whether it is on from then on. This is the gate of a path and of
+-- whether on, if there are these.
+abbrev pub gate_named : List GroupLife → Option (List ℕ × Bool) → Option (Slot × Bool)
+gate_named groups None = None
+gate_named groups (Some switched) = Some (slot_named groups switched.0, switched.1)
+
+-- the gate of an act, if it switches an account
+abbrev pub gate_of : List GroupLife → Act → Option (Slot × Bool)
+gate_of groups what = gate_named groups (names what).switched
+
+-- the account of a slot is on after a gate, if there is one, where it is on before it or isn't
+abbrev pub gated : ℕ → Bool → Option (Slot × Bool) → Bool
+gated slot on None = on
+gated slot on (Some gate) = if gate.0.0 == slot then gate.1 else on
 
 -- ---- changes
 
@@ -60,21 +80,22 @@ shown (Some running) = Some (running.1.slot, running.1.stalled)
 
 -- The change of a processor by an event, at its moment: the task's counts before are taken from the chain of its slot, those
 -- after are added to the chain of its slot, and then some task runs there, or none. With it goes the time (ns) that interrupts
--- took there, if the event tells of any; then the same task runs as before.
-abbrev pub change_on : Event → Option Task → Option Task → Tasks → ℕ → Change
-change_on event old new tasks cpu = record {
+-- took there, if the event tells of any, and the gate, if it switches an account: then the same task runs as before.
+abbrev pub change_on : List GroupLife → Event → Option Task → Option Task → Tasks → ℕ → Change
+change_on groups event old new tasks cpu = record {
   at = event.at;
   minus = part cpu old;
   plus = part cpu new;
   current = shown (running_on tasks cpu);
   irq = irq_told cpu event.act;
+  gate = gate_of groups event.act;
 }
 
 -- the change of a processor by an event, if the event touches it
 unfoldable pub change_of : World → Event → ℕ → Option Change
 change_of w event cpu =
     if touched event.act (before w.tasks event.act) cpu
-    then Some (change_on event (before w.tasks event.act) (task_after w.groups w.tasks event.act) (tasks_after w.groups w.tasks event.act) cpu)
+    then Some (change_on w.groups event (before w.tasks event.act) (task_after w.groups w.tasks event.act) (tasks_after w.groups w.tasks event.act) cpu)
     else None
 
 -- ---- touches
@@ -88,16 +109,30 @@ told_first cpu (Some touched) other = if touched.0.0 == cpu then Some touched.1 
 abbrev pub told_of : Touch → ℕ → Option Change
 told_of touch cpu = told_first cpu touch.first (told_first cpu touch.second None)
 
+-- the change of a processor at a moment (ns) by a gate, where this task runs
+abbrev pub gate_change : ℕ → Option (Slot × Bool) → Slot × Bool → Change
+gate_change at current gate = record { at = at; minus = None; plus = None; current = current; irq = 0; gate = Some gate }
+
+-- the change that is made of a gate, if there is one, else another
+abbrev pub gate_first : ℕ → Option (Slot × Bool) → Option (Slot × Bool) → Option Change → Option Change
+gate_first at current None other = other
+gate_first at current (Some gate) other = Some (gate_change at current gate)
+
+-- the change that a touch at a moment (ns) tells of a processor on which this task runs after it
+abbrev pub change_told : ℕ → Option (Slot × Bool) → Touch → ℕ → Option Change
+change_told at current touch cpu = gate_first at current touch.gate (told_of touch cpu)
+
 -- a second is there only beside a first on another processor
 abbrev pub IsBeside : Option (Cpu × Change) → Option (Cpu × Change) → Type 0
 IsBeside first None = Unit {0}
 IsBeside None (Some second) = ⊥
 IsBeside (Some first) (Some second) = first.0 ≢ second.0
 
--- a touch tells of each of so many processors the change by the event, and of none two
+-- a touch tells of each of so many processors the change by the event, and of none two; where it has a gate, that tells of all
 pub record IsTouch (cpus : ℕ) (w : World) (event : Event) (touch : Touch) : Type 0 where
-  pub told : (cpu : ℕ) → cpu < cpus → told_of touch cpu ≡ change_of w event cpu
+  pub told : (cpu : ℕ) → cpu < cpus → change_told event.at (shown (running_on (after_event w event).tasks cpu)) touch cpu ≡ change_of w event cpu
   pub beside : IsBeside touch.first touch.second
+  pub alone : IfSome touch.gate (λ gate. (touch.first ≡ None) × (touch.second ≡ None))
 
 -- each change in a touch is so, with its processor
 abbrev pub AllTouched : (ℕ → Change → Type 0) → Touch → Type 0
@@ -108,6 +143,7 @@ pub record HasSlotsBelow (slots : ℕ) (change : Change) : Type 0 where
   pub minus : IfSome change.minus (λ part. part.0.0 < slots)
   pub plus : IfSome change.plus (λ part. part.0.0 < slots)
   pub current : IfSome change.current (λ current. current.0.0 < slots)
+  pub gate : IfSome change.gate (λ gate. gate.0.0 < slots)
 
 -- each count is at most so much
 pub record AreAtMost (most : ℕ) (counts : Counts) : Type 0 where
@@ -116,13 +152,18 @@ pub record AreAtMost (most : ℕ) (counts : Counts) : Type 0 where
   pub running : counts.running ≤ most
   pub stalled_running : counts.stalled_running ≤ most
 
+-- a change takes and adds no counts
+abbrev pub HasNoCounts : Change → Type 0
+HasNoCounts change = (change.minus ≡ None) × (change.plus ≡ None)
+
 -- A change takes and adds the counts of one task each. Where it tells that interrupts took time, which is a second at most, it
--- takes and adds no counts.
+-- takes and adds no counts; nor does it where it has a gate, and then it tells of no interrupts.
 pub record IsOfOne (change : Change) : Type 0 where
   pub minus : IfSome change.minus (λ part. AreAtMost 1 part.1)
   pub plus : IfSome change.plus (λ part. AreAtMost 1 part.1)
   pub irq : change.irq ≤ longest_irq
-  pub alone : 0 < change.irq → (change.minus ≡ None) × (change.plus ≡ None)
+  pub alone : 0 < change.irq → HasNoCounts change
+  pub gate : IfSome change.gate (λ gate. HasNoCounts change × (change.irq ≡ 0))
 
 -- ---- how counts follow
 
@@ -186,14 +227,15 @@ CurrentTells = (tasks : Tasks) → RunsOnce tasks → (parents : List (Option �
     IsRunningTold (tasks_in parents cpu slot tasks) (is_current_in parents slot (shown (running_on tasks cpu))) (is_current_stalled (shown (running_on tasks cpu)))
 
 -- A processor's change by a legal event tells all that sums of times need there: the counts of each group follow what it takes
--- and adds on the chains, it shows which task of each group runs afterwards, and the time of interrupts is that of the groups
--- that have a running task in the world before the event.
+-- and adds on the chains, it shows which task of each group runs afterwards, the time of interrupts is that of the groups
+-- that have a running task in the world before the event, and its gate is the event's.
 abbrev pub ChangeTells : Type 0
 ChangeTells =
     (limits : Limits) (w : World) (event : Event) → cause_of limits w event ≡ None → RunsOnce w.tasks → (cpu : ℕ) (change : Change) → change_of w event cpu ≡ Some change → (parents : List (Option ℕ)) (slot : ℕ) →
     Follows (counts_among (tasks_in parents cpu slot w.tasks)) (on_chain parents slot change.minus) (on_chain parents slot change.plus) (counts_among (tasks_in parents cpu slot (after_event w event).tasks))
     × IsRunningTold (tasks_in parents cpu slot (after_event w event).tasks) (is_current_in parents slot change.current) (is_current_stalled change.current)
     × (irq_in parents slot change ≡ (if list_any runs (tasks_in parents cpu slot w.tasks) then irq_told cpu event.act else 0))
+    × (change.gate ≡ gate_of w.groups event.act)
 
 -- An act touches the processor that it names, and the one on which the task that it changes is, before it and after it.
 abbrev pub TouchesItsOwn : Type 0
@@ -203,12 +245,18 @@ TouchesItsOwn = (w : World) (event : Event) (cpu : ℕ) →
     × (test_task (task_after w.groups w.tasks event.act) (is_at cpu) ≡ true → touched event.act (before w.tasks event.act) cpu ≡ true)
 
 -- A legal event leaves the counts of each group on a processor that it doesn't touch, and which task runs there; and it tells of
--- no interrupts there.
+-- no interrupts there, and switches no account.
 abbrev pub StaysUntouched : Type 0
 StaysUntouched = (limits : Limits) (w : World) (event : Event) → cause_of limits w event ≡ None → (cpu : ℕ) → change_of w event cpu ≡ None → (parents : List (Option ℕ)) (slot : ℕ) →
     (counts_among (tasks_in parents cpu slot (after_event w event).tasks) ≡ counts_among (tasks_in parents cpu slot w.tasks))
     × ((on_cpu current_stalled : Bool) → IsRunningTold (tasks_in parents cpu slot w.tasks) on_cpu current_stalled → IsRunningTold (tasks_in parents cpu slot (after_event w event).tasks) on_cpu current_stalled)
     × (irq_told cpu event.act ≡ 0)
+    × (gate_of w.groups event.act ≡ None)
+
+-- The gate of a legal event tells which accounts are on after it.
+abbrev pub OnByGate : Type 0
+OnByGate = (limits : Limits) (w : World) (event : Event) → cause_of limits w event ≡ None → AreGroups w.groups → (slot : ℕ) →
+    is_on (after_event w event).groups slot ≡ gated slot (is_on w.groups slot) (gate_of w.groups event.act)
 
 -- No task is anywhere at first.
 abbrev pub WithinFirst : Type 0
@@ -218,7 +266,8 @@ WithinFirst = (cpus slots : ℕ) → AreWithin cpus slots no_tasks
 abbrev pub WithinKept : Type 0
 WithinKept = (limits : Limits) (w : World) (event : Event) → cause_of limits w event ≡ None → AreWithin limits.cpus (length w.groups) w.tasks → AreWithin limits.cpus (length w.groups) (after_event w event).tasks
 
--- So do those of changes; and a change takes and adds the counts of one task, or tells of interrupts, at the event's moment.
+-- So do those of changes, but that a gate is on every processor; and a change takes and adds the counts of one task, or tells of
+-- interrupts or has a gate, at the event's moment.
 abbrev pub ChangesAreWithin : Type 0
 ChangesAreWithin = (limits : Limits) (w : World) (event : Event) → cause_of limits w event ≡ None → AreWithin limits.cpus (length w.groups) w.tasks → (cpu : ℕ) (change : Change) → change_of w event cpu ≡ Some change →
-    (cpu < limits.cpus) × HasSlotsBelow (length w.groups) change × IsOfOne change × (change.at ≡ event.at)
+    (change.gate ≡ None → cpu < limits.cpus) × HasSlotsBelow (length w.groups) change × IsOfOne change × (change.at ≡ event.at)

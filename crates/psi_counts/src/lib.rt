@@ -16,6 +16,6 @@ pub use clocks::{
 };
 pub use legal::{law_legal_counts, law_legal_worlds};
 pub use touches::{
-    law_change_tells, law_changes_are_within, law_counts_follow, law_current_tells, law_runs_once,
-    law_touched, law_within,
+    law_change_tells, law_changes_are_within, law_counts_follow, law_current_tells, law_gates,
+    law_runs_once, law_touched, law_within,
 };

@@ -1,5 +1,5 @@
 //! Laws of what events change on processors. Each function has an empty body: its contract is the law.
-ghost use Rattle.psi_counts.specs.Touch.{ChangeTells, ChangesAreWithin, CountsFollow, CurrentTells, RunsOnceFirst, RunsOnceKept, StaysUntouched, TouchesItsOwn, WithinFirst, WithinKept};
+ghost use Rattle.psi_counts.specs.Touch.{ChangeTells, ChangesAreWithin, CountsFollow, CurrentTells, OnByGate, RunsOnceFirst, RunsOnceKept, StaysUntouched, TouchesItsOwn, WithinFirst, WithinKept};
 
 /// A legal event changes the counts of each group on each processor by what its change takes and adds on the chain of
 /// the task's slot, as `psi_group_change` of the kernel's psi.c does group by group.
@@ -19,8 +19,8 @@ pub fn law_current_tells()
     ensures { CurrentTells }
 {}
 
-/// The change of a processor tells there all that the times of each group are told by: how the counts follow, what runs, and
-/// what interrupts took.
+/// The change of a processor tells there all that the times of each group are told by: how the counts follow, what runs,
+/// what interrupts took, and whose account was switched.
 pub fn law_change_tells()
     ensures { ChangeTells }
 {}
@@ -32,13 +32,19 @@ pub fn law_touched()
     ensures own { TouchesItsOwn }
 {}
 
+/// The gate of a legal event tells which accounts are on after it.
+pub fn law_gates()
+    ensures { OnByGate }
+{}
+
 /// The processors and slots of tasks are ones that there are, at first and after each legal event.
 pub fn law_within()
     ensures first { WithinFirst }
     ensures kept { WithinKept }
 {}
 
-/// So are those of changes, and a change takes and adds the counts of one task, or tells of interrupts alone.
+/// So are those of changes, and a change takes and adds the counts of one task, or tells of interrupts or of a gate alone. A
+/// gate is a change of every processor.
 pub fn law_changes_are_within()
     ensures { ChangesAreWithin }
 {}
