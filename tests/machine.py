@@ -18,13 +18,15 @@ class Task:
 class Machine:
     """What a legal trace made so far. Groups are numbers in the order in which they were made; 0 is the root.
 
-    `interrupts` has, by processor and group, how long (ns) interrupts took there while a task of the group ran."""
+    `off` has the groups whose account is off. `interrupts` has, by processor and group, how long (ns) interrupts took there while
+    the group's account was on and a task of it ran."""
 
     def __init__(self, cpus: int) -> None:
         self.cpus = cpus
         self.parents: list[int | None] = [None]
         self.live = {"/": 0}
         self.tasks: dict[str, Task] = {}
+        self.off: set[int] = set()
         self.interrupts = collections.Counter[tuple[int, int]]()
 
     def is_under(self, group: int | None, top: int) -> bool:
@@ -38,7 +40,9 @@ class Machine:
         return [pid for pid, task in self.tasks.items() if task.cpu == cpu and task.at == "running"]
 
     def holds(self, cpu: int, group: int) -> list[bool]:
-        """Which of the seven states hold for the group on the processor."""
+        """Which of the seven states hold for the group on the processor: none while its account is off."""
+        if group in self.off:
+            return [False] * 7
         tasks = [task for task in self.tasks.values() if task.cpu == cpu and self.is_under(task.group, group)]
         waits = any(task.at == "iowait" for task in tasks)
         stalled = any(task.is_stalled for task in tasks)
@@ -104,13 +108,20 @@ class Machine:
         return {self.tasks[pid].cpu}
 
     def take_irq(self, cpu: str, length: str) -> set[int]:
-        """Interrupts take so long (ns) from the task that runs, so from its group and all above. It is a change in any case."""
+        """Interrupts take so long (ns) from the task that runs, so from its group and all above whose account is on. It is a change
+        in any case."""
         for pid in self.running(int(cpu)):
             group: int | None = self.tasks[pid].group
             while group is not None:
-                self.interrupts[int(cpu), group] += int(length)
+                if group not in self.off:
+                    self.interrupts[int(cpu), group] += int(length)
                 group = self.parents[group]
         return {int(cpu)}
+
+    def take_pressure(self, path: str, switched: str) -> set[int]:
+        """Switches the account of a group. Every processor changes."""
+        (self.off.discard if switched == "on" else self.off.add)(self.live[path])
+        return set(range(self.cpus))
 
     def take_other(self, *_: str) -> set[int]:
         """Changes no processor."""

@@ -13,13 +13,13 @@ from machine import Machine, parent_of
 
 LONGEST_LINE = 512
 MOST_MOMENT, MOST_NUMBER = 2 * 10**15, 2**64 - 1
-MOST_EVENTS, MOST_GROUPS, MOST_TASKS, MOST_TRIGGERS = 4_000_000, 1024, 65_536, 256
+MOST_EVENTS, MOST_GROUPS, MOST_TASKS, MOST_TRIGGERS, MOST_PRESSURES = 4_000_000, 1024, 65_536, 256, 65_536
 MOST_INTERRUPTS = 10**9
 # Those against a line that is spelled well, in their order.
 ORDER = (
-    "TimeBack", "TimeTooLate", "TooManyEvents", "TooManyGroups", "TooManyTasks", "TooManyTriggers", "UnknownGroup", "GroupExists",
-    "NoParent", "GroupBusy", "UnknownTask", "TaskExists", "BadWindow", "BadCpu", "NotRunning", "NotReady", "NotBlocked", "WrongHow",
-    "InStall", "NotInStall", "IrqTooLong",
+    "TimeBack", "TimeTooLate", "TooManyEvents", "TooManyGroups", "TooManyTasks", "TooManyTriggers", "TooManyPressures",
+    "UnknownGroup", "GroupExists", "NoParent", "GroupBusy", "RootPressure", "UnknownTask", "TaskExists", "BadWindow", "BadCpu",
+    "NotRunning", "NotReady", "NotBlocked", "WrongHow", "InStall", "NotInStall", "IrqTooLong",
 )  # fmt: skip
 Refusal = tuple[int, str]
 
@@ -61,8 +61,11 @@ FIELDS: dict[str, tuple[Form, ...]] = {
     "host": (SIZE, SIZE, SIZE),
     "trigger": (is_path, word("io", "memory", "cpu"), word("some", "full"), TIME, TIME),
     "irq": (CPU, TIME),
+    "pressure": (is_path, word("on", "off")),
     "end": (),
 }
+
+LATER_VERBS = ("irq", "pressure")
 
 
 def fault_of_spelling(version: int, line: str) -> Optional[str]:
@@ -70,7 +73,7 @@ def fault_of_spelling(version: int, line: str) -> Optional[str]:
     moment, *rest = line.split(" ")
     if not TIME(moment):
         return "BadTime"
-    if not rest or rest[0] not in FIELDS or (rest[0] == "irq" and version < 2):
+    if not rest or rest[0] not in FIELDS or (rest[0] in LATER_VERBS and version < 2):
         return "BadVerb"
     forms, fields = FIELDS[rest[0]], rest[1:]
     for place in range(max(len(forms), len(fields))):
@@ -93,7 +96,7 @@ class World:
 
     def __init__(self, cpus: int) -> None:
         self.machine = Machine(cpus)
-        self.last = self.events = self.triggers = 0
+        self.last = self.events = self.triggers = self.pressures = 0
         self.interrupted: dict[int, int] = {}
 
     def take(self, moment: int, verb: str, fields: list[str]) -> None:
@@ -101,6 +104,7 @@ class World:
         self.machine.take(verb, *fields)
         self.last, self.events = moment, self.events + 1
         self.triggers += verb == "trigger"
+        self.pressures += verb == "pressure"
         if verb == "irq":
             self.interrupted[int(fields[0])] = moment
 
@@ -185,6 +189,11 @@ class World:
         yield self.triggers >= MOST_TRIGGERS, "TooManyTriggers"
         yield path not in self.machine.live, "UnknownGroup"
         yield not (500_000 <= int(window) <= 10_000_000 and 1 <= int(threshold) <= int(window)), "BadWindow"
+
+    def against_pressure(self, path: str, _switched: str) -> Iterator[tuple[bool, str]]:
+        yield self.pressures >= MOST_PRESSURES, "TooManyPressures"
+        yield path not in self.machine.live, "UnknownGroup"
+        yield path == "/", "RootPressure"
 
     def against_irq(self, moment: int, cpu: str, length: str) -> Iterator[str]:
         """Interrupts are no longer than a second, nor than the time since the processor's last line of them."""

@@ -156,6 +156,32 @@ INTERRUPTS = """psitrace 2 cpus=2
 2500000000 irq 0 1
 3000000000 end
 """
+# One account goes off across a tick and a change of its task, and one with a child that is on; a group goes off, and comes again.
+SWITCHED = """psitrace 2 cpus=2
+0 group /a
+0 group /a/b
+0 fork 1 /a/b 0
+0 fork 2 /a 1
+0 switch 0 1 idle
+0 switch 1 2 idle
+300000000 switch 0 0 iowait
+700000000 pressure /a off
+1200000000 wake 1 0
+1200000000 irq 1 50000000
+1500000000 switch 0 1 idle
+1700000000 pressure /a/b off
+1700000000 pressure /a on
+1700000000 irq 1 20000000
+2000000000 switch 1 0 iowait
+2000000000 pressure /a/b on
+2000000000 pressure /a/b off
+2600000000 move 1 /
+2600000000 rmgroup /a/b
+2600000000 group /a/b
+2600000000 move 1 /a/b
+3100000000 pressure /a on
+4000000000 end
+"""
 NO_TICK = """psitrace 1 cpus=2
 0 fork 1 / 0
 999999999 end
@@ -217,6 +243,9 @@ def fixed_runs() -> list[Run]:
         Run("idle", IDLE, "/", 2000, 10),
         Run("interrupts", INTERRUPTS, "/", 1000, 1),
         Run("interrupts-of-a-group", INTERRUPTS, "/a", 250, 0),
+        Run("switched", SWITCHED, "/a", 1000, 1),
+        Run("switched-below", SWITCHED, "/a/b", 500, 1),
+        Run("switched-of-the-root", SWITCHED, "/", 700, 0),
         Run("no-tick", NO_TICK, "/", 1000, 1),
         Run("many-processors", MANY, "/", 200, 1),
         Run("signals-and-kills", text_of("runaway.trace"), "/batch", 2000, 4, RUNAWAY),
@@ -233,7 +262,7 @@ class Maker:
     PATHS = ("/a", "/a/b", "/a/b/c", "/d", "/d/e")
     # By the version of the trace, how often each verb comes.
     FIRST = dict(fork=2, switch=8, wake=4, stall=2, unstall=2, migrate=2, move=3, group=4, rmgroup=2, side=1)
-    OFTEN = {1: FIRST, 2: {**FIRST, "irq": 8}}
+    OFTEN = {1: FIRST, 2: {**FIRST, "irq": 8, "pressure": 5}}
 
     def __init__(self, seed: int, version: int) -> None:
         self.draw, self.often = random.Random(seed), self.OFTEN[version]
@@ -329,6 +358,11 @@ class Maker:
         most = min(self.now - self.last_interrupts[cpu], 1000 * MS)
         self.last_interrupts[cpu] = self.now
         return [("irq", str(cpu), str(self.draw.choice((0, most, self.draw.randint(0, most)))))]
+
+    def some_pressure(self) -> list[Event]:
+        """The account of a group is switched, perhaps to what it is, and at times back at once."""
+        switches = self.draw.choice((("on",), ("off",), ("off",), ("off", "on"), ("on", "off")))
+        return [("pressure", path, to) for path in self.some(it for it in self.machine.live if it != "/") for to in switches]
 
     def some_side(self) -> list[Event]:
         """Something that changes neither a processor nor a group."""

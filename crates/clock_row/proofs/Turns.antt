@@ -1,6 +1,7 @@
 -- The turn of slots in the course of a change.
 use Rattle.std.proofs.Common.{◌≡◌, ◌≢◌, ℕ, zero, suc, ◌+◌, ◌*◌, ◌^◌, ◌<◌, ◌≤◌, ◌⊎◌, ◌||◌, eqb, Bool, true, false, List, [], ◌∷◌, length, refl, sym, ap, ◌∙◌, subst, inl, inr, ⊎_elim, arith}
 use Rattle.std.specs.Prelude.{IfSome, None, Option, Some, slice_get, slice_index_or}
+use Rattle.std.specs.Option.{option_or}
 use Rattle.std.specs.List.{All}
 use mathlib.Core.Logic.{dite}
 use native.Mathlib.Decide.{ℕ_discrete}
@@ -197,7 +198,7 @@ parent_below parents low (Some slot) older is = older low slot.0 (sym is)
 -- ---- the four chains of a change
 
 some_change : (plan : PlanView) (k : ℕ) → k < length plan.changes → (change : Change) × (slice_get plan.changes k ≡ Some change)
-some_change plan k room = let none : Change = record { at = 0; minus = None; plus = None; current = None; irq = 0 } in (slice_index_or plan.changes k none, slice_get-get_or plan.changes k none room)
+some_change plan k room = let none : Change = record { at = 0; minus = None; plus = None; current = None; irq = 0; gate = None } in (slice_index_or plan.changes k none, slice_get-get_or plan.changes k none room)
 
 -- what holds of four holds of all in their list
 all_four : (P : Option Slot → Type 0) (a b c d : Option Slot) → P a → P b → P c → P d → All P (a ∷ b ∷ c ∷ d ∷ [])
@@ -218,6 +219,10 @@ all_rest P first rest all i x inside = all (suc i) x (omega (arith, inside))
 side_below : {A : Type 0} (side : Option (Slot × A)) (slots : ℕ) → IfSome side (λ part. part.0.0 < slots) → IfSome (slot_in side) (λ slot. slot.0 < slots)
 side_below None slots below = tt
 side_below (Some part) slots below = below
+
+or_below : (one other : Option Slot) (slots : ℕ) → IfSome one (λ slot. slot.0 < slots) → IfSome other (λ slot. slot.0 < slots) → IfSome (option_or one other) (λ slot. slot.0 < slots)
+or_below None other slots below below_too = below_too
+or_below (Some slot) other slots below below_too = below
 
 true_or_false : (b : Bool) → (b ≡ true) ⊎ (b ≡ false)
 true_or_false true = inl refl
@@ -265,8 +270,8 @@ starts_below plan k starts whole room are =
     let slots = whole.slots k change.0 change.1 in
     let below : Option Slot → Type 0 = λ start. IfSome start (λ slot. slot.0 < length plan.parents) in
     subst (AreBelow (length plan.parents)) (sym (are change.0 change.1))
-    (all_four below (slot_in change.0.minus) (slot_in change.0.plus) (slot_in (current_after plan k)) (slot_in change.0.current)
-    (side_below change.0.minus (length plan.parents) slots.minus) (side_below change.0.plus (length plan.parents) slots.plus)
+    (all_four below (option_or (slot_in change.0.gate) (slot_in change.0.minus)) (slot_in change.0.plus) (slot_in (current_after plan k)) (slot_in change.0.current)
+    (or_below (slot_in change.0.gate) (slot_in change.0.minus) (length plan.parents) (side_below change.0.gate (length plan.parents) slots.gate) (side_below change.0.minus (length plan.parents) slots.minus)) (side_below change.0.plus (length plan.parents) slots.plus)
     (side_below (current_after plan k) (length plan.parents) (current_below plan k whole (omega (arith, room)))) (side_below change.0.current (length plan.parents) slots.current))
 
 pub weaker : (o : Option Slot) (n m : ℕ) → IfSome o (λ slot. slot.0 < n) → n ≤ m → IfSome o (λ slot. slot.0 < m)

@@ -42,6 +42,7 @@ pub fn life(alloc: Global, path: &str, parent: Option<Slot>) -> Result<GroupLife
         parent,
         made: 0,
         gone: None,
+        on: true,
     })
 }
 

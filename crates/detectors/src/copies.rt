@@ -14,6 +14,7 @@ fn copy_life(alloc: Global, life: &GroupLife) -> Result<GroupLife, NoMemory>
         parent: life.parent,
         made: life.made,
         gone: life.gone,
+        on: life.on,
     })
 }
 

@@ -18,6 +18,7 @@ fn group(alloc: Global, made: Ns, gone: Option<Ns>) -> Result<GroupLife, Fail> {
         parent: None,
         made,
         gone,
+        on: true,
     })
 }
 

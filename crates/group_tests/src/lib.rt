@@ -50,6 +50,21 @@ mod tests {
         Ok(given)
     }
 
+    /// Switches an account, or tells the cause that refuses it, which is the one that is asked for before it.
+    fn switch(
+        rt: &impl Abort,
+        alloc: Global,
+        tree: &mut Tree,
+        text: &str,
+        on: bool,
+    ) -> Result<Result<Slot, Cause>, NoMemory> {
+        let path = path(alloc, text)?;
+        let asked = tree.pressure_cause(&path);
+        let given = tree.switch(&path, on);
+        assert_eq!(rt; given.err(), asked, "{text}");
+        Ok(given)
+    }
+
     /// Groups that are made, and made again under the same paths.
     fn small_forest(rt: &impl Abort, alloc: Global) -> Result<Tree, NoMemory> {
         let mut tree = Tree::new(alloc)?;
@@ -87,6 +102,29 @@ mod tests {
                 (want.1, want.2, want.3)
             );
         }
+        Ok(())
+    }
+
+    // An account is that of the live group alone: not of one that went, nor of the groups above and below. A new group is on.
+    #[test]
+    fn accounts_of_groups(rt: HostRuntime) -> Result<(), Fail> {
+        let alloc = rt.alloc();
+        let mut tree = small_forest(&rt, alloc)?;
+        for (text, on, want) in [
+            ("/", false, Err(Cause::RootPressure)),
+            ("/c", false, Err(Cause::UnknownGroup)),
+            ("/a", false, Ok(Slot(4))),
+            ("/a/b/c", false, Ok(Slot(7))),
+            ("/b", false, Ok(Slot(3))),
+            ("/b", true, Ok(Slot(3))),
+            ("/b", true, Ok(Slot(3))),
+        ] {
+            let given = switch(&rt, alloc, &mut tree, text, on)?;
+            assert_eq!(rt; given, want, "{text}");
+        }
+        assert!(rt; add(&rt, alloc, &mut tree, "/a/d", 4)?.is_ok());
+        let on = tree.lives().iter().map(|life| life.on);
+        assert!(rt; on.eq([true, true, true, true, false, true, true, false, true]));
         Ok(())
     }
 

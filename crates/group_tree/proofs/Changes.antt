@@ -1,5 +1,5 @@
--- What a tree keeps, after a group was made and after one was removed.
-use Rattle.std.proofs.Common.{◌≡◌, ◌≢◌, ℕ, zero, suc, ◌+◌, ◌<◌, ◌≤◌, List, [], ◌∷◌, ◌++◌, refl, ap, ◌∙◌, sym, subst, true, false, arith, Option, None, Some, ◌==◌, length, map, take, drop}
+-- What a tree keeps, after a group was made, after one was removed, and after the account of one was switched.
+use Rattle.std.proofs.Common.{◌≡◌, ◌≢◌, ℕ, zero, suc, ◌+◌, ◌<◌, ◌≤◌, List, [], ◌∷◌, ◌++◌, refl, ap, ◌∙◌, sym, subst, Bool, true, false, arith, Option, None, Some, ◌==◌, length, map, take, drop}
 use Rattle.std.specs.Prelude.{not, codes, nat_le, is_some, ◌&&◌, if◌then◌else◌, IfSome, slice_get, slice_set, slice_index_or}
 use Rattle.std.specs.Str.{bytes_eq}
 use Rattle.std.proofs.lemmas.Bool.Decides.{nat_tests}
@@ -7,13 +7,14 @@ use Rattle.std.proofs.lemmas.List.{length-append, length-map, append-nil, drop_a
 use Rattle.psi_base.specs.declared.event.Slot.{Slot}
 use Rattle.psi_base.specs.declared.event.Cause.TheVariants as cause
 use Rattle.psi_spec.specs.declared.machine.GroupLife.{GroupLife}
-use Rattle.psi_spec.specs.World.{root, is_live, is_root, slot_of, as_slot, parent_path, new_group, marked_removed}
+use Rattle.psi_spec.specs.World.{root, is_live, is_root, slot_of, as_slot, parent_path, new_group, marked_removed, marked_switched}
 use Rattle.psi_spec.specs.Refusal.{is_slot}
 use Rattle.psi_spec.specs.Stall.{number_of_slot, parents_of}
 use Rattle.psi_spec.specs.Groups.{AreOlder, IsOneLive, AreGroups}
-use Rattle.psi_spec.proofs.GroupLaws.{first_of_two, found_behind, found_group, found_below, removed_not_found, same_bytes, and_false, got_behind, groups_first, groups_made, groups_removed, parents_behind}
+use Rattle.psi_spec.proofs.GroupLaws.{first_of_two, found_behind, found_group, found_below, removed_not_found, same_bytes, and_false, got_behind, groups_first, groups_made, groups_removed, groups_switched, parents_behind}
 use Rattle.psi_spec.proofs.RefusalLaws.{first_true, second_true}
-use Rattle.group_tree.specs.Tree.{slot_at, add_cause, count_children, IsTree}
+use Rattle.psi_spec.proofs.SwitchLaws.{switched_found, switched_leaves}
+use Rattle.group_tree.specs.Tree.{slot_at, add_cause, pressure_cause, count_children, IsTree}
 use Rattle.group_tree.proofs.Counting.{one, count_behind, count_set, count_at, count_few}
 
 -- ---- a group is made
@@ -224,6 +225,63 @@ some_counted groups path place group find children tree found got (Some slot) is
     let among = count_at groups place group slot.0 got in
     let count = tree.counted slot.0 in
     omega (arith, here, among, count)
+
+-- ---- the account of a group is switched
+
+-- a slot as a number
+pub slot_back : (o : Option ℕ) (found : Option Slot) → found ≡ as_slot o → (slot : Slot) → found ≡ Some slot → o ≡ Some slot.0
+slot_back None found is slot some = absurd (cc (is, some))
+slot_back (Some n) found is slot some = let same : (let s : Slot = record { 0 = n } in s) ≡ slot = cc (is, some) in ap (λ (s : Slot). let o : Option ℕ = Some s.0 in o) same
+
+-- where no cause stands against a switch, the group isn't the root
+pub not_root : (groups : List GroupLife) (path : List ℕ) → pressure_cause groups path ≡ None → is_root path ≡ false
+not_root groups path none =
+    elim (is_some (slot_of groups path)) as (λ b. (if not b then Some cause.UnknownGroup else (if is_root path then Some cause.RootPressure else None)) ≡ None → is_root path ≡ false) [
+      | true ↦ λ here. elim (is_root path) as (λ b. (if b then Some cause.RootPressure else None) ≡ None → b ≡ false) [ true ↦ λ i. absurd (cc i) | false ↦ λ _. refl ] here
+      | false ↦ λ here. absurd (cc here)
+    ] none
+
+-- a group that isn't the switched one
+other_stays : (groups : List GroupLife) (path : List ℕ) (on : Bool) (place k : ℕ) (group : GroupLife) → IsOneLive groups → slot_of groups path ≡ Some place → slice_get groups k ≡ Some group → k ≢ place → marked_switched path on group ≡ group
+other_stays groups path on place k group one found got differs =
+    elim (is_live group && bytes_eq group.path path) as (λ b. (is_live group && bytes_eq group.path path) ≡ b → (if b then record group { on = on } else group) ≡ group) [
+      | true ↦ λ is.
+          let alive = first_true (is_live group) (bytes_eq group.path path) is in
+          let same = same_bytes group.path path (second_true (is_live group) (bytes_eq group.path path) is) in
+          let both : Some k ≡ Some place = sym (one k group got alive) ∙ ap (slot_of groups) same ∙ found in
+          let equal : k ≡ place = cc both in
+          absurd (differs equal)
+      | false ↦ λ _. refl
+    ] refl
+
+-- what is put into the found group's place is the switch
+pub switched_is : (groups : List GroupLife) (path : List ℕ) (on : Bool) (place : ℕ) (group : GroupLife) → IsOneLive groups → slot_of groups path ≡ Some place → slice_get groups place ≡ Some group → slice_set groups place (record group { on = on }) ≡ map (marked_switched path on) groups
+switched_is groups path on place group one found got =
+    set_is_map (marked_switched path on) groups place (record group { on = on })
+    (λ g is.
+    let same : group ≡ g = cc (got, is) in
+    let test = found_group 0 groups path place place g found (omega arith) is in
+    ap (λ b. if b then record g { on = on } else g) test ∙ ap (λ (g : GroupLife). let other : GroupLife = record g { on = on } in other) (sym same))
+    (λ k g is differs. other_stays groups path on place k g one found is differs)
+
+-- live children stay
+count_switched : (path : List ℕ) (on : Bool) (groups : List GroupLife) (slot : ℕ) → count_children (map (marked_switched path on) groups) slot ≡ count_children groups slot
+count_switched path on [] slot = refl
+count_switched path on (group ∷ groups) slot =
+    let rest = count_switched path on groups slot in
+    let here = switched_leaves (one slot) (λ _ _. refl) path on group in
+    let goal : count_children (map (marked_switched path on) groups) slot + one slot (marked_switched path on group) ≡ count_children groups slot + one slot group = omega (arith, rest, here) in
+    goal
+
+-- what a tree keeps, after an account was switched
+pub tree_switched : (groups : List GroupLife) (path : List ℕ) (on : Bool) (find : List ℕ → Option Slot) (children : List ℕ)
+    → IsTree groups find children → is_root path ≡ false → IsTree (map (marked_switched path on) groups) find children
+tree_switched groups path on find children tree other = record {
+  legal = groups_switched groups path on other tree.legal;
+  found = λ path_asked. tree.found path_asked ∙ ap as_slot (sym (switched_found 0 path on groups path_asked));
+  each = tree.each ∙ sym (length-map groups (marked_switched path on));
+  counted = λ slot. tree.counted slot ∙ sym (count_switched path on groups slot);
+}
 
 -- ---- a slice that was written whole
 

@@ -28,6 +28,12 @@ remove_cause groups path =
     if lacks_group groups (Some path) then Some cause.UnknownGroup else
     if is_root path || has_child groups (slot_of groups path) then Some cause.GroupBusy else None
 
+-- the first cause against a switch of a group's account: none with the path is live, or it is the root
+abbrev pub pressure_cause : List GroupLife → List ℕ → Option Cause
+pressure_cause groups path =
+    if lacks_group groups (Some path) then Some cause.UnknownGroup else
+    if is_root path then Some cause.RootPressure else None
+
 -- the fault is the first cause; memory is wanted only where there is none
 abbrev pub IsGroupFault : Option Cause → Fault Cause → Type 0
 IsGroupFault why (fault.Refused cause) = why ≡ Some cause

@@ -1,10 +1,10 @@
 //! The tree of groups.
 ghost use Rattle.std.specs.Prelude.{◌≡◌, ◌<◌, ◌≤◌, ◌++◌, [], ◌∷◌, length, map, slice_index_or, None, Some, IfOk, IfErr, IfSome, OnOk, OnErr, MatchResult, ◌↔◌};
-ghost use Rattle.psi_spec.specs.World.{root, slot_of, as_slot, parent_path, new_group, marked_removed, most_groups};
+ghost use Rattle.psi_spec.specs.World.{root, slot_of, as_slot, parent_path, new_group, marked_removed, marked_switched, most_groups};
 ghost use Rattle.psi_spec.specs.Stall.{number_of_slot, parents_of, is_under};
 ghost use Rattle.psi_spec.specs.Refusal.{has_child};
 ghost use Rattle.psi_spec.specs.Groups.{AreGroups, IsPathOrder};
-ghost use Rattle.group_tree.specs.Tree.{add_cause, remove_cause, IsGroupFault, chain_of, live_slots, numbers_of};
+ghost use Rattle.group_tree.specs.Tree.{add_cause, pressure_cause, remove_cause, IsGroupFault, chain_of, live_slots, numbers_of};
 
 use crate::above::path_above;
 use crate::chain::{Chain, parent_of};
@@ -59,6 +59,7 @@ impl Tree {
             parent: None,
             made: 0,
             gone: None,
+            on: true,
         };
         let lives = Vec::from_array(alloc, [root])?;
         Ok(Tree {
@@ -137,6 +138,20 @@ impl Tree {
         }
     }
 
+    /// Why the account of the group with this path can't be switched: UnknownGroup, where no live one has it, or
+    /// RootPressure, where it is the root. None exactly where it can.
+    pub fn pressure_cause(&self, path: &Path) -> Option<Cause>
+        ensures { result ≡ pressure_cause self.now path.now }
+    {
+        if self.find(path).is_none() {
+            Some(Cause::UnknownGroup)
+        } else if path.bytes() == b"/".as_slice() {
+            Some(Cause::RootPressure)
+        } else {
+            None
+        }
+    }
+
     /// The slot of the group above. None for the root alone.
     pub fn parent(&self, slot: Slot) -> Option<Slot>
         requires made { slot.0 < length self.now }
@@ -179,6 +194,7 @@ impl Tree {
             parent: self.find_above(path),
             made: at,
             gone: None,
+            on: true,
         })
     }
 
@@ -231,6 +247,26 @@ impl Tree {
             slot,
             at,
         );
+        Ok(slot)
+    }
+
+    /// Switches the account of the live group with this path on, or off, and gives its slot. Refused exactly with the cause of
+    /// [`Tree::pressure_cause`], and nothing changes then. It takes no memory.
+    pub fn switch(&mut self, path: &Path, on: bool) -> Result<Slot, Cause>
+        ensures legal { OnOk result (pressure_cause self.old path.now ≡ None) }
+        ensures groups { OnOk result (self.new ≡ map (marked_switched path.now on) self.old) }
+        ensures slot { IfOk result (λ slot. slot_of self.old path.now ≡ Some slot.0) }
+        ensures cause { IfErr result (λ cause. pressure_cause self.old path.now ≡ Some cause) }
+        ensures err { OnErr result (self.new ≡ self.old) }
+    {
+        if let Some(cause) = self.pressure_cause(path) {
+            return Err(cause);
+        }
+        let Some(slot) = self.find(path) else {
+            return Err(Cause::UnknownGroup);
+        };
+        let life = &mut self.lives[slot.0 as usize];
+        life.on = on;
         Ok(slot)
     }
 

@@ -1,13 +1,13 @@
 -- How interrupt time grows from one moment to the next.
 use Rattle.std.proofs.Common.{◌≡◌, ℕ, zero, suc, ◌+◌, ◌-◌, ◌≤◌, ◌<◌, List, [], ◌∷◌, ◌++◌, length, map, refl, sym, ap, ◌∙◌, arith, subst, true, false, cond, None, ◌==◌, ◌⊎◌, inl, inr, ⊎_elim, length-set}
-use Rattle.std.specs.Prelude.{if◌then◌else◌, nat_le, replicate, slice_index_or, sum}
+use Rattle.std.specs.Prelude.{◌&&◌, if◌then◌else◌, nat_le, replicate, slice_index_or, sum}
 use Rattle.std.proofs.lemmas.Bool.Decides.{nat_tests, eqb_tells}
 use Rattle.std.proofs.lemmas.List.{get_or-set_same, get_or-set_other, length-replicate}
 use Rattle.psi_base.specs.declared.event.Act.{Act}
 use Rattle.psi_base.specs.declared.event.Act.TheVariants as act
 use Rattle.psi_base.specs.declared.event.Event.{Event}
 use Rattle.psi_counts.specs.declared.changes.Change.{Change}
-use Rattle.psi_spec.specs.World.{World, Limits, after, first_world, irqs_after, most_cpus, up_to, longest_irq}
+use Rattle.psi_spec.specs.World.{World, Limits, after, first_world, irqs_after, is_on, most_cpus, up_to, longest_irq}
 use Rattle.psi_spec.specs.Refusal.{AreLegal, cause_of}
 use Rattle.psi_spec.specs.Stall.{has_running, irq_told, irq_time}
 use Rattle.psi_spec.specs.Changes.{until_change}
@@ -124,7 +124,7 @@ all_end limits few cpu time none grows = by_legal limits (λ es. EndsBy (time es
 -- an event adds to interrupt time no more than it tells of
 grows_by : (cpu slot : ℕ) (events : List Event) (event : Event) → irq_time cpu slot (events ++ event ∷ []) ≤ irq_time cpu slot events + irq_told cpu event.act
 grows_by cpu slot events event =
-    let part = at_most (has_running cpu slot (after events)) (irq_told cpu event.act) (irq_told cpu event.act) (omega arith) in
+    let part = at_most (is_on (after events).groups slot && has_running cpu slot (after events)) (irq_told cpu event.act) (irq_told cpu event.act) (omega arith) in
     omega (arith, irq_by_event cpu slot events event, part)
 
 no_irq : (cpu slot : ℕ) → irq_time cpu slot [] ≡ 0
@@ -208,7 +208,7 @@ grew-push limits few cpu slot at events event legal before =
     (λ not. rw not.others (
     ⊎_elim
     (λ quiet.
-    let part = at_most (has_running cpu slot (after events)) (irq_told cpu event.act) 0 (omega (arith, quiet.none)) in
+    let part = at_most (is_on (after events).groups slot && has_running cpu slot (after events)) (irq_told cpu event.act) 0 (omega (arith, quiet.none)) in
     grew_quietly _ (irq_time cpu slot events) _ at (last_irq (after events) cpu) _ (omega (arith, time, part)) (now ∙ quiet.last) before)
     (λ tells.
     subst (Grew _ _ at) (sym (now ∙ tells.last))

@@ -1,5 +1,5 @@
 -- The lives of groups, and which are live at a moment.
-use Rattle.std.proofs.Common.{◌≡◌, ℕ, zero, suc, ◌-◌, ◌≤◌, ◌<◌, List, [], ◌∷◌, ◌++◌, refl, sym, ap, ◌∙◌, subst, append_assoc, arith, true, false, Option, None, Some, length, map, take, ⊎_elim}
+use Rattle.std.proofs.Common.{◌≡◌, ℕ, zero, suc, ◌-◌, ◌≤◌, ◌<◌, List, [], ◌∷◌, ◌++◌, refl, sym, ap, ◌∙◌, subst, append_assoc, arith, Bool, true, false, Option, None, Some, length, map, take, ⊎_elim}
 use Rattle.std.specs.Prelude.{nat_le, not, ◌&&◌, is_some, slice_get, slice_index_or, IfSome, All, unwrap_or, if◌then◌else◌}
 use Rattle.std.specs.Str.{bytes_eq}
 use Rattle.std.specs.Option.{option_map}
@@ -14,12 +14,13 @@ use Rattle.psi_base.specs.declared.event.Act.{Act}
 use Rattle.psi_base.specs.declared.event.Act.TheVariants as act
 use Rattle.psi_base.specs.declared.event.Event.{Event}
 use Rattle.psi_spec.specs.declared.machine.GroupLife.{GroupLife}
-use Rattle.psi_spec.specs.World.{World, Limits, root, is_live, new_group, marked_removed, groups_after, after, after_event, after_from, first_world, up_to}
+use Rattle.psi_spec.specs.World.{World, Limits, root, is_live, new_group, marked_removed, marked_switched, groups_after, after, after_event, after_from, first_world, up_to}
 use Rattle.psi_spec.specs.Refusal.{AreLegal}
 use Rattle.psi_spec.specs.Stall.{number_of_slot}
 use Rattle.psi_spec.specs.Groups.{is_gone_by, is_live_at, is_live_in, test_life}
 use Rattle.psi_spec.proofs.Following.{after_from-append}
 use Rattle.psi_spec.proofs.RefusalLaws.{first_true}
+use Rattle.psi_spec.proofs.SwitchLaws.{all_left, switched_leaves}
 use Rattle.plan_laws.specs.Moments.{IsLife, AreFirstOf, LivesAreInOrder, LivesTellLive, GroupsKeepSlots}
 use Rattle.plan_laws.proofs.PlanLaws.{after-push}
 use Rattle.plan_laws.proofs.PlanStates.{legal_after}
@@ -46,19 +47,24 @@ Front {X} some all = (more : List X) × (all ≡ some ++ more)
 front_same : {X : Type 0} (some all : List X) → all ≡ some → Front some all
 front_same some all same = ([], same ∙ sym (append-nil some))
 
+-- a part that doesn't tell whether an account is on
+abbrev Unswitched : {X : Type 0} → (GroupLife → X) → Type 0
+Unswitched {X} part = (life : GroupLife) (on : Bool) → part (record life { on = on }) ≡ part life
+
 -- an act leaves that part of the groups that there are
-front_act : {X : Type 0} (part : GroupLife → X) → Stays part → (at : ℕ) (groups : List GroupLife) (a : Act) → Front (map part groups) (map part (groups_after at groups a))
-front_act part stays at groups (act.Group path) = (part (new_group groups path at) ∷ [], map-append part groups (new_group groups path at ∷ []))
-front_act part stays at groups (act.Remove path) = front_same _ _ (stays_all part stays path at groups)
-front_act part stays at groups _ = front_same _ _ refl
+front_act : {X : Type 0} (part : GroupLife → X) → Stays part → Unswitched part → (at : ℕ) (groups : List GroupLife) (a : Act) → Front (map part groups) (map part (groups_after at groups a))
+front_act part stays left at groups (act.Group path) = (part (new_group groups path at) ∷ [], map-append part groups (new_group groups path at ∷ []))
+front_act part stays left at groups (act.Remove path) = front_same _ _ (stays_all part stays path at groups)
+front_act part stays left at groups (act.Pressure path on) = front_same _ _ (all_left part left path on groups)
+front_act part stays left at groups _ = front_same _ _ refl
 
 front_more : {X : Type 0} (few some all : List X) → Front few some → Front some all → Front few all
 front_more few some all first later = (first.0 ++ later.0, later.1 ∙ ap (λ xs. xs ++ later.0) first.1 ∙ append_assoc few first.0 later.0)
 
 -- and so do events
-front_from : {X : Type 0} (part : GroupLife → X) → Stays part → (w : World) (events : List Event) → Front (map part w.groups) (map part (after_from w events).groups)
-front_from part stays w [] = front_same _ _ refl
-front_from part stays w (event ∷ events) = front_more _ _ _ (front_act part stays event.at w.groups event.act) (front_from part stays (after_event w event) events)
+front_from : {X : Type 0} (part : GroupLife → X) → Stays part → Unswitched part → (w : World) (events : List Event) → Front (map part w.groups) (map part (after_from w events).groups)
+front_from part stays left w [] = front_same _ _ refl
+front_from part stays left w (event ∷ events) = front_more _ _ _ (front_act part stays left event.at w.groups event.act) (front_from part stays left (after_event w event) events)
 
 -- ---- a group that may be removed
 
@@ -94,10 +100,10 @@ groups_keep_slots limits events legal at =
     let parts = up_to_front limits first_world events at legal in
     let whole : (after_from (after (up_to events at)) parts.0).groups ≡ (after events).groups = ap (λ (w : World). w.groups) (sym (after_from-append first_world (up_to events at) parts.0) ∙ ap after (sym parts.1)) in
     subst (λ all. AreFirstOf all some) whole (record {
-      few = no_fewer (λ (life : GroupLife). life.path) some _ (front_from (λ (life : GroupLife). life.path) path_stays (after (up_to events at)) parts.0);
-      paths = first_parts (λ (life : GroupLife). life.path) some _ (front_from (λ (life : GroupLife). life.path) path_stays (after (up_to events at)) parts.0);
-      parents = first_parts (λ (life : GroupLife). number_of_slot life.parent) some _ (front_from (λ (life : GroupLife). number_of_slot life.parent) parent_stays (after (up_to events at)) parts.0);
-      made = first_parts (λ (life : GroupLife). life.made) some _ (front_from (λ (life : GroupLife). life.made) made_stays (after (up_to events at)) parts.0);
+      few = no_fewer (λ (life : GroupLife). life.path) some _ (front_from (λ (life : GroupLife). life.path) path_stays (λ _ _. refl) (after (up_to events at)) parts.0);
+      paths = first_parts (λ (life : GroupLife). life.path) some _ (front_from (λ (life : GroupLife). life.path) path_stays (λ _ _. refl) (after (up_to events at)) parts.0);
+      parents = first_parts (λ (life : GroupLife). number_of_slot life.parent) some _ (front_from (λ (life : GroupLife). number_of_slot life.parent) parent_stays (λ _ _. refl) (after (up_to events at)) parts.0);
+      made = first_parts (λ (life : GroupLife). life.made) some _ (front_from (λ (life : GroupLife). life.made) made_stays (λ _ _. refl) (after (up_to events at)) parts.0);
     })
 
 -- ---- lives up to the last moment
@@ -143,9 +149,34 @@ turn_without last at low path groups are =
       each = All-map (IsLife at) (marked_removed path at) groups (All-weaker (IsLife last) (λ life. IsLife at (marked_removed path at life)) (life_without last at low path) groups are.each);
     }
 
+-- what holds of a group whether its account is on or not holds of it where one was switched
+pub switched_is : (P : GroupLife → Type 0) (path : List ℕ) (on : Bool) (life : GroupLife) → P life → P (record life { on = on }) → P (marked_switched path on life)
+switched_is P path on life same other = elim (is_live life && bytes_eq life.path path) as (λ b. P (if b then record life { on = on } else life)) [ true ↦ other | false ↦ same ]
+
+life_switched : (last at : ℕ) → last ≤ at → (path : List ℕ) (on : Bool) (life : GroupLife) → IsLife last life → IsLife at (marked_switched path on life)
+life_switched last at low path on life is =
+    let later = life_later last at low life is in
+    switched_is (IsLife at) path on life later (record { made = later.made; gone = later.gone })
+
+turn_switched : (last at : ℕ) → last ≤ at → (path : List ℕ) (on : Bool) (groups : List GroupLife) → InTurn last groups → InTurn at (map (marked_switched path on) groups)
+turn_switched last at low path on groups are =
+    let len = length-map groups (marked_switched path on) in
+    let made : (i : ℕ) (d : GroupLife) → i < length groups → (slice_index_or (map (marked_switched path on) groups) i d).made ≡ (slice_index_or groups i d).made = λ i d room.
+    ap (λ (l : GroupLife). l.made) (get_or-map (marked_switched path on) groups i d d room) ∙ switched_leaves (λ (l : GroupLife). l.made) (λ _ _. refl) path on (slice_index_or groups i d) in
+    record {
+      order = λ i j d low high.
+          let there : j < length groups = omega (arith, high, len) in
+          let first = made i d (omega (arith, low, there)) in
+          let second = made j d there in
+          let are_so = are.order i j d low there in
+          omega (arith, first, second, are_so);
+      each = All-map (IsLife at) (marked_switched path on) groups (All-weaker (IsLife last) (λ life. IsLife at (marked_switched path on life)) (life_switched last at low path on) groups are.each);
+    }
+
 turn_act : (last at : ℕ) → last ≤ at → (groups : List GroupLife) → InTurn last groups → (a : Act) → InTurn at (groups_after at groups a)
 turn_act last at low groups are (act.Group path) = turn_behind last at low groups (new_group groups path at) refl refl are
 turn_act last at low groups are (act.Remove path) = turn_without last at low path groups are
+turn_act last at low groups are (act.Pressure path on) = turn_switched last at low path on groups are
 turn_act last at low groups are _ = turn_later last at low groups are
 
 turn_first : InTurn 0 (root ∷ [])
@@ -217,10 +248,16 @@ removed_or_none : (at moment : ℕ) → at < moment → (path : List ℕ) (o : O
 removed_or_none at moment past path None = refl
 removed_or_none at moment past path (Some life) = removed_not_yet at moment past path life
 
+-- switching an account leaves which groups are live
+switched_or_none : (at : ℕ) (path : List ℕ) (on : Bool) (o : Option GroupLife) → test_life (option_map (marked_switched path on) o) (λ l. is_live_at l at) ≡ test_life o (λ l. is_live_at l at)
+switched_or_none at path on None = refl
+switched_or_none at path on (Some life) = switched_leaves (λ l. is_live_at l at) (λ _ _. refl) path on life
+
 -- an act changes nothing of what was live before it
 live_before : (at moment : ℕ) → at < moment → (groups : List GroupLife) (slot : ℕ) (a : Act) → test_life (slice_get (groups_after moment groups a) slot) (λ l. is_live_at l at) ≡ test_life (slice_get groups slot) (λ l. is_live_at l at)
 live_before at moment past groups slot (act.Group path) = behind_not_yet at groups (new_group groups path moment) slot (ap (λ b. b && not (is_gone_by None at)) (to_come at moment past))
 live_before at moment past groups slot (act.Remove path) = ap (λ o. test_life o (λ l. is_live_at l at)) (slice_get-map (marked_removed path moment) groups slot) ∙ removed_or_none at moment past path (slice_get groups slot)
+live_before at moment past groups slot (act.Pressure path on) = ap (λ o. test_life o (λ l. is_live_at l at)) (slice_get-map (marked_switched path on) groups slot) ∙ switched_or_none at path on (slice_get groups slot)
 live_before at moment past groups slot _ = refl
 
 -- the groups of a trace tell which are live in a slot at a moment

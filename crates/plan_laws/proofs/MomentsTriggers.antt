@@ -12,7 +12,7 @@ use Rattle.psi_base.specs.declared.event.Event.{Event}
 use Rattle.psi_base.specs.declared.event.TriggerSpec.{TriggerSpec}
 use Rattle.psi_base.specs.declared.event.Cause.TheVariants as cause
 use Rattle.psi_spec.specs.declared.machine.GroupLife.{GroupLife}
-use Rattle.psi_spec.specs.World.{World, Limits, root, is_live, is_trigger, new_group, marked_removed, groups_after, slot_of, after, after_event, first_world}
+use Rattle.psi_spec.specs.World.{World, Limits, root, is_live, is_trigger, new_group, marked_removed, marked_switched, groups_after, slot_of, after, after_event, first_world}
 use Rattle.psi_spec.specs.Refusal.{cause_of, applies, cause_order, is_window, AreLegal}
 use Rattle.psi_spec.specs.Told.{trigger_by, triggers_of, IsTriggerWithin}
 use Rattle.psi_spec.proofs.GroupLaws.{found_below, found_group}
@@ -22,7 +22,7 @@ use Rattle.psi_counts.proofs.LegalLaws.{more_groups}
 use Rattle.plan_laws.proofs.PlanLaws.{after-push}
 use Rattle.plan_laws.proofs.PlanStates.{legal_after, legal_front, legal_last}
 use Rattle.plan_laws.proofs.MomentsEvents.{by_legal, after_others}
-use Rattle.plan_laws.proofs.MomentsLives.{InTurn, turn_after, without_is}
+use Rattle.plan_laws.proofs.MomentsLives.{InTurn, switched_is, turn_after, without_is}
 use Rattle.plan_laws.proofs.MomentsOrder.{got_there}
 use Rattle.plan_laws.proofs.MomentsTold.{TellsAtOnce, told-push, told_in_order, told_until}
 
@@ -54,6 +54,8 @@ stays_there at moment low path life is = without_is (λ l. IsThere l at) path mo
 still_there : (at moment : ℕ) → at ≤ moment → (groups : List GroupLife) (slot : ℕ) → slot < length groups → IsThere (slice_index_or groups slot root) at → (a : Act) → IsThere (slice_index_or (groups_after moment groups a) slot root) at
 still_there at moment low groups slot room is (act.Group path) = subst (λ l. IsThere l at) (sym (get_or_append_left groups (new_group groups path moment ∷ []) root slot room)) is
 still_there at moment low groups slot room is (act.Remove path) = subst (λ l. IsThere l at) (sym (get_or-map (marked_removed path moment) groups slot root root room)) (stays_there at moment low path (slice_index_or groups slot root) is)
+still_there at moment low groups slot room is (act.Pressure path on) =
+    subst (λ l. IsThere l at) (sym (get_or-map (marked_switched path on) groups slot root root room)) (switched_is (λ l. IsThere l at) path on (slice_index_or groups slot root) is (record { made = is.made; gone = is.gone }))
 still_there at moment low groups slot room is _ = is
 
 -- a live group is there from when it was made
@@ -99,7 +101,7 @@ set_now limits w at (act.Trigger path res level threshold_us window_us) legal lo
     let event : Event = record { at = at; act = act.Trigger path res level threshold_us window_us } in
     let slot : ℕ = unwrap_or (slot_of w.groups path) 0 in
     let life : GroupLife = slice_index_or w.groups slot root in
-    let found = the_slot (slot_of w.groups path) (passed (λ why. applies why limits w event) cause_order 7 cause.UnknownGroup legal refl) in
+    let found = the_slot (slot_of w.groups path) (passed (λ why. applies why limits w event) cause_order 8 cause.UnknownGroup legal refl) in
     let below = found_below 0 w.groups path slot found in
     let room : slot < length w.groups = omega (arith, below.1) in
     let it = found_group 0 w.groups path slot slot life found (omega arith) (got_there w.groups slot room) in
@@ -109,7 +111,7 @@ set_now limits w at (act.Trigger path res level threshold_us window_us) legal lo
         within = record {
           early = in_time limits.latest at (passed (λ why. applies why limits w event) cause_order 2 cause.TimeTooLate legal refl);
           slot = room;
-          window = in_range (is_window threshold_us window_us) (passed (λ why. applies why limits w event) cause_order 13 cause.BadWindow legal refl);
+          window = in_range (is_window threshold_us window_us) (passed (λ why. applies why limits w event) cause_order 15 cause.BadWindow legal refl);
         };
         early = omega arith;
         there = record { made = omega (arith, made, low); gone = live_gone at life.gone live };

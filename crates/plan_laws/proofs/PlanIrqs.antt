@@ -1,18 +1,18 @@
 -- Planned interrupt time by changes, and as interrupt time.
-use Rattle.std.proofs.Common.{◌≡◌, ℕ, ◌+◌, ◌≤◌, List, [], ◌∷◌, ◌++◌, length, map, take, refl, sym, ap, ◌∙◌, arith, subst, ⊎_elim}
-use Rattle.std.specs.Prelude.{sum, if◌then◌else◌, Option}
+use Rattle.std.proofs.Common.{◌≡◌, ℕ, ◌+◌, ◌≤◌, List, [], ◌∷◌, ◌++◌, length, map, take, refl, sym, ap, ◌∙◌, arith, subst, ⊎_elim, Bool, true, false}
+use Rattle.std.specs.Prelude.{sum, ◌&&◌, if◌then◌else◌, Option}
 use Rattle.std.specs.List.{list_any}
 use Rattle.std.proofs.lemmas.List.{append-nil, map-append, take_all}
 use Rattle.std.proofs.lemmas.List.Sums.{sum_by-append, sum_by-cons}
 use Rattle.psi_base.specs.declared.event.Event.{Event}
 use Rattle.psi_counts.specs.declared.changes.Change.{Change}
-use Rattle.psi_spec.specs.World.{World, Limits, after, first_world, up_to}
+use Rattle.psi_spec.specs.World.{World, Limits, after, first_world, is_on, up_to}
 use Rattle.psi_spec.specs.Refusal.{AreLegal}
 use Rattle.psi_spec.specs.Stall.{has_running, irq_told, irq_time, parents_of, runs, tasks_in}
 use Rattle.psi_spec.specs.Changes.{changes_of, count_at, until_change}
 use Rattle.psi_counts.specs.Legal.{IsLegalWorld, changes_from}
-use Rattle.psi_counts.specs.Touch.{irq_in, is_current_in}
-use Rattle.plan_laws.specs.Plan.{NoPlannedIrq, PlannedIrqByChange, PlannedIrqFits, PlannedIrqIsIrq, PlannedIrqUntil, plan_of, planned_irq}
+use Rattle.psi_counts.specs.Touch.{gated, irq_in, is_current_in}
+use Rattle.plan_laws.specs.Plan.{NoPlannedIrq, PlannedIrqByChange, PlannedIrqFits, PlannedIrqIsIrq, PlannedIrqUntil, irq_over, on_from, plan_of, planned_irq}
 use Rattle.psi_spec.proofs.StallLaws.{irq_by_event}
 use Rattle.psi_counts.proofs.IrqLaws.{at_most}
 use Rattle.psi_counts.proofs.LegalLaws.{same_tasks_later}
@@ -20,7 +20,7 @@ use Rattle.psi_counts.proofs.TouchLaws.{stays_untouched}
 use Rattle.psi_counts.proofs.TouchWithin.{change_tells}
 use Rattle.plan_laws.proofs.PlanLaws.{as_many, by_last, changes_same, changes_grow, touched_or_not, until_is}
 use Rattle.plan_laws.proofs.PlanStalls.{fewer_before}
-use Rattle.plan_laws.proofs.PlanStates.{Prolongs, legal_after, legal_front, legal_last, until_legal, until_prolongs}
+use Rattle.plan_laws.proofs.PlanStates.{Prolongs, on_as_told, legal_after, legal_front, legal_last, until_legal, until_prolongs}
 use Rattle.plan_laws.proofs.PlanSteps.{one_more}
 use Rattle.plan_laws.proofs.PlanUpTo.{counts_by_plan, until_of_front, up_to_front}
 
@@ -33,15 +33,23 @@ sum-push f changes change =
     let last = sum_by-cons (λ n. n) (f change) [] in
     ap sum (map-append f changes (change ∷ [])) ∙ all ∙ ap (λ n. sum (map f changes) + n) (last ∙ (let alone : f change + 0 ≡ f change = omega arith in alone))
 
--- a sum of parts is no more than that of the wholes
-parts_sum : (part whole : Change → ℕ) → ((change : Change) → part change ≤ whole change) → (changes : List Change) → sum (map part changes) ≤ sum (map whole changes)
-parts_sum part whole less [] = omega arith
-parts_sum part whole less (change ∷ changes) =
-    let one = sum_by-cons (λ n. n) (part change) (map part changes) in
-    let other = sum_by-cons (λ n. n) (whole change) (map whole changes) in
-    let here = less change in
-    let rest = parts_sum part whole less changes in
-    omega (arith, one, other, here, rest)
+-- so it is of what was taken from a group
+over-push : (parents : List (Option ℕ)) (slot : ℕ) (on : Bool) (changes : List Change) (change : Change) →
+    irq_over parents slot on (changes ++ change ∷ []) ≡ irq_over parents slot on changes + (if on_from slot on changes then irq_in parents slot change else 0)
+over-push parents slot on [] change = omega arith
+over-push parents slot on (first ∷ changes) change =
+    let rest = over-push parents slot (gated slot on first.gate) changes change in
+    omega (arith, rest)
+
+-- what was taken from a group is no more than what all changes tell of
+over_most : (parents : List (Option ℕ)) (slot : ℕ) (on : Bool) (changes : List Change) → irq_over parents slot on changes ≤ sum (map (λ (change : Change). change.irq) changes)
+over_most parents slot on [] = omega arith
+over_most parents slot on (change ∷ changes) =
+    let all = sum_by-cons (λ n. n) change.irq (map (λ (c : Change). c.irq) changes) in
+    let part = at_most (is_current_in parents slot change.current) change.irq change.irq (omega arith) in
+    let here = at_most on (irq_in parents slot change) change.irq part in
+    let rest = over_most parents slot (gated slot on change.gate) changes in
+    omega (arith, all, here, rest)
 
 none_taken : (changes : List Change) → take 0 changes ≡ []
 none_taken [] = refl
@@ -51,24 +59,25 @@ none_taken (change ∷ changes) = refl
 
 pub no_planned_irq : NoPlannedIrq
 unfolding planned_irq
-no_planned_irq plan slot = ap (λ cs. sum (map (irq_in plan.parents slot) cs)) (none_taken plan.changes)
+no_planned_irq plan slot = ap (irq_over plan.parents slot true) (none_taken plan.changes)
 
 pub planned_irq_by_change : PlannedIrqByChange
 unfolding planned_irq
 planned_irq_by_change plan slot k change is =
-    ap (λ cs. sum (map (irq_in plan.parents slot) cs)) (one_more plan.changes k change is) ∙ sum-push (irq_in plan.parents slot) (take k plan.changes) change
+    ap (irq_over plan.parents slot true) (one_more plan.changes k change is) ∙ over-push plan.parents slot true (take k plan.changes) change
 
 pub planned_irq_fits : PlannedIrqFits
 unfolding planned_irq
 planned_irq_fits plan fits slot k low =
-    let part : (change : Change) → irq_in plan.parents slot change ≤ change.irq = λ change. at_most (is_current_in plan.parents slot change.current) change.irq change.irq (omega arith) in
-    let sums = parts_sum (irq_in plan.parents slot) (λ change. change.irq) part (take k plan.changes) in
+    let sums = over_most plan.parents slot true (take k plan.changes) in
     omega (arith, sums, fits k low)
 
 -- ---- planned interrupt time is interrupt time
 
-abbrev irq_sum : List (Option ℕ) → ℕ → List Change → ℕ
-irq_sum parents slot changes = sum (map (irq_in parents slot) changes)
+-- one test in another
+both_tests : (a b : Bool) (n : ℕ) → (if a then (if b then n else 0) else 0) ≡ (if a && b then n else 0)
+both_tests true b n = refl
+both_tests false b n = refl
 
 -- a group has a running task by later parents where it has one by those of the world
 running_later : (limits : Limits) (w : World) → IsLegalWorld limits w → (parents : List (Option ℕ)) → Prolongs (parents_of w.groups) parents → (cpu slot : ℕ) → list_any runs (tasks_in parents cpu slot w.tasks) ≡ has_running cpu slot w
@@ -78,7 +87,7 @@ running_later limits w world parents more cpu slot = ap (λ ps. list_any runs (t
 -- all changes of some events tell the interrupt time of these events
 abbrev TellsIrq : Limits → ℕ → ℕ → List Event → Type 0
 TellsIrq limits cpu slot events = AreLegal limits first_world events → (parents : List (Option ℕ)) → Prolongs (parents_of (after events).groups) parents →
-    irq_sum parents slot (changes_from cpu first_world events) ≡ irq_time cpu slot events
+    irq_over parents slot true (changes_from cpu first_world events) ≡ irq_time cpu slot events
 
 tells-none : (limits : Limits) (cpu slot : ℕ) → TellsIrq limits cpu slot []
 unfolding irq_time
@@ -94,15 +103,19 @@ tells-push limits cpu slot events event before legal parents more =
     let time = irq_by_event cpu slot events event in
     ⊎_elim
     (λ off.
-    let same = ap (irq_sum parents slot) (changes_same cpu events event off) in
+    let same = ap (irq_over parents slot true) (changes_same cpu events event off) in
     let none = (stays_untouched limits (after events) event allowed cpu off.none parents slot).2 in
-    let part = at_most (has_running cpu slot (after events)) (irq_told cpu event.act) 0 (omega (arith, none)) in
+    let part = at_most (is_on (after events).groups slot && has_running cpu slot (after events)) (irq_told cpu event.act) 0 (omega (arith, none)) in
     omega (arith, same, sums, time, part))
     (λ on.
-    let grown = ap (irq_sum parents slot) (changes_grow cpu events event on) ∙ sum-push (irq_in parents slot) (changes_from cpu first_world events) on.change in
+    let grown = ap (irq_over parents slot true) (changes_grow cpu events event on) ∙ over-push parents slot true (changes_from cpu first_world events) on.change in
     let told = (change_tells limits (after events) event allowed world.once cpu on.change on.one parents slot).2 in
     let part = told ∙ ap (λ b. if b then irq_told cpu event.act else 0) (running_later limits (after events) world parents fewer cpu slot) in
-    grown ∙ ap (λ n. n + irq_in parents slot on.change) sums ∙ ap (λ n. irq_time cpu slot events + n) part ∙ sym time)
+    let account : Bool = is_on (after events).groups slot in
+    let whole = ap (λ b. if b then irq_in parents slot on.change else 0) (on_as_told limits cpu slot events first)
+    ∙ ap (λ n. if account then n else 0) part
+    ∙ both_tests account (has_running cpu slot (after events)) (irq_told cpu event.act) in
+    omega (arith, grown, sums, whole, time))
     (touched_or_not (after events) event cpu)
 
 tells_irq : (limits : Limits) (cpu slot : ℕ) (events : List Event) → TellsIrq limits cpu slot events
@@ -113,7 +126,7 @@ unfolding planned_irq
 planned_irq_is_irq limits events legal cpu slot k low =
     let parents : List (Option ℕ) = parents_of (after events).groups in
     let until = until_is cpu events k low in
-    ap (irq_sum parents slot) (sym until.changes)
+    ap (irq_over parents slot true) (sym until.changes)
     ∙ tells_irq limits cpu slot (until_change cpu events k) (until_legal limits cpu events k legal) parents (until_prolongs cpu events k)
 
 -- ---- up to a moment
@@ -126,7 +139,7 @@ irq_by_own_changes limits events legal cpu slot =
     let changes : List Change = changes_from cpu first_world events in
     let all : take (length (changes_of cpu events)) changes ≡ changes = take_all (length (changes_of cpu events)) changes (omega (arith, as_many cpu events)) in
     sym (tells_irq limits cpu slot events legal parents ([], sym (append-nil parents)))
-    ∙ ap (irq_sum parents slot) (sym all)
+    ∙ ap (irq_over parents slot true) (sym all)
     ∙ planned_irq_is_irq limits events legal cpu slot (length (changes_of cpu events)) (omega arith)
 
 irq_up_to : (limits : Limits) (events : List Event) → AreLegal limits first_world events → (cpu slot at : ℕ) → irq_time cpu slot (up_to events at) ≡ irq_time cpu slot (until_change cpu events (count_at cpu events at))

@@ -10,7 +10,7 @@ use Rattle.psi_base.specs.declared.event.Event.{Event}
 use Rattle.psi_base.specs.declared.event.Cause.TheVariants as cause
 use Rattle.psi_spec.specs.declared.machine.Task.{Task}
 use Rattle.psi_counts.specs.declared.changes.Change.{Change}
-use Rattle.psi_spec.specs.World.{World, Limits, after, after_event, after_from, first_world, root}
+use Rattle.psi_spec.specs.World.{World, Limits, after, after_event, after_from, first_world, is_on, root}
 use Rattle.psi_spec.specs.Refusal.{cause_of, applies, cause_order, AreLegal}
 use Rattle.psi_spec.specs.Stall.{holds, holds_of, is_in, parents_of, stall}
 use Rattle.psi_counts.specs.Legal.{changes_from}
@@ -22,6 +22,7 @@ use Rattle.plan_laws.proofs.PlanStates.{Prolongs, holds_by_front, legal_front, l
 use Rattle.plan_laws.proofs.PlanTimes.{last_change-next, moments, planned_by_change}
 use Rattle.psi_spec.proofs.StallLaws.{by_event, with_time, map_same}
 use Rattle.psi_spec.proofs.TaskLaws.{no_entries}
+use Rattle.psi_spec.proofs.GroupLaws.{and_false}
 use Rattle.psi_spec.proofs.RefusalLaws.{passed}
 
 -- ---- moments of legal events
@@ -67,7 +68,7 @@ no_state Nonidle = refl
 pub first_holds_nothing : (state : State) (cpu slot : ℕ) → holds state cpu slot first_world ≡ false
 unfolding holds
 first_holds_nothing state cpu slot =
-    ap (λ es. holds_of state (filter (is_in (parents_of (root ∷ [])) cpu slot) (map (λ (e : ℕ × Task). e.1) es))) no_entries ∙ no_state state
+    and_false (is_on (root ∷ []) slot) _ (ap (λ es. holds_of state (filter (is_in (parents_of (root ∷ [])) cpu slot) (map (λ (e : ℕ × Task). e.1) es))) no_entries ∙ no_state state)
 
 -- without events no time passes
 pub no_time : (state : State) (cpu slot at : ℕ) → stall state cpu slot [] at ≡ 0

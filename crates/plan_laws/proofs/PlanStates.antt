@@ -1,25 +1,27 @@
 -- What a processor's changes tell of the states of groups there.
-use Rattle.std.proofs.Common.{◌≡◌, ℕ, zero, suc, ◌+◌, ◌-◌, ◌≤◌, List, [], ◌∷◌, ◌++◌, length, map, take, drop, refl, sym, ap, ◌∙◌, arith, subst, Bool, false, Option, None, append_assoc, ⊎_elim}
-use Rattle.std.specs.Prelude.{filter, slice_index_or}
+use Rattle.std.proofs.Common.{◌≡◌, ℕ, zero, suc, ◌+◌, ◌-◌, ◌≤◌, List, [], ◌∷◌, ◌++◌, length, map, take, drop, refl, sym, ap, ◌∙◌, arith, subst, Bool, false, Option, None, true, append_assoc, ⊎_elim}
+use Rattle.std.specs.Prelude.{filter, slice_index_or, ◌&&◌}
 use Rattle.std.proofs.lemmas.List.{append-nil, length-append, length-map, map-append, length-take-le, take-append-drop, take-map, get_or-take}
 use Rattle.std.proofs.Math.Seq.{get_or-append_seam}
 use Rattle.psi_base.specs.declared.event.Slot.{Slot}
 use Rattle.psi_base.specs.declared.event.State.{State}
 use Rattle.psi_base.specs.declared.event.Event.{Event}
+use Rattle.psi_spec.specs.declared.machine.GroupLife.{GroupLife}
 use Rattle.psi_spec.specs.declared.machine.Task.{Task}
 use Rattle.psi_counts.specs.declared.changes.Change.{Change}
 use Rattle.psi_counts.specs.declared.changes.Counts.{Counts}
-use Rattle.psi_spec.specs.World.{World, Limits, after, after_event, after_from, first_world}
+use Rattle.psi_spec.specs.World.{World, Limits, after, after_event, after_from, first_world, is_on}
 use Rattle.psi_spec.specs.Refusal.{cause_of, AreLegal}
 use Rattle.psi_spec.specs.Stall.{holds, holds_of, is_in, parents_of, tasks_in}
 use Rattle.psi_counts.specs.Counts.{IsRunningTold, tells}
 use Rattle.psi_spec.specs.Groups.{new_parents}
-use Rattle.psi_counts.specs.Touch.{AreAtMost, Follows, is_current_in, is_current_stalled, no_counts}
+use Rattle.psi_counts.specs.Touch.{AreAtMost, Follows, gate_of, gated, is_current_in, is_current_stalled, no_counts}
 use Rattle.psi_counts.specs.Legal.{IsLegalWorld, added, changes_from, taken}
-use Rattle.plan_laws.specs.Plan.{FitsPlan, plan_of, holds_after, less, Leaves, LeavesFew, PlanTellsStates}
+use Rattle.plan_laws.specs.Plan.{FitsPlan, plan_of, holds_after, on_from, less, Leaves, LeavesFew, PlanTellsStates}
 use Rattle.psi_spec.specs.Changes.{event_of_change, until_change}
 use Rattle.psi_spec.proofs.Following.{after_from-append}
 use Rattle.psi_spec.proofs.GroupLaws.{parents_kept}
+use Rattle.psi_counts.proofs.GateLaws.{on_by_gate}
 use Rattle.psi_counts.proofs.LegalLaws.{counts_are_few, counts_are_sums, legal_first, legal_kept, same_tasks_later}
 use Rattle.psi_counts.proofs.MaskLaws.{counts_tell}
 use Rattle.plan_laws.proofs.PlanLaws.{after-push, as_many, by_last, changes_same, changes_grow, touched_or_not, until_is}
@@ -111,6 +113,45 @@ runs_as_told : (limits : Limits) (parents : List (Option ℕ)) (cpu slot : ℕ) 
 runs_as_told limits parents cpu slot events =
     by_last (λ es. AreLegal limits first_world es → RunsAsTold parents cpu slot es (shown_last (changes_from cpu first_world es))) (λ _. runs-none parents cpu slot) (runs-push limits parents cpu slot) events
 
+-- ---- which accounts are on
+
+-- with a change more
+pub on_from-push : (slot : ℕ) (on : Bool) (changes : List Change) (change : Change) → on_from slot on (changes ++ change ∷ []) ≡ gated slot (on_from slot on changes) change.gate
+on_from-push slot on [] change = refl
+on_from-push slot on (first ∷ changes) change = on_from-push slot (gated slot on first.gate) changes change
+
+-- the changes of any processor tell whether an account is on
+abbrev OnAsTold : ℕ → ℕ → List Event → Type 0
+OnAsTold cpu slot events = on_from slot true (changes_from cpu first_world events) ≡ is_on (after events).groups slot
+
+on-none : (cpu slot : ℕ) → OnAsTold cpu slot []
+on-none cpu zero = refl
+on-none cpu (suc slot) = refl
+
+on-push : (limits : Limits) (cpu slot : ℕ) (events : List Event) (event : Event)
+    → (AreLegal limits first_world events → OnAsTold cpu slot events) → AreLegal limits first_world (events ++ event ∷ []) → OnAsTold cpu slot (events ++ event ∷ [])
+on-push limits cpu slot events event before legal =
+    let first = legal_front limits first_world events (event ∷ []) legal in
+    let allowed = legal_last limits first_world events event legal in
+    let groups : List GroupLife = (after events).groups in
+    let now : is_on (after (events ++ event ∷ [])).groups slot ≡ gated slot (is_on groups slot) (gate_of groups event.act) =
+    ap (λ (w : World). is_on w.groups slot) (after-push events event) ∙ on_by_gate limits (after events) event allowed (legal_after limits events first).groups slot in
+    ⊎_elim
+    (λ off.
+    let none = (stays_untouched limits (after events) event allowed cpu off.none [] slot).3 in
+    ap (on_from slot true) (changes_same cpu events event off) ∙ before first ∙ ap (gated slot (is_on groups slot)) (sym none) ∙ sym now)
+    (λ on.
+    ap (on_from slot true) (changes_grow cpu events event on)
+    ∙ on_from-push slot true (changes_from cpu first_world events) on.change
+    ∙ ap (λ b. gated slot b on.change.gate) (before first)
+    ∙ ap (gated slot (is_on groups slot)) on.gate
+    ∙ sym now)
+    (touched_or_not (after events) event cpu)
+
+pub on_as_told : (limits : Limits) (cpu slot : ℕ) (events : List Event) → AreLegal limits first_world events → OnAsTold cpu slot events
+on_as_told limits cpu slot events =
+    by_last (λ es. AreLegal limits first_world es → OnAsTold cpu slot es) (λ _. on-none cpu slot) (on-push limits cpu slot) events
+
 -- ---- states
 
 less_than : (new taken added : ℕ) → new + taken ≡ 0 + added → new ≡ added - taken
@@ -128,7 +169,7 @@ follows_less taken added new is =
 
 -- a processor's changes tell the states of groups
 abbrev pub told_by : State → List (Option ℕ) → ℕ → List Change → Bool
-told_by state parents slot changes = tells state (less (added parents slot changes) (taken parents slot changes)) (is_current_in parents slot (shown_last changes)) (is_current_stalled (shown_last changes))
+told_by state parents slot changes = on_from slot true changes && tells state (less (added parents slot changes) (taken parents slot changes)) (is_current_in parents slot (shown_last changes)) (is_current_stalled (shown_last changes))
 
 told_by_last : (limits : Limits) (events : List Event) → AreLegal limits first_world events → (more : List (Option ℕ)) (state : State) (cpu slot : ℕ) →
     told_by state (parents_of (after events).groups ++ more) slot (changes_from cpu first_world events) ≡ holds state cpu slot (after events)
@@ -139,7 +180,10 @@ told_by_last limits events legal more state cpu slot =
     let counts = follows_less (taken parents slot changes) (added parents slot changes) _ (counts_are_sums limits events legal parents cpu slot) in
     let states = counts_tell (tasks_in parents cpu slot (after events).tasks) _ _ (runs_as_told limits parents cpu slot events legal) state in
     let same = same_tasks_later limits (after events) (legal_after limits events legal) more cpu slot in
-    ap (λ n. tells state n (is_current_in parents slot (shown_last changes)) (is_current_stalled (shown_last changes))) (sym counts) ∙ sym states ∙ ap (holds_of state) same
+    let on : Bool = on_from slot true changes in
+    ap (λ n. on && tells state n (is_current_in parents slot (shown_last changes)) (is_current_stalled (shown_last changes))) (sym counts)
+    ∙ ap (λ b. on && b) (sym states ∙ ap (holds_of state) same)
+    ∙ ap (λ b. b && holds_of state (tasks_in (parents_of (after events).groups) cpu slot (after events).tasks)) (on_as_told limits cpu slot events legal)
 
 -- they tell it by the parents of later groups too
 pub told_by_changes : (limits : Limits) (events : List Event) → AreLegal limits first_world events → (parents : List (Option ℕ)) → Prolongs (parents_of (after events).groups) parents → (state : State) (cpu slot : ℕ) →
@@ -163,7 +207,7 @@ shown-take changes (suc k) low =
 pub holds_by_front : (state : State) (parents : List (Option ℕ)) (changes : List Change) (slot k : ℕ) → k ≤ length changes → holds_after state (record { changes = changes; parents = parents }) slot k ≡ told_by state parents slot (take k changes)
 unfolding holds_after
 holds_by_front state parents changes slot k low =
-    ap (λ current. tells state (less (added parents slot (take k changes)) (taken parents slot (take k changes))) (is_current_in parents slot current) (is_current_stalled current)) (sym (shown-take changes k low))
+    ap (λ current. on_from slot true (take k changes) && tells state (less (added parents slot (take k changes)) (taken parents slot (take k changes))) (is_current_in parents slot current) (is_current_stalled current)) (sym (shown-take changes k low))
 
 -- the events up to a change are a front of all
 pub until_legal : (limits : Limits) (cpu : ℕ) (events : List Event) (k : ℕ) → AreLegal limits first_world events → AreLegal limits first_world (until_change cpu events k)

@@ -1,6 +1,6 @@
 -- One change of a plan.
 use Rattle.std.proofs.Common.{◌≡◌, ℕ, zero, suc, ◌+◌, ◌-◌, ◌≤◌, List, [], ◌∷◌, ◌++◌, map, take, refl, ap, ◌∙◌, arith, Bool, false, cond, Option, None, Some, ◌<◌, length, true}
-use Rattle.std.specs.Prelude.{filter, nat_le, slice_get, slice_index_or}
+use Rattle.std.specs.Prelude.{filter, nat_le, slice_get, slice_index_or, ◌&&◌, if◌then◌else◌}
 use Rattle.std.proofs.lemmas.Bool.Decides.{nat_tests}
 use Rattle.std.proofs.lemmas.Option.{slice_get_within}
 use Rattle.psi_base.specs.declared.event.Slot.{Slot}
@@ -9,10 +9,10 @@ use Rattle.psi_base.specs.declared.event.State.TheVariants.{IoSome, IoFull, MemS
 use Rattle.psi_counts.specs.declared.changes.Change.{Change}
 use Rattle.psi_counts.specs.declared.changes.Counts.{Counts}
 use Rattle.psi_counts.specs.Counts.{tells}
-use Rattle.psi_counts.specs.Touch.{is_current_in, is_current_stalled, no_counts, on_chain}
+use Rattle.psi_counts.specs.Touch.{gated, is_current_in, is_current_stalled, no_counts, on_chain}
 use Rattle.psi_counts.specs.Legal.{added, both_counts, taken}
-use Rattle.plan_laws.specs.Plan.{PlanView, Leaves, added_after, counts_after, current_after, holds_after, is_part_in, last_change, less, taken_after, AsideStays, CountsByChange, CurrentByChange, PlaceOfMoment, PlanCountsAreFew}
-use Rattle.plan_laws.proofs.PlanStates.{counts_are}
+use Rattle.plan_laws.specs.Plan.{PlanView, Leaves, added_after, counts_after, current_after, holds_after, is_gate_of, is_part_in, last_change, less, on_after, on_from, taken_after, AsideStays, CountsByChange, CurrentByChange, OnAtFirst, OnByChange, PlaceOfMoment, PlanCountsAreFew}
+use Rattle.plan_laws.proofs.PlanStates.{counts_are, on_from-push}
 
 -- ---- a list with the element behind its front
 
@@ -34,6 +34,19 @@ pub current_by_change : CurrentByChange
 current_by_change plan k change is =
     let next : k + 1 ≡ suc k = omega arith in
     (ap (current_after plan) next ∙ read_one (λ (c : Change). c.current) None plan.changes k change is, ap (last_change plan) next ∙ read_one (λ (c : Change). c.at) 0 plan.changes k change is)
+
+-- ---- accounts
+
+pub on_by_change : OnByChange
+on_by_change plan slot k change is = ap (on_from slot true) (one_more plan.changes k change is) ∙ on_from-push slot true (take k plan.changes) change
+
+pub on_at_first : OnAtFirst
+on_at_first plan slot = refl
+
+-- another's gate leaves an account
+pub gate_apart : (slot : ℕ) (on : Bool) (gate : Option (Slot × Bool)) → is_gate_of slot gate ≡ false → gated slot on gate ≡ on
+gate_apart slot on None off = refl
+gate_apart slot on (Some gate) off = ap (λ b. if b then gate.1 else on) off
 
 -- ---- sums with one more
 
@@ -118,8 +131,11 @@ aside_stays state plan slot k change is aside =
     let minus = taken_next plan slot k change is ∙ ap (both_counts (taken_after plan slot k)) (no_part plan.parents slot change.minus aside.minus) ∙ nothing_more (taken_after plan slot k) in
     let counts : counts_after plan slot (k + 1) ≡ counts_after plan slot k = ap (λ n. less n (taken_after plan slot (k + 1))) plus ∙ ap (less (added_after plan slot k)) minus in
     let current = ap (is_current_in plan.parents slot) ((current_by_change plan k change is).0) ∙ aside.current in
-    tells_same state (counts_after plan slot k) (counts_after plan slot (k + 1)) (is_current_in plan.parents slot (current_after plan k)) (is_current_in plan.parents slot (current_after plan (k + 1)))
-    (is_current_stalled (current_after plan k)) (is_current_stalled (current_after plan (k + 1))) counts aside.before current
+    let on = on_by_change plan slot k change is ∙ gate_apart slot (on_after plan slot k) change.gate aside.gate in
+    ap (λ b. b && tells state (counts_after plan slot (k + 1)) (is_current_in plan.parents slot (current_after plan (k + 1))) (is_current_stalled (current_after plan (k + 1)))) on
+    ∙ ap (λ b. on_after plan slot k && b)
+    (tells_same state (counts_after plan slot k) (counts_after plan slot (k + 1)) (is_current_in plan.parents slot (current_after plan k)) (is_current_in plan.parents slot (current_after plan (k + 1)))
+    (is_current_stalled (current_after plan k)) (is_current_stalled (current_after plan (k + 1))) counts aside.before current)
 
 -- ---- the place of a moment
 

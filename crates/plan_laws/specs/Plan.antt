@@ -1,6 +1,6 @@
 -- The changes of one processor in a trace, what they tell of each group there and for how long, and the clocks that stand
 -- for a group after some of them.
-use Rattle.std.specs.Prelude.{◌≡◌, ℕ, ◌+◌, ◌-◌, ◌≤◌, ◌<◌, List, [], ◌∷◌, ◌++◌, length, sum, map, take, filter, slice_get, slice_index_or, nat_le, Bool, false, if◌then◌else◌, Option, None, Some}
+use Rattle.std.specs.Prelude.{◌≡◌, ℕ, ◌+◌, ◌-◌, ◌≤◌, ◌<◌, List, [], ◌∷◌, ◌++◌, length, sum, map, take, filter, slice_get, slice_index_or, nat_le, ◌==◌, ◌&&◌, Bool, true, false, if◌then◌else◌, Option, None, Some}
 use Rattle.std.specs.List.{range_with_len}
 use Rattle.psi_base.specs.declared.event.Slot.{Slot}
 use Rattle.psi_base.specs.declared.event.State.{State}
@@ -14,7 +14,7 @@ use Rattle.psi_spec.specs.Groups.{AreOlder, HaveParents}
 use Rattle.psi_spec.specs.Stall.{is_under, parents_of, holds, stall, moment_of, states, irq_time}
 use Rattle.psi_counts.specs.Counts.{tells, mask_holds}
 use Rattle.psi_counts.specs.Clock.{ClockView, ClockFollows, IsInTime, IsWholeClock, zero_clock, opened, opened_time}
-use Rattle.psi_counts.specs.Touch.{AreAtMost, Follows, HasSlotsBelow, IsOfOne, change_of, irq_in, is_current_in, is_current_stalled, on_chain}
+use Rattle.psi_counts.specs.Touch.{AreAtMost, Follows, HasSlotsBelow, IsOfOne, change_of, gated, irq_in, is_current_in, is_current_stalled, on_chain}
 use Rattle.psi_spec.specs.Changes.{changes_of, count_at, times_after, touches, until_change}
 use Rattle.psi_counts.specs.Legal.{changes_from, added, taken}
 
@@ -81,9 +81,18 @@ FitsPlan plan = (slot k : ℕ) → k ≤ length plan.changes → LeavesFew (take
 abbrev pub current_after : PlanView → ℕ → Option (Slot × Bool)
 current_after plan k = slice_index_or (None ∷ map (λ (change : Change). change.current) plan.changes) k None
 
--- a group is in a state after k changes: as the counts and the running task after them tell
+-- whether the account of a slot is on after changes, where it is on before them or isn't
+abbrev pub on_from : ℕ → Bool → List Change → Bool
+on_from slot on [] = on
+on_from slot on (change ∷ changes) = on_from slot (gated slot on change.gate) changes
+
+-- The account of a slot is on after k changes: the last gate for it among them is on, or there is none.
+abbrev pub on_after : PlanView → ℕ → ℕ → Bool
+on_after plan slot k = on_from slot true (take k plan.changes)
+
+-- a group is in a state after k changes: its account is on, and the counts and the running task after them tell so
 unfoldable pub holds_after : State → PlanView → ℕ → ℕ → Bool
-holds_after state plan slot k = tells state (counts_after plan slot k) (is_current_in plan.parents slot (current_after plan k)) (is_current_stalled (current_after plan k))
+holds_after state plan slot k = on_after plan slot k && tells state (counts_after plan slot k) (is_current_in plan.parents slot (current_after plan k)) (is_current_stalled (current_after plan k))
 
 -- ---- planned time
 
@@ -136,10 +145,15 @@ planned_time state plan slot k at = sum (map (planned_after state plan slot k at
 
 -- ---- planned interrupt time
 
--- How long (ns) interrupts took from a group by the first k changes: the sum over those of them at which the running task is in
--- the group or below it.
+-- The time (ns) that interrupts took from a group by changes, where its account is on before the first of them or isn't: the sum of
+-- what they tell of, where the account is on before the change, and the running task is in the group or below it.
+abbrev pub irq_over : List (Option ℕ) → ℕ → Bool → List Change → ℕ
+irq_over parents slot on [] = 0
+irq_over parents slot on (change ∷ changes) = (if on then irq_in parents slot change else 0) + irq_over parents slot (gated slot on change.gate) changes
+
+-- how long (ns) interrupts took from a group by the first k changes
 unfoldable pub planned_irq : PlanView → ℕ → ℕ → ℕ
-planned_irq plan slot k = sum (map (irq_in plan.parents slot) (take k plan.changes))
+planned_irq plan slot k = irq_over plan.parents slot true (take k plan.changes)
 
 -- ---- clocks that stand for a slot
 
@@ -159,13 +173,19 @@ abbrev pub is_part_in : List (Option ℕ) → ℕ → Option (Slot × Counts) �
 is_part_in parents slot None = false
 is_part_in parents slot (Some part) = is_under parents part.0.0 slot
 
+-- a gate, if there is one, is a slot's own
+abbrev pub is_gate_of : ℕ → Option (Slot × Bool) → Bool
+is_gate_of slot None = false
+is_gate_of slot (Some gate) = gate.0.0 == slot
+
 -- The change after the first k is aside of a slot: the slot is neither on the chains of what the change takes and adds, nor
--- on those of the tasks that run before it and after it.
+-- on those of the tasks that run before it and after it, and its account isn't the one that is switched.
 pub record IsAside (plan : PlanView) (slot k : ℕ) (change : Change) : Type 0 where
   pub minus : is_part_in plan.parents slot change.minus ≡ false
   pub plus : is_part_in plan.parents slot change.plus ≡ false
   pub before : is_current_in plan.parents slot (current_after plan k) ≡ false
   pub current : is_current_in plan.parents slot change.current ≡ false
+  pub gate : is_gate_of slot change.gate ≡ false
 
 -- ---- laws
 
@@ -256,6 +276,15 @@ CountsByChange = (plan : PlanView) → FitsPlan plan → (slot k : ℕ) (change 
 abbrev pub PlanCountsAreFew : Type 0
 PlanCountsAreFew = (plan : PlanView) → FitsPlan plan → (slot k : ℕ) → k ≤ length plan.changes → AreAtMost most_tasks (counts_after plan slot k)
 
+-- A change tells by its gate which accounts are on after it.
+abbrev pub OnByChange : Type 0
+OnByChange = (plan : PlanView) (slot k : ℕ) (change : Change) → slice_get plan.changes k ≡ Some change →
+    on_after plan slot (k + 1) ≡ gated slot (on_after plan slot k) change.gate
+
+-- No account is off before the first change.
+abbrev pub OnAtFirst : Type 0
+OnAtFirst = (plan : PlanView) (slot : ℕ) → on_after plan slot 0 ≡ true
+
 -- A change shows the running task after it.
 abbrev pub CurrentByChange : Type 0
 CurrentByChange = (plan : PlanView) (k : ℕ) (change : Change) → slice_get plan.changes k ≡ Some change → (current_after plan (k + 1) ≡ change.current) × (last_change plan (k + 1) ≡ change.at)
@@ -297,10 +326,10 @@ PlannedAfter = (limits : Limits) (events : List Event) → AreLegal limits first
 abbrev pub NoPlannedIrq : Type 0
 NoPlannedIrq = (plan : PlanView) (slot : ℕ) → planned_irq plan slot 0 ≡ 0
 
--- Planned interrupt time grows by each change by what the change tells of the group.
+-- Planned interrupt time grows by each change by what the change tells of the group, where its account is on before it.
 abbrev pub PlannedIrqByChange : Type 0
 PlannedIrqByChange = (plan : PlanView) (slot k : ℕ) (change : Change) → slice_get plan.changes k ≡ Some change →
-    planned_irq plan slot (k + 1) ≡ planned_irq plan slot k + irq_in plan.parents slot change
+    planned_irq plan slot (k + 1) ≡ planned_irq plan slot k + (if on_after plan slot k then irq_in plan.parents slot change else 0)
 
 -- Planned interrupt time is no longer than the time to the last change, since interrupts of one processor don't overlap.
 abbrev pub PlannedIrqFits : Type 0

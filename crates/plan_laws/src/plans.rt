@@ -1,6 +1,6 @@
 //! Laws of plans: the changes of one processor, and the clocks that run on them alone. Each function has an empty body: its
 //! contract is the law.
-ghost use Rattle.plan_laws.specs.Plan.{AsideStays, ChangesAreNumbered, ChangesUntil, ClockIsInTime, ClockTellsPlanned, CountsByChange, CountsByPlan, CurrentByChange, EmptyIsPlan, FollowedIsClock, KeptIsClock, NoPlannedIrq, PlaceOfMoment, PlanCountsAreFew, PlanIsWhole, PlanTellsStates, PlannedAfter, PlannedByChange, PlannedIrqByChange, PlannedIrqFits, PlannedIrqIsIrq, PlannedIrqUntil, PlannedIsStall, PlannedUntil, StallByOwnChanges, StallUpTo, StatesStay, ZeroIsClock};
+ghost use Rattle.plan_laws.specs.Plan.{AsideStays, ChangesAreNumbered, ChangesUntil, ClockIsInTime, ClockTellsPlanned, CountsByChange, CountsByPlan, CurrentByChange, EmptyIsPlan, FollowedIsClock, KeptIsClock, NoPlannedIrq, OnAtFirst, OnByChange, PlaceOfMoment, PlanCountsAreFew, PlanIsWhole, PlanTellsStates, PlannedAfter, PlannedByChange, PlannedIrqByChange, PlannedIrqFits, PlannedIrqIsIrq, PlannedIrqUntil, PlannedIsStall, PlannedUntil, StallByOwnChanges, StallUpTo, StatesStay, ZeroIsClock};
 
 /// A processor's changes are what the events change that touch it, in their order and at their moments. The events up to
 /// the k-th of these have the first k changes, and end with the k-th.
@@ -24,12 +24,15 @@ pub fn law_whole_plans()
     ensures empty { EmptyIsPlan }
 {}
 
-/// One change of any plan: the counts after it follow those before it and stay few, it shows the running task after it, and
-/// it leaves the states of a slot that is on none of its chains. The two changes around a moment tell how many come up to it.
+/// One change of any plan: the counts after it follow those before it and stay few, it shows the running task after it, its
+/// gate tells which accounts are on after it, as all are before the first, and it leaves the states of a slot that is on none of
+/// its chains. The two changes around a moment tell how many come up to it.
 pub fn law_plan_steps()
     ensures counts { CountsByChange }
     ensures few { PlanCountsAreFew }
     ensures current { CurrentByChange }
+    ensures on { OnByChange }
+    ensures first { OnAtFirst }
     ensures aside { AsideStays }
     ensures place { PlaceOfMoment }
 {}

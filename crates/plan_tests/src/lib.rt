@@ -6,6 +6,8 @@ mod events;
 pub use events::events_of;
 
 #[cfg(test)]
+mod accounts;
+#[cfg(test)]
 mod clocks;
 #[cfg(test)]
 mod irqs;

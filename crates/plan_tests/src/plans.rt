@@ -43,6 +43,7 @@ fn change(at: Ns, minus: Option<Counts>, plus: Option<Counts>, runs: bool) -> Ch
         plus: plus.map(|counts| (root, counts)),
         current: if runs { Some((root, false)) } else { None },
         irq: 0,
+        gate: None,
     }
 }
 

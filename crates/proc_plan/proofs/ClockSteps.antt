@@ -8,12 +8,12 @@ use Rattle.psi_counts.specs.declared.changes.Change.{Change}
 use Rattle.psi_counts.specs.declared.changes.Counts.{Counts}
 use Rattle.psi_counts.specs.Clock.{ClockFollows}
 use Rattle.psi_spec.specs.Stall.{is_under, number_of_slot}
-use Rattle.psi_counts.specs.Touch.{AreAtMost, Follows, no_counts, on_chain}
-use Rattle.plan_laws.specs.Plan.{IsClock, IsPlan, PlanView, counts_after, current_after, holds_after, last_change}
+use Rattle.psi_counts.specs.Touch.{AreAtMost, Follows, gated, no_counts, on_chain}
+use Rattle.plan_laws.specs.Plan.{IsClock, IsPlan, PlanView, counts_after, current_after, holds_after, last_change, on_after}
 use Rattle.plan_laws.proofs.PlanClocks.{followed_is_clock, zero_is_clock}
 use Rattle.plan_laws.proofs.PlanStates.{counts_are}
-use Rattle.plan_laws.proofs.PlanSteps.{counts_by_change, current_by_change, plan_counts_are_few}
-use Rattle.slot_clocks.specs.Clocks.{AllCanFollow, AllClocksFollow, AllFollow, AreTold, AreWhole, CanFollow, ClocksView, cell_at, first_clocks, parent_numbers, zero_cell}
+use Rattle.plan_laws.proofs.PlanSteps.{counts_by_change, current_by_change, on_by_change, plan_counts_are_few}
+use Rattle.slot_clocks.specs.Clocks.{AllCanFollow, AllClocksFollow, AllFollow, AllGated, AreTold, AreWhole, CanFollow, ClocksView, cell_at, first_clocks, parent_numbers, zero_cell}
 use Rattle.slot_clocks.specs.declared.cell.Cell.{Cell}
 use Rattle.proc_plan.specs.Clocks.{AreClocks}
 
@@ -28,6 +28,7 @@ first_are plan whole = record {
   current = refl;
   last = refl;
   counts = λ slot. ap (λ (cell : Cell). cell.counts) (all_zero (length plan.parents) slot);
+  ons = λ slot. ap (λ (cell : Cell). cell.on) (all_zero (length plan.parents) slot);
   each = λ slot. subst (λ (cell : Cell). IsClock cell.clock plan slot 0) (sym (all_zero (length plan.parents) slot)) (zero_is_clock plan slot);
 }
   where
@@ -46,7 +47,7 @@ as_many_parents parents plan same = sym (ap length same) ∙ length-map parents 
 pub current_below : (plan : PlanView) (k : ℕ) → IsPlan plan → k ≤ length plan.changes → IfSome (current_after plan k) (λ running. running.0.0 < length plan.parents)
 current_below plan zero whole within = tt
 current_below plan (suc k) whole within =
-    let none : Change = record { at = 0; minus = None; plus = None; current = None; irq = 0 } in
+    let none : Change = record { at = 0; minus = None; plus = None; current = None; irq = 0; gate = None } in
     let is = slice_get-get_or plan.changes k none (omega (arith, within)) in
     let next : suc k ≡ k + 1 = omega arith in
     subst (λ o. IfSome o (λ (running : Slot × Bool). running.0.0 < length plan.parents)) (sym (ap (current_after plan) next ∙ (current_by_change plan k (slice_index_or plan.changes k none) is).0)) (whole.slots k (slice_index_or plan.changes k none) is).current
@@ -56,7 +57,7 @@ pub told : (plan : PlanView) (clocks : ClocksView) (k : ℕ) → AreClocks plan 
 unfolding holds_after
 told plan clocks k are slot state =
     (are.each slot).mask state
-    ∙ sym (rw (are.counts slot, are.current) (let same : holds_after state plan slot k ≡ holds_after state plan slot k = refl in same))
+    ∙ sym (rw (are.counts slot, are.ons slot, are.current) (let same : holds_after state plan slot k ≡ holds_after state plan slot k = refl in same))
 
 -- at most one task more is counted for a slot
 one_more : (parents : List (Option ℕ)) (slot : ℕ) (side : Option (Slot × Counts)) → IfSome side (λ part. AreAtMost 1 part.1) → AreAtMost 1 (on_chain parents slot side)
@@ -97,6 +98,7 @@ same_follow old minus plus one other a b = counts_are one other.io other.stalled
 pub record AreMade (plan : PlanView) (change : Change) (old new : ClocksView) : Type 0 where
   pub room : length new.cells ≡ length old.cells
   pub counts : AllFollow plan.parents change old new
+  pub gates : AllGated change old new
   pub clocks : AllClocksFollow change.at old new
   pub whole : AreWhole new
   pub told : AreTold plan.parents new
@@ -115,6 +117,8 @@ next_clocks plan old new k change are is made =
     same_follow (counts_after plan slot k) (on_chain plan.parents slot change.minus) (on_chain plan.parents slot change.plus) (cell_at new slot).counts (counts_after plan slot (k + 1))
     (subst (λ n. Follows n (on_chain plan.parents slot change.minus) (on_chain plan.parents slot change.plus) (cell_at new slot).counts) (are.counts slot) (made.counts slot))
     (counts_by_change plan are.whole.fits slot k change is) in
+    let ons : (slot : ℕ) → (cell_at new slot).on ≡ on_after plan slot (k + 1) = λ slot.
+    made.gates slot ∙ ap (λ on. gated slot on change.gate) (are.ons slot) ∙ sym (on_by_change plan slot k change is) in
     record {
       whole = are.whole;
       within = omega (arith, room);
@@ -122,8 +126,9 @@ next_clocks plan old new k change are is made =
       current = current;
       last = last;
       counts = counts;
+      ons = ons;
       each = λ slot.
           followed_is_clock (cell_at old slot).clock (cell_at new slot).clock plan slot k (are.each slot) room (are.whole.order k room) (made.whole slot)
           (subst (λ at. ClockFollows (cell_at old slot).clock at (cell_at new slot).clock) (sym shown.1) (made.clocks slot))
-          (λ state. made.told slot state ∙ rw (counts slot, current) refl);
+          (λ state. made.told slot state ∙ rw (counts slot, ons slot, current) refl);
     }

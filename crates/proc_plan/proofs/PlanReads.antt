@@ -1,6 +1,7 @@
 -- What the readers of a plan tell.
-use Rattle.std.proofs.Common.{◌≡◌, ℕ, zero, suc, ◌+◌, ◌-◌, ◌≤◌, ◌<◌, List, length, refl, sym, ap, ◌∙◌, subst, arith, Bool, true, false, Option, None, Some, IsSome}
+use Rattle.std.proofs.Common.{◌≡◌, ℕ, zero, suc, ◌+◌, ◌-◌, ◌≤◌, ◌<◌, List, length, refl, sym, ap, ◌∙◌, subst, arith, Bool, true, false, Option, None, Some, IsSome, IfSome, ◌==◌}
 use Rattle.std.specs.Prelude.{nat_le, slice_get, slice_index_or, ◌↔◌}
+use Rattle.std.specs.Option.{option_or}
 use Rattle.std.specs.List.Sorted.{IsPartitionPoint, IsPartitionedBy}
 use Rattle.std.proofs.lemmas.Bool.Decides.{nat_tests}
 use Rattle.std.proofs.lemmas.List.{get_or-map}
@@ -8,12 +9,13 @@ use Rattle.psi_base.specs.declared.event.Slot.{Slot}
 use Rattle.psi_counts.specs.declared.changes.Change.{Change}
 use Rattle.psi_counts.specs.declared.changes.Counts.{Counts}
 use Rattle.psi_spec.specs.Groups.{AreOlder, HaveParents, leads_to}
-use Rattle.psi_spec.specs.Stall.{number_of_slot}
-use Rattle.plan_laws.specs.Plan.{AreInOrder, PlanView, changes_up_to, current_after, is_part_in, last_change}
-use Rattle.psi_counts.specs.Touch.{is_current_in}
+use Rattle.psi_spec.specs.Stall.{is_under, number_of_slot}
+use Rattle.plan_laws.specs.Plan.{AreInOrder, IsPlan, PlanView, changes_up_to, current_after, is_gate_of, is_part_in, last_change}
+use Rattle.psi_counts.specs.Touch.{HasNoCounts, IsOfOne, is_current_in}
 use Rattle.plan_laws.proofs.PlanSteps.{place_of_moment}
 use Rattle.slot_clocks.specs.Walk.{slot_in}
 use Rattle.proc_plan.specs.Plans.{AreConcerned, IsOnNone, OthersAreAside}
+use Rattle.proc_plan.proofs.Upward.{at_itself}
 
 -- ---- moments
 
@@ -64,7 +66,7 @@ pub record IsUntil (plan : PlanView) (at k : ℕ) : Type 0 where
 
 pub point_counts : (plan : PlanView) (at k : ℕ) → AreInOrder plan → k ≤ length plan.changes → IsPartitionPoint (λ (change : Change). nat_le change.at at ≡ true) (λ (change : Change). nat_le change.at at ≡ false) plan.changes k → IsUntil plan at k
 point_counts plan at k order room point =
-    let none : Change = record { at = 0; minus = None; plus = None; current = None; irq = 0 } in
+    let none : Change = record { at = 0; minus = None; plus = None; current = None; irq = 0; gate = None } in
     let past = last_before plan at k none room point.0 in
     let next : k < length plan.changes → at < last_change plan (k + 1) = λ more.
     let late = is_late (slice_index_or plan.changes k none).at at (point.1 k none (omega arith) more) in
@@ -86,12 +88,35 @@ current_off : (parents : List (Option ℕ)) (slot : ℕ) (current : Option (Slot
 current_off parents slot None off = refl
 current_off parents slot (Some running) off = off
 
+-- a slot that is off the chain that a change begins with is off what it takes, and no gate is the slot's
+gate_off : (parents : List (Option ℕ)) (slot : ℕ) (gate : Option (Slot × Bool)) (minus : Option (Slot × Counts)) → AreOlder parents → IfSome gate (λ _. minus ≡ None) → leads_to parents (number_of_slot (option_or (slot_in gate) (slot_in minus))) slot ≡ false
+    → (is_part_in parents slot minus ≡ false) × (is_gate_of slot gate ≡ false)
+gate_off parents slot None minus older none off = (part_off parents slot minus off, refl)
+gate_off parents slot (Some gate) minus older none off = (
+  ap (is_part_in parents slot) none,
+  elim (gate.0.0 == slot) as (λ b. (gate.0.0 == slot) ≡ b → b ≡ false) [
+    | true ↦ λ same.
+        let equal : gate.0.0 ≡ slot = grind (arith, nat_tests) in
+        absurd (cc (sym off ∙ ap (is_under parents gate.0.0) (sym equal) ∙ at_itself parents gate.0.0 older))
+    | false ↦ λ _. refl
+  ] refl,
+)
+
+pub no_minus : (change : Change) → IsOfOne change → IfSome change.gate (λ _. change.minus ≡ None)
+no_minus change is = alone change.gate is.gate
+  where
+    alone : (gate : Option (Slot × Bool)) → IfSome gate (λ _. HasNoCounts change × (change.irq ≡ 0)) → IfSome gate (λ _. change.minus ≡ None)
+    alone None is = tt
+    alone (Some gate) is = is.0.0
+
 -- a change is aside of each slot that is on none of its chains
-pub others_aside : (plan : PlanView) (k : ℕ) (starts : List (Option Slot)) → AreConcerned plan k starts → OthersAreAside plan k starts
-others_aside plan k starts are slot change is off =
+pub others_aside : (plan : PlanView) (k : ℕ) (starts : List (Option Slot)) → IsPlan plan → AreConcerned plan k starts → OthersAreAside plan k starts
+others_aside plan k starts whole are slot change is off =
     let none = subst (λ starts. IsOnNone plan.parents starts slot) (are change is) off in
+    let first = gate_off plan.parents slot change.gate change.minus whole.older (no_minus change (whole.ones k change is)) (none 0 None (omega arith)) in
     record {
-      minus = part_off plan.parents slot change.minus (none 0 None (omega arith));
+      minus = first.0;
+      gate = first.1;
       plus = part_off plan.parents slot change.plus (none 1 None (omega arith));
       before = current_off plan.parents slot (current_after plan k) (none 2 None (omega arith));
       current = current_off plan.parents slot change.current (none 3 None (omega arith));

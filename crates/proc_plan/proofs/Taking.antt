@@ -7,23 +7,24 @@ use Rattle.psi_base.specs.declared.event.Cause.{Cause}
 use Rattle.psi_base.specs.declared.event.Cpu.{Cpu}
 use Rattle.psi_base.specs.declared.event.Event.{Event}
 use Rattle.psi_base.specs.declared.event.Fault.{Fault}
+use Rattle.psi_base.specs.declared.event.Slot.{Slot}
 use Rattle.psi_base.specs.declared.event.TriggerSpec.{TriggerSpec}
 use Rattle.psi_counts.specs.declared.changes.Change.{Change}
 use Rattle.psi_counts.specs.declared.changes.Touch.{Touch}
 use Rattle.psi_spec.specs.declared.machine.Task.{Task}
 use Rattle.psi_spec.specs.Grammar.{Fits}
 use Rattle.psi_spec.specs.Trace.{AllFit}
-use Rattle.psi_spec.specs.World.{World, Limits, after, after_event, after_from, first_world, tasks_after}
+use Rattle.psi_spec.specs.World.{World, Limits, after, after_event, after_from, first_world, running_on, tasks_after}
 use Rattle.psi_spec.specs.Refusal.{AreLegal, cause_of}
 use Rattle.psi_counts.specs.Legal.{with_change}
-use Rattle.psi_counts.specs.Touch.{AllTouched, IsTouch, change_of, change_on, task_after, told_first, told_of}
+use Rattle.psi_counts.specs.Touch.{AllTouched, IsTouch, change_of, change_on, change_told, gate_first, shown, task_after, told_first, told_of}
 use Rattle.psi_spec.specs.Changes.{before, touched}
 use Rattle.plan_laws.proofs.PlanLaws.{after-push, changes_from-push}
 use Rattle.task_table.specs.Stands.{HasPlayed}
 use Rattle.proc_plan.specs.declared.side.Side.{Side}
 use Rattle.group_tree.specs.Tree.{IsGroupFault}
 use Rattle.proc_plan.specs.Plans.{HasTaken, PlannerView, changes_at}
-use Rattle.proc_plan.specs.Room.{ChangesView, HasRoom, HasRoomFor}
+use Rattle.proc_plan.specs.Room.{ChangesView, HasRoom, HasRoomFor, HasRoomWithin}
 use Rattle.psi_spec.specs.Told.{listed, told_from, trigger_by}
 use Rattle.proc_plan.specs.Sides.{sides_by}
 
@@ -66,7 +67,7 @@ fault_in planner limits events event fault taken is = subst (λ why. IsGroupFaul
 
 touched_here : (w : World) (event : Event) (cpu : ℕ) → IsSome (change_of w event cpu) → touched event.act (before w.tasks event.act) cpu ≡ true
 unfolding change_of
-touched_here w event cpu some = only_then (touched event.act (before w.tasks event.act) cpu) (change_on event (before w.tasks event.act) (task_after w.groups w.tasks event.act) (tasks_after w.groups w.tasks event.act) cpu) some
+touched_here w event cpu some = only_then (touched event.act (before w.tasks event.act) cpu) (change_on w.groups event (before w.tasks event.act) (task_after w.groups w.tasks event.act) (tasks_after w.groups w.tasks event.act) cpu) some
   where
     only_then : (here : Bool) (change : Change) → IsSome (if here then Some change else None) → here ≡ true
     only_then true change some = refl
@@ -87,13 +88,32 @@ told_or cpus cpu (Some one) other below rest some = picked (one.0.0 == cpu) cpus
 told_below : (touch : Touch) (cpus cpu : ℕ) → AllTouched (λ cpu change. cpu < cpus) touch → IsSome (told_of touch cpu) → cpu < cpus
 told_below touch cpus cpu all some = told_or cpus cpu touch.first (told_first cpu touch.second None) all.0 (told_or cpus cpu touch.second None all.1 (λ none. cc none)) some
 
+-- what a touch without a gate tells of a processor is what the event changes there
+told_plainly : (cpus : ℕ) (w : World) (event : Event) (touch : Touch) (cpu : ℕ) → IsTouch cpus w event touch → cpu < cpus → (gate : Option (Slot × Bool)) → touch.gate ≡ gate → IsSome (told_of touch cpu) → IsSome (change_of w event cpu)
+told_plainly cpus w event touch cpu is below None none some =
+    subst (λ (o : Option Change). IsSome o) (ap (λ g. gate_first event.at (shown (running_on (after_event w event).tasks cpu)) g (told_of touch cpu)) (sym none) ∙ is.told cpu below) some
+told_plainly cpus w event touch cpu is below (Some gate) there some =
+    subst (λ (o : Option Change). IsSome o) (ap (λ g. gate_first event.at (shown (running_on (after_event w event).tasks cpu)) g (told_of touch cpu)) (sym there) ∙ is.told cpu below) refl
+
 -- there is room for what a legal event changes, where there is for its act
 pub room_for : (w : World) (event : Event) (touch : Touch) (task : Option Task) (changes : List ChangesView) (cpus : ℕ) → task ≡ before w.tasks event.act → IsTouch cpus w event touch → AllTouched (λ cpu change. cpu < cpus) touch → length changes ≡ cpus → HasRoomFor event.act task changes
     → (cpu : ℕ) → IsSome (told_of touch cpu) → HasRoom changes cpu
 room_for w event touch task changes cpus same is all each room cpu some =
     let below = told_below touch cpus cpu all some in
-    let here = touched_here w event cpu (subst (λ (o : Option Change). IsSome o) (is.told cpu below) some) in
+    let here = touched_here w event cpu (told_plainly cpus w event touch cpu is below touch.gate refl some) in
     room cpu (ap (λ t. touched event.act t cpu) same ∙ here) (omega (arith, below, each))
+
+-- so there is on every processor, where it has a gate
+pub room_for_all : (w : World) (event : Event) (touch : Touch) (task : Option Task) (changes : List ChangesView) (cpus : ℕ) → task ≡ before w.tasks event.act → IsTouch cpus w event touch → length changes ≡ cpus → HasRoomFor event.act task changes
+    → IsSome touch.gate → (cpu : ℕ) → HasRoomWithin changes cpu
+room_for_all w event touch task changes cpus same is each room some cpu below =
+    let within : cpu < cpus = omega (arith, below, each) in
+    let changed = subst (λ (o : Option Change). IsSome o) (is.told cpu within) (gate_tells event.at (shown (running_on (after_event w event).tasks cpu)) touch.gate (told_of touch cpu) some) in
+    room cpu (ap (λ t. touched event.act t cpu) same ∙ touched_here w event cpu changed) below
+  where
+    gate_tells : (at : ℕ) (current gate : Option (Slot × Bool)) (other : Option Change) → IsSome gate → IsSome (gate_first at current gate other)
+    gate_tells at current None other some = absurd (cc some)
+    gate_tells at current (Some gate) other some = refl
 
 -- ---- one step
 
@@ -102,7 +122,7 @@ pub record HasStepped (old new : PlannerView) (event : Event) (touch : Touch) (t
   pub fits : Fits event
   pub played : HasPlayed old.table event new.table
   pub told : IsTouch old.table.limits.cpus old.table.world event touch
-  pub changes : (cpu : ℕ) → changes_at new cpu ≡ changes_at old cpu ++ with_change (told_of touch cpu) []
+  pub changes : (cpu : ℕ) → cpu < old.table.limits.cpus → changes_at new cpu ≡ changes_at old cpu ++ with_change (change_told event.at (shown (running_on new.table.world.tasks cpu)) touch cpu) []
   pub trigger_is : listed trigger ≡ trigger_by event.at old.table.world.groups event.act
   pub triggers : new.triggers ≡ old.triggers ++ listed trigger
   pub sides_are : listed first ++ listed second ≡ sides_by old.table.world event
@@ -123,8 +143,10 @@ taken_more old new event touch trigger first second limits events step taken =
         legal = legal_push limits first_world events event taken.legal allowed;
         world = world;
         changes = λ cpu below.
-            step.changes cpu
-            ∙ ap (λ o. changes_at old cpu ++ with_change o []) (step.told.told cpu (subst (λ n. cpu < n) (sym (ap (λ (l : Limits). l.cpus) taken.limits_are)) below) ∙ ap (λ w. change_of w event cpu) taken.world)
+            let within = subst (λ n. cpu < n) (sym (ap (λ (l : Limits). l.cpus) taken.limits_are)) below in
+            step.changes cpu within
+            ∙ ap (λ o. changes_at old cpu ++ with_change o [])
+            (ap (λ (w : World). change_told event.at (shown (running_on w.tasks cpu)) touch cpu) step.played.world ∙ step.told.told cpu within ∙ ap (λ w. change_of w event cpu) taken.world)
             ∙ ap (λ changes. changes ++ with_change (change_of (after events) event cpu) []) (taken.changes cpu below)
             ∙ sym (changes_from-push cpu first_world events event);
         triggers =

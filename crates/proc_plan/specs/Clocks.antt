@@ -1,8 +1,8 @@
 -- Clocks that run on a plan.
-use Rattle.std.specs.Prelude.{◌≡◌, ℕ, ◌+◌, ◌≤◌, ◌<◌, List, length, slice_index_or, Bool, if◌then◌else◌, Option}
+use Rattle.std.specs.Prelude.{◌≡◌, ℕ, ◌+◌, ◌≤◌, ◌<◌, List, length, slice_index_or, ◌&&◌, Bool, if◌then◌else◌, Option}
 use Rattle.psi_base.specs.declared.event.Slot.{Slot}
 use Rattle.psi_counts.specs.Touch.{is_current_in}
-use Rattle.plan_laws.specs.Plan.{IsClock, IsPlan, PlanView, counts_after, current_after, last_change, planned_irq}
+use Rattle.plan_laws.specs.Plan.{IsClock, IsPlan, PlanView, counts_after, current_after, last_change, on_after, planned_irq}
 use Rattle.slot_clocks.specs.Clocks.{ClocksView, cell_at}
 
 -- clocks on a plan: the plan, and how many of its changes were made
@@ -11,7 +11,7 @@ pub record OnPlan : Type 0 where
   pub made : ℕ
 
 -- The clocks of a processor are those of its plan after the first k changes: they show the running task and the moment of
--- the k-th, and the counts and the clock of each slot are those after k changes.
+-- the k-th, and the counts and the clock of each slot, and whether its account is on, are those after k changes.
 pub record AreClocks (plan : PlanView) (clocks : ClocksView) (k : ℕ) : Type 0 where
   pub whole : IsPlan plan
   pub within : k ≤ length plan.changes
@@ -19,6 +19,7 @@ pub record AreClocks (plan : PlanView) (clocks : ClocksView) (k : ℕ) : Type 0 
   pub current : clocks.current ≡ current_after plan k
   pub last : clocks.last ≡ last_change plan k
   pub counts : (slot : ℕ) → (cell_at clocks slot).counts ≡ counts_after plan slot k
+  pub ons : (slot : ℕ) → (cell_at clocks slot).on ≡ on_after plan slot k
   pub each : (slot : ℕ) → IsClock (cell_at clocks slot).clock plan slot k
 
 -- the time (ns) that interrupts took from the group in a slot
@@ -31,7 +32,12 @@ pub record AreIrqs (plan : PlanView) (times : List ℕ) (k : ℕ) : Type 0 where
   pub room : length times ≡ length plan.parents
   pub each : (slot : ℕ) → slot < length plan.parents → irq_at times slot ≡ planned_irq plan slot k
 
--- the times of all groups have grown by a time (ns) where the running task is in the group or below it
-abbrev pub AllGrow : List (Option ℕ) → Option (Slot × Bool) → ℕ → List ℕ → List ℕ → Type 0
-AllGrow parents current irq old new = (slot : ℕ) → slot < length old →
-    irq_at new slot ≡ irq_at old slot + (if is_current_in parents slot current then irq else 0)
+-- the time that interrupts take from the group in a slot: a time (ns) where its account is on and the running task is in the group
+-- or below it
+abbrev pub irq_taken : List (Option ℕ) → ClocksView → Option (Slot × Bool) → ℕ → ℕ → ℕ
+irq_taken parents clocks current irq slot = if (cell_at clocks slot).on && is_current_in parents slot current then irq else 0
+
+-- the times of all groups have grown by what interrupts took from them
+abbrev pub AllGrow : List (Option ℕ) → ClocksView → Option (Slot × Bool) → ℕ → List ℕ → List ℕ → Type 0
+AllGrow parents clocks current irq old new = (slot : ℕ) → slot < length old →
+    irq_at new slot ≡ irq_at old slot + irq_taken parents clocks current irq slot

@@ -1,8 +1,10 @@
 -- How a change is kept in few bytes.
-use Rattle.std.specs.Prelude.{ℕ, Bool, if◌then◌else◌, Option, None, Some}
+use Rattle.std.specs.Prelude.{ℕ, Bool, true, false, if◌then◌else◌, Option, None, Some}
 use Rattle.psi_base.specs.declared.event.Slot.{Slot}
 use Rattle.psi_counts.specs.declared.changes.Counts.{Counts}
 use Rattle.proc_plan.specs.declared.changes.Marks.{Marks}
+use Rattle.proc_plan.specs.declared.changes.Second.{Second}
+use Rattle.proc_plan.specs.declared.changes.Second.TheVariants.{Nothing, Adds, SwitchedOn, SwitchedOff}
 
 -- the count that a mark stands for: 1 for a task that counts there, and 0 for none
 abbrev pub marked_count : Bool → ℕ
@@ -20,6 +22,20 @@ irq_by takes minus_or_irq = if takes then 0 else minus_or_irq
 -- the slot with a number
 abbrev pub slot_by : ℕ → Slot
 slot_by number = record { 0 = number }
+
+-- the second slot of a packed change is that of counts that are added
+abbrev pub adds_by : Second → Bool
+adds_by Adds = true
+adds_by Nothing = false
+adds_by SwitchedOn = false
+adds_by SwitchedOff = false
+
+-- the gate of a change, if its second slot is that of a group whose account is switched
+abbrev pub gate_by : Second → Slot → Option (Slot × Bool)
+gate_by SwitchedOn slot = Some (slot, true)
+gate_by SwitchedOff slot = Some (slot, false)
+gate_by Adds slot = None
+gate_by Nothing slot = None
 
 -- one part of a change, what it takes or what it adds, where it has that part
 abbrev pub part_by : Bool → Slot → Marks → Option (Slot × Counts)

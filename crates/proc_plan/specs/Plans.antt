@@ -1,5 +1,6 @@
 -- The plans of all processors, and for which events they stand.
 use Rattle.std.specs.Prelude.{◌≡◌, ◌≢◌, ◌⊎◌, ℕ, ◌+◌, ◌<◌, ◌≤◌, List, [], ◌∷◌, ◌++◌, length, map, slice_get, slice_index_or, Option, None, Some, Result, Ok, Err, ⊤, true, false, refl}
+use Rattle.std.specs.Option.{option_or}
 use Rattle.std.specs.List.{All}
 use Rattle.psi_base.specs.declared.event.Cause.{Cause}
 use Rattle.psi_base.specs.declared.event.Cause.TheVariants as cause
@@ -48,11 +49,11 @@ plans_over groups changes = map (λ (changes : ChangesView). plan_over groups ch
 
 -- ---- what a change leaves alone
 
--- These are the slots on whose chains the change after the first k stands: of the counts that it takes, of those that it adds,
--- of the task that runs before it and of the one that runs after it.
+-- These are the slots on whose chains the change after the first k stands: of the counts that it takes or else of its gate, of
+-- those that it adds, of the task that runs before it and of the one that runs after it.
 abbrev pub AreConcerned : PlanView → ℕ → List (Option Slot) → Type 0
 AreConcerned plan k starts = (change : Change) → slice_get plan.changes k ≡ Some change →
-    starts ≡ slot_in change.minus ∷ slot_in change.plus ∷ slot_in (current_after plan k) ∷ slot_in change.current ∷ []
+    starts ≡ option_or (slot_in change.gate) (slot_in change.minus) ∷ slot_in change.plus ∷ slot_in (current_after plan k) ∷ slot_in change.current ∷ []
 
 -- a slot is on none of the chains of slots
 abbrev pub IsOnNone : List (Option ℕ) → List (Option Slot) → ℕ → Type 0

@@ -1,8 +1,8 @@
 //! A list of changes, each of which takes 32 bytes.
 
-ghost use Rattle.std.specs.Prelude.{◌≡◌, ◌++◌, ◌<◌, ◌≤◌, [], ◌∷◌, length, IfSome, OnOk};
+ghost use Rattle.std.specs.Prelude.{◌≡◌, ◌++◌, ◌<◌, ◌≤◌, [], ◌∷◌, length, None, IfSome, OnOk};
 ghost use Rattle.psi_counts.specs.Touch.{AreAtMost, IsOfOne};
-ghost use Rattle.proc_plan.specs.Packed.{counts_by, current_by, irq_by, part_by};
+ghost use Rattle.proc_plan.specs.Packed.{adds_by, counts_by, current_by, gate_by, irq_by, part_by};
 
 use psi_base::{NoMemory, Ns, Slot};
 use psi_counts::{Change, Counts};
@@ -16,6 +16,47 @@ struct Marks {
     stalled: bool,
     running: bool,
     stalled_running: bool,
+}
+
+/// A task that isn't there counts nowhere.
+const NO_MARKS: Marks = Marks {
+    io: false,
+    stalled: false,
+    running: false,
+    stalled_running: false,
+};
+
+/// What the second slot of a packed change is for.
+#[derive(Clone, Copy)]
+enum Second {
+    /// For nothing.
+    Nothing,
+    /// Counts are added on its chain.
+    Adds,
+    /// The account of its group is switched on.
+    SwitchedOn,
+    /// The account of its group is switched off.
+    SwitchedOff,
+}
+
+impl Second {
+    // Counts are added.
+    fn adds(self) -> bool
+        ensures { result ≡ adds_by self }
+    {
+        matches!(self, Second::Adds)
+    }
+
+    // The gate, where this is the second slot.
+    fn gate(self, slot: Slot) -> Option<(Slot, bool)>
+        ensures { result ≡ gate_by self slot }
+    {
+        match self {
+            Second::SwitchedOn => Some((slot, true)),
+            Second::SwitchedOff => Some((slot, false)),
+            Second::Nothing | Second::Adds => None,
+        }
+    }
 }
 
 impl Marks {
@@ -45,38 +86,41 @@ impl Marks {
     }
 }
 
-/// A change in 32 bytes, which can only be one of a single task. Contracts see the change.
+/// A change in 32 bytes, which can only be one of a single task, or of none. Contracts see the change.
 ///
 /// Whether a side or a running task is there stands beside its slot. In a plan of 4,000,000 changes each byte counts: a page of
 /// memory that is touched for the first time costs more than what is written there. So the time that interrupts took has no
-/// place of its own: a change that tells of it takes no counts, and needs no slot for them.
+/// place of its own: a change that tells of it takes no counts, and needs no slot for them. Nor has a gate, which may stand in
+/// 4,194,304 changes: a change that has one adds no counts.
 #[derive(Drop)]
 pub(crate) struct Packed {
     at: Ns,
     /// The slot whose counts are taken. Where none are, the time that interrupts took, in ns.
     minus_or_irq: u32,
-    plus: Slot,
+    /// The slot whose counts are added, or that of the group whose account is switched.
+    second: Slot,
     current: Slot,
     minus_marks: Marks,
     plus_marks: Marks,
     takes: bool,
-    adds: bool,
+    second_is: Second,
     runs: bool,
     stalled: bool,
 }
 
 impl Model for Packed {
     ghost use Rattle.psi_counts.specs.declared.changes.Change.{Change};
-    ghost use Rattle.proc_plan.specs.Packed.{current_by, irq_by, part_by, slot_by};
+    ghost use Rattle.proc_plan.specs.Packed.{adds_by, current_by, gate_by, irq_by, part_by, slot_by};
 
     ghost Value = { Change };
 
     ghost view = { λ p. record {
       at = p.at;
       minus = part_by p.takes (slot_by p.minus_or_irq) p.minus_marks;
-      plus = part_by p.adds p.plus p.plus_marks;
+      plus = part_by (adds_by p.second_is) p.second p.plus_marks;
       current = current_by p.runs p.current p.stalled;
       irq = irq_by p.takes p.minus_or_irq;
+      gate = gate_by p.second_is p.second;
     } };
 }
 
@@ -87,15 +131,25 @@ fn pack_part(part: Option<(Slot, Counts)>) -> (bool, Slot, Marks)
 {
     match part {
         Some((slot, counts)) => (true, slot, Marks::of(counts)),
-        None => {
-            let none = Marks {
-                io: false,
-                stalled: false,
-                running: false,
-                stalled_running: false,
-            };
-            (false, Slot(0), none)
-        }
+        None => (false, Slot(0), NO_MARKS),
+    }
+}
+
+// What the second slot of a change is for, that slot, and the marks of what is added. A change with a gate adds no counts.
+fn pack_second(
+    plus: Option<(Slot, Counts)>,
+    gate: Option<(Slot, bool)>,
+) -> (Second, Slot, Marks)
+    requires one { IfSome plus (λ p. AreAtMost 1 p.1) }
+    requires alone { IfSome gate (λ _. plus ≡ None) }
+    ensures plus { part_by (adds_by result.0) result.1 result.2 ≡ plus }
+    ensures gate { gate_by result.0 result.1 ≡ gate }
+{
+    match (gate, plus) {
+        (Some((slot, true)), _) => (Second::SwitchedOn, slot, NO_MARKS),
+        (Some((slot, false)), _) => (Second::SwitchedOff, slot, NO_MARKS),
+        (None, Some((slot, counts))) => (Second::Adds, slot, Marks::of(counts)),
+        (None, None) => (Second::Nothing, Slot(0), NO_MARKS),
     }
 }
 
@@ -135,23 +189,23 @@ fn unpack_irq(takes: bool, minus_or_irq: u32) -> u64
 }
 
 impl Packed {
-    /// A change, packed. It must be of one task, or tell of interrupts alone.
+    /// A change, packed. It must be of one task, or tell of interrupts or of a gate alone.
     fn new(change: Change) -> Packed
         requires { IsOfOne change }
         ensures { result ≡ change }
     {
         let (takes, minus, minus_marks) = pack_part(change.minus);
-        let (adds, plus, plus_marks) = pack_part(change.plus);
+        let (second_is, second, plus_marks) = pack_second(change.plus, change.gate);
         let (runs, current, stalled) = pack_current(change.current);
         Packed {
             at: change.at,
             minus_or_irq: if takes { minus.0 } else { change.irq as u32 },
-            plus,
+            second,
             current,
             minus_marks,
             plus_marks,
             takes,
-            adds,
+            second_is,
             runs,
             stalled,
         }
@@ -171,9 +225,10 @@ impl Packed {
         Change {
             at: self.at,
             minus: unpack_part(self.takes, Slot(self.minus_or_irq), self.minus_marks),
-            plus: unpack_part(self.adds, self.plus, self.plus_marks),
+            plus: unpack_part(self.second_is.adds(), self.second, self.plus_marks),
             current: unpack_current(self.runs, self.current, self.stalled),
             irq: unpack_irq(self.takes, self.minus_or_irq),
+            gate: self.second_is.gate(self.second),
         }
     }
 }
@@ -214,7 +269,8 @@ impl Changes {
         Ok(())
     }
 
-    /// Adds a change behind the others. There must be room for it, and it must be of one task, or tell of interrupts alone.
+    /// Adds a change behind the others. There must be room for it, and it must be of one task, or tell of interrupts or of a
+    /// gate alone.
     pub(crate) fn push(&mut self, change: Change)
         requires room { 0 < self.old.room }
         requires one { IsOfOne change }

@@ -45,7 +45,7 @@ pub trait ProcClocks {
         ensures clock { IsClock result (plan self.old) slot.0 (made self.old) };
 }
 
-/// Clocks that tell as well for how long interrupts took from each group.
+/// Clocks that tell as well for how long interrupts took from each group while its account was on.
 pub trait IrqClocks: ProcClocks {
     /// For how long (ns) interrupts took from the group in a slot that the plan knows, by the changes that were made.
     fn own_irq(&mut self, slot: Slot) -> u64
@@ -116,8 +116,14 @@ impl<'a> ProcClocks for PlainClocks<'a> {
 
     fn apply(&mut self) {
         let change = self.plan.change(self.count + 1);
+        add_irq(
+            &mut self.irqs,
+            self.parents,
+            &self.clocks,
+            change.current,
+            change.irq,
+        );
         self.clocks.apply(self.parents, &change);
-        add_irq(&mut self.irqs, self.parents, change.current, change.irq);
         self.count += 1;
     }
 

@@ -1,40 +1,28 @@
 //! For how long interrupts took from the groups on one processor.
 
 ghost use Rattle.std.specs.Prelude.{◌≡◌, ◌+◌, ◌<◌, ◌^◌, ℕ, length, if◌then◌else◌, IfSome};
-ghost use Rattle.psi_counts.specs.Touch.{is_current_in};
 ghost use Rattle.psi_spec.specs.Groups.{AreOlder};
 ghost use Rattle.slot_clocks.specs.Clocks.{parent_numbers};
-ghost use Rattle.proc_plan.specs.Clocks.{AllGrow, irq_at};
+ghost use Rattle.proc_plan.specs.Clocks.{AllGrow, irq_at, irq_taken};
 
 use crate::plan::current_slot;
 use psi_base::Slot;
+use slot_clocks::SlotClocks;
 
-// Adds a time (ns) to the group of the running task and to each above it. Changes that tell of interrupts are rare, so it stands
-// aside.
-#[inline(never)]
-fn climb(times: &mut [u64], parents: &[Option<Slot>], current: Option<(Slot, bool)>, irq: u64)
-    requires older { AreOlder (parent_numbers parents.now) }
-    requires room { length times.old ≡ length parents.now }
-    requires below { IfSome current (λ running. running.0.0 < length parents.now) }
-    requires fits { (slot : ℕ) → slot < length times.old →
-        irq_at times.old slot
-        + (if is_current_in (parent_numbers parents.now) slot current then irq else 0) < 2 ^ 64 }
-    ensures room { length times.new ≡ length times.old }
-    ensures grown { AllGrow (parent_numbers parents.now) current irq times.old times.new }
+// A time (ns) where an account is on, and none where it is off.
+fn time_if(on: bool, irq: u64) -> u64
+    ensures { result ≡ (if on then irq else 0) }
 {
-    let mut next = current_slot(current);
-    'up: while let Some(slot) = next {
-        let place = slot.0 as usize;
-        times[place] += irq;
-        next = parents[place];
-    }
+    if on { irq } else { 0 }
 }
 
-/// Adds a time (ns) that interrupts took, if they took any, to the group of the running task and to each above it.
-#[inline(always)]
-pub(crate) fn add_irq(
+// Adds a time (ns) to the group of the running task and to each above it, where their accounts are on by these clocks. Changes
+// that tell of interrupts are rare, so it stands aside.
+#[inline(never)]
+fn climb(
     times: &mut [u64],
     parents: &[Option<Slot>],
+    clocks: &SlotClocks,
     current: Option<(Slot, bool)>,
     irq: u64,
 )
@@ -43,11 +31,40 @@ pub(crate) fn add_irq(
     requires below { IfSome current (λ running. running.0.0 < length parents.now) }
     requires fits { (slot : ℕ) → slot < length times.old →
         irq_at times.old slot
-        + (if is_current_in (parent_numbers parents.now) slot current then irq else 0) < 2 ^ 64 }
+        + irq_taken (parent_numbers parents.now) clocks.now current irq slot < 2 ^ 64 }
     ensures room { length times.new ≡ length times.old }
-    ensures grown { AllGrow (parent_numbers parents.now) current irq times.old times.new }
+    ensures grown { AllGrow (parent_numbers parents.now) clocks.now current irq
+        times.old times.new }
+{
+    let mut next = current_slot(current);
+    'up: while let Some(slot) = next {
+        let place = slot.0 as usize;
+        times[place] += time_if(clocks.is_on(slot), irq);
+        next = parents[place];
+    }
+}
+
+/// Adds a time (ns) that interrupts took, if they took any, to the group of the running task and to each above it, where their
+/// accounts are on by these clocks.
+#[inline(always)]
+pub(crate) fn add_irq(
+    times: &mut [u64],
+    parents: &[Option<Slot>],
+    clocks: &SlotClocks,
+    current: Option<(Slot, bool)>,
+    irq: u64,
+)
+    requires older { AreOlder (parent_numbers parents.now) }
+    requires room { length times.old ≡ length parents.now }
+    requires below { IfSome current (λ running. running.0.0 < length parents.now) }
+    requires fits { (slot : ℕ) → slot < length times.old →
+        irq_at times.old slot
+        + irq_taken (parent_numbers parents.now) clocks.now current irq slot < 2 ^ 64 }
+    ensures room { length times.new ≡ length times.old }
+    ensures grown { AllGrow (parent_numbers parents.now) clocks.now current irq
+        times.old times.new }
 {
     if irq > 0 {
-        climb(times, parents, current, irq);
+        climb(times, parents, clocks, current, irq);
     }
 }

@@ -43,7 +43,7 @@ fn part_slot(part: Option<(Slot, Counts)>) -> Option<Slot>
     part.map(|(slot, _)| slot)
 }
 
-/// The slot of the running task.
+/// The slot of the running task, or of a gate.
 pub(crate) fn current_slot(current: Option<(Slot, bool)>) -> Option<Slot>
     ensures { result ≡ slot_in current }
 {
@@ -85,9 +85,9 @@ impl Plan {
         self.change(k).at
     }
 
-    /// The slots on whose chains the change with a number from 1 stands: of the counts that it takes, of those that it adds,
-    /// of the task that runs up to it and of the one that runs from it on. It leaves alone each slot that is on none of these
-    /// chains.
+    /// The slots on whose chains the change with a number from 1 stands: of the counts that it takes or else of its gate, of
+    /// the counts that it adds, of the task that runs up to it and of the one that runs from it on. It leaves alone each slot
+    /// that is on none of these chains.
     pub fn concerned(&self, k: u64) -> [Option<Slot>; 4]
         requires from { 1 ≤ k }
         requires to { k ≤ length self.now.changes }
@@ -96,7 +96,7 @@ impl Plan {
     {
         let change = self.change(k);
         [
-            part_slot(change.minus),
+            current_slot(change.gate).or(part_slot(change.minus)),
             part_slot(change.plus),
             current_slot(self.current_before(k)),
             current_slot(change.current),

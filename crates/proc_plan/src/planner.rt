@@ -135,7 +135,7 @@ impl Planner {
             Err(none) => return Err(lacking(&self.table, event, none)),
         }
         let touch = self.table.step(event)?;
-        add_changes(&mut self.changes, &touch);
+        add_changes(&mut self.changes, event.at, &touch, &self.table);
         add_trigger(&mut self.triggers, told.trigger);
         add_side(&mut self.sides, told.first);
         add_side(&mut self.sides, told.second);

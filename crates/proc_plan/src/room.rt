@@ -1,19 +1,21 @@
 //! What an event adds to a planner: room for it first, and then itself.
 
-ghost use Rattle.std.specs.Prelude.{◌≡◌, ◌++◌, ◌+◌, ◌≤◌, ℕ, length, IfSome, IsSome, None, OnOk, vec_capacity, vec_len};
+ghost use Rattle.std.specs.Prelude.{◌≡◌, ◌++◌, ◌+◌, ◌<◌, ◌≤◌, ℕ, [], ◌∷◌, length, IfSome, IsSome, None, OnOk, vec_capacity, vec_len};
+ghost use Rattle.psi_counts.specs.Legal.{with_change};
 ghost use Rattle.psi_spec.specs.Names.{names};
 ghost use Rattle.psi_spec.specs.Refusal.{cause_of};
 ghost use Rattle.psi_spec.specs.Told.{listed};
-ghost use Rattle.psi_counts.specs.Touch.{AllTouched, IsBeside, IsOfOne, told_first, told_of};
+ghost use Rattle.psi_spec.specs.World.{is_pressure, running_on};
+ghost use Rattle.psi_counts.specs.Touch.{AllTouched, IsBeside, IsOfOne, change_told, gate_change, shown, told_first, told_of};
 ghost use Rattle.group_tree.specs.Tree.{IsGroupFault};
 ghost use Rattle.proc_plan.specs.Plans.{AreSmall};
-ghost use Rattle.proc_plan.specs.Room.{AddsTold, HasRoom, HasRoomFor, HasRoomWithin, lists_of};
+ghost use Rattle.proc_plan.specs.Room.{AddsTold, HasRoom, HasRoomFor, HasRoomWithin, changes_in, lists_of};
 ghost use Rattle.proc_plan.specs.Sides.{IsSmall};
 
 use crate::changes::Changes;
 use crate::side::Side;
 use crate::sides::Told;
-use psi_base::{Act, Cause, Cpu, Event, Fault, NoMemory, TriggerSpec};
+use psi_base::{Act, Cause, Cpu, Event, Fault, NoMemory, Ns, Slot, TriggerSpec};
 use psi_counts::{Change, Touch};
 use psi_spec::Task;
 use task_table::Table;
@@ -32,6 +34,17 @@ fn named_cpu(act: &Act) -> Option<u32>
     }
 }
 
+// Makes room for a change of the processor at a place.
+fn reserve_place(changes: &mut [Changes], place: usize) -> Result<(), NoMemory>
+    requires { place < length changes.old }
+    ensures same { lists_of changes.new ≡ lists_of changes.old }
+    ensures each { length changes.new ≡ length changes.old }
+    ensures kept { (cpu : ℕ) → HasRoom changes.old cpu → HasRoom changes.new cpu }
+    ensures room { OnOk result (HasRoom changes.new place) }
+{
+    changes[place].reserve()
+}
+
 // Makes room for a change of the processor with a number, if there are both.
 fn reserve_at(changes: &mut [Changes], cpu: Option<u32>) -> Result<(), NoMemory>
     ensures same { lists_of changes.new ≡ lists_of changes.old }
@@ -46,16 +59,38 @@ fn reserve_at(changes: &mut [Changes], cpu: Option<u32>) -> Result<(), NoMemory>
     if place >= changes.len() {
         return Ok(());
     }
-    changes[place].reserve()
+    reserve_place(changes, place)
+}
+
+// Makes room for a change of every processor.
+fn reserve_all(changes: &mut [Changes]) -> Result<(), NoMemory>
+    ensures same { lists_of changes.new ≡ lists_of changes.old }
+    ensures each { length changes.new ≡ length changes.old }
+    ensures room { OnOk result ((cpu : ℕ) → HasRoomWithin changes.new cpu) }
+{
+    'cpus: for place in 0..changes.len() {
+        reserve_place(changes, place)?;
+    }
+    Ok(())
+}
+
+// The act switches the account of a group.
+fn is_pressure(act: &Act) -> bool
+    ensures { result ≡ is_pressure act.now }
+{
+    matches!(act, Act::Pressure { .. })
 }
 
 // Makes room for what an act changes on each processor that it touches: the one that it names, and the one of the task that
-// it changes.
+// it changes; or all of them, where it switches the account of a group.
 fn reserve_changes(changes: &mut [Changes], act: &Act, task: Option<Task>) -> Result<(), NoMemory>
     ensures same { lists_of changes.new ≡ lists_of changes.old }
     ensures each { length changes.new ≡ length changes.old }
     ensures room { OnOk result (HasRoomFor act.now task changes.new) }
 {
+    if is_pressure(act) {
+        return reserve_all(changes);
+    }
     reserve_at(changes, named_cpu(act))?;
     reserve_at(changes, task.map(|task| task.cpu.0))
 }
@@ -96,6 +131,36 @@ pub(crate) fn lacking(table: &Table, event: &Event, none: NoMemory) -> Fault<Cau
     }
 }
 
+// The change of a processor at a moment (ns) by a gate, where this task runs.
+fn gate_change(at: Ns, current: Option<(Slot, bool)>, gate: (Slot, bool)) -> Change
+    ensures change { result ≡ gate_change at current gate }
+    ensures one { IsOfOne result }
+{
+    Change {
+        at,
+        minus: None,
+        plus: None,
+        current,
+        irq: 0,
+        gate: Some(gate),
+    }
+}
+
+// Adds what a gate at a moment (ns) changes on each processor: the same task runs there as before.
+fn add_gate(changes: &mut [Changes], at: Ns, gate: (Slot, bool), table: &Table)
+    requires each { length changes.old ≡ table.now.limits.cpus }
+    requires room { (cpu : ℕ) → HasRoomWithin changes.old cpu }
+    ensures each { length changes.new ≡ length changes.old }
+    ensures added { (cpu : ℕ) → cpu < length changes.old →
+        changes_in changes.new cpu ≡ changes_in changes.old cpu
+        ++ gate_change at (shown (running_on table.now.world.tasks cpu)) gate ∷ [] }
+{
+    'cpus: for cpu in 0..table.cpus() {
+        let change = gate_change(at, table.current(Cpu(cpu)), gate);
+        changes[cpu as usize].push(change);
+    }
+}
+
 // Adds what an event changes on a processor, if it changes anything.
 fn add_change(changes: &mut [Changes], touched: Option<(Cpu, Change)>)
     requires room { IfSome touched (λ touched. HasRoom changes.old touched.0.0) }
@@ -112,9 +177,8 @@ fn add_change(changes: &mut [Changes], touched: Option<(Cpu, Change)>)
     changes[cpu.0 as usize].push(change);
 }
 
-/// Adds what an event changes on the processors that it touches. There must be room for it, and each change must be of one
-/// task.
-pub(crate) fn add_changes(changes: &mut [Changes], touch: &Touch)
+// Adds what an event changes on the processors that it names. There must be room for it, and each change must be of one task.
+fn add_touched(changes: &mut [Changes], touch: &Touch)
     requires room { (cpu : ℕ) → IsSome (told_of touch.now cpu) → HasRoom changes.old cpu }
     requires beside { IsBeside touch.now.first touch.now.second }
     requires ones { AllTouched (λ cpu change. IsOfOne change) touch.now }
@@ -123,6 +187,25 @@ pub(crate) fn add_changes(changes: &mut [Changes], touch: &Touch)
 {
     add_change(changes, touch.first);
     add_change(changes, touch.second);
+}
+
+/// Adds what an event at a moment (ns) changes on the processors that it touches. There must be room for it, and each change must
+/// be of one task. The table is as it is after the event.
+pub(crate) fn add_changes(changes: &mut [Changes], at: Ns, touch: &Touch, table: &Table)
+    requires each { length changes.old ≡ table.now.limits.cpus }
+    requires room { (cpu : ℕ) → IsSome (told_of touch.now cpu) → HasRoom changes.old cpu }
+    requires all { IsSome touch.now.gate → (cpu : ℕ) → HasRoomWithin changes.old cpu }
+    requires beside { IsBeside touch.now.first touch.now.second }
+    requires ones { AllTouched (λ cpu change. IsOfOne change) touch.now }
+    ensures each { length changes.new ≡ length changes.old }
+    ensures added { (cpu : ℕ) → cpu < length changes.old →
+        changes_in changes.new cpu ≡ changes_in changes.old cpu ++ with_change
+        (change_told at (shown (running_on table.now.world.tasks cpu)) touch.now cpu) [] }
+{
+    match touch.gate {
+        Some(gate) => add_gate(changes, at, gate, table),
+        None => add_touched(changes, touch),
+    }
 }
 
 /// Adds a trigger, if there is one. There must be room for it.

@@ -137,6 +137,19 @@ fn level_in(word: &[u8]) -> Option<Level>
     }
 }
 
+#[tactic(auto, unfolding(psi_spec::specs::Fields::value_of))]
+fn account_in(word: &[u8]) -> Option<bool>
+    ensures { result ≡ value_of kind.account word.now }
+{
+    if word == b"on".as_slice() {
+        Some(true)
+    } else if word == b"off".as_slice() {
+        Some(false)
+    } else {
+        None
+    }
+}
+
 /// The field with this number, read as a task.
 pub fn pid_field(words: &mut Words, index: u8) -> Result<Pid, Cause>
     ensures { TakesWords result words.new (field index kind.pid words.old) }
@@ -199,6 +212,13 @@ pub fn level_field(words: &mut Words, index: u8) -> Result<Level, Cause>
     ensures { TakesWords result words.new (field index kind.level words.old) }
 {
     level_in(next_word(words, index)?).ok_or(Cause::BadField(index))
+}
+
+/// The field with this number, read as `on` or `off`.
+pub fn account_field(words: &mut Words, index: u8) -> Result<bool, Cause>
+    ensures { TakesWords result words.new (field index kind.account words.old) }
+{
+    account_in(next_word(words, index)?).ok_or(Cause::BadField(index))
 }
 
 /// The field with this number, read as a path of a group. Allocates the path's bytes.

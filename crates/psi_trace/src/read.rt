@@ -10,8 +10,8 @@ ghost use Rattle.psi_base.specs.Gives.{Gives, lacks_memory};
 ghost use Rattle.psi_trace.specs.Taking.{dated, names_path};
 
 use crate::field::{
-    Words, amount_field, cpu_field, end_of, how_field, level_field, next_field, number_field,
-    path_field, pid_field, preference_field, resource_field,
+    Words, account_field, amount_field, cpu_field, end_of, how_field, level_field, next_field,
+    number_field, path_field, pid_field, preference_field, resource_field,
 };
 use psi_base::{Act, Cause, Event, Fault, Ns, Parts, read_number};
 use std::alloc::Global;
@@ -216,6 +216,18 @@ fn irq_of(at: Ns, mut words: Words) -> Result<Event, Fault<Cause>>
 
 #[tactic(auto, unfolding(psi_spec::specs::Grammar::act_from))]
 #[inline(always)]
+fn pressure_of(alloc: Global, at: Ns, mut words: Words) -> Result<Event, Fault<Cause>>
+    ensures { Gives result (dated at (act_from verb.Pressure words.entry)) }
+{
+    let path = path_field(alloc, &mut words, 1)?;
+    let on = account_field(&mut words, 2)?;
+    end_of(&mut words, 3)?;
+    let act = Act::Pressure { path, on };
+    Ok(Event { at, act })
+}
+
+#[tactic(auto, unfolding(psi_spec::specs::Grammar::act_from))]
+#[inline(always)]
 fn end_of_trace(at: Ns, mut words: Words) -> Result<Event, Fault<Cause>>
     ensures exact { Gives result (dated at (act_from verb.End words.entry)) }
     ensures memory { result ≢ Err lacks_memory }
@@ -266,6 +278,8 @@ fn event_at(alloc: Global, version: u32, at: Ns, mut words: Words) -> Result<Eve
         end_of_trace(at, words)
     } else if version == 2 && verb == b"irq".as_slice() {
         irq_of(at, words)
+    } else if version == 2 && verb == b"pressure".as_slice() {
+        pressure_of(alloc, at, words)
     } else {
         Err(Fault::Refused(Cause::BadVerb))
     }

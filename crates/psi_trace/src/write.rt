@@ -83,6 +83,7 @@ fn put_long_act(line: &mut LongLine, act: &Act)
             threshold_us,
             window_us,
         } => put_trigger(line, path, *res, *level, *threshold_us, *window_us),
+        Act::Pressure { path, on } => put_pressure(line, path, *on),
         _ => unreachable!(),
     }
 }
@@ -189,6 +190,18 @@ fn put_trigger(
     put_level(line, level);
     put_resource(line, res);
     put_group(line, b" trigger ", path);
+}
+
+/// Puts the words of a group's account that is switched in front.
+#[tactic(auto, using(crate::proofs::InPieces::lines))]
+fn put_pressure(line: &mut LongLine, path: &Path, on: bool)
+    requires { length line.old ≡ 0 }
+    ensures bytes { line.new
+        ≡ spaced (codes "pressure" ∷ path.now ∷ fields.account_word on ∷ []) ++ line.old }
+    ensures room { length line.new ≤ 330 }
+{
+    put_account(line, on);
+    put_group(line, b" pressure ", path);
 }
 
 /// Puts the words of a switch in front.
@@ -326,6 +339,19 @@ fn put_level(line: &mut LongLine, level: Level)
     match level {
         Level::SomeStalled => line.text(b" some"),
         Level::FullStalled => line.text(b" full"),
+    }
+}
+
+/// Puts the word for whether an account is on in front, behind a space.
+fn put_account(line: &mut LongLine, on: bool)
+    requires { length line.old ≤ 63 }
+    ensures bytes { line.new ≡ 32 ∷ fields.account_word on ++ line.old }
+    ensures room { length line.new ≤ 4 + length line.old }
+{
+    if on {
+        line.text(b" on")
+    } else {
+        line.text(b" off")
     }
 }
 

@@ -46,6 +46,8 @@ fn name_of(cause: Cause) -> &'static [u8]
         Cause::AfterEnd => b"AfterEnd",
         Cause::NoEnd => b"NoEnd",
         Cause::IrqTooLong => b"IrqTooLong",
+        Cause::RootPressure => b"RootPressure",
+        Cause::TooManyPressures => b"TooManyPressures",
     }
 }
 

@@ -74,6 +74,8 @@ cause_name cause.BadWindow = codes "BadWindow"
 cause_name cause.AfterEnd = codes "AfterEnd"
 cause_name cause.NoEnd = codes "NoEnd"
 cause_name cause.IrqTooLong = codes "IrqTooLong"
+cause_name cause.RootPressure = codes "RootPressure"
+cause_name cause.TooManyPressures = codes "TooManyPressures"
 
 -- the number, from 1, of the field that a cause speaks of, if it speaks of one
 abbrev pub field_number : Cause → Option ℕ

@@ -129,6 +129,7 @@ impl Machine {
             plus: now,
             current,
             irq: 0,
+            gate: None,
         };
         self.clocks.apply(&self.parents, &change);
         self.tasks[task] = now;

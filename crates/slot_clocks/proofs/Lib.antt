@@ -1,3 +1,5 @@
 mod ChainLaws
+mod GateLaws
+mod StartLaws
 mod TurnLaws
 mod WalkLaws

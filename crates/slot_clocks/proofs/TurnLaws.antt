@@ -1,6 +1,6 @@
 -- A group that a change doesn't reach, and one to which it comes.
-use Rattle.std.proofs.Common.{◌≡◌, ℕ, List, refl, sym, ap, ◌∙◌, subst, Bool, true, false, ◌⊎◌, ⊎_elim, Option, None, Some}
-use Rattle.std.specs.Prelude.{if◌then◌else◌}
+use Rattle.std.proofs.Common.{◌≡◌, ℕ, suc, ◌+◌, arith, List, refl, sym, ap, ◌∙◌, subst, Bool, true, false, ◌⊎◌, ⊎_elim, Option, None, Some}
+use Rattle.std.specs.Prelude.{◌&&◌, if◌then◌else◌}
 use Rattle.psi_base.specs.declared.event.Slot.{Slot}
 use Rattle.psi_base.specs.declared.event.State.{State}
 use Rattle.psi_base.specs.declared.event.State.TheVariants.{IoSome, IoFull, MemSome, MemFull, CpuSome, CpuFull, Nonidle}
@@ -9,10 +9,12 @@ use Rattle.psi_counts.specs.declared.changes.Change.{Change}
 use Rattle.psi_counts.specs.Counts.{tells}
 use Rattle.psi_counts.specs.Touch.{Follows, is_current_in, is_current_stalled, no_counts, on_chain}
 use Rattle.psi_counts.proofs.ClockLaws.{clock_stays}
+use Rattle.psi_spec.specs.Groups.{AreOlder}
 use Rattle.slot_clocks.specs.declared.cell.Cell.{Cell}
 use Rattle.slot_clocks.specs.Clocks.{IsUpTo, MaskTells}
 use Rattle.slot_clocks.specs.declared.chains.Chains.{Chains}
-use Rattle.slot_clocks.specs.Walk.{IsTurned, MayStart, MayStartAt, counts_in, height, reaches, slot_in}
+use Rattle.slot_clocks.specs.Walk.{IsApart, IsTurned, MayStart, MayStartAt, counts_in, height, reaches, slot_in}
+use Rattle.slot_clocks.proofs.ChainLaws.{stands}
 
 -- ---- sides of a change, by what is reached
 
@@ -47,22 +49,32 @@ not_in : (parents : List (Option ℕ)) (slot : ℕ) (current : Option (Slot × B
 not_in parents slot None place start reached = refl
 not_in parents slot (Some running) place start reached = ap (λ (h : ℕ). reaches parents h slot) (sym start) ∙ reached
 
+-- no gate is for a group that isn't reached from where the walk to it may start
+pub is_apart : (parents : List (Option ℕ)) (slot : ℕ) (gate : Option (Slot × Bool)) (place : ℕ) → AreOlder parents → MayStartAt gate place → reaches parents place slot ≡ false → IsApart gate slot
+is_apart parents slot None place older start reached = tt
+is_apart parents slot (Some gate) place older start reached = λ same. cc (reached, stands parents place slot older (place_is place gate.0.0 slot start same))
+  where
+    place_is : (place number slot : ℕ) → place ≡ suc number → slot ≡ number → place ≡ slot + 1
+    place_is place number slot is same = omega (arith, is, same)
+
 -- a group that no chain of a change reaches stays as it is
 pub stays_turned : (parents : List (Option ℕ)) (current : Option (Slot × Bool)) (change : Change) (starts : Chains) (slot : ℕ) (cell : Cell) → MayStart current change starts → reaches parents starts.minus slot ≡ false → reaches parents starts.plus slot ≡ false
-    → reaches parents starts.before slot ≡ false → reaches parents starts.after slot ≡ false → MaskTells parents current slot cell → IsUpTo change.at cell.clock → IsTurned parents change slot cell cell
-stays_turned parents current change starts slot cell start minus plus before after told up_to =
+    → reaches parents starts.before slot ≡ false → reaches parents starts.after slot ≡ false → AreOlder parents → (IsApart change.gate slot → MaskTells parents current slot cell) → IsUpTo change.at cell.clock → IsTurned parents change slot cell cell
+stays_turned parents current change starts slot cell start minus plus before after older told_apart up_to =
+    let told = told_apart (is_apart parents slot change.gate starts.minus older start.gate minus) in
     let taken : on_chain parents slot change.minus ≡ no_counts = chain_is parents slot change.minus starts.minus false start.minus minus in
     let added : on_chain parents slot change.plus ≡ no_counts = chain_is parents slot change.plus starts.plus false start.plus plus in
     let runs : is_current_in parents slot change.current ≡ false = current_is parents slot change.current false (ap (λ (h : ℕ). reaches parents h slot) (sym start.after) ∙ after) in
     let ran : is_current_in parents slot current ≡ false = ⊎_elim (λ at. not_in parents slot current starts.before at before) (λ same. ap (is_current_in parents slot) same ∙ runs) start.before in
     record {
       counts = subst (λ m. Follows cell.counts m (on_chain parents slot change.plus) cell.counts) (sym taken) (subst (λ p. Follows cell.counts no_counts p cell.counts) (sym added) (follows_none cell.counts));
+      on = refl;
       clock = clock_stays cell.clock change.at up_to.start;
       kept = λ _. refl;
       up_to = up_to;
       told = λ state.
           told state
-          ∙ ap (λ on. tells state cell.counts on (is_current_stalled current)) ran
+          ∙ ap (λ b. cell.on && b) (ap (λ on. tells state cell.counts on (is_current_stalled current)) ran
           ∙ told_off state cell.counts (is_current_stalled current) (is_current_stalled change.current)
-          ∙ ap (λ on. tells state cell.counts on (is_current_stalled change.current)) (sym runs);
+          ∙ ap (λ on. tells state cell.counts on (is_current_stalled change.current)) (sym runs));
     }

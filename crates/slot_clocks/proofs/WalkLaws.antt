@@ -1,6 +1,6 @@
 -- The walk up the chains of a change, slot by slot.
 use Rattle.std.proofs.Common.{◌≡◌, ◌≢◌, ℕ, ◌+◌, ◌≤◌, ◌<◌, List, length, refl, sym, ap, ◌∙◌, subst, arith, Bool, false, max, ◌⊎◌, inl, inr, ⊎_elim, Option, None}
-use Rattle.std.specs.Prelude.{slice_index_or, slice_set, ◌==◌, if◌then◌else◌}
+use Rattle.std.specs.Prelude.{slice_index_or, slice_set, ◌==◌, ◌&&◌, if◌then◌else◌}
 use Rattle.std.proofs.lemmas.List.{get_or-set_same, get_or-set_other, get_or_default}
 use Rattle.std.proofs.Math.ListN.{get_or-map}
 use Rattle.psi_base.specs.declared.event.Slot.{Slot}
@@ -14,9 +14,9 @@ use Rattle.psi_counts.specs.Touch.{Follows, is_current_in, is_current_stalled, n
 use Rattle.slot_clocks.specs.declared.cell.Cell.{Cell}
 use Rattle.slot_clocks.specs.declared.chains.Chains.{Chains}
 use Rattle.slot_clocks.specs.Clocks.{CanFollow, IsUpTo, MaskTells, StaysByMask, cell_in, parent_numbers, zero_cell}
-use Rattle.slot_clocks.specs.Walk.{AreTogether, IsTurned, MayStart, all_passed, counts_in, height, passed, reaches, top}
+use Rattle.slot_clocks.specs.Walk.{AreTogether, IsApart, IsTurned, MayStart, all_passed, counts_in, height, passed, reaches, top}
 use Rattle.slot_clocks.proofs.ChainLaws.{ended, not_at, passed_height, reaches_at, reaches_passed, stands}
-use Rattle.slot_clocks.proofs.TurnLaws.{chain_is, current_is, stays_turned}
+use Rattle.slot_clocks.proofs.TurnLaws.{chain_is, current_is, is_apart, stays_turned}
 
 -- ---- how far a walk is
 
@@ -80,6 +80,7 @@ pub record IsShare (parents : List (Option ℕ)) (change : Change) (chains : Cha
   pub minus : on_chain parents slot change.minus ≡ (if chains.minus == here then counts_in change.minus else no_counts)
   pub plus : on_chain parents slot change.plus ≡ (if chains.plus == here then counts_in change.plus else no_counts)
   pub after : is_current_in parents slot change.current ≡ (chains.after == here)
+  pub gate : (chains.minus == here) ≡ false → IsApart change.gate slot
 
 pub share_at_top : (parents : List (Option ℕ)) (current : Option (Slot × Bool)) (change : Change) (starts chains : Chains) (here slot : ℕ) → AreOlder parents → MayStart current change starts → here ≡ slot + 1 → top chains ≡ here → IsAhead parents starts chains slot → IsShare parents change chains here slot
 share_at_top parents current change starts chains here slot older start at is ahead =
@@ -89,6 +90,7 @@ share_at_top parents current change starts chains here slot older start at is ah
       minus = chain_is parents slot change.minus starts.minus (chains.minus == here) start.minus (sym ahead.minus ∙ stands_here chains.minus within.minus);
       plus = chain_is parents slot change.plus starts.plus (chains.plus == here) start.plus (sym ahead.plus ∙ stands_here chains.plus within.plus);
       after = current_is parents slot change.current (chains.after == here) (ap (λ (h : ℕ). reaches parents h slot) (sym start.after) ∙ sym ahead.after ∙ stands_here chains.after within.after);
+      gate = λ off. is_apart parents slot change.gate starts.minus older start.gate (sym ahead.minus ∙ stands_here chains.minus within.minus ∙ off);
     }
 
 -- ---- one step
@@ -165,10 +167,10 @@ top_passed parents chains parent here slot older up at is =
 -- ---- the end
 
 -- behind the roots each group went through the change
-pub all_walked : (parents : List (Option ℕ)) (current : Option (Slot × Bool)) (change : Change) (starts chains : Chains) (slot : ℕ) (old now : Cell) → MayStart current change starts → top chains ≡ 0 → MaskTells parents current slot old → IsUpTo change.at old.clock
+pub all_walked : (parents : List (Option ℕ)) (current : Option (Slot × Bool)) (change : Change) (starts chains : Chains) (slot : ℕ) (old now : Cell) → AreOlder parents → MayStart current change starts → top chains ≡ 0 → (IsApart change.gate slot → MaskTells parents current slot old) → IsUpTo change.at old.clock
     → IsWalked parents change starts chains slot old now → IsTurned parents change slot old now
-all_walked parents current change starts chains slot old now start is told up_to (inl done) = done.0
-all_walked parents current change starts chains slot old now start is told up_to (inr ahead) =
+all_walked parents current change starts chains slot old now older start is told up_to (inl done) = done.0
+all_walked parents current change starts chains slot old now older start is told up_to (inr ahead) =
     let within = within_top chains 0 is in
     subst (IsTurned parents change slot old) (sym ahead.0)
     (stays_turned parents current change starts slot old start
@@ -176,7 +178,7 @@ all_walked parents current change starts chains slot old now start is told up_to
     (sym ahead.1.plus ∙ ended parents chains.plus slot (omega (arith, within.plus)))
     (sym ahead.1.before ∙ ended parents chains.before slot (omega (arith, within.before)))
     (sym ahead.1.after ∙ ended parents chains.after slot (omega (arith, within.after)))
-    told up_to)
+    older told up_to)
 
 -- chains that go together still do once they were passed
 pub together_passed : (here parent : ℕ) (chains : Chains) → AreTogether chains → AreTogether (all_passed here parent chains)
@@ -196,15 +198,16 @@ cell_here cells slot other room = get_or_default cells slot other zero_cell room
 -- what a turn tells, by what the change takes, adds and runs there
 pub turned_here : (parents : List (Option ℕ)) (change : Change) (chains : Chains) (here slot : ℕ) (old now new : Cell) → IsShare parents change chains here slot → now ≡ old
     → Follows now.counts (if chains.minus == here then counts_in change.minus else no_counts) (if chains.plus == here then counts_in change.plus else no_counts) new.counts
-    → ClockFollows now.clock change.at new.clock → StaysByMask now.clock new.clock → IsUpTo change.at new.clock → ((state : State) → mask_holds new.clock.mask state ≡ tells state new.counts (chains.after == here) (is_current_stalled change.current)) → IsTurned parents change slot old new
-turned_here parents change chains here slot old now new share same counts clock kept up_to told = record {
+    → new.on ≡ now.on → ClockFollows now.clock change.at new.clock → StaysByMask now.clock new.clock → IsUpTo change.at new.clock → ((state : State) → mask_holds new.clock.mask state ≡ (new.on && tells state new.counts (chains.after == here) (is_current_stalled change.current))) → IsTurned parents change slot old new
+turned_here parents change chains here slot old now new share same counts on clock kept up_to told = record {
   counts = subst (λ m. Follows old.counts m (on_chain parents slot change.plus) new.counts) (sym share.minus)
       (subst (λ p. Follows old.counts (if chains.minus == here then counts_in change.minus else no_counts) p new.counts) (sym share.plus)
       (subst (λ (n : Cell). Follows n.counts (if chains.minus == here then counts_in change.minus else no_counts) (if chains.plus == here then counts_in change.plus else no_counts) new.counts) same counts));
+  on = on ∙ ap (λ (n : Cell). n.on) same;
   clock = subst (λ (n : Cell). ClockFollows n.clock change.at new.clock) same clock;
   kept = subst (λ (n : Cell). StaysByMask n.clock new.clock) same kept;
   up_to = up_to;
-  told = λ state. told state ∙ ap (λ on. tells state new.counts on (is_current_stalled change.current)) (sym share.after);
+  told = λ state. told state ∙ ap (λ runs. new.on && tells state new.counts runs (is_current_stalled change.current)) (sym share.after);
 }
 
 -- its counts can follow
@@ -216,9 +219,9 @@ can_turn parents change chains here slot old now share same fits =
     (subst (λ m. CanFollow old.counts m (on_chain parents slot change.plus)) share.minus fits))
 
 -- its mask tells what its counts do once the change was made, where the running task stays
-pub told_here : (parents : List (Option ℕ)) (current : Option (Slot × Bool)) (change : Change) (chains : Chains) (here slot : ℕ) (old now : Cell) → IsShare parents change chains here slot → now ≡ old → MaskTells parents current slot old → current ≡ change.current
-    → (state : State) → mask_holds now.clock.mask state ≡ tells state now.counts (chains.after == here) (is_current_stalled change.current)
-told_here parents current change chains here slot old now share same told stays =
-    let told_then : MaskTells parents change.current slot old = subst (λ c. MaskTells parents c slot old) stays told in
-    subst (λ (n : Cell). (state : State) → mask_holds n.clock.mask state ≡ tells state n.counts (chains.after == here) (is_current_stalled change.current)) (sym same)
-    (λ state. told_then state ∙ ap (λ on. tells state old.counts on (is_current_stalled change.current)) share.after)
+pub told_here : (parents : List (Option ℕ)) (current : Option (Slot × Bool)) (change : Change) (chains : Chains) (here slot : ℕ) (old now : Cell) → IsShare parents change chains here slot → now ≡ old → (IsApart change.gate slot → MaskTells parents current slot old) → current ≡ change.current → (chains.minus == here) ≡ false
+    → (state : State) → mask_holds now.clock.mask state ≡ (now.on && tells state now.counts (chains.after == here) (is_current_stalled change.current))
+told_here parents current change chains here slot old now share same told stays off =
+    let told_then : MaskTells parents change.current slot old = subst (λ c. MaskTells parents c slot old) stays (told (share.gate off)) in
+    subst (λ (n : Cell). (state : State) → mask_holds n.clock.mask state ≡ (n.on && tells state n.counts (chains.after == here) (is_current_stalled change.current))) (sym same)
+    (λ state. told_then state ∙ ap (λ runs. old.on && tells state old.counts runs (is_current_stalled change.current)) share.after)

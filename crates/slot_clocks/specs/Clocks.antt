@@ -1,5 +1,5 @@
 -- The clocks of all groups on one processor, and how they follow its changes.
-use Rattle.std.specs.Prelude.{◌≡◌, ℕ, ◌+◌, ◌≤◌, ◌<◌, ◌^◌, List, map, replicate, slice_index_or, Bool, Option, None}
+use Rattle.std.specs.Prelude.{◌≡◌, ℕ, ◌+◌, ◌≤◌, ◌<◌, ◌^◌, List, map, replicate, slice_index_or, ◌&&◌, Bool, true, Option, None}
 use Rattle.psi_base.specs.declared.event.Slot.{Slot}
 use Rattle.psi_base.specs.declared.event.State.{State}
 use Rattle.psi_counts.specs.declared.changes.Counts.{Counts}
@@ -8,7 +8,7 @@ use Rattle.psi_counts.specs.Counts.{mask_holds, tells}
 use Rattle.psi_counts.specs.Clock.{ClockFollows, ClockView, IsWholeClock, opened_time, zero_clock}
 use Rattle.psi_spec.specs.Trace.{last_moment}
 use Rattle.psi_spec.specs.Stall.{number_of_slot}
-use Rattle.psi_counts.specs.Touch.{Follows, is_current_in, is_current_stalled, no_counts, on_chain}
+use Rattle.psi_counts.specs.Touch.{Follows, gated, is_current_in, is_current_stalled, no_counts, on_chain}
 use Rattle.slot_clocks.specs.declared.cell.Cell.{Cell}
 
 -- ---- parents
@@ -19,12 +19,13 @@ parent_numbers parents = map number_of_slot parents
 
 -- ---- clocks
 
--- a group that no change has reached: no task is counted, and no state held for any time
+-- a group that no change has reached: no task is counted, its account is on, and no state held for any time
 abbrev pub zero_cell : Cell
-zero_cell = record { counts = no_counts; clock = zero_clock }
+zero_cell = record { counts = no_counts; on = true; clock = zero_clock }
 
--- The clocks of a processor: the counts and the clock of each group, by its slot; the slot of the task that runs there and
--- whether it is in a memory stall; and the moment (ns) of the last change. No change has reached a group beyond the list.
+-- The clocks of a processor: the counts and the clock of each group and whether its account is on, by its slot; the slot of the
+-- task that runs there and whether it is in a memory stall; and the moment (ns) of the last change. No change has reached a group
+-- beyond the list.
 pub record ClocksView : Type 0 where
   pub cells : List Cell
   pub current : Option (Slot × Bool)
@@ -42,11 +43,11 @@ cell_in cells slot = slice_index_or cells slot zero_cell
 abbrev pub cell_at : ClocksView → ℕ → Cell
 cell_at clocks slot = cell_in clocks.cells slot
 
--- a cell's mask has the states that its counts tell, with the task that runs
+-- a cell's mask has the states that its counts tell, with the task that runs, and none where its account is off
 abbrev pub MaskTells : List (Option ℕ) → Option (Slot × Bool) → ℕ → Cell → Type 0
-MaskTells parents current slot cell = (state : State) → mask_holds cell.clock.mask state ≡ tells state cell.counts (is_current_in parents slot current) (is_current_stalled current)
+MaskTells parents current slot cell = (state : State) → mask_holds cell.clock.mask state ≡ (cell.on && tells state cell.counts (is_current_in parents slot current) (is_current_stalled current))
 
--- each group's mask has the states that its counts tell, with the task that runs
+-- so it is of each group
 abbrev pub AreTold : List (Option ℕ) → ClocksView → Type 0
 AreTold parents clocks = (slot : ℕ) → MaskTells parents clocks.current slot (cell_at clocks slot)
 
@@ -66,6 +67,10 @@ AllCanFollow parents change clocks = (slot : ℕ) → CanFollow (cell_at clocks 
 -- the counts of each group followed what a change takes and adds on its chains
 abbrev pub AllFollow : List (Option ℕ) → Change → ClocksView → ClocksView → Type 0
 AllFollow parents change old new = (slot : ℕ) → Follows (cell_at old slot).counts (on_chain parents slot change.minus) (on_chain parents slot change.plus) (cell_at new slot).counts
+
+-- which accounts are on follows the gate of a change
+abbrev pub AllGated : Change → ClocksView → ClocksView → Type 0
+AllGated change old new = (slot : ℕ) → (cell_at new slot).on ≡ gated slot (cell_at old slot).on change.gate
 
 -- the clock of each group followed over a change at a moment
 abbrev pub AllClocksFollow : ℕ → ClocksView → ClocksView → Type 0

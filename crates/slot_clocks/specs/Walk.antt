@@ -1,5 +1,6 @@
 -- The walk up the chains of slots that a change concerns.
-use Rattle.std.specs.Prelude.{◌≡◌, ◌⊎◌, ◌≤◌, ℕ, zero, suc, List, length, max, Bool, true, false, ◌==◌, if◌then◌else◌, Option, None, Some}
+use Rattle.std.specs.Prelude.{◌≡◌, ◌≢◌, ◌⊎◌, ◌≤◌, ℕ, zero, suc, List, length, max, Bool, true, false, ◌==◌, if◌then◌else◌, Option, None, Some}
+use Rattle.std.specs.Option.{option_or}
 use Rattle.psi_base.specs.declared.event.Slot.{Slot}
 use Rattle.psi_counts.specs.declared.changes.Counts.{Counts}
 use Rattle.psi_counts.specs.declared.changes.Change.{Change}
@@ -7,7 +8,7 @@ use Rattle.psi_counts.specs.Clock.{ClockFollows}
 use Rattle.psi_spec.specs.Groups.{AreOlder}
 use Rattle.psi_spec.specs.Stall.{is_under}
 use Rattle.psi_spec.specs.Trace.{last_moment}
-use Rattle.psi_counts.specs.Touch.{Follows, is_current_stalled, no_counts, on_chain}
+use Rattle.psi_counts.specs.Touch.{Follows, gated, is_current_stalled, no_counts, on_chain}
 use Rattle.slot_clocks.specs.declared.cell.Cell.{Cell}
 use Rattle.slot_clocks.specs.declared.chains.Chains.{Chains}
 use Rattle.slot_clocks.specs.declared.chains.Sides.{Sides}
@@ -35,9 +36,9 @@ reaches parents zero slot = false
 reaches parents (suc place) slot = is_under parents place slot
 
 -- how high the walks up the chains of a change stand at first: the chains of the counts that it takes and adds, and of the
--- task that ran before and of the one that runs after
+-- task that ran before and of the one that runs after. A change with a gate takes none, and the first walk begins there.
 abbrev pub chains_of : Option (Slot × Bool) → Change → Chains
-chains_of current change = record { minus = height (slot_in change.minus); plus = height (slot_in change.plus); before = height (slot_in current); after = height (slot_in change.current) }
+chains_of current change = record { minus = height (option_or (slot_in change.gate) (slot_in change.minus)); plus = height (slot_in change.plus); before = height (slot_in current); after = height (slot_in change.current) }
 
 -- a chain may start at a height for what a change tells of a slot: at the slot's, or anywhere where nothing is told
 abbrev pub MayStartAt : {A : Type 0} → Option (Slot × A) → ℕ → Type 0
@@ -45,8 +46,9 @@ MayStartAt None place = Unit {0}
 MayStartAt (Some pair) place = place ≡ suc pair.0.0
 
 -- Chains may start so for a change, each of them. That of the task that ran may start anywhere where what is told of the running
--- task stays.
+-- task stays. The walk comes to the slot of a gate, as to one whose counts are taken.
 pub record MayStart (current : Option (Slot × Bool)) (change : Change) (starts : Chains) : Type 0 where
+  pub gate : MayStartAt change.gate starts.minus
   pub minus : MayStartAt change.minus starts.minus
   pub plus : MayStartAt change.plus starts.plus
   pub before : MayStartAt current starts.before ⊎ (current ≡ change.current)
@@ -77,9 +79,10 @@ all_passed here parent chains = record { minus = passed here parent chains.minus
 abbrev pub top : Chains → ℕ
 top chains = max (max chains.minus chains.plus) (max chains.before chains.after)
 
--- a group after a change: its counts, its clock and its states
+-- a group after a change whose gate, if it has one, was taken already: its counts, its clock and its states
 pub record IsTurned (parents : List (Option ℕ)) (change : Change) (slot : ℕ) (old new : Cell) : Type 0 where
   pub counts : Follows old.counts (on_chain parents slot change.minus) (on_chain parents slot change.plus) new.counts
+  pub on : new.on ≡ old.on
   pub clock : ClockFollows old.clock change.at new.clock
   pub kept : StaysByMask old.clock new.clock
   pub up_to : IsUpTo change.at new.clock
@@ -89,13 +92,29 @@ pub record IsTurned (parents : List (Option ℕ)) (change : Change) (slot : ℕ)
 abbrev pub AreTurned : List (Option ℕ) → Change → List Cell → List Cell → Type 0
 AreTurned parents change olds news = (slot : ℕ) → IsTurned parents change slot (cell_in olds slot) (cell_in news slot)
 
--- groups can go through a change, where this task ran up to it and chains start so
+-- a gate, if there is one, is for another slot
+abbrev pub IsApart : Option (Slot × Bool) → ℕ → Type 0
+IsApart None slot = Unit {0}
+IsApart (Some gate) slot = slot ≢ gate.0.0
+
+-- a group after a gate, if there is one, was taken: whether its account is on follows that, and its counts and its clock are as
+-- before
+pub record IsGated (gate : Option (Slot × Bool)) (slot : ℕ) (old new : Cell) : Type 0 where
+  pub counts : new.counts ≡ old.counts
+  pub on : new.on ≡ gated slot old.on gate
+  pub clock : new.clock ≡ old.clock
+
+-- all groups after it
+abbrev pub AreGated : Option (Slot × Bool) → List Cell → List Cell → Type 0
+AreGated gate olds news = (slot : ℕ) → IsGated gate slot (cell_in olds slot) (cell_in news slot)
+
+-- groups can go through a change whose gate was taken, where this task ran up to it and chains start so
 pub record CanClimb (parents : List (Option Slot)) (current : Option (Slot × Bool)) (change : Change) (starts : Chains) (cells : List Cell) : Type 0 where
   pub older : AreOlder (parent_numbers parents)
   pub start : MayStart current change starts
   pub slots : top starts ≤ length parents
   pub room : length parents ≤ length cells
-  pub told : (slot : ℕ) → MaskTells (parent_numbers parents) current slot (cell_in cells slot)
+  pub told : (slot : ℕ) → IsApart change.gate slot → MaskTells (parent_numbers parents) current slot (cell_in cells slot)
   pub fits : (slot : ℕ) → CanFollow (cell_in cells slot).counts (on_chain (parent_numbers parents) slot change.minus) (on_chain (parent_numbers parents) slot change.plus)
   pub up_to : (slot : ℕ) → IsUpTo change.at (cell_in cells slot).clock
   pub early : change.at ≤ last_moment

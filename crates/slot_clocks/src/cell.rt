@@ -1,16 +1,16 @@
 //! What is kept of one group.
 
-ghost use Rattle.std.specs.Prelude.{◌≡◌, ◌+◌, ◌<◌, ◌≤◌, ◌^◌};
+ghost use Rattle.std.specs.Prelude.{◌≡◌, ◌&&◌, ◌+◌, ◌<◌, ◌≤◌, ◌^◌};
 ghost use Rattle.psi_base.specs.declared.event.State.{State};
 ghost use Rattle.psi_counts.specs.Clock.{ClockFollows};
-ghost use Rattle.psi_counts.specs.Counts.{mask_holds, tells};
+ghost use Rattle.psi_counts.specs.Counts.{IsMask, mask_holds, tells};
 ghost use Rattle.psi_spec.specs.Trace.{last_moment};
 ghost use Rattle.psi_counts.specs.Touch.{Follows, no_counts};
 ghost use Rattle.slot_clocks.specs.Clocks.{CanFollow, IsUpTo, StaysByMask, zero_cell};
 
 use cpu_clock::Clock;
 use psi_base::Ns;
-use state_mask::{Counts, mask_of};
+use state_mask::{Counts, Mask, mask_of};
 
 /// No task is counted.
 pub(crate) const NO_COUNTS: Counts = Counts {
@@ -20,10 +20,12 @@ pub(crate) const NO_COUNTS: Counts = Counts {
     stalled_running: 0,
 };
 
-/// The counts and the clock of a group on a processor.
+/// The counts and the clock of a group on a processor. They go on while its account is off, but then no state holds.
 #[derive(Clone, Copy, Debug)]
 pub(crate) struct Cell {
     pub(crate) counts: Counts,
+    /// Its account is on.
+    pub(crate) on: bool,
     pub(crate) clock: Clock,
 }
 
@@ -60,7 +62,23 @@ impl Cell {
     {
         Cell {
             counts: NO_COUNTS,
+            on: true,
             clock: Clock::zero(),
+        }
+    }
+
+    // The states that hold: none where the account is off.
+    #[inline(always)]
+    fn mask(&self, on_cpu: bool, current_stalled: bool) -> Mask
+        ensures few { IsMask result }
+        ensures states { (state : State) →
+            mask_holds result state
+            ≡ (self.now.on && tells state self.now.counts on_cpu current_stalled) }
+    {
+        if self.on {
+            mask_of(&self.counts, on_cpu, current_stalled)
+        } else {
+            Mask::empty()
         }
     }
 
@@ -79,15 +97,16 @@ impl Cell {
         requires up_to { IsUpTo at self.old.clock }
         requires early { at ≤ last_moment }
         ensures counts { Follows self.old.counts minus.now plus.now self.new.counts }
+        ensures on { self.new.on ≡ self.old.on }
         ensures clock { ClockFollows self.old.clock at self.new.clock }
         ensures kept { StaysByMask self.old.clock self.new.clock }
         ensures up_to { IsUpTo at self.new.clock }
         ensures told { (state : State) →
             mask_holds self.new.clock.mask state
-            ≡ tells state self.new.counts on_cpu current_stalled }
+            ≡ (self.new.on && tells state self.new.counts on_cpu current_stalled) }
     {
         self.counts = follow(&self.counts, minus, plus);
-        let mask = mask_of(&self.counts, on_cpu, current_stalled);
+        let mask = self.mask(on_cpu, current_stalled);
         self.clock.turn(at, mask);
     }
 }

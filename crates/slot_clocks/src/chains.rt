@@ -1,13 +1,13 @@
 //! The walk up the chains of groups that a change concerns.
 
-ghost use Rattle.std.specs.Prelude.{◌≡◌, ◌⊎◌, ◌+◌, ◌==◌, ◌<◌, ◌≤◌, length, true, if◌then◌else◌, IfSome};
+ghost use Rattle.std.specs.Prelude.{◌≡◌, ◌&&◌, ◌⊎◌, ◌+◌, ◌==◌, ◌<◌, ◌≤◌, length, true, false, if◌then◌else◌, None, IfSome};
 ghost use Rattle.psi_base.specs.declared.event.State.{State};
 ghost use Rattle.psi_counts.specs.Clock.{ClockFollows};
 ghost use Rattle.psi_counts.specs.Counts.{mask_holds, tells};
 ghost use Rattle.psi_spec.specs.Trace.{last_moment};
 ghost use Rattle.psi_counts.specs.Touch.{Follows, is_current_stalled, no_counts};
 ghost use Rattle.slot_clocks.specs.Clocks.{CanFollow, IsUpTo, StaysByMask, parent_numbers};
-ghost use Rattle.slot_clocks.specs.Walk.{AreSides, AreTogether, AreTurned, CanClimb, MayStart, all_passed, chains_of, height, passed, slot_in, top};
+ghost use Rattle.slot_clocks.specs.Walk.{AreGated, AreSides, AreTogether, AreTurned, CanClimb, MayStart, all_passed, chains_of, height, passed, slot_in, top};
 
 use crate::cell::Cell;
 use crate::part::Part;
@@ -90,12 +90,13 @@ fn fits(place: u64, other: u64) -> bool
 }
 
 impl Chains {
-    /// The chains of a change, at their slots. The current task is the one that ran up to it.
+    /// The chains of a change, at their slots. The current task is the one that ran up to it. A change with a gate takes no
+    /// counts, and the chain of those begins at the slot of the gate: the walk has to come there.
     pub(crate) fn of(current: Option<(Slot, bool)>, change: &Change) -> Chains
         ensures { result ≡ chains_of current change.now }
     {
         Chains {
-            minus: height(change.minus.map(|(slot, _)| slot)),
+            minus: height(slot_of(change.gate).or(change.minus.map(|(slot, _)| slot))),
             plus: height(change.plus.map(|(slot, _)| slot)),
             before: height(slot_of(current)),
             after: height(slot_of(change.current)),
@@ -131,8 +132,10 @@ impl Chains {
     // The chains of a change with those of the counts and of the task that ran together, where these stand at one slot. One that
     // stands nowhere may go with the others, and so may that of the task that ran where what is told of the running task
     // stays: it has nothing to tell then.
+    #[tactic(auto, using(crate::proofs::StartLaws::start_together))]
     fn together(current: Option<(Slot, bool)>, change: &Change, stays: bool) -> Option<Chains>
         requires stays { stays ≡ true → current ≡ change.now.current }
+        requires alone { IfSome change.now.gate (λ _. change.now.minus ≡ None) }
         ensures start { IfSome result (MayStart current change.now) }
         ensures together { IfSome result AreTogether }
         ensures low { IfSome result (λ starts. top starts ≤ top (chains_of current change.now)) }
@@ -176,18 +179,22 @@ fn turn_at(cell: &mut Cell, sides: &Sides, chains: &Chains, here: u64)
         (if chains.now.plus == here then sides.now.plus else no_counts) }
     requires up_to { IsUpTo sides.now.at cell.old.clock }
     requires early { sides.now.at ≤ last_moment }
-    requires told { sides.now.stays ≡ true → (state : State) →
+    requires told { sides.now.stays ≡ true →
+        (chains.now.minus == here) ≡ false → (state : State) →
         mask_holds cell.old.clock.mask state
-        ≡ tells state cell.old.counts (chains.now.after == here) sides.now.stalled }
+        ≡ (cell.old.on
+        && tells state cell.old.counts (chains.now.after == here) sides.now.stalled) }
     ensures counts { Follows cell.old.counts
         (if chains.now.minus == here then sides.now.minus else no_counts)
         (if chains.now.plus == here then sides.now.plus else no_counts) cell.new.counts }
+    ensures on { cell.new.on ≡ cell.old.on }
     ensures clock { ClockFollows cell.old.clock sides.now.at cell.new.clock }
     ensures kept { StaysByMask cell.old.clock cell.new.clock }
     ensures up_to { IsUpTo sides.now.at cell.new.clock }
     ensures told { (state : State) →
         mask_holds cell.new.clock.mask state
-        ≡ tells state cell.new.counts (chains.now.after == here) sides.now.stalled }
+        ≡ (cell.new.on
+        && tells state cell.new.counts (chains.now.after == here) sides.now.stalled) }
 {
     let takes = chains.minus == here;
     let adds = chains.plus == here;
@@ -252,6 +259,17 @@ fn climb_each(
     climb(cells, parents, current, &change, &sides, starts, false);
 }
 
+/// Takes the gate of a change, if it has one. Counts and clocks stay until the walk comes there.
+pub(crate) fn switch(cells: &mut [Cell], gate: Option<(Slot, bool)>)
+    requires made { IfSome gate (λ g. g.0.0 < length cells.old) }
+    ensures gated { AreGated gate cells.old cells.new }
+    ensures room { length cells.new ≡ length cells.old }
+{
+    if let Some((slot, on)) = gate {
+        cells[slot.0 as usize].on = on;
+    }
+}
+
 /// Takes the groups on the chains of a change through it. For most changes two chains are enough, where there could be four:
 /// the one of the task that runs from then on, and one for the counts and the task that ran.
 pub(crate) fn walk(
@@ -260,7 +278,8 @@ pub(crate) fn walk(
     current: Option<(Slot, bool)>,
     change: &Change,
 )
-    requires { CanClimb parents.now current change.now (chains_of current change.now) cells.old }
+    requires can { CanClimb parents.now current change.now (chains_of current change.now) cells.old }
+    requires alone { IfSome change.now.gate (λ _. change.now.minus ≡ None) }
     ensures turned { AreTurned (parent_numbers parents.now) change.now cells.old cells.new }
     ensures room { length cells.new ≡ length cells.old }
 {

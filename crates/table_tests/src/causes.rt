@@ -106,6 +106,23 @@ const IRQ_LINES: &str = "5 irq 2 6 | BadCpu;\
     2000000014 end | ok;\
     2000000014 irq 0 0 | AfterEnd";
 
+/// One trace of two processors up to 1,000 ns with `pressure` lines, told as above. Switching an account to what it is is legal.
+const PRESSURE_LINES: &str = "5 pressure /x on | UnknownGroup;\
+    5 pressure / off | RootPressure;\
+    5 pressure / on | RootPressure;\
+    5 group /a | ok;\
+    4 pressure / off | TimeBack;\
+    5 pressure /a on | ok;\
+    5 pressure /a off | ok;\
+    5 pressure /a off | ok;\
+    6 group /a/b | ok;\
+    6 pressure /a/b off | ok;\
+    7 rmgroup /a/b | ok;\
+    7 pressure /a/b on | UnknownGroup;\
+    7 pressure /a on | ok;\
+    8 end | ok;\
+    8 pressure / off | AfterEnd";
+
 /// The cause has this name, and there is none where it is `ok`.
 fn is_named(alloc: Global, cause: Option<Cause>, name: &str) -> Result<bool, Fail> {
     Ok(match cause {
@@ -158,6 +175,34 @@ fn interrupts_from_line_to_line(rt: HostRuntime) -> Result<(), Fail> {
     for row in IRQ_LINES.split(';') {
         assert!(rt; is_so(rt.alloc(), &mut table, row)?, "{row}");
     }
+    Ok(())
+}
+
+#[test]
+fn accounts_that_are_switched(rt: HostRuntime) -> Result<(), Fail> {
+    let mut table = Table::new(rt.alloc(), 2, 1000)?;
+    for row in PRESSURE_LINES.split(';') {
+        assert!(rt; is_so(rt.alloc(), &mut table, row)?, "{row}");
+    }
+    let on = table.groups().lives().iter().map(|life| life.on);
+    assert!(rt; on.eq([true, true, false]));
+    Ok(())
+}
+
+// So is the 65,537th `pressure` line, ahead of what else stands against it.
+#[test]
+fn pressure_lines_up_to_the_limit(rt: HostRuntime) -> Result<(), Fail> {
+    let alloc = rt.alloc();
+    let mut table = Table::new(alloc, 1, 1000)?;
+    let group = read_event(alloc, 2, b"1 group /a")?;
+    assert!(rt; table.play(&group).is_ok());
+    let event = read_event(alloc, 2, b"1 pressure /a off")?;
+    for count in 0..65_536u32 {
+        assert!(rt; table.play(&event).is_ok(), "line {count}");
+    }
+    let root = read_event(alloc, 2, b"1 pressure / off")?;
+    assert!(rt; table.play(&root) == Err(Fault::Refused(Cause::TooManyPressures)));
+    assert!(rt; table.play(&event) == Err(Fault::Refused(Cause::TooManyPressures)));
     Ok(())
 }
 

@@ -13,7 +13,8 @@ use task_table::Table;
 /// Behind a line stands each processor that it changes: its number, the task that is taken from the chain of a slot
 /// there, the task that is added to one, and afterwards the slot of the running task. Before each task stands the slot of
 /// its group. A task is `a` blocked, `w` waiting for IO, `r` ready or running, and in a stall `A` or `R`. A running task
-/// is `!` in a stall, and else `=`. Behind a `+` stands what interrupts took there (ns).
+/// is `!` in a stall, and else `=`. Behind a `+` stands what interrupts took there (ns). Where an account is switched, the slot of
+/// the group stands alone, with `on` or `off`: that is so on each processor.
 const LINES: &str = "1 group /a;\
     1 fork 1 /a 0 | 0 .. 1r ..;\
     2 switch 0 1 idle | 0 .. .. 1=;\
@@ -34,6 +35,9 @@ const LINES: &str = "1 group /a;\
     14 switch 0 1 idle | 0 .. .. 0=;\
     15 switch 0 0 sleep | 0 0r 0a ..;\
     16 mem / 1 1 1;\
+    16 pressure /a off | 1 off;\
+    16 pressure /a off | 1 off;\
+    16 pressure /a on | 1 on;\
     17 rmgroup /a;\
     18 end";
 
@@ -77,8 +81,18 @@ fn change(at: Ns, told: &str) -> Option<(Cpu, Change)> {
             .bytes()
             .next()
             .map_or(0, |digit| u64::from(number(digit))),
+        gate: None,
     };
     Some((Cpu(number(*cpu)), change))
+}
+
+/// The gate of an account that is switched, if one is.
+fn gate(told: &str) -> Option<(Slot, bool)> {
+    match told.as_bytes() {
+        [slot, b' ', b'o', b'n'] => Some((Slot(number(*slot)), true)),
+        [slot, b' ', b'o', b'f', b'f'] => Some((Slot(number(*slot)), false)),
+        _ => None,
+    }
 }
 
 /// The line of the row changes what stands behind it.
@@ -91,6 +105,7 @@ fn is_so(alloc: Global, table: &mut Table, row: &str) -> bool {
     let want = Touch {
         first: change(event.at, first),
         second: change(event.at, second),
+        gate: gate(told),
     };
     match table.step(&event) {
         Ok(touch) => touch == want,

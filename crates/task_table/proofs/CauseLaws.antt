@@ -14,7 +14,7 @@ use Rattle.psi_spec.specs.declared.machine.Task.{Task}
 use Rattle.psi_spec.specs.World.{World, Limits, Tasks, task_of, test_task, running_on, task_part, slot_of, is_active, is_ready, is_ready_on, is_root}
 use Rattle.psi_spec.specs.Refusal.{cause_of, has_child, has_member, is_wrong, is_exit, isnt_ready, lacks_group, lacks_task}
 use Rattle.psi_spec.proofs.RefusalLaws.{not_false}
-use Rattle.group_tree.specs.Tree.{remove_cause}
+use Rattle.group_tree.specs.Tree.{pressure_cause, remove_cause}
 use Rattle.task_table.specs.Causes.{act_cause, fork_cause, groups_cause, how_cause, line_cause, migrate_cause, move_cause, or_cause, switch_cause, wake_cause, next_cause}
 use Rattle.task_table.specs.Named.{next_task}
 
@@ -52,7 +52,7 @@ pub first_is : (limits : Limits) (w : World) (event : Event) → cause_of limits
 first_is limits w event = by_verb limits w event.at event.act
 
 -- where no cause comes that any line can have, the first is the first of the act
-pub first_of_act : (limits : Limits) (w : World) (event : Event) → w.ended ≡ false → w.last ≤ event.at → event.at ≤ limits.latest → w.lines < 4000000 → cause_of limits w event ≡ act_cause limits.cpus w.groups w.tasks w.irqs w.triggers event.at event.act
+pub first_of_act : (limits : Limits) (w : World) (event : Event) → w.ended ≡ false → w.last ≤ event.at → event.at ≤ limits.latest → w.lines < 4000000 → cause_of limits w event ≡ act_cause limits.cpus w.groups w.tasks w.irqs w.triggers w.pressures event.at event.act
 first_of_act limits w event running forward early room =
     let on_time : nat_lt event.at w.last ≡ false = grind (arith, nat_tests) in
     let in_time : nat_lt limits.latest event.at ≡ false = grind (arith, nat_tests) in
@@ -74,11 +74,11 @@ third a b c x y z rest h =
     past c z rest two.1
 
 -- no cause of its act comes against a legal event
-pub let_through : (limits : Limits) (w : World) (event : Event) → cause_of limits w event ≡ None → act_cause limits.cpus w.groups w.tasks w.irqs w.triggers event.at event.act ≡ None
+pub let_through : (limits : Limits) (w : World) (event : Event) → cause_of limits w event ≡ None → act_cause limits.cpus w.groups w.tasks w.irqs w.triggers w.pressures event.at event.act ≡ None
 let_through limits w event h =
     let rest = third w.ended (nat_lt event.at w.last) (nat_lt limits.latest event.at) cause.AfterEnd cause.TimeBack cause.TimeTooLate
-    (if nat_le 4000000 w.lines then Some cause.TooManyEvents else act_cause limits.cpus w.groups w.tasks w.irqs w.triggers event.at event.act) (sym (first_is limits w event) ∙ h) in
-    (past (nat_le 4000000 w.lines) cause.TooManyEvents (act_cause limits.cpus w.groups w.tasks w.irqs w.triggers event.at event.act) rest.1).1
+    (if nat_le 4000000 w.lines then Some cause.TooManyEvents else act_cause limits.cpus w.groups w.tasks w.irqs w.triggers w.pressures event.at event.act) (sym (first_is limits w event) ∙ h) in
+    (past (nat_le 4000000 w.lines) cause.TooManyEvents (act_cause limits.cpus w.groups w.tasks w.irqs w.triggers w.pressures event.at event.act) rest.1).1
 
 -- no cause, and no other
 no_causes : (first other : Option Cause) → or_cause first other ≡ None → (first ≡ None) × (other ≡ None)
@@ -86,10 +86,11 @@ no_causes None other h = (refl, h)
 no_causes (Some why) other h = cc h
 
 -- nor of the groups
-pub groups_through : (cpus : ℕ) (groups : List GroupLife) (tasks : Tasks) (irqs : List ℕ) (triggers at : ℕ) (a : Act) → act_cause cpus groups tasks irqs triggers at a ≡ None → groups_cause groups a ≡ None
-groups_through cpus groups tasks irqs triggers at (act.Group path) h = h
-groups_through cpus groups tasks irqs triggers at (act.Remove path) h = (no_causes (remove_cause groups path) _ h).0
-groups_through cpus groups tasks irqs triggers at _ h = refl
+pub groups_through : (cpus : ℕ) (groups : List GroupLife) (tasks : Tasks) (irqs : List ℕ) (triggers pressures at : ℕ) (a : Act) → act_cause cpus groups tasks irqs triggers pressures at a ≡ None → groups_cause groups a ≡ None
+groups_through cpus groups tasks irqs triggers pressures at (act.Group path) h = h
+groups_through cpus groups tasks irqs triggers pressures at (act.Remove path) h = (no_causes (remove_cause groups path) _ h).0
+groups_through cpus groups tasks irqs triggers pressures at (act.Pressure path on) h = (past (nat_le 65536 pressures) cause.TooManyPressures (pressure_cause groups path) h).1
+groups_through cpus groups tasks irqs triggers pressures at _ h = refl
 
 -- what the absence of a switch's causes says
 pub record MaySwitch (cpus cpu : ℕ) (next : Option Pid) (task : Option Task) (how : How) (running : Option (ℕ × Task)) : Type 0 where

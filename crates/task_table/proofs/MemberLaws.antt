@@ -133,11 +133,6 @@ none_is : (tasks : List Task) → list_any (λ task. is_slot None (Some task.slo
 none_is [] = refl
 none_is (task ∷ tasks) = none_is tasks
 
--- a slot as a number
-pub slot_back : (o : Option ℕ) (found : Option Slot) → found ≡ as_slot o → (slot : Slot) → found ≡ Some slot → o ≡ Some slot.0
-slot_back None found is slot some = absurd (cc (is, some))
-slot_back (Some n) found is slot some = let same : (let s : Slot = record { 0 = n } in s) ≡ slot = cc (is, some) in ap (λ (s : Slot). let o : Option ℕ = Some s.0 in o) same
-
 -- a path that finds none
 pub unmanned : (tasks : Tasks) (o : Option ℕ) (found : Option Slot) → found ≡ as_slot o → found ≡ None → has_member tasks o ≡ false
 unmanned tasks None found is none = none_is (map.values tasks)

@@ -13,9 +13,9 @@ use Rattle.psi_base.specs.declared.event.Fault.{Fault}
 use Rattle.psi_base.specs.declared.event.Fault.TheVariants as fault
 use Rattle.psi_spec.specs.declared.machine.Task.{Task}
 use Rattle.psi_spec.specs.declared.machine.GroupLife.{GroupLife}
-use Rattle.psi_spec.specs.World.{World, Limits, Tasks, task_of, test_task, running_on, task_part, is_active, is_ready, is_ready_on, is_running, slot_of, most_tasks, most_events}
+use Rattle.psi_spec.specs.World.{World, Limits, Tasks, task_of, test_task, running_on, task_part, is_active, is_ready, is_ready_on, is_running, slot_of, most_tasks, most_events, most_pressures}
 use Rattle.psi_spec.specs.Refusal.{has_member, irq_too_long, is_window, is_wrong, is_exit, lacks_group}
-use Rattle.group_tree.specs.Tree.{add_cause, remove_cause}
+use Rattle.group_tree.specs.Tree.{add_cause, pressure_cause, remove_cause}
 use Rattle.task_table.specs.Named.{next_task}
 
 -- a cause, if there is one, or another
@@ -104,28 +104,34 @@ irq_cause cpus irqs at cpu ns =
     if nat_le cpus cpu.0 then Some cause.BadCpu else
     if irq_too_long irqs at (act.Irq cpu ns) then Some cause.IrqTooLong else None
 
+-- a switch of a group's account is refused: too many `pressure` lines, and as the tree says
+abbrev pub account_cause : List GroupLife → ℕ → List ℕ → Option Cause
+account_cause groups pressures path = if nat_le most_pressures pressures then Some cause.TooManyPressures else pressure_cause groups path
+
 -- the first cause against an act at a moment (ns)
-abbrev pub act_cause : ℕ → List GroupLife → Tasks → List ℕ → ℕ → ℕ → Act → Option Cause
-act_cause cpus groups tasks irqs triggers at (act.Group path) = add_cause groups path
-act_cause cpus groups tasks irqs triggers at (act.Remove path) = empty_cause groups tasks path
-act_cause cpus groups tasks irqs triggers at (act.Prefer path preference) = path_cause groups path
-act_cause cpus groups tasks irqs triggers at (act.Fork pid path cpu) = fork_cause cpus groups (tasks_by.len tasks) (task_of tasks pid.0) path cpu.0
-act_cause cpus groups tasks irqs triggers at (act.Wake pid cpu) = wake_cause cpus (task_of tasks pid.0) cpu.0
-act_cause cpus groups tasks irqs triggers at (act.Switch cpu next how) = switch_cause cpus cpu.0 next (next_task tasks next) how (running_on tasks cpu.0)
-act_cause cpus groups tasks irqs triggers at (act.Stall pid) = stall_cause (task_of tasks pid.0)
-act_cause cpus groups tasks irqs triggers at (act.Unstall pid) = unstall_cause (task_of tasks pid.0)
-act_cause cpus groups tasks irqs triggers at (act.Migrate pid cpu) = migrate_cause cpus (task_of tasks pid.0) cpu.0
-act_cause cpus groups tasks irqs triggers at (act.Move pid path) = move_cause groups (task_of tasks pid.0) path
-act_cause cpus groups tasks irqs triggers at (act.Mem path current swap scan) = path_cause groups path
-act_cause cpus groups tasks irqs triggers at (act.Host mem_total swap_total swap_free) = None
-act_cause cpus groups tasks irqs triggers at (act.Trigger path res level threshold_us window_us) = trigger_cause groups triggers path threshold_us window_us
-act_cause cpus groups tasks irqs triggers at (act.Irq cpu ns) = irq_cause cpus irqs at cpu ns
-act_cause cpus groups tasks irqs triggers at act.End = None
+abbrev pub act_cause : ℕ → List GroupLife → Tasks → List ℕ → ℕ → ℕ → ℕ → Act → Option Cause
+act_cause cpus groups tasks irqs triggers pressures at (act.Group path) = add_cause groups path
+act_cause cpus groups tasks irqs triggers pressures at (act.Remove path) = empty_cause groups tasks path
+act_cause cpus groups tasks irqs triggers pressures at (act.Prefer path preference) = path_cause groups path
+act_cause cpus groups tasks irqs triggers pressures at (act.Fork pid path cpu) = fork_cause cpus groups (tasks_by.len tasks) (task_of tasks pid.0) path cpu.0
+act_cause cpus groups tasks irqs triggers pressures at (act.Wake pid cpu) = wake_cause cpus (task_of tasks pid.0) cpu.0
+act_cause cpus groups tasks irqs triggers pressures at (act.Switch cpu next how) = switch_cause cpus cpu.0 next (next_task tasks next) how (running_on tasks cpu.0)
+act_cause cpus groups tasks irqs triggers pressures at (act.Stall pid) = stall_cause (task_of tasks pid.0)
+act_cause cpus groups tasks irqs triggers pressures at (act.Unstall pid) = unstall_cause (task_of tasks pid.0)
+act_cause cpus groups tasks irqs triggers pressures at (act.Migrate pid cpu) = migrate_cause cpus (task_of tasks pid.0) cpu.0
+act_cause cpus groups tasks irqs triggers pressures at (act.Move pid path) = move_cause groups (task_of tasks pid.0) path
+act_cause cpus groups tasks irqs triggers pressures at (act.Mem path current swap scan) = path_cause groups path
+act_cause cpus groups tasks irqs triggers pressures at (act.Host mem_total swap_total swap_free) = None
+act_cause cpus groups tasks irqs triggers pressures at (act.Trigger path res level threshold_us window_us) = trigger_cause groups triggers path threshold_us window_us
+act_cause cpus groups tasks irqs triggers pressures at (act.Irq cpu ns) = irq_cause cpus irqs at cpu ns
+act_cause cpus groups tasks irqs triggers pressures at (act.Pressure path on) = account_cause groups pressures path
+act_cause cpus groups tasks irqs triggers pressures at act.End = None
 
 -- the part of an act's causes that the tree of groups tells
 abbrev pub groups_cause : List GroupLife → Act → Option Cause
 groups_cause groups (act.Group path) = add_cause groups path
 groups_cause groups (act.Remove path) = remove_cause groups path
+groups_cause groups (act.Pressure path on) = pressure_cause groups path
 groups_cause groups _ = None
 
 -- the first cause against a line: those that any line can have, and then those of its act
@@ -135,7 +141,7 @@ line_cause limits w event =
     if nat_lt event.at w.last then Some cause.TimeBack else
     if nat_lt limits.latest event.at then Some cause.TimeTooLate else
     if nat_le most_events w.lines then Some cause.TooManyEvents else
-    act_cause limits.cpus w.groups w.tasks w.irqs w.triggers event.at event.act
+    act_cause limits.cpus w.groups w.tasks w.irqs w.triggers w.pressures event.at event.act
 
 -- the act makes a group
 abbrev pub makes_group : Act → Bool

@@ -42,7 +42,7 @@ pub record MayReplace (slots : ℕ) (old new : Task) : Type 0 where
 abbrev pub MayReplaceIf : ℕ → Option Task → Option Task → Type 0
 MayReplaceIf slots old new = IfSome old (λ o. IfSome new (λ n. MayReplace slots o n))
 
--- the change of a processor at a moment (ns), by the task that an act changes, the task that runs there afterwards and the time
--- (ns) that interrupts took there
+-- the change of a processor at a moment (ns) by an act that switches no account: by the task that it changes, the task that runs
+-- there afterwards and the time (ns) that interrupts took there
 abbrev pub change_for : ℕ → TaskUpdate → Option (ℕ × Task) → ℕ → ℕ → Change
-change_for at changed running irq cpu = record { at = at; minus = part cpu changed.old; plus = part cpu changed.new; current = shown running; irq = irq }
+change_for at changed running irq cpu = record { at = at; minus = part cpu changed.old; plus = part cpu changed.new; current = shown running; irq = irq; gate = None }

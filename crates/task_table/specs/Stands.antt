@@ -78,17 +78,17 @@ PlaysEvent old event new (Ok x) = HasPlayed old event new
 PlaysEvent old event new (Err why) = HasRefused old event new why
 
 -- the value of a table with these fields
-abbrev pub table_of : ℕ → ℕ → Tasks → List GroupLife → List ℕ → ℕ → ℕ → ℕ → Bool → TableView
-table_of cpus latest tasks groups irqs triggers lines last ended = record {
+abbrev pub table_of : ℕ → ℕ → Tasks → List GroupLife → List ℕ → ℕ → ℕ → ℕ → ℕ → Bool → TableView
+table_of cpus latest tasks groups irqs triggers pressures lines last ended = record {
   limits = record { cpus = cpus; latest = latest };
-  world = record { tasks = tasks; groups = groups; irqs = irqs; triggers = triggers; lines = lines; last = last; ended = ended };
+  world = record { tasks = tasks; groups = groups; irqs = irqs; triggers = triggers; pressures = pressures; lines = lines; last = last; ended = ended };
 }
 
 -- a world as nested pairs, by which proofs tell values apart
 abbrev pub world_code : Coded World
 world_code =
-    code_by (Tasks × (List GroupLife × (List ℕ × (ℕ × (ℕ × (ℕ × Bool)))))) (coded× (tasks_by.code coded_ℕ task_row.the_row.coded) (coded× (coded_list group_row.the_row.coded) (coded× (coded_list coded_ℕ) (coded× coded_ℕ (coded× coded_ℕ (coded× coded_ℕ coded_bool))))))
-    (λ w. (w.tasks, (w.groups, (w.irqs, (w.triggers, (w.lines, (w.last, w.ended))))))) (λ p. record { tasks = p.0; groups = p.1.0; irqs = p.1.1.0; triggers = p.1.1.1.0; lines = p.1.1.1.1.0; last = p.1.1.1.1.1.0; ended = p.1.1.1.1.1.1 }) (λ _. refl)
+    code_by (Tasks × (List GroupLife × (List ℕ × (ℕ × (ℕ × (ℕ × (ℕ × Bool))))))) (coded× (tasks_by.code coded_ℕ task_row.the_row.coded) (coded× (coded_list group_row.the_row.coded) (coded× (coded_list coded_ℕ) (coded× coded_ℕ (coded× coded_ℕ (coded× coded_ℕ (coded× coded_ℕ coded_bool)))))))
+    (λ w. (w.tasks, (w.groups, (w.irqs, (w.triggers, (w.pressures, (w.lines, (w.last, w.ended)))))))) (λ p. record { tasks = p.0; groups = p.1.0; irqs = p.1.1.0; triggers = p.1.1.1.0; pressures = p.1.1.1.1.0; lines = p.1.1.1.1.1.0; last = p.1.1.1.1.1.1.0; ended = p.1.1.1.1.1.1.1 }) (λ _. refl)
 
 -- a table's value as nested pairs
 abbrev pub view_code : Coded TableView

@@ -3,7 +3,7 @@ ghost use Rattle.std.specs.Prelude.{◌≡◌, if◌then◌else◌, nat_le, leng
 ghost use Rattle.psi_base.specs.declared.event.Cause.TheVariants as cause;
 ghost use Rattle.psi_spec.specs.Refusal.{has_member, is_window};
 ghost use Rattle.psi_spec.specs.World.{Tasks, most_tasks, slot_of};
-ghost use Rattle.task_table.specs.Causes.{act_cause, empty_cause, fork_cause, how_cause, irq_cause, migrate_cause, move_cause, next_cause, path_cause, stall_cause, switch_cause, trigger_cause, unstall_cause, wake_cause};
+ghost use Rattle.task_table.specs.Causes.{act_cause, account_cause, empty_cause, fork_cause, how_cause, irq_cause, migrate_cause, move_cause, next_cause, path_cause, stall_cause, switch_cause, trigger_cause, unstall_cause, wake_cause};
 ghost use Rattle.task_table.specs.Named.{named_task};
 ghost use Rattle.task_table.specs.Stands.{AreMembers, IsIndex};
 
@@ -19,6 +19,9 @@ const MOST_TASKS: usize = 65_536;
 
 /// The most triggers that a trace may make.
 const MOST_TRIGGERS: u32 = 256;
+
+/// The most `pressure` lines that a trace may have.
+const MOST_PRESSURES: u32 = 65_536;
 
 /// The shortest and the longest window of a trigger, in us.
 const SHORTEST_WINDOW: u64 = 500_000;
@@ -262,6 +265,16 @@ fn trigger_refused(
     }
 }
 
+/// Why the account of a group can't be switched.
+fn account_refused(tree: &Tree, pressures: u32, path: &Path) -> Option<Cause>
+    ensures { result ≡ account_cause tree.now pressures path.now }
+{
+    if pressures >= MOST_PRESSURES {
+        return Some(Cause::TooManyPressures);
+    }
+    tree.pressure_cause(path)
+}
+
 /// Why interrupts can't have taken so long (ns) up to a moment (ns) on a processor. `irqs` has the moments of the last `irq`
 /// lines.
 fn irq_refused(irqs: &[Ns], cpus: usize, at: Ns, cpu: Cpu, ns: u64) -> Option<Cause>
@@ -286,6 +299,7 @@ pub(crate) fn act_refused(
     members: &Members,
     irqs: &[Ns],
     triggers: u32,
+    pressures: u32,
     event: &Event,
     named: Option<Task>,
 ) -> Option<Cause>
@@ -293,7 +307,7 @@ pub(crate) fn act_refused(
     requires members { AreMembers members.now tasks.now }
     requires named { named ≡ named_task tasks.now event.now.act }
     ensures { result ≡ act_cause (length running.now) tree.now tasks.now irqs.now triggers
-        event.now.at event.now.act }
+        pressures event.now.at event.now.act }
 {
     let cpus = running.len();
     match &event.act {
@@ -314,6 +328,7 @@ pub(crate) fn act_refused(
             ..
         } => trigger_refused(tree, triggers, path, *threshold_us, *window_us),
         Act::Irq { cpu, ns } => irq_refused(irqs, cpus, event.at, *cpu, *ns),
+        Act::Pressure { path, .. } => account_refused(tree, pressures, path),
         Act::Host { .. } | Act::End => None,
     }
 }

@@ -1,7 +1,7 @@
 //! What a legal act does to tasks and groups.
 ghost use Rattle.std.specs.Prelude.{◌≡◌, ◌≢◌, ℕ, ◌+◌, ◌<◌, ◌≤◌, ◌++◌, ◌||◌, if◌then◌else◌, List, [], ◌∷◌, Option, None, Some, IfOk, IfSome, OnOk, OnErr, true, false, length, slice_index_or, slice_set, unwrap_or};
 ghost use Rattle.std.specs.FinMap as tasks_by;
-ghost use Rattle.psi_spec.specs.World.{change, ends, groups_after, irqs_after, is_ready, is_running, is_trigger, leave, left_by, most_tasks, new_group, new_task, put, readied, running_on, slot_of, start, task_of, task_part, tasks_after};
+ghost use Rattle.psi_spec.specs.World.{change, ends, groups_after, irqs_after, is_pressure, is_ready, is_running, is_trigger, leave, left_by, most_tasks, new_group, new_task, put, readied, running_on, slot_of, start, task_of, task_part, tasks_after};
 ghost use Rattle.psi_counts.specs.Touch.{changed, left_if};
 ghost use Rattle.psi_spec.specs.Refusal.{is_wrong};
 ghost use Rattle.group_tree.specs.Tree.{add_cause};
@@ -42,6 +42,17 @@ pub(crate) fn triggers_with(before: u32, act: &Act) -> u32
 {
     match act {
         Act::Trigger { .. } => before + 1,
+        _ => before,
+    }
+}
+
+/// How many `pressure` lines there are with this act.
+pub(crate) fn pressures_with(before: u32, act: &Act) -> u32
+    requires { before ≤ 65536 }
+    ensures { result ≡ before + (if is_pressure act.now then 1 else 0) }
+{
+    match act {
+        Act::Pressure { .. } => before + 1,
         _ => before,
     }
 }
@@ -368,8 +379,9 @@ pub(crate) fn change_tasks(
     requires cover { length tree.now ≤ length members.old }
     requires few { tasks_by.len tasks.old ≤ most_tasks }
     requires named { named ≡ named_task tasks.old act.now }
-    requires legal { (irqs : List ℕ) × (triggers : ℕ) × (at : ℕ)
-        × (act_cause (length running.old) tree.now tasks.old irqs triggers at act.now ≡ None) }
+    requires legal { (irqs : List ℕ) × (triggers : ℕ) × (pressures : ℕ) × (at : ℕ)
+        × (act_cause (length running.old) tree.now tasks.old irqs triggers pressures at act.now
+        ≡ None) }
     ensures tasks { OnOk result (tasks.new ≡ tasks_after tree.now tasks.old act.now) }
     ensures changed { IfOk result (λ changed. IsChanged tree.now tasks.old act.now changed) }
     ensures err { OnErr result ((tasks.new ≡ tasks.old) × (takes_memory act.now ≡ true)) }
@@ -408,6 +420,7 @@ pub(crate) fn change_tasks(
         | Act::Host { .. }
         | Act::Trigger { .. }
         | Act::Irq { .. }
+        | Act::Pressure { .. }
         | Act::End => Ok(TaskUpdate {
             old: None,
             new: None,
@@ -435,6 +448,10 @@ pub(crate) fn change_groups(
         Act::Group { path } => add_group(tree, members, path, at),
         Act::Remove { path } => {
             let _ = tree.remove(path, at);
+            Ok(())
+        }
+        Act::Pressure { path, on } => {
+            let _ = tree.switch(path, *on);
             Ok(())
         }
         _ => Ok(()),

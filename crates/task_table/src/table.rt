@@ -2,7 +2,7 @@
 ghost use Rattle.std.specs.Prelude.{◌≡◌, ◌<◌, ◌≤◌, IfNone, IfOk, length, nat_le};
 ghost use Rattle.std.specs.FinMap as tasks_by;
 ghost use Rattle.psi_spec.specs.World.{first_world, most_events, most_tasks, running_on, task_of, task_part};
-ghost use Rattle.psi_counts.specs.Touch.{AllTouched, HasSlotsBelow, IsOfOne, IsTouch};
+ghost use Rattle.psi_counts.specs.Touch.{AllTouched, HasSlotsBelow, IsOfOne, IsTouch, shown};
 ghost use Rattle.psi_spec.specs.Changes.{before};
 ghost use Rattle.psi_spec.specs.Refusal.{cause_of};
 ghost use Rattle.task_table.specs.Named.{IsChanged, named_task};
@@ -10,15 +10,16 @@ ghost use Rattle.task_table.specs.Stands.{PlaysEvent};
 
 use crate::causes::{act_refused, is_full};
 use crate::effects::{
-    MOST_CPUS, change_groups, change_tasks, has_ended, named_task, note_irq, triggers_with,
+    MOST_CPUS, change_groups, change_tasks, has_ended, named_task, note_irq, pressures_with,
+    triggers_with,
 };
 use crate::members::Members;
 use crate::running::{Running, running_at};
 use crate::task_map::TaskMap;
 use crate::task_update::TaskUpdate;
-use crate::touch::touch_of;
+use crate::touch::{current_on, gate_of, gate_touch, touch_of};
 use group_tree::Tree;
-use psi_base::{Act, Cause, Cpu, Event, Fault, NoMemory, Ns, Pid};
+use psi_base::{Act, Cause, Cpu, Event, Fault, NoMemory, Ns, Pid, Slot};
 use psi_counts::Touch;
 use psi_spec::Task;
 use std::alloc::Global;
@@ -43,6 +44,8 @@ pub struct Table {
     irqs: [Ns; MOST_CPUS],
     /// How many triggers were made.
     triggers: u32,
+    /// How many `pressure` lines there were.
+    pressures: u32,
     /// How many events there were.
     lines: u32,
     /// The moment of the last event (ns).
@@ -59,10 +62,10 @@ impl Model for Table {
     ghost coded = { view_code };
 
     ghost view = { λ t. table_of (length t.running.items) t.latest t.tasks t.tree
-        t.irqs t.triggers t.lines t.last t.ended };
+        t.irqs t.triggers t.pressures t.lines t.last t.ended };
 
     ghost invariant = { λ t. IsTable (table_of (length t.running.items) t.latest t.tasks t.tree
-        t.irqs t.triggers t.lines t.last t.ended) t.running.items t.members };
+        t.irqs t.triggers t.pressures t.lines t.last t.ended) t.running.items t.members };
 }
 
 impl Table {
@@ -85,10 +88,19 @@ impl Table {
             tree: Tree::new(alloc)?,
             irqs: [0; MOST_CPUS],
             triggers: 0,
+            pressures: 0,
             lines: 0,
             last: 0,
             ended: false,
         })
+    }
+
+    /// How many processors there are, 64 at most.
+    pub fn cpus(&self) -> u32
+        ensures cpus { result ≡ self.now.limits.cpus }
+        ensures few { result ≤ 64 }
+    {
+        self.running.len() as u32
     }
 
     /// How many events there were, 4,000,000 at most.
@@ -152,6 +164,14 @@ impl Table {
         }
     }
 
+    /// What a change of a processor shows of the task that runs there: its group, and whether it is in a memory stall.
+    #[tactic(auto, using(crate::proofs::Index::running_told))]
+    pub fn current(&self, cpu: Cpu) -> Option<(Slot, bool)>
+        ensures { result ≡ shown (running_on self.now.world.tasks cpu.0) }
+    {
+        current_on(&self.running, cpu)
+    }
+
     /// The one task whose counts an act changes, as it is before the act.
     #[tactic(auto, using(crate::proofs::Index::running_told))]
     pub fn task_before(&self, act: &Act) -> Option<Task>
@@ -205,6 +225,7 @@ impl Table {
             &self.members,
             &self.irqs,
             self.triggers,
+            self.pressures,
             event,
             named,
         )
@@ -233,7 +254,11 @@ impl Table {
         ensures moment { IfOk result
             (λ touch. AllTouched (λ cpu change. change.at ≡ event.now.at) touch) }
     {
+        let gate = gate_of(&self.tree, &event.act);
         let changed = self.advance(event)?;
+        if let Some(gate) = gate {
+            return Ok(gate_touch(gate));
+        }
         Ok(touch_of(event.at, &event.act, changed, &self.running))
     }
 
@@ -259,6 +284,7 @@ impl Table {
         change_groups(&mut self.tree, &mut self.members, event.at, act)?;
         note_irq(&mut self.irqs, event.at, act);
         self.triggers = triggers_with(self.triggers, act);
+        self.pressures = pressures_with(self.pressures, act);
         self.lines += 1;
         self.last = event.at;
         self.ended = has_ended(self.ended, act);

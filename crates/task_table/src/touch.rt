@@ -2,16 +2,25 @@
 //! ones: no walk over the tasks.
 ghost use Rattle.std.specs.Prelude.{◌≡◌, ℕ, if◌then◌else◌, Some, None, [], ◌∷◌, slice_index_or};
 ghost use Rattle.psi_counts.specs.Counts.{counts_among};
-ghost use Rattle.psi_counts.specs.Touch.{part, shown, told_of, IsBeside};
+ghost use Rattle.psi_counts.specs.Touch.{gate_of, part, shown, told_of, IsBeside};
+ghost use Rattle.psi_spec.specs.Names.{names};
 ghost use Rattle.psi_spec.specs.Changes.{touched};
 ghost use Rattle.psi_spec.specs.Stall.{irq_told};
 ghost use Rattle.task_table.specs.Named.{change_for};
 
 use crate::running::{Running, running_at};
 use crate::task_update::TaskUpdate;
+use group_tree::Tree;
 use psi_base::{Act, Cpu, Ns, Slot};
 use psi_counts::{Change, Counts, Touch};
 use psi_spec::{Mode, Task};
+
+/// No processor is touched.
+const NOWHERE: Touch = Touch {
+    first: None,
+    second: None,
+    gate: None,
+};
 
 /// What a task counts as by itself.
 fn counts_of(task: Task) -> Counts
@@ -51,7 +60,7 @@ fn part_on(cpu: Cpu, task: Option<Task>) -> Option<(Slot, Counts)>
 }
 
 /// The slot of a processor's running task, and whether it is in a memory stall.
-fn current_on(running: &[Running], cpu: Cpu) -> Option<(Slot, bool)>
+pub(crate) fn current_on(running: &[Running], cpu: Cpu) -> Option<(Slot, bool)>
     ensures { result ≡ shown (slice_index_or running.now cpu.0 None) }
 {
     match running_at(running, cpu.0) {
@@ -71,23 +80,48 @@ fn change_of(at: Ns, changed: TaskUpdate, running: &[Running], cpu: Cpu) -> Chan
         plus: part_on(cpu, changed.new),
         current: current_on(running, cpu),
         irq: 0,
+        gate: None,
+    }
+}
+
+/// The slot of the live group whose account an act switches, and whether on, if it switches one.
+pub(crate) fn gate_of(tree: &Tree, act: &Act) -> Option<(Slot, bool)>
+    ensures { result ≡ gate_of tree.now act.now }
+{
+    match act {
+        Act::Pressure { path, on } => Some((tree.find(path).unwrap_or(Slot(0)), *on)),
+        _ => None,
+    }
+}
+
+/// The touch of an act that switches an account: its gate is on every processor.
+pub(crate) fn gate_touch(gate: (Slot, bool)) -> Touch
+    ensures first { result.first ≡ None }
+    ensures second { result.second ≡ None }
+    ensures gate { result.gate ≡ Some gate }
+{
+    Touch {
+        gate: Some(gate),
+        ..NOWHERE
     }
 }
 
 /// The changes at a moment (ns) of the processors that an act touches, by the task that it changes and by the tasks that
-/// run after it. Where a task comes from another processor, that one is the second.
+/// run after it. Where a task comes from another processor, that one is the second. The act switches no account.
 pub(crate) fn touch_of(at: Ns, act: &Act, changed: TaskUpdate, running: &[Running]) -> Touch
+    requires { (names act.now).switched ≡ None }
     ensures told { (cpu : ℕ) →
         told_of result cpu
         ≡ (if touched act.now changed.old cpu
         then Some (change_for at changed (slice_index_or running.now cpu None)
         (irq_told cpu act.now) cpu) else None) }
     ensures beside { IsBeside result.first result.second }
+    ensures gate { result.gate ≡ None }
 {
     match act {
         Act::Fork { cpu, .. } | Act::Switch { cpu, .. } => Touch {
             first: Some((*cpu, change_of(at, changed, running, *cpu))),
-            second: None,
+            ..NOWHERE
         },
         Act::Irq { cpu, ns } => {
             let change = Change {
@@ -96,7 +130,7 @@ pub(crate) fn touch_of(at: Ns, act: &Act, changed: TaskUpdate, running: &[Runnin
             };
             Touch {
                 first: Some((*cpu, change)),
-                second: None,
+                ..NOWHERE
             }
         }
         Act::Wake { cpu, .. } | Act::Migrate { cpu, .. } => {
@@ -105,26 +139,18 @@ pub(crate) fn touch_of(at: Ns, act: &Act, changed: TaskUpdate, running: &[Runnin
                 Some(task) if task.cpu.0 != cpu.0 => Touch {
                     first,
                     second: Some((task.cpu, change_of(at, changed, running, task.cpu))),
+                    ..NOWHERE
                 },
-                _ => Touch {
-                    first,
-                    second: None,
-                },
+                _ => Touch { first, ..NOWHERE },
             }
         }
         Act::Stall { .. } | Act::Unstall { .. } | Act::Move { .. } => match changed.old {
             Some(task) => Touch {
                 first: Some((task.cpu, change_of(at, changed, running, task.cpu))),
-                second: None,
+                ..NOWHERE
             },
-            None => Touch {
-                first: None,
-                second: None,
-            },
+            None => NOWHERE,
         },
-        _ => Touch {
-            first: None,
-            second: None,
-        },
+        _ => NOWHERE,
     }
 }

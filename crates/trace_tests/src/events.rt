@@ -78,6 +78,44 @@ fn writes_interrupts_of_the_second_version(rt: HostRuntime) -> Result<(), Fail> 
 }
 
 #[test]
+fn writes_accounts_of_the_second_version(rt: HostRuntime) -> Result<(), Fail> {
+    let alloc = rt.alloc();
+    for line in [
+        "5 pressure / on",
+        "5 pressure /a off",
+        "18446744073709551615 pressure /a/b.c on",
+    ] {
+        let second = rewritten(alloc, 2, line)?;
+        assert_eq!(rt; second.as_slice(), line.as_bytes(), "at {line}");
+        let first = read_event(alloc, 1, line.as_bytes()).err();
+        assert_eq!(rt; first, Some(Fault::Refused(Cause::BadVerb)), "at {line}");
+    }
+    Ok(())
+}
+
+#[test]
+fn refuses_the_leftmost_fault_of_accounts(rt: HostRuntime) {
+    let alloc = rt.alloc();
+    for (line, cause) in [
+        ("x pressure /a off", Cause::BadTime),
+        ("5 Pressure /a off", Cause::BadVerb),
+        ("5 pressures /a off", Cause::BadVerb),
+        ("5 pressure", Cause::BadField(1)),
+        ("5 pressure a no", Cause::BadField(1)),
+        ("5 pressure /a", Cause::BadField(2)),
+        ("5 pressure /a ", Cause::BadField(2)),
+        ("5 pressure /a no", Cause::BadField(2)),
+        ("5 pressure /a On", Cause::BadField(2)),
+        ("5 pressure /a offf", Cause::BadField(2)),
+        ("5 pressure /a off ", Cause::BadField(3)),
+        ("5 pressure /a on off", Cause::BadField(3)),
+    ] {
+        let refused = read_event(alloc, 2, line.as_bytes()).err();
+        assert_eq!(rt; refused, Some(Fault::Refused(cause)), "at {line}");
+    }
+}
+
+#[test]
 fn refuses_the_leftmost_fault_of_interrupts(rt: HostRuntime) {
     let alloc = rt.alloc();
     for (line, cause) in [
@@ -136,7 +174,6 @@ fn refuses_what_is_no_time_and_no_verb(rt: HostRuntime) {
         ("5 End", Cause::BadVerb),
         ("5 ends", Cause::BadVerb),
         ("5 en", Cause::BadVerb),
-        ("5 pressure / off", Cause::BadVerb),
         ("5 end\r", Cause::BadVerb),
         ("5 grouprm /a", Cause::BadVerb),
         ("18446744073709551615 x", Cause::BadVerb),

@@ -213,6 +213,7 @@ act_tells dead w v at (act.Mem path current swap scan) same = itself_same dead w
 act_tells dead w v at (act.Host mem_total swap_total swap_free) same = itself_same dead w v at (act.Host mem_total swap_total swap_free) same
 act_tells dead w v at (act.Trigger path res level threshold_us window_us) same = itself_same dead w v at (act.Trigger path res level threshold_us window_us) same
 act_tells dead w v at (act.Irq cpu ns) same = itself_same dead w v at (act.Irq cpu ns) same
+act_tells dead w v at (act.Pressure path on) same = itself_same dead w v at (act.Pressure path on) same
 act_tells dead w v at act.End same = itself_same dead w v at act.End same
 
 rest_told : (dead : List ℕ) (w v : World) (events : List Event) → v.groups ≡ w.groups → told_from tells v (rest_without dead w events) ≡ told_from tells w events

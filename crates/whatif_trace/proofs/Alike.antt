@@ -52,6 +52,7 @@ act_is limits dead w at runners (act.Mem path current swap scan) are none = refl
 act_is limits dead w at runners (act.Host mem_total swap_total swap_free) are none = refl
 act_is limits dead w at runners (act.Trigger path res level threshold_us window_us) are none = refl
 act_is limits dead w at runners (act.Irq cpu ns) are none = refl
+act_is limits dead w at runners (act.Pressure path on) are none = refl
 act_is limits dead w at runners act.End are none = refl
 
 dead_is : (limits : Limits) (dead : List ℕ) (w : World) (at : ℕ) (runners : List (Option Pid)) (what : Act) → AreRunners limits.cpus runners w.tasks → NoneAgainst limits w at what → dead_left dead runners what ≡ dead_after dead w what
@@ -73,6 +74,7 @@ dead_is limits dead w at runners (act.Mem path current swap scan) are none = ref
 dead_is limits dead w at runners (act.Host mem_total swap_total swap_free) are none = refl
 dead_is limits dead w at runners (act.Trigger path res level threshold_us window_us) are none = refl
 dead_is limits dead w at runners (act.Irq cpu ns) are none = refl
+dead_is limits dead w at runners (act.Pressure path on) are none = refl
 dead_is limits dead w at runners act.End are none = refl
 
 pub rest_is : (limits : Limits) (dead : List ℕ) (w : World) (runners : List (Option Pid)) (events : List Event) → AreRunners limits.cpus runners w.tasks → AreLegal limits w events → rest_left dead runners events ≡ rest_without dead w events
@@ -135,7 +137,7 @@ abbrev fresh : World → World
 fresh v = record v { lines = 0; last = 0 }
 
 fresh_legal : (limits : Limits) (v : World) → IsLegalWorld limits v → IsLegalWorld limits (fresh v)
-fresh_legal limits v legal = record { groups = legal.groups; within = legal.within; once = legal.once; few_tasks = legal.few_tasks; few_triggers = legal.few_triggers; few_lines = omega arith; early = omega arith }
+fresh_legal limits v legal = record { groups = legal.groups; within = legal.within; once = legal.once; few_tasks = legal.few_tasks; few_triggers = legal.few_triggers; few_pressures = legal.few_pressures; few_lines = omega arith; early = omega arith }
 
 fresh_ready : (limits : Limits) (at : ℕ) (v : World) (n : ℕ) → IsOpen limits at v → n ≤ 4 → IsReady limits at (0 + n) (fresh v)
 fresh_ready limits at v n going_on few = record { world = fresh_legal limits v going_on.world; going = going_on.going; forward = omega arith; early = going_on.early; few = omega (arith, few) }

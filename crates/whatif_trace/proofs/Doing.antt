@@ -3,7 +3,7 @@ use Rattle.std.proofs.Common.{◌≡◌, ℕ, ◌+◌, ◌≤◌, ◌<◌, List,
 use Rattle.std.specs.Prelude.{◌||◌, if◌then◌else◌}
 use Rattle.psi_base.specs.declared.event.Act.{Act}
 use Rattle.psi_spec.specs.Refusal.{AreLegal, cause_of}
-use Rattle.psi_spec.specs.World.{Limits, World, after_event, after_from, ends, is_trigger, events_at}
+use Rattle.psi_spec.specs.World.{Limits, World, after_event, after_from, ends, is_trigger, is_pressure, events_at}
 use Rattle.psi_counts.specs.Legal.{IsLegalWorld}
 use Rattle.psi_counts.proofs.LegalLaws.{legal_kept}
 use Rattle.task_table.proofs.CauseLaws.{first_of_act}
@@ -32,6 +32,7 @@ pub record IsAside (v u : World) : Type 0 where
   pub groups : u.groups ≡ v.groups
   pub irqs : u.irqs ≡ v.irqs
   pub triggers : u.triggers ≡ v.triggers
+  pub pressures : u.pressures ≡ v.pressures
   pub ended : u.ended ≡ v.ended
 
 -- acts of a moment are legal, and the world behind them is ready and differs in tasks alone
@@ -41,13 +42,14 @@ pub record Does (limits : Limits) (at room : ℕ) (v : World) (acts : List Act) 
   pub aside : IsAside v (after_from v (events_at at acts))
 
 pub aside_same : (v : World) → IsAside v v
-aside_same v = record { groups = refl; irqs = refl; triggers = refl; ended = refl }
+aside_same v = record { groups = refl; irqs = refl; triggers = refl; pressures = refl; ended = refl }
 
 pub aside_then : (v u x : World) → IsAside v u → IsAside u x → IsAside v x
 aside_then v u x first second = record {
   groups = second.groups ∙ first.groups;
   irqs = second.irqs ∙ first.irqs;
   triggers = second.triggers ∙ first.triggers;
+  pressures = second.pressures ∙ first.pressures;
   ended = second.ended ∙ first.ended;
 }
 
@@ -79,6 +81,7 @@ does_one limits at room v what ready of none =
         groups = of.groups v.groups;
         irqs = of.irqs v.irqs;
         triggers = plus_none v.triggers (is_trigger what) of.plain;
+        pressures = plus_none v.pressures (is_pressure what) of.on;
         ended = or_false v.ended (ends what) of.goes_on;
       };
     }

@@ -139,7 +139,7 @@ from_sleep : (limits : Limits) (at room : ℕ) (v : World) (pid : Pid) (task : T
 from_sleep limits at room v pid task o ready there is sleeps still runs =
     let rest = length (turn_acts pid task o) in
     let woken = readied task.cpu.0 task in
-    let wake = does_one limits at (room + rest) v (act.Wake pid task.cpu) (ready_for limits at (room + length (act.Wake pid task.cpu ∷ turn_acts pid task o)) (room + rest + 1) v (omega arith) ready) (of_tasks at (act.Wake pid task.cpu) (λ g. refl) (λ i. refl) refl refl)
+    let wake = does_one limits at (room + rest) v (act.Wake pid task.cpu) (ready_for limits at (room + length (act.Wake pid task.cpu ∷ turn_acts pid task o)) (room + rest + 1) v (omega arith) ready) (of_tasks at (act.Wake pid task.cpu) (λ g. refl) (λ i. refl) refl refl refl)
     (may_wake limits.cpus (task_of v.tasks pid.0) task task.cpu.0 is there sleeps) in
     let behind = after_event v (event_at at (act.Wake pid task.cpu)) in
     let tasks : behind.tasks ≡ put v.tasks pid.0 woken = ap (change_to v.tasks pid.0 (readied task.cpu.0)) is in
@@ -206,7 +206,7 @@ pub exits_go : (limits : Limits) (at room : ℕ) (v : World) (pids : List ℕ) �
 exits_go limits at room v [] ready = record {
   legal = tt;
   ready = ready_for limits at (room + 0) room v (omega arith) ready;
-  later = record { tasks = λ k. refl; groups = refl; irqs = refl; triggers = refl; ended = refl };
+  later = record { tasks = λ k. refl; groups = refl; irqs = refl; triggers = refl; pressures = refl; ended = refl };
 }
 exits_go limits at room v (pid ∷ pids) ready =
     let acts = exit_of v pid (task_of v.tasks pid) in
@@ -226,6 +226,7 @@ exits_go limits at room v (pid ∷ pids) ready =
         groups = others.later.groups ∙ one.does.aside.groups;
         irqs = others.later.irqs ∙ one.does.aside.irqs;
         triggers = others.later.triggers ∙ one.does.aside.triggers;
+        pressures = others.later.pressures ∙ one.does.aside.pressures;
         ended = others.later.ended ∙ one.does.aside.ended;
       });
     }

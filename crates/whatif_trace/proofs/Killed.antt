@@ -243,6 +243,7 @@ made_by w (act.Mem path current swap scan) pid is = is
 made_by w (act.Host mem_total swap_total swap_free) pid is = is
 made_by w (act.Trigger path res level threshold_us window_us) pid is = is
 made_by w (act.Irq cpu ns) pid is = is
+made_by w (act.Pressure path on) pid is = is
 made_by w act.End pid is = is
 
 joined_tests : (a b c d : Bool) → (a || b) ≡ true → (b ≡ true → (c || d) ≡ true) → ((c || a) || d) ≡ true

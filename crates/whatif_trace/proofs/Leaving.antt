@@ -149,7 +149,7 @@ frees : (limits : Limits) (at room : ℕ) (v : World) (pid : Pid) (task : Task) 
     → IsNext v.tasks task.cpu.0 next → Leaves limits at room v pid next (act.Unstall pid ∷ act.Switch task.cpu next Exit ∷ [])
 frees limits at room v pid task next ready there is runs stalled turn =
     let found = runner_is v.tasks ready.world.once task.cpu.0 pid.0 task is runs in
-    let free = does_one limits at (room + 1) v (act.Unstall pid) (ready_for limits at (room + 2) (room + 1 + 1) v (omega arith) ready) (of_tasks at (act.Unstall pid) (λ g. refl) (λ i. refl) refl refl) (may_free (task_of v.tasks pid.0) task is (second_true (task.cpu.0 == task.cpu.0) (is_running task.mode) runs) stalled) in
+    let free = does_one limits at (room + 1) v (act.Unstall pid) (ready_for limits at (room + 2) (room + 1 + 1) v (omega arith) ready) (of_tasks at (act.Unstall pid) (λ g. refl) (λ i. refl) refl refl refl) (may_free (task_of v.tasks pid.0) task is (second_true (task.cpu.0 == task.cpu.0) (is_running task.mode) runs) stalled) in
     let behind = after_event v (event_at at (act.Unstall pid)) in
     let tasks : behind.tasks ≡ put v.tasks pid.0 (freed task) = ap (change_to v.tasks pid.0 freed) is in
     let is_then : task_of behind.tasks pid.0 ≡ Some (freed task) = ap (λ ts. task_of ts pid.0) tasks ∙ get_put v.tasks pid.0 (freed task) pid.0 ∙ ap (λ b. cond b (Some (freed task)) (task_of v.tasks pid.0)) (itself pid.0) in

@@ -90,4 +90,5 @@ act_live dead w (act.Mem path current swap scan) live = live
 act_live dead w (act.Host mem_total swap_total swap_free) live = live
 act_live dead w (act.Trigger path res level threshold_us window_us) live = live
 act_live dead w (act.Irq cpu ns) live = live
+act_live dead w (act.Pressure path on) live = live
 act_live dead w act.End live = live

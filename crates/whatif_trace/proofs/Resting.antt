@@ -44,28 +44,28 @@ act_goes limits dead w v at (act.Fork pid path cpu) is once live room none =
     let legal = forked_still limits.cpus w.groups (tasks_by.len w.tasks) (tasks_by.len v.tasks) (task_of w.tasks pid.0) path cpu.0 (no_more dead w.tasks v.tasks is.tasks) none in
     same_act limits dead dead w v at (act.Fork pid path cpu) is room (rw (is.groups, found) legal) (rw is.groups (placed_alive dead w.tasks v.tasks pid.0 (Some _) is.tasks alive))
 act_goes limits dead w v at (act.Wake pid cpu) is once live room none =
-    of_pid limits dead w v at pid (act.Wake pid cpu) is room (of_tasks at (act.Wake pid cpu) (λ g. refl) (λ i. refl) refl refl)
+    of_pid limits dead w v at pid (act.Wake pid cpu) is room (of_tasks at (act.Wake pid cpu) (λ g. refl) (λ i. refl) refl refl refl)
     (λ alive. ap (λ o. wake_cause limits.cpus o cpu.0) (found_kept dead w.tasks v.tasks is.tasks pid.0 alive) ∙ none)
     (λ alive. change_alive dead w.tasks v.tasks pid.0 (readied cpu.0) is.tasks alive)
     (λ gone. change_dead dead w.tasks v.tasks pid.0 (readied cpu.0) is.tasks gone)
 act_goes limits dead w v at (act.Switch cpu next how) is once live room none = switch_goes limits dead w v at cpu next how is once room none
 act_goes limits dead w v at (act.Stall pid) is once live room none =
-    of_pid limits dead w v at pid (act.Stall pid) is room (of_tasks at (act.Stall pid) (λ g. refl) (λ i. refl) refl refl)
+    of_pid limits dead w v at pid (act.Stall pid) is room (of_tasks at (act.Stall pid) (λ g. refl) (λ i. refl) refl refl refl)
     (λ alive. ap stall_cause (found_kept dead w.tasks v.tasks is.tasks pid.0 alive) ∙ none)
     (λ alive. change_alive dead w.tasks v.tasks pid.0 _ is.tasks alive)
     (λ gone. change_dead dead w.tasks v.tasks pid.0 _ is.tasks gone)
 act_goes limits dead w v at (act.Unstall pid) is once live room none =
-    of_pid limits dead w v at pid (act.Unstall pid) is room (of_tasks at (act.Unstall pid) (λ g. refl) (λ i. refl) refl refl)
+    of_pid limits dead w v at pid (act.Unstall pid) is room (of_tasks at (act.Unstall pid) (λ g. refl) (λ i. refl) refl refl refl)
     (λ alive. ap unstall_cause (found_kept dead w.tasks v.tasks is.tasks pid.0 alive) ∙ none)
     (λ alive. change_alive dead w.tasks v.tasks pid.0 _ is.tasks alive)
     (λ gone. change_dead dead w.tasks v.tasks pid.0 _ is.tasks gone)
 act_goes limits dead w v at (act.Migrate pid cpu) is once live room none =
-    of_pid limits dead w v at pid (act.Migrate pid cpu) is room (of_tasks at (act.Migrate pid cpu) (λ g. refl) (λ i. refl) refl refl)
+    of_pid limits dead w v at pid (act.Migrate pid cpu) is room (of_tasks at (act.Migrate pid cpu) (λ g. refl) (λ i. refl) refl refl refl)
     (λ alive. ap (λ o. migrate_cause limits.cpus o cpu.0) (found_kept dead w.tasks v.tasks is.tasks pid.0 alive) ∙ none)
     (λ alive. change_alive dead w.tasks v.tasks pid.0 (readied cpu.0) is.tasks alive)
     (λ gone. change_dead dead w.tasks v.tasks pid.0 (readied cpu.0) is.tasks gone)
 act_goes limits dead w v at (act.Move pid path) is once live room none =
-    of_pid limits dead w v at pid (act.Move pid path) is room (of_tasks at (act.Move pid path) (λ g. refl) (λ i. refl) refl refl)
+    of_pid limits dead w v at pid (act.Move pid path) is room (of_tasks at (act.Move pid path) (λ g. refl) (λ i. refl) refl refl refl)
     (λ alive. moved_still w.groups v.groups (task_of w.tasks pid.0) (task_of v.tasks pid.0) path is.groups (found_kept dead w.tasks v.tasks is.tasks pid.0 alive) none)
     (λ alive. rw is.groups (change_alive dead w.tasks v.tasks pid.0 _ is.tasks alive))
     (λ gone. change_dead dead w.tasks v.tasks pid.0 _ is.tasks gone)
@@ -73,6 +73,7 @@ act_goes limits dead w v at (act.Mem path current swap scan) is once live room n
 act_goes limits dead w v at (act.Host mem_total swap_total swap_free) is once live room none = same_act limits dead dead w v at (act.Host mem_total swap_total swap_free) is room none is.tasks
 act_goes limits dead w v at (act.Trigger path res level threshold_us window_us) is once live room none = same_act limits dead dead w v at (act.Trigger path res level threshold_us window_us) is room (rw (is.groups, is.triggers) none) is.tasks
 act_goes limits dead w v at (act.Irq cpu ns) is once live room none = same_act limits dead dead w v at (act.Irq cpu ns) is room (rw is.irqs none) is.tasks
+act_goes limits dead w v at (act.Pressure path on) is once live room none = same_act limits dead dead w v at (act.Pressure path on) is room (rw (is.groups, is.pressures) none) is.tasks
 act_goes limits dead w v at act.End is once live room none = same_act limits dead dead w v at act.End is room none is.tasks
 
 -- ---- event by event

@@ -278,6 +278,7 @@ turns limits w at runners (act.Mem path current swap scan) are none = are
 turns limits w at runners (act.Host mem_total swap_total swap_free) are none = are
 turns limits w at runners (act.Trigger path res level threshold_us window_us) are none = are
 turns limits w at runners (act.Irq cpu ns) are none = are
+turns limits w at runners (act.Pressure path on) are none = are
 turns limits w at runners act.End are none = are
 
 -- legal events in their turn

@@ -85,6 +85,7 @@ numbers_act w (act.Mem path current swap scan) fits numbers = numbers
 numbers_act w (act.Host mem_total swap_total swap_free) fits numbers = numbers
 numbers_act w (act.Trigger path res level threshold_us window_us) fits numbers = numbers
 numbers_act w (act.Irq cpu ns) fits numbers = numbers
+numbers_act w (act.Pressure path on) fits numbers = numbers
 numbers_act w act.End fits numbers = numbers
 
 pub numbers_from : (w : World) (events : List Event) → AllFit events → AreNumbers w.tasks → AreNumbers (after_from w events).tasks
@@ -148,6 +149,7 @@ fit_act dead w (act.Mem path current swap scan) fit = (fit, tt)
 fit_act dead w (act.Host mem_total swap_total swap_free) fit = (fit, tt)
 fit_act dead w (act.Trigger path res level threshold_us window_us) fit = (fit, tt)
 fit_act dead w (act.Irq cpu ns) fit = (fit, tt)
+fit_act dead w (act.Pressure path on) fit = (fit, tt)
 fit_act dead w act.End fit = (fit, tt)
 
 pub rest_fits : (dead : List ℕ) (w : World) (events : List Event) → AllFit events → AllFit (rest_without dead w events)

@@ -10,7 +10,7 @@ use Rattle.psi_base.specs.declared.event.Pid.{Pid}
 use Rattle.psi_spec.specs.declared.machine.GroupLife.{GroupLife}
 use Rattle.psi_spec.specs.declared.machine.Task.{Task}
 use Rattle.psi_spec.specs.Refusal.{AreLegal, has_member}
-use Rattle.psi_spec.specs.World.{Limits, Tasks, World, after_event, after_from, ends, groups_after, irqs_after, is_trigger, slot_of, tasks_after, events_at}
+use Rattle.psi_spec.specs.World.{Limits, Tasks, World, after_event, after_from, ends, groups_after, irqs_after, is_trigger, is_pressure, slot_of, tasks_after, events_at}
 use Rattle.group_tree.specs.Tree.{remove_cause}
 use Rattle.task_table.specs.Causes.{act_cause, empty_cause, fork_cause, move_cause, or_cause}
 use Rattle.task_table.proofs.CauseLaws.{first_of_act}
@@ -37,7 +37,7 @@ pub record Goes (limits : Limits) (dead : List ℕ) (w v : World) (at : ℕ) (wh
 
 -- no cause of its own is against an act
 abbrev pub NoneAgainst : Limits → World → ℕ → Act → Type 0
-NoneAgainst limits w at what = act_cause limits.cpus w.groups w.tasks w.irqs w.triggers at what ≡ None
+NoneAgainst limits w at what = act_cause limits.cpus w.groups w.tasks w.irqs w.triggers w.pressures at what ≡ None
 
 pub legal_one : (limits : Limits) (v : World) (at : ℕ) (what : Act) → HasRoom limits v at → NoneAgainst limits v at what → AreLegal limits v (events_at at (what ∷ []))
 legal_one limits v at what room none = (first_of_act limits v (event_at at what) room.going room.forward room.early room.few ∙ none, tt)
@@ -47,6 +47,7 @@ pub record IsOfTasks (at : ℕ) (what : Act) : Type 0 where
   pub groups : (groups : List GroupLife) → groups_after at groups what ≡ groups
   pub irqs : (irqs : List ℕ) → irqs_after at irqs what ≡ irqs
   pub plain : is_trigger what ≡ false
+  pub on : is_pressure what ≡ false
   pub goes_on : ends what ≡ false
 
 or_false : (b : Bool) → (b || false) ≡ b
@@ -69,6 +70,7 @@ same_act limits dead later w v at what is room none tasks = record {
     groups = ap (λ groups. groups_after at groups what) is.groups;
     irqs = ap (λ irqs. irqs_after at irqs what) is.irqs;
     triggers = ap (λ n. n + (if is_trigger what then 1 else 0)) is.triggers;
+    pressures = ap (λ n. n + (if is_pressure what then 1 else 0)) is.pressures;
     ended = ap (λ b. b || ends what) is.ended;
   };
 }
@@ -83,6 +85,7 @@ left_out limits dead later w v at what is of tasks = record {
     groups = is.groups ∙ sym (of.groups w.groups);
     irqs = is.irqs ∙ sym (of.irqs w.irqs);
     triggers = is.triggers ∙ sym (no_trigger w.triggers (is_trigger what) of.plain);
+    pressures = is.pressures ∙ sym (no_trigger w.pressures (is_pressure what) of.on);
     ended = is.ended ∙ sym (still_ended w.ended (ends what) of.goes_on);
   };
 }
@@ -97,6 +100,7 @@ in_place limits dead later w v at what other is of of_other room none tasks = re
     groups = of_other.groups v.groups ∙ is.groups ∙ sym (of.groups w.groups);
     irqs = of_other.irqs v.irqs ∙ is.irqs ∙ sym (of.irqs w.irqs);
     triggers = no_trigger v.triggers (is_trigger other) of_other.plain ∙ is.triggers ∙ sym (no_trigger w.triggers (is_trigger what) of.plain);
+    pressures = no_trigger v.pressures (is_pressure other) of_other.on ∙ is.pressures ∙ sym (no_trigger w.pressures (is_pressure what) of.on);
     ended = still_ended v.ended (ends other) of_other.goes_on ∙ is.ended ∙ sym (still_ended w.ended (ends what) of.goes_on);
   };
 }
@@ -158,8 +162,8 @@ of_pid limits dead w v at pid what is room of none both one =
       | false ↦ λ alive. same_act limits dead dead w v at what is room (none alive) (both alive)
     ] refl
 
-pub of_tasks : (at : ℕ) (what : Act) → ((groups : List GroupLife) → groups_after at groups what ≡ groups) → ((irqs : List ℕ) → irqs_after at irqs what ≡ irqs) → is_trigger what ≡ false → ends what ≡ false → IsOfTasks at what
-of_tasks at what groups irqs plain goes_on = record { groups = groups; irqs = irqs; plain = plain; goes_on = goes_on }
+pub of_tasks : (at : ℕ) (what : Act) → ((groups : List GroupLife) → groups_after at groups what ≡ groups) → ((irqs : List ℕ) → irqs_after at irqs what ≡ irqs) → is_trigger what ≡ false → is_pressure what ≡ false → ends what ≡ false → IsOfTasks at what
+of_tasks at what groups irqs plain on goes_on = record { groups = groups; irqs = irqs; plain = plain; on = on; goes_on = goes_on }
 
 pub moved_still : (groups same : List GroupLife) (task found : Option Task) (path : List ℕ) → same ≡ groups → found ≡ task → move_cause groups task path ≡ None → move_cause same found path ≡ None
 moved_still groups same task found path is are none = rw (is, are) none

@@ -56,7 +56,7 @@ may_be cpus cpu next task how running first second = rw (first, second) refl
 -- ---- a switch
 
 pub of_switch : (at : ℕ) (cpu : Cpu) (next : Option Pid) (how : How) → IsOfTasks at (act.Switch cpu next how)
-of_switch at cpu next how = record { groups = λ groups. refl; irqs = λ irqs. refl; plain = refl; goes_on = refl }
+of_switch at cpu next how = record { groups = λ groups. refl; irqs = λ irqs. refl; plain = refl; on = refl; goes_on = refl }
 
 -- what is known of the switch in the trace
 record IsSwitch (limits : Limits) (dead : List ℕ) (w v : World) (at : ℕ) (cpu : Cpu) (next : Option Pid) (how : How) (running : Option (ℕ × Task)) : Type 0 where

@@ -15,6 +15,7 @@ pub record IsWithout (dead : List ℕ) (w v : World) : Type 0 where
   pub groups : v.groups ≡ w.groups
   pub irqs : v.irqs ≡ w.irqs
   pub triggers : v.triggers ≡ w.triggers
+  pub pressures : v.pressures ≡ w.pressures
   pub ended : v.ended ≡ w.ended
 
 -- the tasks that are dead behind events, from a world of the trace on

@@ -84,6 +84,10 @@ fn copy_act(alloc: Global, act: &Act) -> Result<Act, NoMemory>
         Act::Unstall { pid } => Act::Unstall { pid },
         Act::Migrate { pid, cpu } => Act::Migrate { pid, cpu },
         Act::Irq { cpu, ns } => Act::Irq { cpu, ns },
+        Act::Pressure { ref path, on } => Act::Pressure {
+            path: path.copy(alloc)?,
+            on,
+        },
         Act::End => Act::End,
     })
 }

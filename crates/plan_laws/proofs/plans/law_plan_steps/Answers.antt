@@ -10,6 +10,12 @@ returns-clause-few c = laws.plan_counts_are_few
 pub returns-clause-current : goal.returns-clause-current
 returns-clause-current c = laws.current_by_change
 
+pub returns-clause-on : goal.returns-clause-on
+returns-clause-on c = laws.on_by_change
+
+pub returns-clause-first : goal.returns-clause-first
+returns-clause-first c = laws.on_at_first
+
 pub returns-clause-aside : goal.returns-clause-aside
 returns-clause-aside c = laws.aside_stays
 

@@ -1,8 +1,9 @@
 use Rattle.std.proofs.Common.{ℕ, ◌≤◌, ◌<◌, length, arith, ◌∙◌, length-set}
 use Rattle.std.specs.Prelude.{slice_index_or, None, Some}
-use Rattle.slot_clocks.specs.Clocks.{parent_numbers}
+use Rattle.psi_spec.specs.Stall.{is_under}
+use Rattle.slot_clocks.specs.Clocks.{cell_at, parent_numbers}
 use Rattle.slot_clocks.specs.Walk.{height}
-use Rattle.proc_plan.proofs.IrqWalk.{step_up}
+use Rattle.proc_plan.proofs.IrqWalk.{added_here, step_up}
 use Rattle.proc_plan.proofs.Upward.{at_itself, falls}
 use Rattle.proc_plan.proofs.irqs.climb.Goals as goal
 
@@ -11,8 +12,9 @@ overflow_add-times c =
     let place : ℕ = c.in-Some.slot.0 in
     let below : height (Some c.in-Some.slot) ≤ length c.args.parents.now = rw c.in-Some.is at c.up.invariant.below in
     let within : place < length c.args.times.now = omega (arith, below, c.requires.room) in
-    let grown = rw (c.in-Some.is, at_itself (parent_numbers c.args.parents.now) place c.requires.older) at (c.up.invariant.grown place within) in
-    omega (arith, grown, c.requires.fits place within)
+    let grown = rw c.in-Some.is at (c.up.invariant.grown place within) in
+    let here = added_here (cell_at c.args.clocks.now place).on (is_under (parent_numbers c.args.parents.now) place place) c.args.irq (at_itself (parent_numbers c.args.parents.now) place c.requires.older) in
+    rw (c.time_if.ensures, c.is_on.ensures) (omega (arith, grown, here, c.requires.fits place within))
 
 pub up-smaller : goal.up-smaller
 up-smaller c =
@@ -28,5 +30,7 @@ up-preserved c =
     record {
       room = simp length-set c.up.invariant.room;
       below = omega (arith, fallen, below);
-      grown = λ at within. step_up c.args.parents.now c.up.times place at c.args.irq c.requires.older room ∙ (rw c.in-Some.is at (c.up.invariant.grown at within));
+      grown = λ at within.
+          rw (c.time_if.ensures, c.is_on.ensures)
+          (step_up c.args.parents.now (λ n. (cell_at c.args.clocks.now n).on) c.up.times place at c.args.irq c.requires.older room ∙ (rw c.in-Some.is at (c.up.invariant.grown at within)));
     }

@@ -27,3 +27,6 @@ returns-in-Host-clause-bytes c = rw c.in-Host.is (search lines)
 
 pub returns-in-Trigger-clause-bytes : goal.returns-in-Trigger-clause-bytes
 returns-in-Trigger-clause-bytes c = rw c.in-Trigger.is (search lines)
+
+pub returns-in-Pressure-clause-bytes : goal.returns-in-Pressure-clause-bytes
+returns-in-Pressure-clause-bytes c = rw c.in-Pressure.is (search lines)

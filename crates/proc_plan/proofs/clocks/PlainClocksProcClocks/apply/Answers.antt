@@ -1,12 +1,14 @@
 use Rattle.std.proofs.Math.Seq.{take-append_seam}
-use Rattle.std.proofs.Common.{arith, rules, subst, sym, ◌∙◌, ◌++◌, take, drop, ◌≡◌, ◌≤◌, ◌<◌, ◌+◌, ◌-◌, length, Bool}
+use Rattle.std.proofs.Common.{arith, rules, subst, sym, ap, ◌∙◌, ◌++◌, take, drop, ◌≡◌, ◌≤◌, ◌<◌, ◌+◌, ◌-◌, length, Bool}
 use Rattle.std.specs.Prelude.{IfSome}
 use Rattle.psi_base.specs.declared.event.Slot.{Slot}
 use Rattle.psi_counts.specs.Touch.{HasSlotsBelow}
 use Rattle.psi_spec.specs.Groups.{AreOlder}
 use Rattle.plan_laws.proofs.PlanSteps.{current_by_change}
+use Rattle.proc_plan.specs.Clocks.{irq_at}
 use Rattle.proc_plan.proofs.ClockSteps.{AreMade, as_many_parents, can_follow, current_below, next_clocks, told}
-use Rattle.proc_plan.proofs.IrqWalk.{irqs_fit, next_irqs}
+use Rattle.proc_plan.proofs.IrqWalk.{irqs_fit, next_irqs, taken_is}
+use Rattle.proc_plan.proofs.PlanReads.{no_minus}
 use Rattle.proc_plan.proofs.clocks.PlainClocksProcClocks.apply.Goals as goal
 
 pub apply-requires-clause-current : goal.apply-requires-clause-current
@@ -23,6 +25,12 @@ apply-requires-clause-slots c =
     let is = rw place at c.change-change.ensures in
     let known = as_many_parents c.self.inside.parents.now c.self.inside.plan.now c.self.invariant.1 in
     subst (λ n. HasSlotsBelow n c.change-change.result) known (c.self.invariant.0.whole.slots c.self.inside.count c.change-change.result is)
+
+pub apply-requires-clause-alone : goal.apply-requires-clause-alone
+apply-requires-clause-alone c =
+    let place : c.self.inside.count + 1 - 1 ≡ c.self.inside.count = omega arith in
+    let is = rw place at c.change-change.ensures in
+    no_minus c.change-change.result (c.self.invariant.0.whole.ones c.self.inside.count c.change-change.result is)
 
 pub apply-requires-clause-told : goal.apply-requires-clause-told
 apply-requires-clause-told c = rw c.self.invariant.1 (told c.self.inside.plan.now c.self.inside.clocks c.self.inside.count c.self.invariant.0)
@@ -68,18 +76,22 @@ add_irq-requires-clause-fits c =
     let is = rw place at c.change-change.ensures in
     let room : c.self.inside.count < length c.self.inside.plan.now.changes = search (arith, c.requires, c.self.view_is) in
     let fit = irqs_fit c.self.inside.plan.now c.self.inside.irqs.items c.self.inside.count c.change-change.result c.self.invariant.0.whole c.self.invariant.2 room is in
-    rw (c.deref_mut.ensures.value, c.self.invariant.1) (λ slot below. fit slot (omega (arith, below, c.self.invariant.2.room)))
+    rw (c.deref_mut.ensures.value, c.self.invariant.1)
+    (λ slot below.
+    let taken = taken_is c.self.inside.plan.now c.self.inside.clocks c.self.inside.count c.change-change.result slot c.self.invariant.0 in
+    omega (arith, taken, fit slot (omega (arith, below, c.self.invariant.2.room))))
 
 pub invariant_of-self : goal.invariant_of-self
 invariant_of-self c =
     let place : c.self.inside.count + 1 - 1 ≡ c.self.inside.count = omega arith in
     let is = rw place at c.change-change.ensures in
     let e = rw c.self.invariant.1 at c.apply.ensures in
-    let made : AreMade c.self.inside.plan.now c.change-change.result c.self.inside.clocks c.apply.new.self = record { room = e.room; counts = e.counts; clocks = e.clocks; whole = e.whole; told = e.told; current = e.current; last = e.last } in
+    let made : AreMade c.self.inside.plan.now c.change-change.result c.self.inside.clocks c.apply.new.self = record { room = e.room; counts = e.counts; gates = e.gates; clocks = e.clocks; whole = e.whole; told = e.told; current = e.current; last = e.last } in
     let size : c.self.inside.irqs.len ≡ length c.add_irq.new.times = search rules in
     let kept : take c.self.inside.irqs.len (c.add_irq.new.times ++ drop (length c.add_irq.new.times) c.self.inside.irqs.items) ≡ c.add_irq.new.times = rw size (take-append_seam _ _) in
     let grown = rw (c.deref_mut.ensures.value, c.self.invariant.1) at c.add_irq.ensures in (
       next_clocks c.self.inside.plan.now c.self.inside.clocks c.apply.new.self c.self.inside.count c.change-change.result c.self.invariant.0 is made,
       c.self.invariant.1,
-      rw kept (next_irqs c.self.inside.plan.now c.self.inside.irqs.items c.add_irq.new.times c.self.inside.count c.change-change.result c.self.invariant.2 is grown.room grown.grown),
+      rw kept (next_irqs c.self.inside.plan.now c.self.inside.irqs.items c.add_irq.new.times c.self.inside.count c.change-change.result c.self.invariant.2 is grown.room
+      (λ slot below. grown.grown slot below ∙ ap (λ n. irq_at c.self.inside.irqs.items slot + n) (taken_is c.self.inside.plan.now c.self.inside.clocks c.self.inside.count c.change-change.result slot c.self.invariant.0))),
     )

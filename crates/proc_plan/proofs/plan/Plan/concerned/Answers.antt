@@ -5,7 +5,7 @@ use Rattle.proc_plan.proofs.plan.Plan.concerned.Goals as goal
 pub returns-clause-slots : goal.returns-clause-slots
 returns-clause-slots c = λ change is.
     let same = same_change c.args.self.now (c.args.k - 1) c.change-change.result change c.change-change.ensures is in
-    rw (c.part_slot.ensures, c.part_slot-2.ensures, c.current_slot.ensures, c.current_slot-2.ensures, c.current_before.ensures, same) refl
+    rw (c.or.ensures, c.current_slot.ensures, c.part_slot.ensures, c.part_slot-2.ensures, c.current_slot-2.ensures, c.current_slot-3.ensures, c.current_before.ensures, same) refl
 
 pub returns-clause-aside : goal.returns-clause-aside
-returns-clause-aside c = others_aside c.args.self.now (c.args.k - 1) (c.part_slot.result ∷ c.part_slot-2.result ∷ c.current_slot.result ∷ c.current_slot-2.result ∷ []) (returns-clause-slots c)
+returns-clause-aside c = others_aside c.args.self.now (c.args.k - 1) (c.or.result ∷ c.part_slot-2.result ∷ c.current_slot-2.result ∷ c.current_slot-3.result ∷ []) (rw c.self.view_is at c.self.invariant) (returns-clause-slots c)

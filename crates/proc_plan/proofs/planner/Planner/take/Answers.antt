@@ -1,14 +1,16 @@
-use Rattle.std.proofs.Common.{◌≡◌, ℕ, List, [], ◌++◌, length, take, drop, rules, arith, sym, ap, ◌∙◌, subst}
+use Rattle.std.proofs.Common.{◌≡◌, ◌<◌, ℕ, Option, List, [], ◌++◌, length, take, drop, rules, arith, sym, ap, ◌∙◌, subst}
 use Rattle.std.proofs.lemmas.List.{length-map}
 use Rattle.std.proofs.Math.ListN.{get_or-map}
 use Rattle.std.proofs.Math.Seq.{take-append_seam}
 use Rattle.std.specs.Prelude.{slice_index_or}
 use Rattle.psi_spec.specs.Told.{listed}
 use Rattle.psi_counts.specs.Legal.{with_change}
-use Rattle.psi_counts.specs.Touch.{told_of}
+use Rattle.psi_counts.specs.Touch.{change_told, shown}
+use Rattle.psi_counts.specs.declared.changes.Change.{Change}
+use Rattle.psi_spec.specs.World.{Limits, running_on}
 use Rattle.proc_plan.specs.Plans.{HasTaken, changes_at, planner_view}
 use Rattle.proc_plan.specs.Room.{ChangesView, changes_in, lists_of, no_room}
-use Rattle.proc_plan.proofs.Taking.{HasStepped, room_for, taken_more}
+use Rattle.proc_plan.proofs.Taking.{HasStepped, room_for, room_for_all, taken_more}
 use Rattle.proc_plan.proofs.planner.Planner.take.Goals as goal
 
 -- what a slice of all items wrote is what is there
@@ -22,6 +24,19 @@ add_changes-requires-clause-room c =
     rw there
     (room_for c.self.inside.table.world c.args.event.now c.in_ok-touch.touch c.task_before-task.result c.make_room.new.changes c.self.inside.table.limits.cpus c.task_before-task.ensures c.in_ok-touch.ensures.touch c.in_ok-touch.ensures.cpus each c.in-Ok.ensures.room)
 
+pub add_changes-requires-clause-all : goal.add_changes-requires-clause-all
+add_changes-requires-clause-all c =
+    let each : length c.make_room.new.changes ≡ c.self.inside.table.limits.cpus = c.in-Ok.ensures.each ∙ ap length c.deref_mut.ensures.value ∙ sym (length-map c.self.inside.changes.items (λ (changes : ChangesView). changes.list)) ∙ c.self.invariant.each in
+    let there : c.deref_mut-2.result.now ≡ c.make_room.new.changes = c.deref_mut-2.ensures.value ∙ written c.self.inside.changes.len c.make_room.new.changes c.self.inside.changes.items (c.in-Ok.ensures.each ∙ c.deref_mut.ensures.len) in
+    rw there
+    (room_for_all c.self.inside.table.world c.args.event.now c.in_ok-touch.touch c.task_before-task.result c.make_room.new.changes c.self.inside.table.limits.cpus c.task_before-task.ensures c.in_ok-touch.ensures.touch each c.in-Ok.ensures.room)
+
+pub add_changes-requires-clause-each : goal.add_changes-requires-clause-each
+add_changes-requires-clause-each c =
+    let each : length c.make_room.new.changes ≡ c.self.inside.table.limits.cpus = c.in-Ok.ensures.each ∙ ap length c.deref_mut.ensures.value ∙ sym (length-map c.self.inside.changes.items (λ (changes : ChangesView). changes.list)) ∙ c.self.invariant.each in
+    let there : c.deref_mut-2.result.now ≡ c.make_room.new.changes = c.deref_mut-2.ensures.value ∙ written c.self.inside.changes.len c.make_room.new.changes c.self.inside.changes.items (c.in-Ok.ensures.each ∙ c.deref_mut.ensures.len) in
+    rw there (each ∙ sym (ap (λ (limits : Limits). limits.cpus) c.in_ok-touch.ensures.plays.limits))
+
 pub returns-clause-takes : goal.returns-clause-takes
 returns-clause-takes c = λ limits events taken.
     let old = planner_view c.self.inside.table (lists_of c.self.inside.changes.items) c.self.inside.triggers.items c.self.inside.sides.items in
@@ -29,10 +44,12 @@ returns-clause-takes c = λ limits events taken.
     let told = c.told_by-told.result in
     let there : c.deref_mut-2.result.now ≡ c.make_room.new.changes = c.deref_mut-2.ensures.value ∙ written c.self.inside.changes.len c.make_room.new.changes c.self.inside.changes.items (c.in-Ok.ensures.each ∙ c.deref_mut.ensures.len) in
     let kept : lists_of c.make_room.new.changes ≡ lists_of c.self.inside.changes.items = c.in-Ok.ensures.changes ∙ ap lists_of c.deref_mut.ensures.value in
-    let changes : (cpu : ℕ) → changes_at new cpu ≡ changes_at old cpu ++ with_change (told_of c.in_ok-touch.touch cpu) [] = λ cpu.
+    let each : length c.make_room.new.changes ≡ c.self.inside.table.limits.cpus = c.in-Ok.ensures.each ∙ ap length c.deref_mut.ensures.value ∙ sym (length-map c.self.inside.changes.items (λ (changes : ChangesView). changes.list)) ∙ c.self.invariant.each in
+    let told_at : ℕ → Option Change = λ cpu. change_told c.args.event.now.at (shown (running_on c.step.new.self.world.tasks cpu)) c.in_ok-touch.touch cpu in
+    let changes : (cpu : ℕ) → cpu < c.self.inside.table.limits.cpus → changes_at new cpu ≡ changes_at old cpu ++ with_change (told_at cpu) [] = λ cpu below.
     get_or-map (λ (changes : ChangesView). changes.list) c.add_changes.new.changes cpu no_room
-    ∙ c.add_changes.ensures.added cpu
-    ∙ ap (λ list. list ++ with_change (told_of c.in_ok-touch.touch cpu) []) (ap (λ changes. changes_in changes cpu) there ∙ sym (get_or-map (λ (changes : ChangesView). changes.list) c.make_room.new.changes cpu no_room) ∙ ap (λ lists. slice_index_or lists cpu []) kept) in
+    ∙ c.add_changes.ensures.added cpu (rw there (omega (arith, below, each)))
+    ∙ ap (λ list. list ++ with_change (told_at cpu) []) (ap (λ changes. changes_in changes cpu) there ∙ sym (get_or-map (λ (changes : ChangesView). changes.list) c.make_room.new.changes cpu no_room) ∙ ap (λ lists. slice_index_or lists cpu []) kept) in
     let step : HasStepped old new c.args.event.now c.in_ok-touch.touch told.trigger told.first told.second = record {
       fits = c.requires;
       played = c.in_ok-touch.ensures.plays;
