@@ -1,5 +1,5 @@
 -- What a table's step tells is the touch of its event.
-use Rattle.std.proofs.Common.{◌≡◌, ℕ, ◌+◌, ◌<◌, List, Bool, Some, None, length, ap, ◌∙◌, sym, subst}
+use Rattle.std.proofs.Common.{◌≡◌, ℕ, ◌+◌, ◌<◌, List, Bool, Some, None, length, refl, ap, ◌∙◌, sym, subst}
 use Rattle.std.specs.Prelude.{Option, IfSome, ◌||◌, if◌then◌else◌, slice_index_or}
 use Rattle.psi_base.specs.declared.event.Event.{Event}
 use Rattle.psi_spec.specs.declared.machine.Task.{Task}

@@ -1,21 +1,20 @@
 //! What a legal act does to tasks and groups.
-ghost use Rattle.std.specs.Prelude.{◌≡◌, ◌≢◌, ℕ, ◌+◌, ◌<◌, ◌≤◌, ◌++◌, ◌||◌, if◌then◌else◌, List, [], ◌∷◌, Option, None, Some, IfOk, IfSome, OnOk, OnErr, true, false, length, slice_index_or, slice_set, unwrap_or};
+ghost use Rattle.std.specs.Prelude.{◌≡◌, ℕ, ◌+◌, ◌<◌, ◌≤◌, ◌++◌, ◌||◌, if◌then◌else◌, List, [], ◌∷◌, Option, None, Some, IfOk, OnOk, OnErr, true, false, length, slice_index_or, slice_set, unwrap_or};
 ghost use Rattle.std.specs.FinMap as tasks_by;
-ghost use Rattle.psi_spec.specs.World.{change, ends, groups_after, irqs_after, is_pressure, is_ready, is_running, is_trigger, leave, left_by, most_tasks, new_group, new_task, put, readied, running_on, slot_of, start, task_of, task_part, tasks_after};
-ghost use Rattle.psi_counts.specs.Touch.{changed, left_if};
-ghost use Rattle.psi_spec.specs.Refusal.{is_wrong};
+ghost use Rattle.psi_spec.specs.World.{change, ends, groups_after, irqs_after, is_pressure, is_running, is_trigger, most_tasks, new_group, new_task, put, readied, slot_of, task_of, tasks_after};
+ghost use Rattle.psi_counts.specs.Touch.{changed};
 ghost use Rattle.group_tree.specs.Tree.{add_cause};
-ghost use Rattle.task_table.specs.Causes.{act_cause, groups_cause, makes_group, switch_cause, takes_memory};
-ghost use Rattle.task_table.specs.Named.{IsChanged, MayReplaceIf, named_task, next_task};
+ghost use Rattle.task_table.specs.Causes.{act_cause, groups_cause, makes_group, takes_memory};
+ghost use Rattle.task_table.specs.Named.{IsChanged, MayReplaceIf, named_task};
 ghost use Rattle.task_table.specs.Stands.{AreMembers, IsIndex};
-ghost use Rattle.psi_base.specs.declared.event.How.TheVariants.{Idle};
 
+use crate::context_switch::switch;
 use crate::members::Members;
-use crate::running::{Running, running_at, set_running};
+use crate::running::{Running, set_running};
 use crate::task_map::TaskMap;
 use crate::task_update::TaskUpdate;
 use group_tree::Tree;
-use psi_base::{Act, Cpu, Fault, How, NoMemory, Ns, Path, Pid, Slot};
+use psi_base::{Act, Cpu, Fault, NoMemory, Ns, Path, Slot};
 use psi_spec::{Mode, Task};
 
 /// The most processors that a machine may have.
@@ -89,7 +88,7 @@ fn forked(tree: &Tree, path: &Path, cpu: Cpu) -> Task
 }
 
 /// The slot of the live group with this path, or the root's where there is none.
-fn slot_named(tree: &Tree, path: &Path) -> Slot
+pub(crate) fn slot_named(tree: &Tree, path: &Path) -> Slot
     ensures { result.0 ≡ unwrap_or (slot_of tree.now path.now) 0 }
 {
     tree.find(path).unwrap_or(Slot(0))
@@ -129,30 +128,6 @@ fn moved(task: Option<Task>, slot: Slot) -> Option<Task>
     }
 }
 
-/// A running task after it left its processor, or none where it is gone.
-fn left(how: How, task: Task) -> Option<Task>
-    ensures task { result ≡ left_by how task }
-    ensures off { how ≢ Idle → IfSome result (λ t. is_running t.mode ≡ false) }
-    ensures slot { IfSome result (λ t. t.slot ≡ task.slot) }
-{
-    match how {
-        How::Preempt => Some(Task {
-            mode: Mode::Ready,
-            ..task
-        }),
-        How::Sleep => Some(Task {
-            mode: Mode::Blocked,
-            ..task
-        }),
-        How::IoWait => Some(Task {
-            mode: Mode::Waiting,
-            ..task
-        }),
-        How::Exit => None,
-        How::Idle => Some(task),
-    }
-}
-
 /// The task with the number that an act names.
 pub(crate) fn named_task(tasks: &TaskMap, act: &Act) -> Option<Task>
     ensures { result ≡ named_task tasks.now act.now }
@@ -170,81 +145,6 @@ pub(crate) fn named_task(tasks: &TaskMap, act: &Act) -> Option<Task>
         | Act::Move { pid, .. } => tasks.get(pid.0),
         _ => None,
     }
-}
-
-/// The running task of a processor leaves it.
-fn switch_out(
-    tasks: &mut TaskMap,
-    running: &mut [Running],
-    members: &mut Members,
-    cpu: u32,
-    how: How,
-) -> TaskUpdate
-    requires index { IsIndex running.old tasks.old }
-    requires members { AreMembers members.old tasks.old }
-    requires room { cpu < length running.old }
-    requires how { is_wrong how (running_on tasks.old cpu) ≡ false }
-    ensures tasks { tasks.new ≡ leave how tasks.old (running_on tasks.old cpu) }
-    ensures index { IsIndex running.new tasks.new }
-    ensures members { AreMembers members.new tasks.new }
-    ensures cover { length members.new ≡ length members.old }
-    ensures length { length running.new ≡ length running.old }
-    ensures free { slice_index_or running.new cpu None ≡ None }
-    ensures before { result.old ≡ task_part (running_on tasks.old cpu) }
-    ensures after { result.new ≡ left_if how (task_part (running_on tasks.old cpu)) }
-{
-    let Some((pid, task)) = running_at(running, cpu) else {
-        return TaskUpdate {
-            old: None,
-            new: None,
-        };
-    };
-    running[cpu as usize] = None;
-    let new = left(how, task);
-    match new {
-        Some(after) => tasks.set(pid, after),
-        None => {
-            members.leave(task.slot);
-            tasks.remove(pid);
-        }
-    }
-    TaskUpdate {
-        old: Some(task),
-        new,
-    }
-}
-
-/// A ready task starts on a processor on which none runs.
-fn switch_in(
-    tasks: &mut TaskMap,
-    running: &mut [Running],
-    cpu: u32,
-    next: Option<Pid>,
-    task: Option<Task>,
-)
-    requires index { IsIndex running.old tasks.old }
-    requires room { cpu < length running.old }
-    requires free { slice_index_or running.old cpu None ≡ None }
-    requires task { task ≡ next_task tasks.old next }
-    requires ready { IfSome task (λ t. (t.cpu.0 ≡ cpu) × (is_ready t.mode ≡ true)) }
-    ensures tasks { tasks.new ≡ start next tasks.old }
-    ensures index { IsIndex running.new tasks.new }
-    ensures members { (members : List ℕ) → AreMembers members tasks.old →
-        AreMembers members tasks.new }
-    ensures length { length running.new ≡ length running.old }
-{
-    let Some(pid) = next else {
-        return;
-    };
-    let Some(task) = task else {
-        return;
-    };
-    let after = Task {
-        mode: Mode::Running,
-        ..task
-    };
-    tasks.set(pid.0, after);
-    running[cpu as usize] = Some((pid.0, after));
 }
 
 /// A task takes the place of another with the same number, if there are both.
@@ -334,34 +234,6 @@ fn add_group(tree: &mut Tree, members: &mut Members, path: &Path, at: Ns) -> Res
         Err(Fault::NoMemory(none)) => Err(none),
         Err(Fault::Refused(_)) => unreachable!(),
     }
-}
-
-/// A legal switch, done. `task` is the one that runs next.
-fn switch(
-    tasks: &mut TaskMap,
-    running: &mut [Running],
-    members: &mut Members,
-    cpu: u32,
-    next: Option<Pid>,
-    task: Option<Task>,
-    how: How,
-) -> TaskUpdate
-    requires index { IsIndex running.old tasks.old }
-    requires members { AreMembers members.old tasks.old }
-    requires task { task ≡ next_task tasks.old next }
-    requires legal { switch_cause (length running.old) cpu next task how (running_on tasks.old cpu)
-        ≡ None }
-    ensures tasks { tasks.new ≡ start next (leave how tasks.old (running_on tasks.old cpu)) }
-    ensures index { IsIndex running.new tasks.new }
-    ensures members { AreMembers members.new tasks.new }
-    ensures cover { length members.new ≡ length members.old }
-    ensures length { length running.new ≡ length running.old }
-    ensures before { result.old ≡ task_part (running_on tasks.old cpu) }
-    ensures after { result.new ≡ left_if how (task_part (running_on tasks.old cpu)) }
-{
-    let changed = switch_out(tasks, running, members, cpu, how);
-    switch_in(tasks, running, cpu, next, task);
-    changed
 }
 
 /// What a legal act does to tasks, done. `named` is the task with the number that the act names. Only a fork takes memory;

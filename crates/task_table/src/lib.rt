@@ -2,6 +2,7 @@
 #![tactic(auto)]
 
 mod causes;
+mod context_switch;
 mod effects;
 mod members;
 mod running;

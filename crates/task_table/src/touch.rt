@@ -8,6 +8,7 @@ ghost use Rattle.psi_spec.specs.Changes.{touched};
 ghost use Rattle.psi_spec.specs.Stall.{irq_told};
 ghost use Rattle.task_table.specs.Named.{change_for};
 
+use crate::effects::slot_named;
 use crate::running::{Running, running_at};
 use crate::task_update::TaskUpdate;
 use group_tree::Tree;
@@ -89,7 +90,7 @@ pub(crate) fn gate_of(tree: &Tree, act: &Act) -> Option<(Slot, bool)>
     ensures { result ≡ gate_of tree.now act.now }
 {
     match act {
-        Act::Pressure { path, on } => Some((tree.find(path).unwrap_or(Slot(0)), *on)),
+        Act::Pressure { path, on } => Some((slot_named(tree, path), *on)),
         _ => None,
     }
 }

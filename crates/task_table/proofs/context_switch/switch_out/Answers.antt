@@ -2,7 +2,7 @@ use Rattle.std.proofs.Common.{ap, sym, refl, ◌∙◌, None, Some}
 use Rattle.psi_spec.specs.Refusal.{is_wrong}
 use Rattle.task_table.proofs.Index as index
 use Rattle.task_table.proofs.MemberLaws as members
-use Rattle.task_table.proofs.effects.switch_out.Goals as goal
+use Rattle.task_table.proofs.context_switch.switch_out.Goals as goal
 
 pub returns-in_default-clause-tasks : goal.returns-in_default-clause-tasks
 returns-in_default-clause-tasks c = rw (index.running_told c.args.running.now c.args.tasks.now c.requires.index c.args.cpu ∙ sym c.running_at.ensures ∙ c.in_default.is) refl

@@ -1,7 +1,7 @@
 use Rattle.std.proofs.Common.{sym, ◌∙◌, refl}
 use Rattle.task_table.proofs.Index as index
 use Rattle.task_table.proofs.MemberLaws as members
-use Rattle.task_table.proofs.effects.switch_in.Goals as goal
+use Rattle.task_table.proofs.context_switch.switch_in.Goals as goal
 
 pub returns-clause-index : goal.returns-clause-index
 returns-clause-index c =

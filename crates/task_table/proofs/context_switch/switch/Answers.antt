@@ -2,7 +2,7 @@ use Rattle.std.proofs.Common.{length, sym, ◌∙◌}
 use Rattle.psi_spec.specs.World.{running_on}
 use Rattle.task_table.proofs.Index as index
 use Rattle.task_table.proofs.CauseLaws as causes
-use Rattle.task_table.proofs.effects.switch.Goals as goal
+use Rattle.task_table.proofs.context_switch.switch.Goals as goal
 
 pub switch_in-requires-clause-task : goal.switch_in-requires-clause-task
 switch_in-requires-clause-task c =
