@@ -1,92 +1,78 @@
--- How one more tick changes the samples of a group, its totals and averages, and its triggers.
-use Rattle.std.proofs.Common.{◌≡◌, ℕ, suc, ◌+◌, ◌≤◌, ◌<◌, List, [], ◌∷◌, ◌++◌, length, get_or, refl, sym, ap, ◌∙◌, arith, true, false, append_assoc, ◌⊎◌, ⊎_elim}
+-- How one more tick changes the history of a group, its totals and averages, and its triggers.
+use Rattle.std.proofs.Common.{◌≡◌, ℕ, suc, ◌+◌, ◌≤◌, ◌<◌, List, [], ◌∷◌, ◌++◌, length, get_or, refl, sym, ap, ◌∙◌, arith, true, false, ◌⊎◌, ⊎_elim}
 use Rattle.std.specs.Prelude.{All, Bool, map, filter, nat_le, nat_lt, sum_by, if◌then◌else◌, ◌&&◌}
-use Rattle.std.proofs.lemmas.List.{get_or_past, get_or-replicate, get_or_at, get_or-append-add, length-append, map-append, append-nil}
-use Rattle.std.proofs.lemmas.List.Sums.{fold-append, sum_by-append}
-use Rattle.std.proofs.lemmas.List.Folds.{fold-map}
+use Rattle.std.proofs.lemmas.List.{get_or_past, get_or-map, get_or-replicate, get_or_at, get_or-append-add, length-append, map-append, append-nil}
+use Rattle.std.proofs.lemmas.List.Sums.{fold-append, sum_by-cons}
 use Rattle.std.proofs.lemmas.Bool.{false≢true}
 use Rattle.std.proofs.lemmas.List.Elements.{All-cons, All-nil, filter-append}
-use Rattle.std.proofs.lemmas.List.FromFn.{get_or-map-range_with_len}
 use Rattle.std.specs.List.Sorted.{IsNonDecreasingBy}
 use Rattle.psi_base.specs.declared.event.TriggerSpec.{TriggerSpec}
 use Rattle.psi_spec.specs.declared.machine.GroupLife.{GroupLife}
 use Rattle.psi_spec.specs.Groups.{is_live_at}
 use Rattle.pressure_spec.specs.Ticks.{Tick, no_row, no_tick, last_tick, IsNextTick, AreNextTicks}
-use Rattle.pressure_spec.specs.Share.{at_state, no_totals, plus, pressure_places, shares, totals_of}
+use Rattle.pressure_spec.specs.Share.{at_state, no_totals, plus, pressure_places, shares}
 use Rattle.pressure_spec.specs.Average.{AverageState, IsAverageState, average_of, average_step, averages_after, last_totals, HasTotals}
 use Rattle.pressure_spec.specs.Signal.{TriggerState, new_trigger, trigger_step, trigger_after, fires}
-use Rattle.pressure_spec.specs.Samples.{life_of, row_at, growths, samples_from, group_samples, totals_after, with_totals, history_of, group_averages, watched_state, first_value, seen_by, trigger_over, has_fired, TotalIsSum, TotalsNeverFall, GroupsAtMostHundred, FiredApart}
-use Rattle.pressure_spec.proofs.ShareLaws.{totals_grow}
+use Rattle.pressure_spec.specs.Samples.{life_of, row_at, growths, with_shares, history_from, history_of, totals_after, group_averages, watched_state, first_value, seen_by, trigger_over, has_fired}
+use Rattle.pressure_spec.specs.Laws.{samples_from, TotalIsSum, TotalsNeverFall, GroupsAtMostHundred, FiredApart}
+use Rattle.pressure_spec.proofs.ShareLaws.{get_or-zip_with, length-zip_with}
 use Rattle.pressure_spec.proofs.AverageLaws.{at_most_hundred}
 use Rattle.pressure_spec.proofs.SignalLaws.{signals_apart}
 
--- ---- samples
+-- ---- histories
 
 -- the times of a group at the last of ticks, and those before them where there is none
 abbrev pub last_row : ℕ → List (List ℕ) → List Tick → List (List ℕ)
 last_row slot before [] = before
 last_row slot before (tick ∷ ticks) = last_row slot (row_at tick slot) ticks
 
--- ticks sample what ticks before them sample, and then what they do after them
-pub samples_from-append : (life : GroupLife) (slot : ℕ) (before : List (List ℕ)) (ticks more : List Tick) →
-    samples_from life slot before (ticks ++ more) ≡ samples_from life slot before ticks ++ samples_from life slot (last_row slot before ticks) more
-samples_from-append life slot before [] more = refl
-samples_from-append life slot before (tick ∷ ticks) more =
-    let rest = samples_from-append life slot (row_at tick slot) ticks more in
+-- the totals at the end of a longer history
+pub last_totals-append : (before : List ℕ) (history more : List (ℕ × List ℕ)) → last_totals before (history ++ more) ≡ last_totals (last_totals before history) more
+last_totals-append before [] more = refl
+last_totals-append before (entry ∷ history) more = last_totals-append entry.1 history more
+
+-- a history over more ticks goes on with the times and the totals at the last of those before them
+history_from-append : (life : GroupLife) (slot : ℕ) (before : List (List ℕ)) (totals : List ℕ) (ticks more : List Tick) →
+    history_from life slot before totals (ticks ++ more)
+    ≡ history_from life slot before totals ticks ++ history_from life slot (last_row slot before ticks) (last_totals totals (history_from life slot before totals ticks)) more
+history_from-append life slot before totals [] more = refl
+history_from-append life slot before totals (tick ∷ ticks) more =
+    let row = row_at tick slot in
+    let now = with_shares totals before row in
+    let behind = last_row slot row ticks in
+    let there = history_from-append life slot row now ticks more in
+    let gone = history_from-append life slot row totals ticks more in
     elim (is_live_at life tick.at) as (λ live.
-    (if live then (tick.at, shares (growths before (row_at tick slot))) ∷ samples_from life slot (row_at tick slot) (ticks ++ more) else samples_from life slot (row_at tick slot) (ticks ++ more))
-    ≡ (if live then (tick.at, shares (growths before (row_at tick slot))) ∷ samples_from life slot (row_at tick slot) ticks else samples_from life slot (row_at tick slot) ticks) ++ samples_from life slot (last_row slot (row_at tick slot) ticks) more)
-    [ true ↦ ap (λ rows. (tick.at, shares (growths before (row_at tick slot))) ∷ rows) rest | false ↦ rest ]
+    (if live then (tick.at, now) ∷ history_from life slot row now (ticks ++ more) else history_from life slot row totals (ticks ++ more))
+    ≡ (if live then (tick.at, now) ∷ history_from life slot row now ticks else history_from life slot row totals ticks)
+    ++ history_from life slot behind (last_totals totals (if live then (tick.at, now) ∷ history_from life slot row now ticks else history_from life slot row totals ticks)) more)
+    [ true ↦ ap (λ rest. (tick.at, now) ∷ rest) there | false ↦ gone ]
 
--- the sample that a tick takes of a group that is live at it
-abbrev pub sample_at : ℕ → List Tick → ℕ → Tick → ℕ × List ℕ
-sample_at cpus ticks slot tick = (tick.at, shares (growths (last_row slot (no_row cpus) ticks) (row_at tick slot)))
+-- the history of a group over more ticks
+abbrev pub history_on : ℕ → List GroupLife → List Tick → List Tick → ℕ → List (ℕ × List ℕ)
+history_on cpus lives ticks more slot = history_from (life_of lives slot) slot (last_row slot (no_row cpus) ticks) (totals_after cpus lives ticks slot) more
 
-pub samples_live : (cpus : ℕ) (lives : List GroupLife) (ticks : List Tick) (tick : Tick) (slot : ℕ) → is_live_at (life_of lives slot) tick.at ≡ true →
-    group_samples cpus lives (ticks ++ tick ∷ []) slot ≡ group_samples cpus lives ticks slot ++ sample_at cpus ticks slot tick ∷ []
-samples_live cpus lives ticks tick slot live = samples_from-append (life_of lives slot) slot (no_row cpus) ticks (tick ∷ []) ∙ ap (λ rows. group_samples cpus lives ticks slot ++ rows) (rw live refl)
-
-pub samples_gone : (cpus : ℕ) (lives : List GroupLife) (ticks : List Tick) (tick : Tick) (slot : ℕ) → is_live_at (life_of lives slot) tick.at ≡ false →
-    group_samples cpus lives (ticks ++ tick ∷ []) slot ≡ group_samples cpus lives ticks slot
-samples_gone cpus lives ticks tick slot gone =
-    samples_from-append (life_of lives slot) slot (no_row cpus) ticks (tick ∷ []) ∙ ap (λ rows. group_samples cpus lives ticks slot ++ rows) (rw gone refl) ∙ append-nil (group_samples cpus lives ticks slot)
-
--- ---- totals
-
-pub length-shares : (rows : List (List ℕ)) → length (shares rows) ≡ length pressure_places
-unfolding shares
-length-shares rows = refl
-
--- the shares of samples
-abbrev pub shares_of : List (ℕ × List ℕ) → List (List ℕ)
-shares_of samples = map (λ (sample : ℕ × List ℕ). sample.1) samples
-
-totals_at : (cpus : ℕ) (lives : List GroupLife) (ticks : List Tick) (tick : Tick) (slot : ℕ) → is_live_at (life_of lives slot) tick.at ≡ true →
-    totals_after cpus lives (ticks ++ tick ∷ []) slot ≡ totals_of (shares_of (group_samples cpus lives ticks slot) ++ (sample_at cpus ticks slot tick).1 ∷ [])
+history_of-append : (cpus : ℕ) (lives : List GroupLife) (ticks more : List Tick) (slot : ℕ) →
+    history_of cpus lives (ticks ++ more) slot ≡ history_of cpus lives ticks slot ++ history_on cpus lives ticks more slot
 unfolding totals_after
-totals_at cpus lives ticks tick slot live =
-    ap (λ samples. totals_of (shares_of samples)) (samples_live cpus lives ticks tick slot live)
-    ∙ ap totals_of (map-append (λ (sample : ℕ × List ℕ). sample.1) (group_samples cpus lives ticks slot) (sample_at cpus ticks slot tick ∷ []))
+history_of-append cpus lives ticks more slot = history_from-append (life_of lives slot) slot (no_row cpus) no_totals ticks more
 
+totals_after-append : (cpus : ℕ) (lives : List GroupLife) (ticks more : List Tick) (slot : ℕ) →
+    totals_after cpus lives (ticks ++ more) slot ≡ last_totals (totals_after cpus lives ticks slot) (history_on cpus lives ticks more slot)
+unfolding totals_after
+totals_after-append cpus lives ticks more slot =
+    ap (last_totals no_totals) (history_of-append cpus lives ticks more slot) ∙ last_totals-append no_totals (history_of cpus lives ticks slot) (history_on cpus lives ticks more slot)
+
+-- ---- one tick more
+
+-- the totals of a group that is live at one tick more
 pub totals_live : (cpus : ℕ) (lives : List GroupLife) (ticks : List Tick) (tick : Tick) (slot : ℕ) → is_live_at (life_of lives slot) tick.at ≡ true →
-    totals_after cpus lives (ticks ++ tick ∷ []) slot ≡ plus (totals_after cpus lives ticks slot) (sample_at cpus ticks slot tick).1
-unfolding totals_after
-totals_live cpus lives ticks tick slot live =
-    totals_at cpus lives ticks tick slot live ∙ totals_grow (shares_of (group_samples cpus lives ticks slot)) (sample_at cpus ticks slot tick).1 (length-shares _)
+    totals_after cpus lives (ticks ++ tick ∷ []) slot ≡ with_shares (totals_after cpus lives ticks slot) (last_row slot (no_row cpus) ticks) (row_at tick slot)
+totals_live cpus lives ticks tick slot live = totals_after-append cpus lives ticks (tick ∷ []) slot ∙ rw live refl
 
 pub totals_gone : (cpus : ℕ) (lives : List GroupLife) (ticks : List Tick) (tick : Tick) (slot : ℕ) → is_live_at (life_of lives slot) tick.at ≡ false →
     totals_after cpus lives (ticks ++ tick ∷ []) slot ≡ totals_after cpus lives ticks slot
-unfolding totals_after
-totals_gone cpus lives ticks tick slot gone = ap (λ samples. totals_of (shares_of samples)) (samples_gone cpus lives ticks tick slot gone)
-
--- ---- histories
-
-with_totals-append : (before : List (List ℕ)) (samples more : List (ℕ × List ℕ)) → with_totals before (samples ++ more) ≡ with_totals before samples ++ with_totals (before ++ shares_of samples) more
-with_totals-append before [] more = ap (λ shares. with_totals shares more) (sym (append-nil before))
-with_totals-append before (sample ∷ samples) more =
-    ap (λ rest. (sample.0, totals_of (before ++ sample.1 ∷ [])) ∷ rest)
-    (with_totals-append (before ++ sample.1 ∷ []) samples more
-    ∙ ap (λ shares. with_totals (before ++ sample.1 ∷ []) samples ++ with_totals shares more) (append_assoc before (sample.1 ∷ []) (shares_of samples)))
+totals_gone cpus lives ticks tick slot gone = totals_after-append cpus lives ticks (tick ∷ []) slot ∙ rw gone refl
 
 -- the entry of a tick in the history of a group that is live at it
 abbrev pub entry_at : ℕ → List GroupLife → List Tick → Tick → ℕ → ℕ × List ℕ
@@ -94,18 +80,20 @@ entry_at cpus lives ticks tick slot = (tick.at, totals_after cpus lives (ticks +
 
 pub history_live : (cpus : ℕ) (lives : List GroupLife) (ticks : List Tick) (tick : Tick) (slot : ℕ) → is_live_at (life_of lives slot) tick.at ≡ true →
     history_of cpus lives (ticks ++ tick ∷ []) slot ≡ history_of cpus lives ticks slot ++ entry_at cpus lives ticks tick slot ∷ []
-unfolding totals_after
 history_live cpus lives ticks tick slot live =
-    let samples = group_samples cpus lives ticks slot in
-    let more = samples_live cpus lives ticks tick slot live in
-    let shares_more : shares_of (group_samples cpus lives (ticks ++ tick ∷ []) slot) ≡ shares_of samples ++ (sample_at cpus ticks slot tick).1 ∷ [] =
-    ap shares_of more ∙ map-append (λ (sample : ℕ × List ℕ). sample.1) samples (sample_at cpus ticks slot tick ∷ []) in
-    ap (with_totals []) more ∙ with_totals-append [] samples (sample_at cpus ticks slot tick ∷ [])
-    ∙ ap (λ shares. with_totals [] samples ++ (tick.at, totals_of shares) ∷ []) (sym shares_more)
+    let history = history_of cpus lives ticks slot in
+    history_of-append cpus lives ticks (tick ∷ []) slot ∙ rw live (ap (λ totals. history ++ (tick.at, totals) ∷ []) (sym (totals_live cpus lives ticks tick slot live)))
 
 pub history_gone : (cpus : ℕ) (lives : List GroupLife) (ticks : List Tick) (tick : Tick) (slot : ℕ) → is_live_at (life_of lives slot) tick.at ≡ false →
     history_of cpus lives (ticks ++ tick ∷ []) slot ≡ history_of cpus lives ticks slot
-history_gone cpus lives ticks tick slot gone = ap (with_totals []) (samples_gone cpus lives ticks tick slot gone)
+history_gone cpus lives ticks tick slot gone =
+    let history = history_of cpus lives ticks slot in
+    history_of-append cpus lives ticks (tick ∷ []) slot ∙ rw gone (append-nil history)
+
+-- the last totals in a group's history are its totals
+pub history_last : (cpus : ℕ) (lives : List GroupLife) (ticks : List Tick) (slot : ℕ) → last_totals no_totals (history_of cpus lives ticks slot) ≡ totals_after cpus lives ticks slot
+unfolding totals_after
+history_last cpus lives ticks slot = refl
 
 -- ---- averages
 
@@ -120,26 +108,6 @@ pub averages_gone : (cpus : ℕ) (lives : List GroupLife) (ticks : List Tick) (t
     group_averages cpus lives (ticks ++ tick ∷ []) slot ≡ group_averages cpus lives ticks slot
 unfolding group_averages
 averages_gone cpus lives ticks tick slot gone = ap (averages_after (life_of lives slot).made) (history_gone cpus lives ticks tick slot gone)
-
--- ---- the last totals
-
-pub last_totals-append : (before : List ℕ) (history more : List (ℕ × List ℕ)) → last_totals before (history ++ more) ≡ last_totals (last_totals before history) more
-last_totals-append before [] more = refl
-last_totals-append before (entry ∷ history) more = last_totals-append entry.1 history more
-
-with_totals_last : (before : List (List ℕ)) (samples : List (ℕ × List ℕ)) → last_totals (totals_of before) (with_totals before samples) ≡ totals_of (before ++ shares_of samples)
-with_totals_last before [] = ap totals_of (sym (append-nil before))
-with_totals_last before (sample ∷ samples) = with_totals_last (before ++ sample.1 ∷ []) samples ∙ ap totals_of (append_assoc before (sample.1 ∷ []) (shares_of samples))
-
-no_totals_is : no_totals ≡ totals_of []
-unfolding totals_of
-no_totals_is = refl
-
--- the last totals in a group's history are its totals
-pub history_last : (cpus : ℕ) (lives : List GroupLife) (ticks : List Tick) (slot : ℕ) → last_totals no_totals (history_of cpus lives ticks slot) ≡ totals_after cpus lives ticks slot
-unfolding totals_after
-history_last cpus lives ticks slot =
-    ap (λ totals. last_totals totals (history_of cpus lives ticks slot)) no_totals_is ∙ with_totals_last [] (group_samples cpus lives ticks slot)
 
 -- ---- triggers
 
@@ -220,62 +188,88 @@ trigger_over_first trigger history early =
 
 -- ---- moments of a history
 
--- the samples of ticks that aren't before a moment aren't either
-samples_not_before : (life : GroupLife) (slot : ℕ) (before : List (List ℕ)) (ticks : List Tick) (at : ℕ) → All (λ (tick : Tick). at ≤ tick.at) ticks → All (λ (sample : ℕ × List ℕ). at ≤ sample.0) (samples_from life slot before ticks)
-samples_not_before life slot before [] at all = All-nil _
-samples_not_before life slot before (tick ∷ ticks) at all =
-    let rest = samples_not_before life slot (row_at tick slot) ticks at (λ k d below. all (suc k) d (omega arith)) in
-    elim (is_live_at life tick.at) as (λ live. All (λ (sample : ℕ × List ℕ). at ≤ sample.0) (if live then (tick.at, shares (growths before (row_at tick slot))) ∷ samples_from life slot (row_at tick slot) ticks else samples_from life slot (row_at tick slot) ticks))
-    [ true ↦ All-cons (λ (sample : ℕ × List ℕ). at ≤ sample.0) (tick.at, shares (growths before (row_at tick slot))) (samples_from life slot (row_at tick slot) ticks) (all 0 tick (omega arith)) rest | false ↦ rest ]
-
-samples_before : (life : GroupLife) (slot : ℕ) (before : List (List ℕ)) (ticks : List Tick) (at : ℕ) → All (λ (tick : Tick). tick.at < at) ticks → All (λ (sample : ℕ × List ℕ). sample.0 < at) (samples_from life slot before ticks)
-samples_before life slot before [] at all = All-nil _
-samples_before life slot before (tick ∷ ticks) at all =
-    let rest = samples_before life slot (row_at tick slot) ticks at (λ k d below. all (suc k) d (omega arith)) in
-    elim (is_live_at life tick.at) as (λ live. All (λ (sample : ℕ × List ℕ). sample.0 < at) (if live then (tick.at, shares (growths before (row_at tick slot))) ∷ samples_from life slot (row_at tick slot) ticks else samples_from life slot (row_at tick slot) ticks))
-    [ true ↦ All-cons (λ (sample : ℕ × List ℕ). sample.0 < at) (tick.at, shares (growths before (row_at tick slot))) (samples_from life slot (row_at tick slot) ticks) (all 0 tick (omega arith)) rest | false ↦ rest ]
-
--- a history has the moments of its samples
-with_totals_moments : (P : ℕ → Type 0) (before : List (List ℕ)) (samples : List (ℕ × List ℕ)) → All (λ (sample : ℕ × List ℕ). P sample.0) samples → All (λ (entry : ℕ × List ℕ). P entry.0) (with_totals before samples)
-with_totals_moments P before [] all = All-nil _
-with_totals_moments P before (sample ∷ samples) all =
-    All-cons (λ (entry : ℕ × List ℕ). P entry.0) (sample.0, totals_of (before ++ sample.1 ∷ [])) (with_totals (before ++ sample.1 ∷ []) samples) (all 0 sample (omega arith))
-    (with_totals_moments P (before ++ sample.1 ∷ []) samples (λ k d below. all (suc k) d (omega arith)))
+-- a history has moments of its ticks
+history_moments : (P : ℕ → Type 0) (life : GroupLife) (slot : ℕ) (before : List (List ℕ)) (totals : List ℕ) (ticks : List Tick) →
+    All (λ (tick : Tick). P tick.at) ticks → All (λ (entry : ℕ × List ℕ). P entry.0) (history_from life slot before totals ticks)
+history_moments P life slot before totals [] all = All-nil _
+history_moments P life slot before totals (tick ∷ ticks) all =
+    let row = row_at tick slot in
+    let now = with_shares totals before row in
+    let Q = λ (entry : ℕ × List ℕ). P entry.0 in
+    let more : All (λ (tick : Tick). P tick.at) ticks = λ k d below. all (suc k) d (omega arith) in
+    let there = history_moments P life slot row now ticks more in
+    let gone = history_moments P life slot row totals ticks more in
+    elim (is_live_at life tick.at) as (λ live. All Q (if live then (tick.at, now) ∷ history_from life slot row now ticks else history_from life slot row totals ticks))
+    [ true ↦ All-cons Q (tick.at, now) (history_from life slot row now ticks) (all 0 tick (omega arith)) there | false ↦ gone ]
 
 -- the history of ticks before a moment is before it
 pub history_before : (cpus : ℕ) (lives : List GroupLife) (ticks : List Tick) (slot at : ℕ) → All (λ (tick : Tick). tick.at < at) ticks → Before at (history_of cpus lives ticks slot)
-history_before cpus lives ticks slot at all = with_totals_moments (λ moment. moment < at) [] (group_samples cpus lives ticks slot) (samples_before (life_of lives slot) slot (no_row cpus) ticks at all)
+history_before cpus lives ticks slot at all = history_moments (λ moment. moment < at) (life_of lives slot) slot (no_row cpus) no_totals ticks all
 
--- a longer history goes on where the ticks before it end
-history_of-append : (cpus : ℕ) (lives : List GroupLife) (ticks more : List Tick) (slot : ℕ) →
-    history_of cpus lives (ticks ++ more) slot ≡ history_of cpus lives ticks slot ++ with_totals (shares_of (group_samples cpus lives ticks slot)) (samples_from (life_of lives slot) slot (last_row slot (no_row cpus) ticks) more)
-history_of-append cpus lives ticks more slot =
-    ap (with_totals []) (samples_from-append (life_of lives slot) slot (no_row cpus) ticks more)
-    ∙ with_totals-append [] (group_samples cpus lives ticks slot) (samples_from (life_of lives slot) slot (last_row slot (no_row cpus) ticks) more)
+-- ---- seven totals
 
--- ---- laws
+-- totals with shares are as many
+length-with_shares : (totals : List ℕ) (before now : List (List ℕ)) → length totals ≡ length pressure_places → length (with_shares totals before now) ≡ length pressure_places
+unfolding shares
+length-with_shares totals before now seven = length-zip_with (λ x y. x + y) totals (shares (growths before now)) seven ∙ seven
 
-pub total_is_sum : TotalIsSum
-unfolding totals_after totals_of
-total_is_sum cpus lives ticks slot i below =
-    let samples = group_samples cpus lives ticks slot in
-    let sums = λ (i : ℕ). sum_by (λ (row : List ℕ). get_or row i 0) (shares_of samples) in
-    get_or-map-range_with_len sums 0 7 i i 0 below (omega arith) ∙ fold-map (λ (sum : ℕ) (row : List ℕ). sum + get_or row i 0) (λ (sample : ℕ × List ℕ). sample.1) 0 samples
+-- a history has totals of the pressure quantities
+history_has : (life : GroupLife) (slot : ℕ) (before : List (List ℕ)) (totals : List ℕ) (ticks : List Tick) → length totals ≡ length pressure_places → HasTotals (history_from life slot before totals ticks)
+history_has life slot before totals [] seven = All-nil _
+history_has life slot before totals (tick ∷ ticks) seven =
+    let row = row_at tick slot in
+    let now = with_shares totals before row in
+    let Q = λ (entry : ℕ × List ℕ). length entry.1 ≡ length pressure_places in
+    let long = length-with_shares totals before row seven in
+    let there = history_has life slot row now ticks long in
+    let gone = history_has life slot row totals ticks seven in
+    elim (is_live_at life tick.at) as (λ live. All Q (if live then (tick.at, now) ∷ history_from life slot row now ticks else history_from life slot row totals ticks))
+    [ true ↦ All-cons Q (tick.at, now) (history_from life slot row now ticks) long there | false ↦ gone ]
 
-totals_never_fall_at : (cpus : ℕ) (lives : List GroupLife) (ticks more : List Tick) (slot i : ℕ) → i < length pressure_places → get_or (totals_after cpus lives ticks slot) i 0 ≤ get_or (totals_after cpus lives (ticks ++ more) slot) i 0
-totals_never_fall_at cpus lives ticks more slot i below =
-    let samples = group_samples cpus lives ticks slot in
-    let rest = samples_from (life_of lives slot) slot (last_row slot (no_row cpus) ticks) more in
-    let f = λ (sample : ℕ × List ℕ). get_or sample.1 i 0 in
-    let before : get_or (totals_after cpus lives ticks slot) i 0 ≡ sum_by f samples = total_is_sum cpus lives ticks slot i below in
-    let after : get_or (totals_after cpus lives (ticks ++ more) slot) i 0 ≡ sum_by f (group_samples cpus lives (ticks ++ more) slot) = total_is_sum cpus lives (ticks ++ more) slot i below in
-    let all : sum_by f (group_samples cpus lives (ticks ++ more) slot) ≡ sum_by f (samples ++ rest) = ap (sum_by f) (samples_from-append (life_of lives slot) slot (no_row cpus) ticks more) in
-    omega (arith, before, after, all, sum_by-append f samples rest)
+last_has : (before : List ℕ) (history : List (ℕ × List ℕ)) → length before ≡ length pressure_places → HasTotals history → length (last_totals before history) ≡ length pressure_places
+last_has before [] seven has = seven
+last_has before (entry ∷ history) seven has = last_has entry.1 history (has 0 entry (omega arith)) (λ k d below. has (suc k) d (omega arith))
 
 -- there are totals of the pressure quantities
 pub length-totals_after : (cpus : ℕ) (lives : List GroupLife) (ticks : List Tick) (slot : ℕ) → length (totals_after cpus lives ticks slot) ≡ length pressure_places
-unfolding totals_after totals_of
-length-totals_after cpus lives ticks slot = refl
+unfolding totals_after
+length-totals_after cpus lives ticks slot = last_has no_totals (history_of cpus lives ticks slot) refl (history_has (life_of lives slot) slot (no_row cpus) no_totals ticks refl)
+
+-- ---- laws
+
+-- a history adds to the totals before it what its samples have
+sum_from : (life : GroupLife) (slot : ℕ) (before : List (List ℕ)) (totals : List ℕ) (ticks : List Tick) (i : ℕ) → length totals ≡ length pressure_places → i < length pressure_places →
+    get_or (last_totals totals (history_from life slot before totals ticks)) i 0 ≡ get_or totals i 0 + sum_by (λ (sample : ℕ × List ℕ). get_or sample.1 i 0) (samples_from life slot before ticks)
+unfolding shares
+sum_from life slot before totals [] i seven below = omega arith
+sum_from life slot before totals (tick ∷ ticks) i seven below =
+    let row = row_at tick slot in
+    let share = shares (growths before row) in
+    let now = plus totals share in
+    let f = λ (sample : ℕ × List ℕ). get_or sample.1 i 0 in
+    let rest = samples_from life slot row ticks in
+    let there = sum_from life slot row now ticks i (length-with_shares totals before row seven) below in
+    let gone = sum_from life slot row totals ticks i seven below in
+    let added : get_or now i 0 ≡ get_or totals i 0 + get_or share i 0 = get_or-zip_with (λ x y. x + y) totals share i 0 0 0 (omega (arith, seven)) below in
+    let live : get_or (last_totals now (history_from life slot row now ticks)) i 0 ≡ get_or totals i 0 + sum_by f ((tick.at, share) ∷ rest) = omega (arith, there, added, sum_by-cons f (tick.at, share) rest) in
+    elim (is_live_at life tick.at) as (λ live.
+    get_or (last_totals totals (if live then (tick.at, now) ∷ history_from life slot row now ticks else history_from life slot row totals ticks)) i 0
+    ≡ get_or totals i 0 + sum_by f (if live then (tick.at, share) ∷ rest else rest))
+    [ true ↦ live | false ↦ gone ]
+
+no_total : (i : ℕ) → i < length pressure_places → get_or no_totals i 0 ≡ 0
+no_total i below = get_or-map (λ place. 0) pressure_places i 0 0 below
+
+pub total_is_sum : TotalIsSum
+unfolding totals_after
+total_is_sum cpus lives ticks slot i below =
+    let whole = sum_from (life_of lives slot) slot (no_row cpus) no_totals ticks i refl below in
+    omega (arith, whole, no_total i below)
+
+totals_never_fall_at : (cpus : ℕ) (lives : List GroupLife) (ticks more : List Tick) (slot i : ℕ) → i < length pressure_places → get_or (totals_after cpus lives ticks slot) i 0 ≤ get_or (totals_after cpus lives (ticks ++ more) slot) i 0
+totals_never_fall_at cpus lives ticks more slot i below =
+    let on = sum_from (life_of lives slot) slot (last_row slot (no_row cpus) ticks) (totals_after cpus lives ticks slot) more i (length-totals_after cpus lives ticks slot) below in
+    omega (arith, ap (λ totals. get_or totals i 0) (totals_after-append cpus lives ticks more slot), on)
 
 pub totals_never_fall : TotalsNeverFall
 totals_never_fall cpus lives ticks more slot i =
@@ -285,18 +279,10 @@ totals_never_fall cpus lives ticks more slot i =
     let case : (i < length pressure_places) ⊎ (length pressure_places ≤ i) = grind arith in
     ⊎_elim inside past case
 
--- a history has totals of the pressure quantities
-with_totals_has : (before : List (List ℕ)) (samples : List (ℕ × List ℕ)) → HasTotals (with_totals before samples)
-unfolding totals_of
-with_totals_has before [] = All-nil _
-with_totals_has before (sample ∷ samples) =
-    All-cons (λ (entry : ℕ × List ℕ). length entry.1 ≡ length pressure_places) (sample.0, totals_of (before ++ sample.1 ∷ [])) (with_totals (before ++ sample.1 ∷ []) samples) refl
-    (with_totals_has (before ++ sample.1 ∷ []) samples)
-
 -- a group's averages are averages
 pub group_averages_are : (cpus : ℕ) (lives : List GroupLife) (ticks : List Tick) (slot : ℕ) → IsAverageState (group_averages cpus lives ticks slot)
 unfolding group_averages
-group_averages_are cpus lives ticks slot = at_most_hundred (life_of lives slot).made (history_of cpus lives ticks slot) (with_totals_has [] (group_samples cpus lives ticks slot))
+group_averages_are cpus lives ticks slot = at_most_hundred (life_of lives slot).made (history_of cpus lives ticks slot) (history_has (life_of lives slot) slot (no_row cpus) no_totals ticks refl)
 
 -- no average of averages is above 100 percent
 average_most : (s : AverageState) (place factor : ℕ) → IsAverageState s → average_of s place factor ≤ 204800
@@ -354,13 +340,14 @@ fired_apart cpus lives trigger before between first second rises fired again =
     let history = history_of cpus lives before slot in
     let value = at_state (totals_after cpus lives (before ++ first ∷ []) slot) (watched_state trigger) in
     let later = at_state (totals_after cpus lives (before ++ first ∷ between ++ second ∷ []) slot) (watched_state trigger) in
-    let samples = shares_of (group_samples cpus lives before slot) in
-    let more = with_totals samples (samples_from (life_of lives slot) slot (last_row slot (no_row cpus) before) (first ∷ between)) in
+    let row = last_row slot (no_row cpus) before in
+    let totals = totals_after cpus lives before slot in
+    let more = history_on cpus lives before (first ∷ between) slot in
     let late : NotBefore trigger.at more =
-    with_totals_moments (λ moment. trigger.at ≤ moment) samples _ (samples_not_before (life_of lives slot) slot (last_row slot (no_row cpus) before) (first ∷ between) trigger.at (later_ticks before between first trigger.at rises one.begun)) in
+    history_moments (λ moment. trigger.at ≤ moment) (life_of lives slot) slot row totals (first ∷ between) (later_ticks before between first trigger.at rises one.begun) in
     let start = new_trigger trigger.at (first_value trigger history) trigger.threshold_us trigger.window_us in
-    let rest = values_of trigger (with_totals (samples ++ (sample_at cpus before slot first).1 ∷ []) (samples_from (life_of lives slot) slot (row_at first slot) between)) in
-    let seen : values_of trigger more ≡ (first.at, value) ∷ rest = rw one.live (ap (λ totals. (first.at, at_state totals (watched_state trigger)) ∷ rest) (sym (totals_at cpus lives before first slot one.live))) in
+    let rest = values_of trigger (history_from (life_of lives slot) slot (row_at first slot) (with_shares totals row (row_at first slot)) between) in
+    let seen : values_of trigger more ≡ (first.at, value) ∷ rest = rw one.live (ap (λ totals. (first.at, at_state totals (watched_state trigger)) ∷ rest) (sym (totals_live cpus lives before first slot one.live))) in
     let whole : trigger_over trigger (history_of cpus lives (before ++ first ∷ between) slot) ≡ trigger_after start (seen_by trigger history ++ (first.at, value) ∷ rest) =
     ap (trigger_over trigger) (history_of-append cpus lives before (first ∷ between) slot) ∙ trigger_over-append trigger history more late
     ∙ sym (fold-append trigger_fold start (seen_by trigger history) (values_of trigger more)) ∙ ap (λ values. trigger_after start (seen_by trigger history ++ values)) seen in

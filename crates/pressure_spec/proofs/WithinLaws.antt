@@ -1,19 +1,21 @@
 -- How much totals can be: those of states are within the time that passed, that of interrupts within the processors' own
 -- interrupt times.
-use Rattle.std.proofs.Common.{◌≡◌, ℕ, zero, suc, ◌+◌, ◌-◌, ◌*◌, ◌≤◌, ◌<◌, List, [], ◌∷◌, ◌++◌, length, get_or, sym, subst, arith, refl, true, false, append_assoc, ◌⊎◌, ⊎_elim}
+use Rattle.std.proofs.Common.{◌≡◌, ℕ, zero, suc, ◌+◌, ◌-◌, ◌*◌, ◌≤◌, ◌<◌, List, [], ◌∷◌, length, get_or, subst, arith, refl, true, false, ◌⊎◌, ⊎_elim}
 use Rattle.std.specs.Prelude.{All, if◌then◌else◌}
-use Rattle.std.proofs.lemmas.List.{append-nil, get_or_past, get_or-replicate, length-replicate}
+use Rattle.std.proofs.lemmas.List.{get_or_past, get_or-replicate, length-replicate}
 use Rattle.std.proofs.lemmas.List.Elements.{All-cons, All-nil}
 use Rattle.std.proofs.lemmas.List.Sums.{sum_by-cons}
 use Rattle.psi_spec.specs.declared.machine.GroupLife.{GroupLife}
 use Rattle.psi_spec.specs.Groups.{is_live_at}
 use Rattle.psi_spec.specs.Trace.{last_moment}
 use Rattle.pressure_spec.specs.Ticks.{Tick, AreNextTicks, IsNextTick, last_tick, no_row, no_tick, time_in, time_of, times_with}
-use Rattle.pressure_spec.specs.Share.{AreAmountsWithin, AreTimesWithin, irq_place, irq_quantity, plus, shares, time_sum, totals_of, zip_with}
+use Rattle.pressure_spec.specs.Share.{AreAmountsWithin, AreTimesWithin, irq_place, irq_quantity, no_totals, plus, shares, time_sum, zip_with}
 use Rattle.psi_spec.specs.World.{longest_irq}
-use Rattle.pressure_spec.specs.Samples.{growths, life_of, row_at, samples_from, totals_after, IrqTotalBound, NextSharesWithin, TotalsWithin}
-use Rattle.pressure_spec.proofs.ShareLaws.{get_or-shares, share_within_sum, shares_within, totals_grow}
-use Rattle.pressure_spec.proofs.SampleLaws.{length-shares, no_tick_row, shares_of}
+use Rattle.pressure_spec.specs.Average.{last_totals}
+use Rattle.pressure_spec.specs.Samples.{growths, history_from, life_of, row_at, totals_after, with_shares}
+use Rattle.pressure_spec.specs.Laws.{IrqTotalBound, NextSharesWithin, TotalsWithin}
+use Rattle.pressure_spec.proofs.ShareLaws.{get_or-shares, share_within_sum, shares_within}
+use Rattle.pressure_spec.proofs.SampleLaws.{no_tick_row}
 
 -- no amount is above the greater of two bounds
 pub amount_most : (amounts : List ℕ) (most most_irq quantity : ℕ) → AreAmountsWithin most most_irq amounts → most ≤ most_irq → quantity < 7 → get_or amounts quantity 0 ≤ most_irq
@@ -119,23 +121,19 @@ totals_sampled last tick slot totals next within =
     }
 
 -- totals that were within a tick stay so over more ticks
-totals_from : (life : GroupLife) (slot : ℕ) (samples : List (List ℕ)) (before : Tick) (ticks : List Tick) → AreNextTicks before ticks → AreTotalsUntil before slot (totals_of samples) →
-    AreTotalsUntil (last_tick before ticks) slot (totals_of (samples ++ shares_of (samples_from life slot (row_at before slot) ticks)))
-totals_from life slot samples before [] ordered within = rw (append-nil samples) within
-totals_from life slot samples before (tick ∷ ticks) ordered within =
-    let share = shares (growths (row_at before slot) (row_at tick slot)) in
-    let rest = shares_of (samples_from life slot (row_at tick slot) ticks) in
-    let P : List (List ℕ) → Type 0 = λ all. AreTotalsUntil (last_tick tick ticks) slot (totals_of all) in
-    let Q : List ℕ → Type 0 = AreTotalsUntil tick slot in
-    let grown : Q (totals_of (samples ++ share ∷ [])) = subst Q (sym (totals_grow samples share (length-shares _))) (totals_sampled before tick slot (totals_of samples) ordered.0 within) in
-    let live : P (samples ++ share ∷ rest) = subst P (append_assoc samples (share ∷ []) rest) (totals_from life slot (samples ++ share ∷ []) tick ticks ordered.1 grown) in
-    let gone : P (samples ++ rest) = totals_from life slot samples tick ticks ordered.1 (totals_kept before tick slot (totals_of samples) ordered.0 within) in
-    elim (is_live_at life tick.at) as (λ live. P (samples ++ shares_of (if live then (tick.at, share) ∷ samples_from life slot (row_at tick slot) ticks else samples_from life slot (row_at tick slot) ticks)))
-    [ true ↦ live | false ↦ gone ]
+totals_from : (life : GroupLife) (slot : ℕ) (totals : List ℕ) (before : Tick) (ticks : List Tick) → AreNextTicks before ticks → AreTotalsUntil before slot totals →
+    AreTotalsUntil (last_tick before ticks) slot (last_totals totals (history_from life slot (row_at before slot) totals ticks))
+totals_from life slot totals before [] ordered within = within
+totals_from life slot totals before (tick ∷ ticks) ordered within =
+    let row = row_at tick slot in
+    let now = with_shares totals (row_at before slot) row in
+    let there = totals_from life slot now tick ticks ordered.1 (totals_sampled before tick slot totals ordered.0 within) in
+    let gone = totals_from life slot totals tick ticks ordered.1 (totals_kept before tick slot totals ordered.0 within) in
+    elim (is_live_at life tick.at) as (λ live. AreTotalsUntil (last_tick tick ticks) slot (last_totals totals (if live then (tick.at, now) ∷ history_from life slot row now ticks else history_from life slot row totals ticks)))
+    [ true ↦ there | false ↦ gone ]
 
 -- a list of zeros has no more anywhere
-zero_at : (quantity : ℕ) → quantity < irq_quantity → get_or (totals_of []) quantity 0 ≤ 0
-unfolding totals_of
+zero_at : (quantity : ℕ) → quantity < irq_quantity → get_or no_totals quantity 0 ≤ 0
 zero_at zero below = omega arith
 zero_at (suc zero) below = omega arith
 zero_at (suc (suc zero)) below = omega arith
@@ -144,12 +142,11 @@ zero_at (suc (suc (suc (suc zero)))) below = omega arith
 zero_at (suc (suc (suc (suc (suc zero))))) below = omega arith
 zero_at (suc (suc (suc (suc (suc (suc k)))))) below = absurd (omega arith)
 
-zero_irq : get_or (totals_of []) irq_quantity 0 ≡ 0
-unfolding totals_of
+zero_irq : get_or no_totals irq_quantity 0 ≡ 0
 zero_irq = refl
 
 -- before any sample there are no totals
-pub none_within : (most most_irq : ℕ) → AreAmountsWithin most most_irq (totals_of [])
+pub none_within : (most most_irq : ℕ) → AreAmountsWithin most most_irq no_totals
 none_within most most_irq = record {
   states = λ quantity below. let zeros = zero_at quantity below in omega (arith, zeros);
   irq = omega (arith, zero_irq);
@@ -159,8 +156,8 @@ pub totals_within : TotalsWithin
 unfolding totals_after
 totals_within cpus lives ticks slot below ordered =
     let before = no_tick cpus (length lives) in
-    let from = totals_from (life_of lives slot) slot [] before ticks ordered (none_within before.at (time_sum (row_at before slot) irq_place)) in
-    let P : List (List ℕ) → Type 0 = λ row. AreTotalsUntil (last_tick before ticks) slot (totals_of (shares_of (samples_from (life_of lives slot) slot row ticks))) in
+    let from = totals_from (life_of lives slot) slot no_totals before ticks ordered (none_within before.at (time_sum (row_at before slot) irq_place)) in
+    let P : List (List ℕ) → Type 0 = λ row. AreTotalsUntil (last_tick before ticks) slot (last_totals no_totals (history_from (life_of lives slot) slot row no_totals ticks)) in
     subst P (no_tick_row cpus (length lives) slot below) from
 
 -- ---- the bound of interrupt totals

@@ -4,3 +4,4 @@ pub mod Signal
 pub mod Ticks
 pub mod Samples
 pub mod File
+pub mod Laws

@@ -1,8 +1,7 @@
 -- The pressure of groups over any list of ticks: what each tick adds to a group's totals, its averages, and the signals of
 -- triggers.
-use Rattle.std.specs.Prelude.{◌≡◌, ℕ, ◌+◌, ◌-◌, ◌*◌, ◌≤◌, ◌<◌, List, [], ◌∷◌, ◌++◌, length, map, filter, slice_get, slice_index, slice_index_or, sum_by, nat_le, nat_lt, ◌&&◌, Bool, true, false, Option, None, Some, if◌then◌else◌}
+use Rattle.std.specs.Prelude.{ℕ, ◌-◌, List, [], ◌∷◌, ◌++◌, length, map, filter, slice_get, slice_index_or, nat_le, nat_lt, ◌&&◌, Bool, false, Option, None, Some, if◌then◌else◌}
 use Rattle.std.specs.List.{range_with_len}
-use Rattle.std.specs.List.Sorted.{IsNonDecreasingBy}
 use Rattle.psi_base.specs.declared.event.State.{State}
 use Rattle.psi_base.specs.declared.event.State.TheVariants.{IoSome, IoFull, MemSome, MemFull, CpuSome, CpuFull}
 use Rattle.psi_base.specs.declared.event.Res.{Res}
@@ -11,15 +10,14 @@ use Rattle.psi_base.specs.declared.event.Level.{Level}
 use Rattle.psi_base.specs.declared.event.Level.TheVariants.{SomeStalled, FullStalled}
 use Rattle.psi_base.specs.declared.event.TriggerSpec.{TriggerSpec}
 use Rattle.psi_spec.specs.declared.machine.GroupLife.{GroupLife}
-use Rattle.psi_spec.specs.World.{root, longest_irq}
+use Rattle.psi_spec.specs.World.{root}
 use Rattle.psi_spec.specs.Groups.{is_live_at}
-use Rattle.pressure_spec.specs.Ticks.{AreNextTicks, IsNextTick, Tick, last_tick, no_row, no_tick}
-use Rattle.pressure_spec.specs.Share.{at_state, no_totals, pressure_places, shares, totals_of, zip_with}
-use Rattle.pressure_spec.specs.Share.{AreAmountsWithin, irq_place, irq_quantity, most_irq_total, time_sum}
-use Rattle.pressure_spec.specs.Average.{AverageState, average_of, averages_after, last_totals}
+use Rattle.pressure_spec.specs.Ticks.{Tick, no_row}
+use Rattle.pressure_spec.specs.Share.{at_state, no_totals, plus, shares, zip_with}
+use Rattle.pressure_spec.specs.Average.{AverageState, averages_after, last_totals}
 use Rattle.pressure_spec.specs.Signal.{TriggerState, fires, new_trigger, trigger_after}
 
--- ---- samples
+-- ---- the history of a group
 
 -- the life of the group in a slot
 abbrev pub life_of : List GroupLife → ℕ → GroupLife
@@ -33,35 +31,30 @@ row_at tick slot = slice_index_or tick.table slot []
 abbrev pub growths : List (List ℕ) → List (List ℕ) → List (List ℕ)
 growths before now = zip_with (zip_with (λ time earlier. time - earlier)) now before
 
--- A group is sampled at the ticks at which it is live: each sample is the tick's moment and the group's shares (ns) of the
--- interval since the tick before, at which its times were these.
-abbrev pub samples_from : GroupLife → ℕ → List (List ℕ) → List Tick → List (ℕ × List ℕ)
-samples_from life slot before [] = []
-samples_from life slot before (tick ∷ ticks) =
-    if is_live_at life tick.at
-    then (tick.at, shares (growths before (row_at tick slot))) ∷ samples_from life slot (row_at tick slot) ticks
-    else samples_from life slot (row_at tick slot) ticks
+-- totals (ns) with a group's shares of an interval, at whose begin and end its times were these
+abbrev pub with_shares : List ℕ → List (List ℕ) → List (List ℕ) → List ℕ
+with_shares totals before now = plus totals (shares (growths before now))
 
--- the samples of a group over ticks of so many processors
-abbrev pub group_samples : ℕ → List GroupLife → List Tick → ℕ → List (ℕ × List ℕ)
-group_samples cpus lives ticks slot = samples_from (life_of lives slot) slot (no_row cpus) ticks
+-- The history of a group over ticks: those at which it is live, each with its moment and the group's totals (ns) then. Such a
+-- tick adds to the totals so far the shares of the interval since the tick before, at which the group's times were these.
+abbrev pub history_from : GroupLife → ℕ → List (List ℕ) → List ℕ → List Tick → List (ℕ × List ℕ)
+history_from life slot before totals [] = []
+history_from life slot before totals (tick ∷ ticks) =
+    if is_live_at life tick.at
+    then (tick.at, with_shares totals before (row_at tick slot)) ∷ history_from life slot (row_at tick slot) (with_shares totals before (row_at tick slot)) ticks
+    else history_from life slot (row_at tick slot) totals ticks
+
+-- the history of the group in a slot, from before the first tick on, with so many processors
+abbrev pub history_of : ℕ → List GroupLife → List Tick → ℕ → List (ℕ × List ℕ)
+history_of cpus lives ticks slot = history_from (life_of lives slot) slot (no_row cpus) no_totals ticks
 
 -- ---- totals and averages
 
--- the totals (ns) of a group after ticks: of each quantity the sum of its shares
+-- the totals (ns) of a group after ticks: the last of its history
 unfoldable pub totals_after : ℕ → List GroupLife → List Tick → ℕ → List ℕ
-totals_after cpus lives ticks slot = totals_of (map (λ sample. sample.1) (group_samples cpus lives ticks slot))
+totals_after cpus lives ticks slot = last_totals no_totals (history_of cpus lives ticks slot)
 
--- each sample's moment with the totals (ns) of the samples up to it, where those before have these shares
-abbrev pub with_totals : List (List ℕ) → List (ℕ × List ℕ) → List (ℕ × List ℕ)
-with_totals before [] = []
-with_totals before (sample ∷ samples) = (sample.0, totals_of (before ++ sample.1 ∷ [])) ∷ with_totals (before ++ sample.1 ∷ []) samples
-
--- the moments at which a group was sampled, each with its totals (ns) then
-abbrev pub history_of : ℕ → List GroupLife → List Tick → ℕ → List (ℕ × List ℕ)
-history_of cpus lives ticks slot = with_totals [] (group_samples cpus lives ticks slot)
-
--- the averages of a group after ticks: they begin as it is made, and take each of its samples
+-- the averages of a group after ticks: they begin as it is made, and take each tick of its history
 unfoldable pub group_averages : ℕ → List GroupLife → List Tick → ℕ → AverageState
 group_averages cpus lives ticks slot = averages_after (life_of lives slot).made (history_of cpus lives ticks slot)
 
@@ -112,44 +105,3 @@ fires_by_number cpus lives triggers ticks tick i = passes (slice_get triggers i)
 -- the numbers of the triggers that signal at a tick that comes after others, ascending
 unfoldable pub fired_at : ℕ → List GroupLife → List TriggerSpec → List Tick → Tick → List ℕ
 fired_at cpus lives triggers ticks tick = filter (fires_by_number cpus lives triggers ticks tick) (range_with_len 0 (length triggers))
-
--- ---- laws
-
--- A total is the sum of the shares of its quantity.
-abbrev pub TotalIsSum : Type 0
-TotalIsSum = (cpus : ℕ) (lives : List GroupLife) (ticks : List Tick) (slot i : ℕ) → i < length pressure_places →
-    slice_index (totals_after cpus lives ticks slot) i ≡ sum_by (λ sample. slice_index sample.1 i) (group_samples cpus lives ticks slot)
-
--- So no total ever falls.
-abbrev pub TotalsNeverFall : Type 0
-TotalsNeverFall = (cpus : ℕ) (lives : List GroupLife) (ticks more : List Tick) (slot i : ℕ) →
-    slice_index (totals_after cpus lives ticks slot) i ≤ slice_index (totals_after cpus lives (ticks ++ more) slot) i
-
--- No share of a state is longer than the time from one tick to the next, and that of interrupts is at most a second longer.
-abbrev pub NextSharesWithin : Type 0
-NextSharesWithin = (last tick : Tick) (slot : ℕ) → IsNextTick last tick →
-    AreAmountsWithin (tick.at - last.at) (tick.at - last.at + longest_irq) (shares (growths (row_at last slot) (row_at tick slot)))
-
--- No total of a state is longer than the time up to the last tick, and an interrupt total is at most the interrupt times of
--- the processors together, since a share is at most what these grew by.
-abbrev pub TotalsWithin : Type 0
-TotalsWithin = (cpus : ℕ) (lives : List GroupLife) (ticks : List Tick) (slot : ℕ) → slot < length lives → AreNextTicks (no_tick cpus (length lives)) ticks →
-    AreAmountsWithin (last_tick (no_tick cpus (length lives)) ticks).at (time_sum (row_at (last_tick (no_tick cpus (length lives)) ticks) slot) irq_place)
-    (totals_after cpus lives ticks slot)
-
--- So the interrupt totals of up to 64 processors have their bound, because no interrupt time is above the moment of its tick.
-abbrev pub IrqTotalBound : Type 0
-IrqTotalBound = (cpus : ℕ) (lives : List GroupLife) (ticks : List Tick) (slot : ℕ) → slot < length lives → AreNextTicks (no_tick cpus (length lives)) ticks →
-    length (row_at (last_tick (no_tick cpus (length lives)) ticks) slot) ≤ 64 →
-    slice_index (totals_after cpus lives ticks slot) irq_quantity ≤ most_irq_total
-
--- After any ticks no average of a group is above 100 percent.
-abbrev pub GroupsAtMostHundred : Type 0
-GroupsAtMostHundred = (cpus : ℕ) (lives : List GroupLife) (ticks : List Tick) (slot place factor : ℕ) → average_of (group_averages cpus lives ticks slot) place factor ≤ 204800
-
--- Two signals of one trigger are at least its window apart, whatever comes between, where the moments of ticks never fall.
-abbrev pub FiredApart : Type 0
-FiredApart = (cpus : ℕ) (lives : List GroupLife) (trigger : TriggerSpec) (before between : List Tick) (first second : Tick) →
-    IsNonDecreasingBy (λ (tick : Tick). tick.at) (before ++ first ∷ between) →
-    has_fired cpus lives before first trigger ≡ true → has_fired cpus lives (before ++ first ∷ between) second trigger ≡ true →
-    first.at + trigger.window_us * 1000 ≤ second.at

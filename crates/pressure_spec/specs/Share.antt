@@ -1,7 +1,6 @@
 -- How long a group was in each state in an interval, and how long interrupts took from it, over all processors: the kernel's
 -- collect_percpu_times.
-use Rattle.std.specs.Prelude.{◌≡◌, ℕ, ◌+◌, ◌*◌, ◌/◌, ◌^◌, ◌<◌, ◌≤◌, max, List, [], ◌∷◌, ◌++◌, length, map, sum_by, slice_index, All}
-use Rattle.std.specs.List.{range_with_len}
+use Rattle.std.specs.Prelude.{◌≡◌, ℕ, ◌+◌, ◌*◌, ◌/◌, ◌^◌, ◌<◌, ◌≤◌, max, List, [], ◌∷◌, length, map, sum_by, slice_index, All}
 use Rattle.psi_base.specs.declared.event.State.{State}
 use Rattle.psi_base.specs.declared.event.State.TheVariants.{Nonidle}
 use Rattle.psi_spec.specs.Stall.{state_number}
@@ -59,10 +58,6 @@ plus xs ys = zip_with (λ x y. x + y) xs ys
 abbrev pub no_totals : List ℕ
 no_totals = map (λ place. 0) pressure_places
 
--- the totals (ns) of a group: of each quantity the sum of its shares, over a list of samples that have a share of each
-unfoldable pub totals_of : List (List ℕ) → List ℕ
-totals_of samples = map (λ i. sum_by (λ sample. slice_index sample i) samples) (range_with_len 0 (length pressure_places))
-
 -- the times (ns) at a place of all processors together
 abbrev pub time_sum : List (List ℕ) → ℕ → ℕ
 time_sum rows place = sum_by (λ times. slice_index times place) rows
@@ -111,8 +106,3 @@ ShareSumFits = (rows : List (List ℕ)) (place : ℕ) → length rows ≤ 64 →
 -- Where no processor has weight, which takes a whole timer tick, there is no share.
 abbrev pub IdleHasNone : Type 0
 IdleHasNone = (rows : List (List ℕ)) (place : ℕ) → total_weight rows ≡ 0 → share_of rows place ≡ 0
-
--- A sample adds its shares to the totals.
-abbrev pub TotalsGrow : Type 0
-TotalsGrow = (samples : List (List ℕ)) (sample : List ℕ) → length sample ≡ length pressure_places →
-    totals_of (samples ++ sample ∷ []) ≡ plus (totals_of samples) sample

@@ -1,8 +1,8 @@
 //! Laws of the arithmetic of pressure: of averages, shares and triggers. Each function has an empty body: its contract
 //! is the law.
 
-ghost use Rattle.pressure_spec.specs.Share.{IdleHasNone, ShareIsMean, ShareSumFits, ShareWithinSum, SharesWithin, TotalsGrow};
-ghost use Rattle.pressure_spec.specs.Samples.{FiredApart, GroupsAtMostHundred, IrqTotalBound, NextSharesWithin, TotalIsSum, TotalsNeverFall, TotalsWithin};
+ghost use Rattle.pressure_spec.specs.Share.{IdleHasNone, ShareIsMean, ShareSumFits, ShareWithinSum, SharesWithin};
+ghost use Rattle.pressure_spec.specs.Laws.{FiredApart, GroupsAtMostHundred, IrqTotalBound, NextSharesWithin, TotalIsSum, TotalsGrow, TotalsNeverFall, TotalsWithin};
 ghost use Rattle.pressure_spec.specs.Signal.{PendingIsSignalled, QuietWhenStill, RemembersLast, SignalsApart};
 ghost use Rattle.pressure_spec.specs.Average.{AtMostHundred, CarriesTheRest, FallsWhenFree, LoadApproaches, PowerHalves, RisesWhenStalled, SamplesWithinTotal};
 

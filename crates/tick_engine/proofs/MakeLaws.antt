@@ -8,7 +8,7 @@ use Rattle.psi_spec.specs.declared.machine.GroupLife.{GroupLife}
 use Rattle.psi_spec.specs.Told.{AreTriggersWithin, IsTriggerWithin}
 use Rattle.psi_spec.specs.Trace.{last_moment}
 use Rattle.psi_spec.specs.World.{root}
-use Rattle.pressure_spec.specs.Share.{irq_place, time_sum, totals_of}
+use Rattle.pressure_spec.specs.Share.{irq_place, time_sum}
 use Rattle.pressure_spec.specs.Samples.{group_averages, row_at, totals_after}
 use Rattle.pressure_spec.proofs.WithinLaws.{none_within}
 use Rattle.aggregate.specs.Table.{new_table}
@@ -23,7 +23,7 @@ abbrev pub first_engine : ℕ → List GroupLife → List TriggerSpec → Engine
 first_engine cpus lives triggers = record { cpus = cpus; last = tick_at 0 (new_table cpus (length lives)); groups = map unsampled_group lives; watches = map new_watch triggers; fired = [] }
 
 new_is_after : (cpus : ℕ) (lives : List GroupLife) (slot : ℕ) → unsampled_group (get_or lives slot root) ≡ group_after cpus lives [] slot
-unfolding totals_after totals_of group_averages
+unfolding totals_after group_averages
 new_is_after cpus lives slot = refl
 
 pub first_stands : (cpus : ℕ) (lives : List GroupLife) (triggers : List TriggerSpec) → StandsFor (first_engine cpus lives triggers) cpus lives triggers []
@@ -40,7 +40,6 @@ first_stands cpus lives triggers = record {
 
 -- no group has totals yet
 groups_within : (cpus : ℕ) (lives : List GroupLife) → AreGroupsWithin (tick_at 0 (new_table cpus (length lives))) (map unsampled_group lives)
-unfolding totals_of
 groups_within cpus lives slot below =
     let none : engine_group (map unsampled_group lives) slot ≡ unsampled_group (get_or lives slot root) = get_or-map unsampled_group lives slot root no_group (omega (arith, below, length-map lives unsampled_group)) in
     rw none (none_within 0 (time_sum (row_at (tick_at 0 (new_table cpus (length lives))) slot) irq_place))
