@@ -1,14 +1,19 @@
 -- Groups that took a gate and then went through its change.
-use Rattle.std.proofs.Common.{◌≡◌, ◌≢◌, ℕ, List, refl, sym, ap, ◌∙◌, subst, arith, Bool, false, Option, None, Some, ◌==◌}
-use Rattle.std.specs.Prelude.{if◌then◌else◌}
+use Rattle.std.proofs.Common.{◌≡◌, ℕ, ◌+◌, ◌-◌, ◌≤◌, ◌<◌, List, length, refl, sym, ap, ◌∙◌, subst, arith, Bool, true, false, Option, None, Some, ◌==◌}
+use Rattle.std.specs.Prelude.{IfSome, if◌then◌else◌, slice_index}
 use Rattle.std.proofs.lemmas.Bool.Decides.{nat_tests}
 use Rattle.psi_base.specs.declared.event.Slot.{Slot}
 use Rattle.psi_counts.specs.declared.changes.Change.{Change}
-use Rattle.psi_counts.specs.Clock.{ClockFollows}
-use Rattle.psi_counts.specs.Touch.{Follows, gated, on_chain}
+use Rattle.psi_counts.specs.Clock.{ClockFollows, ClockView}
+use Rattle.psi_counts.specs.Counts.{mask_holds}
+use Rattle.psi_counts.specs.Touch.{Follows, HasSlotsBelow, gated, on_chain}
+use Rattle.psi_spec.specs.Groups.{AreOlder}
+use Rattle.psi_spec.specs.Stall.{state_number}
+use Rattle.psi_spec.specs.Trace.{last_moment}
 use Rattle.slot_clocks.specs.declared.cell.Cell.{Cell}
-use Rattle.slot_clocks.specs.Clocks.{CanFollow, IsUpTo, MaskTells, StaysByMask, cell_in}
-use Rattle.slot_clocks.specs.Walk.{AreGated, AreTurned, IsApart, IsGated, IsTurned}
+use Rattle.slot_clocks.specs.Clocks.{AreUpTo, CanFollow, IsUpTo, MaskTells, StaysByMask, cell_in, parent_numbers}
+use Rattle.slot_clocks.specs.Walk.{AreGated, CanClimb, IsApart, IsGated, IsTurned, chains_of}
+use Rattle.slot_clocks.proofs.StartLaws.{may_start, starts_low}
 
 -- other accounts stay
 apart_stays : (slot : ℕ) (on : Bool) (gate : Option (Slot × Bool)) → IsApart gate slot → gated slot on gate ≡ on
@@ -22,6 +27,34 @@ pub told_apart : (parents : List (Option ℕ)) (current : Option (Slot × Bool))
 told_apart parents current gate slot old middle is apart told =
     let on : middle.on ≡ old.on = is.on ∙ apart_stays slot old.on gate apart in
     rw (is.clock, is.counts, on) told
+
+-- a clock that is up to a moment is up to a later one
+up_later : (last at : ℕ) → last ≤ at → (clock : ClockView) → IsUpTo last clock → IsUpTo at clock
+up_later last at low clock is = record {
+  whole = is.whole;
+  start = omega (arith, low, is.start);
+  times = λ state. time_later (mask_holds clock.mask state) (slice_index clock.times (state_number state)) clock.start last at low is.start (is.times state);
+}
+  where
+    time_later : (holds : Bool) (time start last at : ℕ) → last ≤ at → start ≤ last → time + (if holds then last - start else 0) ≤ last → time + (if holds then at - start else 0) ≤ at
+    time_later true time start last at low started within = omega (arith, low, started, within)
+    time_later false time start last at low started within = omega (arith, low, within)
+
+-- groups that took the gate can go through the change
+pub can_climb : (parents : List (Option Slot)) (current : Option (Slot × Bool)) (change : Change) (last : ℕ) (olds middles : List Cell)
+    → AreOlder (parent_numbers parents) → HasSlotsBelow (length parents) change → IfSome current (λ running. running.0.0 < length parents) → IfSome change.gate (λ _. change.minus ≡ None) → length parents ≤ length olds
+    → ((slot : ℕ) → MaskTells (parent_numbers parents) current slot (cell_in olds slot)) → ((slot : ℕ) → CanFollow (cell_in olds slot).counts (on_chain (parent_numbers parents) slot change.minus) (on_chain (parent_numbers parents) slot change.plus))
+    → AreUpTo olds last → last ≤ change.at → change.at ≤ last_moment → length middles ≡ length olds → AreGated change.gate olds middles → CanClimb parents current change (chains_of current change) middles
+can_climb parents current change last olds middles older slots below alone room told fits up_to later early same is = record {
+  older = older;
+  start = may_start current change alone;
+  slots = starts_low current change (length parents) slots below;
+  room = omega (arith, room, same);
+  told = λ slot apart. told_apart (parent_numbers parents) current change.gate slot (cell_in olds slot) (cell_in middles slot) (is slot) apart (told slot);
+  fits = λ slot. subst (λ counts. CanFollow counts (on_chain (parent_numbers parents) slot change.minus) (on_chain (parent_numbers parents) slot change.plus)) (sym (is slot).counts) (fits slot);
+  up_to = λ slot. subst (IsUpTo change.at) (sym (is slot).clock) (up_later last change.at later (cell_in olds slot).clock (up_to.each slot));
+  early = early;
+}
 
 -- what a group that took the gate did in the walk, it did since before that
 pub turned_since : (parents : List (Option ℕ)) (change : Change) (slot : ℕ) (old middle new : Cell) → IsGated change.gate slot old middle → IsTurned parents change slot middle new →

@@ -1,5 +1,5 @@
 -- A group that a change doesn't reach, and one to which it comes.
-use Rattle.std.proofs.Common.{◌≡◌, ℕ, suc, ◌+◌, arith, List, refl, sym, ap, ◌∙◌, subst, Bool, true, false, ◌⊎◌, ⊎_elim, Option, None, Some}
+use Rattle.std.proofs.Common.{◌≡◌, ℕ, suc, ◌+◌, arith, List, refl, sym, ap, ◌∙◌, subst, Bool, true, false, ⊎_elim, Option, None, Some}
 use Rattle.std.specs.Prelude.{◌&&◌, if◌then◌else◌}
 use Rattle.psi_base.specs.declared.event.Slot.{Slot}
 use Rattle.psi_base.specs.declared.event.State.{State}
