@@ -10,6 +10,7 @@ mod front;
 mod header;
 mod line;
 mod read;
+mod word;
 mod write;
 
 pub use front::front_event;

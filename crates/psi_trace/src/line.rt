@@ -12,6 +12,12 @@ pub(crate) struct Line<const ROOM: usize> {
     start: usize,
 }
 
+/// A header, or the line of an event that has few words and no path: time, verb, processor, task and how it leaves.
+pub(crate) type ShortLine = Line<80>;
+
+/// The line of any other event. The longest is that of the memory of a group with a path of 255 bytes.
+pub(crate) type LongLine = Line<384>;
+
 impl<const ROOM: usize> Model for Line<ROOM> {
     ghost use Rattle.std.specs.Prelude.{◌≤◌, ℕ, List, drop};
 
