@@ -7,7 +7,7 @@ use Rattle.std.proofs.lemmas.List.{length-append}
 use Rattle.psi_base.specs.declared.event.Slot.{Slot}
 use Rattle.psi_spec.specs.Stall.{number_of_slot}
 use Rattle.pressure_spec.specs.Ticks.{tick_moment}
-use Rattle.run_spec.specs.Live.{Watch, changes_until}
+use Rattle.run_spec.specs.Live.{LiveWatch, changes_until}
 use Rattle.psi_spec.specs.Trace.{Trace}
 use Rattle.run_spec.specs.Replay.{Pace, signals_until, tick_count}
 use Rattle.plan_laws.specs.Plan.{IsClock, PlanView}
@@ -59,7 +59,7 @@ plan_groups set i replay is = λ cpu below.
 pub slot_found : (set : Setting) (i : ℕ) (replay : ReplayView) (slot : Option Slot) → IsReached set replay i
     → number_of_slot slot ≡ watched_at set.trace (watched_path set.pace.watch) (tick_moment set.pace.length (i + 1)) → slot_in set (i + 1) ≡ number_of_slot slot
 slot_found set i replay slot is found =
-    sym (found ∙ ap (λ (watch : Option Watch). watched_at set.trace (watched_path watch) (tick_moment set.pace.length (i + 1))) is.watch)
+    sym (found ∙ ap (λ (watch : Option LiveWatch). watched_at set.trace (watched_path watch) (tick_moment set.pace.length (i + 1))) is.watch)
 
 -- after its next tick it was reached there
 pub reached_next : (set : Setting) (i : ℕ) (old new : ReplayView) → IsReached set old i → i < tick_count set.trace set.pace → HasPassed old new → IsReached set new (i + 1)

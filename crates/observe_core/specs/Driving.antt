@@ -7,7 +7,7 @@ use Rattle.psi_spec.specs.Changes.{RiseWithin}
 use Rattle.psi_spec.specs.Trace.{Trace}
 use Rattle.plan_laws.specs.Plan.{IsClock}
 use Rattle.pressure_spec.specs.Ticks.{tick_moment}
-use Rattle.run_spec.specs.Live.{Watch, live_slot_at}
+use Rattle.run_spec.specs.Live.{LiveWatch, live_slot_at}
 use Rattle.run_spec.specs.Replay.{Pace, signals_until, tick_count}
 use Rattle.observe_spec.specs.Samples.{AreDone, Due, Look, counts_by, due_at}
 use Rattle.proc_plan.specs.Plans.{PlansView, plan_at}

@@ -93,8 +93,8 @@ pub fn run<R: Threads + Sync, S: Shelf, K: Sink, N: Sink, G: Gate>(
         (K.has out.old) (K.has out.new) result }
 
     // The headline: where a replay is done, the output grew by exactly a text that the definitions give for its trace and its
-    // rules, those of its rules file with the drop-in file over it. With `--live` each live line may be of any of its processor's
-    // changes in the interval.
+    // rules, those of its rules file with the drop-in file over it. With `--live` each live line may be of any number of its
+    // processor's changes, from that of the tick before to that of its own.
     ensures headline { (name bytes : List ℕ) (options : Options) (rules : List Rule) →
         command_of (map string_bytes words.now) ≡ Some (Command.Replay name options) →
         IsTold (Command.Replay name options) TraceFile (S.holds shelf.old) bytes →

@@ -14,7 +14,7 @@ use kill_spec::Kill;
 use proc_plan::Plans;
 use psi_base::{NoMemory, Ns, Slot};
 use ruleset_json::Rules;
-use side_watch::Watch;
+use side_watch::SideWatch;
 use std::alloc::Global;
 use std::marker::Model;
 use tick_engine::Engine;
@@ -23,7 +23,7 @@ use tick_engine::Engine;
 #[derive(Drop)]
 pub(crate) struct Evaluator {
     killer: Killer,
-    watch: Watch,
+    watch: SideWatch,
     /// Room for what is read.
     reading: Reading,
 }
@@ -46,7 +46,7 @@ impl Evaluator {
         let lives = plans.lives();
         Ok(Evaluator {
             killer: Killer::make(alloc, rules, lives)?,
-            watch: Watch::make(alloc, lives)?,
+            watch: SideWatch::make(alloc, lives)?,
             reading: Reading::make(alloc, lives)?,
         })
     }

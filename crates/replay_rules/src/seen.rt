@@ -13,7 +13,7 @@ use kill_spec::GroupReading;
 use pressure_spec::QUANTITIES;
 use psi_base::{Ns, Slot, State};
 use psi_spec::GroupLife;
-use side_watch::Watch;
+use side_watch::SideWatch;
 use tick_engine::Engine;
 
 /// Whether a group is live at a moment (ns): it was made by then, and hasn't gone by then.
@@ -47,7 +47,7 @@ fn averages_of(engine: &Engine, slot: Slot) -> [[u64; 3]; QUANTITIES - 1]
 }
 
 /// What is seen of a group: its averages after the tick, and the last of what the trace told of it.
-fn read_group(engine: &Engine, watch: &Watch, slot: Slot) -> GroupReading
+fn read_group(engine: &Engine, watch: &SideWatch, slot: Slot) -> GroupReading
     requires made { slot.0 < length engine.now.groups }
     requires rows { HasRows engine.now slot.0 }
     ensures group { result ≡ group_by engine.now watch.now slot.0 }
@@ -70,7 +70,7 @@ fn read_group(engine: &Engine, watch: &Watch, slot: Slot) -> GroupReading
 pub(crate) fn fill_reading(
     reading: &mut Reading,
     engine: &Engine,
-    watch: &Watch,
+    watch: &SideWatch,
     order: &[Slot],
     at: Ns,
 )

@@ -18,7 +18,7 @@ use Rattle.plan_laws.proofs.PlanPlanned.{planned_after}
 use Rattle.plan_laws.proofs.PlanUpTo.{counts_by_plan}
 use Rattle.pressure_spec.specs.Ticks.{tick_moment}
 use Rattle.run_spec.specs.Lines.{live_line}
-use Rattle.run_spec.specs.Live.{AreCounts, IsLiveOf, IsLiveText, Watch, changes_until, live_lines, live_slot_at, sample_lines}
+use Rattle.run_spec.specs.Live.{AreCounts, IsLiveOf, IsLiveText, LiveWatch, changes_until, live_lines, live_slot_at, sample_lines}
 use Rattle.run_spec.specs.Replay.{Pace, tick_count}
 use Rattle.run_laws.specs.Live.{live_slot}
 use Rattle.run_laws.proofs.LiveSlots.{slot_by_lives}
@@ -203,7 +203,7 @@ counts_allowed plans old new trace pace i at slot cpu asked is below before samp
     }
 
 -- their lines are live lines of the slot
-slot_lines : (plans : PlansView) (old new : CrewView) (trace : Trace) (pace : Pace) (watch : Watch) (i at : ℕ) (slot : Slot) → HasReached plans old new trace pace i at → GoesByTick (Some watch) 0 old trace pace.length i → old.asked ≡ watch.count → AreSampled (Some slot) old new →
+slot_lines : (plans : PlansView) (old new : CrewView) (trace : Trace) (pace : Pace) (watch : LiveWatch) (i at : ℕ) (slot : Slot) → HasReached plans old new trace pace i at → GoesByTick (Some watch) 0 old trace pace.length i → old.asked ≡ watch.count → AreSampled (Some slot) old new →
     IsLiveOf trace pace.length (i + 1) watch.count (Some slot.0) (watches_text (tick_moment pace.length (i + 1)) trace.cpus new.watches)
 slot_lines plans old new trace pace watch i at slot is by_tick asked sampled =
     let own : (cpu : ℕ) → cpu < trace.cpus → IsSampled (plan_at plans cpu) slot.0 watch.count (clocks_at old.clocks cpu).made (clocks_at new.clocks cpu).made (watch_at old.watches cpu) (watch_at new.watches cpu) = λ cpu below.
@@ -258,7 +258,7 @@ reached_unwatched slot old new trace pace i none idle asked = record {
 }
 
 -- the live lines of a slot that may be watched
-lines_of : (plans : PlansView) (old new : CrewView) (trace : Trace) (pace : Pace) (watch : Watch) (i at : ℕ) (slot : Option Slot) → HasReached plans old new trace pace i at → GoesByTick (Some watch) 0 old trace pace.length i → old.asked ≡ watch.count → AreSampled slot old new →
+lines_of : (plans : PlansView) (old new : CrewView) (trace : Trace) (pace : Pace) (watch : LiveWatch) (i at : ℕ) (slot : Option Slot) → HasReached plans old new trace pace i at → GoesByTick (Some watch) 0 old trace pace.length i → old.asked ≡ watch.count → AreSampled slot old new →
     IsLiveOf trace pace.length (i + 1) watch.count (number_of_slot slot) (watches_text (tick_moment pace.length (i + 1)) trace.cpus new.watches)
 lines_of plans old new trace pace watch i at None is by_tick asked sampled = idle_text new.watches (tick_moment pace.length (i + 1)) trace.cpus sampled
 lines_of plans old new trace pace watch i at (Some slot) is by_tick asked sampled = slot_lines plans old new trace pace watch i at slot is by_tick asked sampled
@@ -268,7 +268,7 @@ times_of plans old new trace pace i at None is early sampled = idle_in_time new.
 times_of plans old new trace pace i at (Some slot) is early sampled = slot_in_time plans old new trace pace i at slot is early sampled
 
 -- a crew that took samples of the slot that is watched at a tick has those of the tick
-live_tick : (plans : PlansView) (old new : CrewView) (trace : Trace) (pace : Pace) (watch : Watch) (i at : ℕ) (slot : Option Slot) → pace.watch ≡ Some watch → HasReached plans old new trace pace i at → at ≤ last_moment →
+live_tick : (plans : PlansView) (old new : CrewView) (trace : Trace) (pace : Pace) (watch : LiveWatch) (i at : ℕ) (slot : Option Slot) → pace.watch ≡ Some watch → HasReached plans old new trace pace i at → at ≤ last_moment →
     GoesByTick (Some watch) 0 old trace pace.length i → old.asked ≡ watch.count → AreSampled slot old new → IsSlotAt slot trace pace (i + 1) → IsLiveTick old new trace pace (i + 1)
 live_tick plans old new trace pace watch i at slot watches is early by_tick asked sampled found =
     let here : number_of_slot slot ≡ live_slot_at trace.events watch.path (tick_moment pace.length (i + 1)) = found ∙ ap (λ w. watched_at trace (watched_path w) (tick_moment pace.length (i + 1))) watches in
@@ -282,7 +282,7 @@ live_tick plans old new trace pace watch i at slot watches is early by_tick aske
     }
 
 -- a crew that went to the tick with a path watched reached it
-pub reached_watched : (plans : PlansView) (old new : CrewView) (trace : Trace) (pace : Pace) (watch : Watch) (i at : ℕ) (slot : Option Slot) → pace.watch ≡ Some watch → HasReached plans old new trace pace i at → at ≤ last_moment →
+pub reached_watched : (plans : PlansView) (old new : CrewView) (trace : Trace) (pace : Pace) (watch : LiveWatch) (i at : ℕ) (slot : Option Slot) → pace.watch ≡ Some watch → HasReached plans old new trace pace i at → at ≤ last_moment →
     GoesByTick (Some watch) 0 old trace pace.length i → old.asked ≡ watch.count → AreSampled slot old new → IsReached slot old new trace pace i
 reached_watched plans old new trace pace watch i at slot watches is early by_tick asked sampled = record {
   live = live_tick plans old new trace pace watch i at slot watches is early by_tick asked sampled;
@@ -306,7 +306,7 @@ live_kept old new trace pace i is = record {
   in_time = is.in_time;
 }
 
-by_tick_kept : (watch : Option Watch) (crew : CrewView) (trace : Trace) (tick i : ℕ) → GoesByTick watch 1 crew trace tick i → GoesByTick watch 0 (handed crew) trace tick i
+by_tick_kept : (watch : Option LiveWatch) (crew : CrewView) (trace : Trace) (tick i : ℕ) → GoesByTick watch 1 crew trace tick i → GoesByTick watch 0 (handed crew) trace tick i
 by_tick_kept None crew trace tick i is = is
 by_tick_kept (Some watch) crew trace tick i is = (length-drop 1 crew.ready ∙ ap (λ n. n - 1) is.0, is.1)
 
@@ -326,7 +326,7 @@ watching_next slot old mid new live trace pace i was is same =
 
 -- ---- before the first tick
 
-by_tick_new : (watch : Option Watch) (crew : CrewView) (trace : Trace) (tick : ℕ) → crew.ready ≡ [] → AreIdle crew.watches → ((cpu : ℕ) → cpu < trace.cpus → (clocks_at crew.clocks cpu).made ≡ 0) → GoesByTick watch 0 crew trace tick 0
+by_tick_new : (watch : Option LiveWatch) (crew : CrewView) (trace : Trace) (tick : ℕ) → crew.ready ≡ [] → AreIdle crew.watches → ((cpu : ℕ) → cpu < trace.cpus → (clocks_at crew.clocks cpu).made ≡ 0) → GoesByTick watch 0 crew trace tick 0
 by_tick_new None crew trace tick none idle fresh = idle
 by_tick_new (Some watch) crew trace tick none idle fresh = (ap length none, fresh)
 
@@ -342,10 +342,10 @@ watching_new crew live trace pace path asked none idle fresh = record {
 -- ---- what a crew goes on from
 
 -- a path that is watched is that of what is watched
-pub watch_is : (crew : CrewView) (live : Option (List ℕ)) (path : List ℕ) (trace : Trace) (pace : Pace) (i : ℕ) → live ≡ Some path → IsWatching crew live trace pace i → (watch : Watch) × (pace.watch ≡ Some watch) × (watch.path ≡ path)
+pub watch_is : (crew : CrewView) (live : Option (List ℕ)) (path : List ℕ) (trace : Trace) (pace : Pace) (i : ℕ) → live ≡ Some path → IsWatching crew live trace pace i → (watch : LiveWatch) × (pace.watch ≡ Some watch) × (watch.path ≡ path)
 watch_is crew live path trace pace i named is = by_watch pace.watch refl
   where
-    by_watch : (watch : Option Watch) → pace.watch ≡ watch → (found : Watch) × (pace.watch ≡ Some found) × (found.path ≡ path)
+    by_watch : (watch : Option LiveWatch) → pace.watch ≡ watch → (found : LiveWatch) × (pace.watch ≡ Some found) × (found.path ≡ path)
     by_watch None none = absurd (let is_none = sym named ∙ is.path ∙ ap watched_path none in let no : ⊥ = cc in no)
     by_watch (Some watch) some = (watch, some, let paths = sym (is.path ∙ ap watched_path some) ∙ named in cc)
 
@@ -353,7 +353,7 @@ watch_is crew live path trace pace i named is = by_watch pace.watch refl
 pub watch_none : (crew : CrewView) (live : Option (List ℕ)) (trace : Trace) (pace : Pace) (i : ℕ) → live ≡ None → IsWatching crew live trace pace i → pace.watch ≡ None
 watch_none crew live trace pace i none is = by_watch pace.watch refl
   where
-    by_watch : (watch : Option Watch) → pace.watch ≡ watch → pace.watch ≡ None
+    by_watch : (watch : Option LiveWatch) → pace.watch ≡ watch → pace.watch ≡ None
     by_watch None is_none = is_none
     by_watch (Some watch) some = absurd (let is_some = sym none ∙ is.path ∙ ap watched_path some in let no : ⊥ = cc in no)
 
@@ -361,7 +361,7 @@ watch_none crew live trace pace i none is = by_watch pace.watch refl
 pub unwatched_ready : (crew : CrewView) (live : Option (List ℕ)) (trace : Trace) (pace : Pace) (i : ℕ) → 0 < length crew.ready → IsWatching crew live trace pace i → pace.watch ≡ None
 unwatched_ready crew live trace pace i some is = by_watch pace.watch refl
   where
-    by_watch : (watch : Option Watch) → pace.watch ≡ watch → pace.watch ≡ None
+    by_watch : (watch : Option LiveWatch) → pace.watch ≡ watch → pace.watch ≡ None
     by_watch None is_none = is_none
     by_watch (Some watch) is_some = absurd (let by_tick = subst (λ w. GoesByTick w 0 crew trace pace.length i) is_some is.by_tick in omega (arith, some, by_tick.0))
 
@@ -370,11 +370,11 @@ pub idle_unwatched : (crew : CrewView) (live : Option (List ℕ)) (trace : Trace
 idle_unwatched crew live trace pace i none is = subst (λ watch. GoesByTick watch 0 crew trace pace.length i) none is.by_tick
 
 -- how many samples are asked for by what is watched
-pub asked_is : (crew : CrewView) (live : Option (List ℕ)) (trace : Trace) (pace : Pace) (i : ℕ) (watch : Watch) → pace.watch ≡ Some watch → IsWatching crew live trace pace i → crew.asked ≡ watch.count
+pub asked_is : (crew : CrewView) (live : Option (List ℕ)) (trace : Trace) (pace : Pace) (i : ℕ) (watch : LiveWatch) → pace.watch ≡ Some watch → IsWatching crew live trace pace i → crew.asked ≡ watch.count
 asked_is crew live trace pace i watch some is = is.asked ∙ ap asked_by some
 
 -- and how the crew goes then
-pub by_tick_is : (crew : CrewView) (live : Option (List ℕ)) (trace : Trace) (pace : Pace) (i : ℕ) (watch : Watch) → pace.watch ≡ Some watch → IsWatching crew live trace pace i → GoesByTick (Some watch) 0 crew trace pace.length i
+pub by_tick_is : (crew : CrewView) (live : Option (List ℕ)) (trace : Trace) (pace : Pace) (i : ℕ) (watch : LiveWatch) → pace.watch ≡ Some watch → IsWatching crew live trace pace i → GoesByTick (Some watch) 0 crew trace pace.length i
 by_tick_is crew live trace pace i watch some is = subst (λ w. GoesByTick w 0 crew trace pace.length i) some is.by_tick
 
 -- the moment of the next tick, by how a replay is paced

@@ -11,7 +11,7 @@ use Rattle.psi_spec.specs.Trace.{Trace}
 use Rattle.psi_counts.specs.Clock.{IsInTime, opened}
 use Rattle.pressure_spec.specs.Ticks.{is_report, tick_moment}
 use Rattle.run_spec.specs.Lines.{live_line}
-use Rattle.run_spec.specs.Live.{IsLiveText, Watch, changes_until, live_slot_at}
+use Rattle.run_spec.specs.Live.{IsLiveText, LiveWatch, changes_until, live_slot_at}
 use Rattle.run_spec.specs.Replay.{Pace, group_report, kills_until, reports, root_group, signals_until, tick_count, tick_text}
 use Rattle.ruleset_json.specs.declared.types.Rule.{Rule}
 use Rattle.ruleset_json.specs.RuleRanges.{FitsRules}
@@ -81,12 +81,12 @@ pub record IsReady (plans : PlansView) (crew : CrewView) (trace : Trace) (pace :
 -- ---- live samples
 
 -- the path that is watched, if one is
-abbrev pub watched_path : Option Watch → Option (List ℕ)
+abbrev pub watched_path : Option LiveWatch → Option (List ℕ)
 watched_path None = None
 watched_path (Some watch) = Some watch.path
 
 -- how many samples are taken of a processor in an interval
-abbrev pub asked_by : Option Watch → ℕ
+abbrev pub asked_by : Option LiveWatch → ℕ
 asked_by None = 0
 asked_by (Some watch) = watch.count
 
@@ -105,7 +105,7 @@ AreIdle watches = (cpu : ℕ) → (watch_at watches cpu).samples ≡ []
 
 -- Where a group is watched, a crew goes tick by tick: so many tables are ready, and each processor's clocks made the changes up
 -- to the tick with a number, and no others. Else there are no samples.
-abbrev pub GoesByTick : Option Watch → ℕ → CrewView → Trace → ℕ → ℕ → Type 0
+abbrev pub GoesByTick : Option LiveWatch → ℕ → CrewView → Trace → ℕ → ℕ → Type 0
 GoesByTick None count crew trace tick i = AreIdle crew.watches
 GoesByTick (Some watch) count crew trace tick i =
     (length crew.ready ≡ count)

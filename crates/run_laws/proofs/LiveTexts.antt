@@ -13,7 +13,7 @@ use Rattle.plan_laws.specs.Plan.{plan_of}
 use Rattle.plan_laws.proofs.PlanTimes.{changes_more}
 use Rattle.plan_laws.proofs.PlanUpTo.{counts_by_plan}
 use Rattle.ruleset_json.specs.declared.types.Rule.{Rule}
-use Rattle.run_spec.specs.Live.{AreCounts, IsLiveOf, IsLiveText, Watch, changes_until, live_lines, live_slot_at}
+use Rattle.run_spec.specs.Live.{AreCounts, IsLiveOf, IsLiveText, LiveWatch, changes_until, live_lines, live_slot_at}
 use Rattle.run_spec.specs.Replay.{Beside, IsReplayText, Pace, last_line, replay_text, tick_count, tick_text, ticks_text, with_rules}
 use Rattle.run_laws.specs.Live.{AreTickTexts, NoTextAtFirst, OneTextMore, OneTextUnwatched, TextsGoOn, WholeText}
 use Rattle.run_laws.proofs.OneMore.{text_more}
@@ -131,7 +131,7 @@ some_lines limits trace legal tick i asked low (Some slot) =
     (live_lines trace slot (tick_moment tick i) counts, (counts, λ cpu _. counts_at_end limits trace legal tick i asked cpu low, refl))
 
 -- and so of a tick
-some_live : (limits : Limits) (trace : Trace) → AreLegal limits first_world trace.events → (tick : ℕ) (watch : Option Watch) (i : ℕ) → 1 ≤ i → (live : List ℕ) × IsLiveText trace tick watch i live
+some_live : (limits : Limits) (trace : Trace) → AreLegal limits first_world trace.events → (tick : ℕ) (watch : Option LiveWatch) (i : ℕ) → 1 ≤ i → (live : List ℕ) × IsLiveText trace tick watch i live
 some_live limits trace legal tick None i low = ([], refl)
 some_live limits trace legal tick (Some watch) i low = some_lines limits trace legal tick i watch.count low (live_slot_at trace.events watch.path (tick_moment tick i))
 

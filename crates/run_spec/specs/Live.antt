@@ -1,5 +1,6 @@
 -- What `--live` prints: at each tick at which its path is live, samples of that group's clocks on each processor, which readers
--- took while the workers ran. A sample may be of any of the processor's changes in the interval: which it is, its line says.
+-- took while the workers ran. A sample is of some number of the processor's changes, from how many there were at the tick before
+-- to how many there are at this one: of which, its line says.
 use Rattle.std.specs.Prelude.{◌≡◌, ℕ, ◌-◌, ◌<◌, zero, suc, List, [], length, Option, None, Some}
 use Rattle.std.specs.List.{flat_map, range_with_len}
 use Rattle.psi_base.specs.declared.event.Event.{Event}
@@ -10,7 +11,7 @@ use Rattle.pressure_spec.specs.Ticks.{tick_moment}
 use Rattle.run_spec.specs.Lines.{live_line}
 
 -- what is watched: the group with a path, by so many samples of each processor in each interval
-pub record Watch : Type 0 where
+pub record LiveWatch : Type 0 where
   pub path : List ℕ
   pub count : ℕ
 
@@ -48,7 +49,7 @@ IsLiveOf trace tick i asked (Some slot) text =
     × (text ≡ live_lines trace slot (tick_moment tick i) counts)
 
 -- A text is the live lines of a tick: those of the slot that the watched path has at the tick, if it is live then.
-abbrev pub IsLiveText : Trace → ℕ → Option Watch → ℕ → List ℕ → Type 0
+abbrev pub IsLiveText : Trace → ℕ → Option LiveWatch → ℕ → List ℕ → Type 0
 IsLiveText trace tick None i text = text ≡ []
 IsLiveText trace tick (Some watch) i text =
     IsLiveOf trace tick i watch.count (live_slot_at trace.events watch.path (tick_moment tick i)) text

@@ -22,7 +22,7 @@ use Rattle.run_spec.specs.declared.status.Which.{Which}
 use Rattle.run_spec.specs.declared.status.Which.TheVariants.{DropInFile, ImportFile, RulesFile, TraceFile}
 use Rattle.run_spec.specs.Text.{check_text, stall_text}
 use Rattle.run_spec.specs.Generated.{generated}
-use Rattle.run_spec.specs.Live.{Watch}
+use Rattle.run_spec.specs.Live.{LiveWatch}
 use Rattle.run_spec.specs.Replay.{IsReplayText, Pace, stress_text}
 use Rattle.run_spec.specs.Whatif.{last_trace}
 
@@ -133,12 +133,12 @@ abbrev pub rules_from : List ℕ → Option (List ℕ) → Result types.Rules St
 rules_from bytes drop_in = with_drop_in drop_in (or_rules_fault (rules_of bytes))
 
 -- what is watched, if there is a path
-abbrev pub watch_of_path : ℕ → Option (List ℕ) → Option Watch
+abbrev pub watch_of_path : ℕ → Option (List ℕ) → Option LiveWatch
 watch_of_path count None = None
 watch_of_path count (Some path) = Some (record { path = path; count = count })
 
 -- what options have watched
-abbrev pub watch_of : Options → Option Watch
+abbrev pub watch_of : Options → Option LiveWatch
 watch_of options = watch_of_path options.live_count options.live
 
 -- how options have a trace replayed
@@ -165,10 +165,10 @@ stress_options workers = record {
 }
 
 -- A text is the whole output of a command for an accepted trace and rulesets. Of `replay` there may be more than one where a
--- group is watched, since each live sample may be of any change in its interval. `gen` and `stress` read no file: theirs is
--- the trace that their shape gives. `import` prints its trace, which has as many processors as it was told. `rules` has no
--- trace, and prints its rulesets. `whatif` prints what `replay` prints of the last trace, from which the victims of its kills were
--- taken out.
+-- group is watched, since a live sample may be of any number of changes from that of the tick before to that of its own. `gen` and
+-- `stress` read no file: theirs is the trace that their shape gives. `import` prints its trace, which has as many processors as it
+-- was told. `rules` has no trace, and prints its rulesets. `whatif` prints what `replay` prints of the last trace, from which the
+-- victims of its kills were taken out.
 abbrev pub IsOutput : Command → Trace → List Rule → List ℕ → Type 0
 IsOutput (Stall name) trace rules text = text ≡ stall_text trace
 IsOutput (Check name tick_ms) trace rules text = text ≡ check_text trace

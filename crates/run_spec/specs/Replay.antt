@@ -19,7 +19,7 @@ use Rattle.kill_spec.specs.Kills as deciding
 use Rattle.kill_spec.specs.Evaluations.{reading_at, readings_until}
 use Rattle.run_spec.specs.Lines.{end_line, event_line, irq_report, kill_line, report_text}
 use Rattle.run_spec.specs.Text.{end_of}
-use Rattle.run_spec.specs.Live.{IsLiveText, Watch}
+use Rattle.run_spec.specs.Live.{IsLiveText, LiveWatch}
 
 -- How a trace is replayed: the length of a tick (ns), the period of reports (ns), 0 for none, the interval of evaluations (ns),
 -- and which group is watched, if one is.
@@ -27,7 +27,7 @@ pub record Pace : Type 0 where
   pub length : ℕ
   pub report : ℕ
   pub interval : ℕ
-  pub watch : Option Watch
+  pub watch : Option LiveWatch
 
 -- What a replay has beside its trace: the lines of live samples at the tick with a number, and rulesets.
 pub record Beside : Type 0 where

@@ -31,18 +31,18 @@ use Rattle.psi_counts.proofs.TouchCounts.{counted, counted_remove, running_found
 use Rattle.psi_counts.proofs.TouchLaws.{counted_act}
 use Rattle.proc_plan.specs.declared.side.Side.{Side}
 use Rattle.proc_plan.specs.Sides.{came, went, passage, group_of, sample_by, sides_by, sides_of}
-use Rattle.side_watch.specs.declared.cell.Cell.{Cell}
+use Rattle.side_watch.specs.declared.cell.SideCell.{SideCell}
 use Rattle.side_watch.specs.Sides.{cell_by, cell_after, moved, zero_side_cell}
 use Rattle.side_watch.specs.Watch.{tasks_under}
 
 -- ---- sides one after the other
 
-pub by_both : (parents : List (Option ℕ)) (slot : ℕ) (cell : Cell) (some more : List Side) → cell_by parents slot cell (some ++ more) ≡ cell_by parents slot (cell_by parents slot cell some) more
+pub by_both : (parents : List (Option ℕ)) (slot : ℕ) (cell : SideCell) (some more : List Side) → cell_by parents slot cell (some ++ more) ≡ cell_by parents slot (cell_by parents slot cell some) more
 by_both parents slot cell [] more = refl
 by_both parents slot cell (side ∷ some) more = by_both parents slot (cell_after parents slot cell side.what) some more
 
 -- a sample counts no task
-sample_counts : (parents : List (Option ℕ)) (slot at : ℕ) (cell : Cell) (groups : List GroupLife) (a : Act) → (cell_by parents slot cell (sample_by at groups a)).tasks ≡ cell.tasks
+sample_counts : (parents : List (Option ℕ)) (slot at : ℕ) (cell : SideCell) (groups : List GroupLife) (a : Act) → (cell_by parents slot cell (sample_by at groups a)).tasks ≡ cell.tasks
 sample_counts parents slot at cell groups (act.Group path) = refl
 sample_counts parents slot at cell groups (act.Prefer path preference) =
     elim ((slot_named groups path).0 == slot) as (λ b. (if b then record cell { preference = preference } else cell).tasks ≡ cell.tasks) [ true ↦ refl | false ↦ refl ]
@@ -71,10 +71,10 @@ with_coming on tasks = if on then moved true tasks else tasks
 abbrev with_going : Bool → ℕ → ℕ
 with_going on tasks = if on then moved false tasks else tasks
 
-coming_counts : (parents : List (Option ℕ)) (slot at : ℕ) (cell : Cell) (new : Slot) → (cell_by parents slot cell (came at new)).tasks ≡ with_coming (is_under parents new.0 slot) cell.tasks
+coming_counts : (parents : List (Option ℕ)) (slot at : ℕ) (cell : SideCell) (new : Slot) → (cell_by parents slot cell (came at new)).tasks ≡ with_coming (is_under parents new.0 slot) cell.tasks
 coming_counts parents slot at cell new = elim (is_under parents new.0 slot) as (λ b. (if b then record cell { tasks = moved true cell.tasks } else cell).tasks ≡ with_coming b cell.tasks) [ true ↦ refl | false ↦ refl ]
 
-going_counts : (parents : List (Option ℕ)) (slot at : ℕ) (cell : Cell) (old : Slot) → (cell_by parents slot cell (went at old)).tasks ≡ with_going (is_under parents old.0 slot) cell.tasks
+going_counts : (parents : List (Option ℕ)) (slot at : ℕ) (cell : SideCell) (old : Slot) → (cell_by parents slot cell (went at old)).tasks ≡ with_going (is_under parents old.0 slot) cell.tasks
 going_counts parents slot at cell old = elim (is_under parents old.0 slot) as (λ b. (if b then record cell { tasks = moved false cell.tasks } else cell).tasks ≡ with_going b cell.tasks) [ true ↦ refl | false ↦ refl ]
 
 coming_fits : (on : Bool) (tasks new : ℕ) → new ≡ tasks + one on → new ≤ 65536 → with_coming on tasks ≡ new
@@ -89,7 +89,7 @@ same_group : (parents : List (Option ℕ)) (slot old new : ℕ) → (old == new)
 same_group parents slot old new is = ⊎_elim (λ same. ap (λ n. one (is_under parents n slot)) same.1) (λ other. absurd (cc (is, other.0))) (eqb_tells old new)
 
 -- a task that leaves one group, where it was counted, and comes into another
-passage_counts : (parents : List (Option ℕ)) (slot at : ℕ) (cell : Cell) (new_count : ℕ) (old new : Option Slot) → new_count + one (leads parents slot old) ≡ cell.tasks + one (leads parents slot new) →
+passage_counts : (parents : List (Option ℕ)) (slot at : ℕ) (cell : SideCell) (new_count : ℕ) (old new : Option Slot) → new_count + one (leads parents slot old) ≡ cell.tasks + one (leads parents slot new) →
     one (leads parents slot old) ≤ cell.tasks → new_count ≤ 65536 → (cell_by parents slot cell (passage at old new)).tasks ≡ new_count
 passage_counts parents slot at cell new_count None None is there few = omega (arith, is)
 passage_counts parents slot at cell new_count None (Some new) is there few =
@@ -100,7 +100,7 @@ passage_counts parents slot at cell new_count (Some old) (Some new) is there few
     elim (old.0 == new.0) as (λ b. (old.0 == new.0) ≡ b → (cell_by parents slot cell (if b then [] else went at old ++ came at new)).tasks ≡ new_count) [
       | true ↦ λ same. omega (arith, is, same_group parents slot old.0 new.0 same)
       | false ↦ λ _.
-          let middle : Cell = cell_by parents slot cell (went at old) in
+          let middle : SideCell = cell_by parents slot cell (went at old) in
           let gone : middle.tasks ≡ cell.tasks - one (is_under parents old.0 slot) = going_counts parents slot at cell old ∙ going_fits (is_under parents old.0 slot) cell.tasks (cell.tasks - one (is_under parents old.0 slot)) (omega (arith, there)) in
           coming_counts parents slot at middle new ∙ coming_fits (is_under parents new.0 slot) middle.tasks new_count (omega (arith, is, gone, there)) few
     ] refl
@@ -147,8 +147,8 @@ tells-push limits parents slot events event legal earlier =
     let old : Option Slot = group_of (before w.tasks event.act) in
     let new : Option Slot = group_of (task_after w.groups w.tasks event.act) in
     let sample : List Side = sample_by event.at w.groups event.act in
-    let first : Cell = cell_by parents slot zero_side_cell (sides_of events) in
-    let middle : Cell = cell_by parents slot first sample in
+    let first : SideCell = cell_by parents slot zero_side_cell (sides_of events) in
+    let middle : SideCell = cell_by parents slot first sample in
     let told : cell_by parents slot zero_side_cell (sides_of (events ++ event ∷ [])) ≡ cell_by parents slot middle (passage event.at old new) =
     ap (cell_by parents slot zero_side_cell) (told-push sides_by first_world events event) ∙ by_both parents slot zero_side_cell (sides_of events) (sample ++ passage event.at old new) ∙ by_both parents slot first sample (passage event.at old new) in
     let sampled : middle.tasks ≡ counted p w.tasks = sample_counts parents slot event.at first w.groups event.act ∙ earlier in
@@ -158,7 +158,7 @@ tells-push limits parents slot events event legal earlier =
     let to = ap one (leads_by_task parents slot (task_after w.groups w.tasks event.act)) in
     let there = before_there p w.tasks event.act in
     let few = few_counted limits (events ++ event ∷ []) legal p in
-    ap (λ (cell : Cell). cell.tasks) told
+    ap (λ (cell : SideCell). cell.tasks) told
     ∙ passage_counts parents slot event.at middle (counted p (after (events ++ event ∷ [])).tasks) old new (omega (arith, sampled, tasks, by_act, from, to)) (omega (arith, sampled, there, from)) few
 
 pub tasks_told : (limits : Limits) (parents : List (Option ℕ)) (slot : ℕ) (events : List Event) → AreLegal limits first_world events → Tells parents slot events

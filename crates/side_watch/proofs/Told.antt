@@ -25,7 +25,7 @@ use Rattle.proc_plan.specs.declared.side.Side.{Side}
 use Rattle.proc_plan.specs.declared.side.SideAct.{SideAct}
 use Rattle.proc_plan.specs.declared.side.SideAct.TheVariants as side
 use Rattle.proc_plan.specs.Sides.{came, went, passage, group_of, sample_by, sides_by}
-use Rattle.side_watch.specs.declared.cell.Cell.{Cell}
+use Rattle.side_watch.specs.declared.cell.SideCell.{SideCell}
 use Rattle.side_watch.specs.Sides.{side_sample, is_coming, counted, cell_after, cell_by, host_after, host_by}
 use Rattle.side_watch.specs.Laws.{told_in, memory_in, preference_in, host_in, MemoryIsLastSide, PreferenceIsLastSide, HostIsLastSide, PopulatedIsCounted}
 
@@ -90,7 +90,7 @@ populated_is_counted events slot = any_counted (λ (task : Task). is_under (pare
 -- ---- what is kept after sides
 
 -- a side that is told last
-memory_step : (parents : List (Option ℕ)) (slot : ℕ) (cell : Cell) (what : SideAct) (rest : List MemorySample) → last_or (side_sample (cell_after parents slot cell what).memory) rest ≡ last_or (side_sample cell.memory) (memory_in slot what ++ rest)
+memory_step : (parents : List (Option ℕ)) (slot : ℕ) (cell : SideCell) (what : SideAct) (rest : List MemorySample) → last_or (side_sample (cell_after parents slot cell what).memory) rest ≡ last_or (side_sample cell.memory) (memory_in slot what ++ rest)
 memory_step parents slot cell (side.Mem of current swap scan) rest =
     elim (of.0 == slot) as (λ b. last_or (side_sample (if b then record cell { memory = record { current = current; swap = swap; scan = scan } } else cell).memory) rest ≡ last_or (side_sample cell.memory) ((if b then record { current = current; swap = swap; scan = scan } ∷ [] else []) ++ rest)) [ true ↦ refl | false ↦ refl ]
 memory_step parents slot cell (side.Prefer of preference) rest =
@@ -99,11 +99,11 @@ memory_step parents slot cell (side.Host mem_total swap_total swap_free) rest = 
 memory_step parents slot cell (side.Tasks of added) rest =
     elim (is_under parents of.0 slot) as (λ b. last_or (side_sample (if b then counted (is_coming added) cell else cell).memory) rest ≡ last_or (side_sample cell.memory) rest) [ true ↦ refl | false ↦ refl ]
 
-pub memory_by : (parents : List (Option ℕ)) (slot : ℕ) (cell : Cell) (sides : List Side) → side_sample (cell_by parents slot cell sides).memory ≡ last_or (side_sample cell.memory) (told_in (memory_in slot) sides)
+pub memory_by : (parents : List (Option ℕ)) (slot : ℕ) (cell : SideCell) (sides : List Side) → side_sample (cell_by parents slot cell sides).memory ≡ last_or (side_sample cell.memory) (told_in (memory_in slot) sides)
 memory_by parents slot cell [] = refl
 memory_by parents slot cell (side ∷ sides) = memory_by parents slot (cell_after parents slot cell side.what) sides ∙ memory_step parents slot cell side.what (told_in (memory_in slot) sides)
 
-preference_step : (parents : List (Option ℕ)) (slot : ℕ) (cell : Cell) (what : SideAct) (rest : List Preference) → last_or (cell_after parents slot cell what).preference rest ≡ last_or cell.preference (preference_in slot what ++ rest)
+preference_step : (parents : List (Option ℕ)) (slot : ℕ) (cell : SideCell) (what : SideAct) (rest : List Preference) → last_or (cell_after parents slot cell what).preference rest ≡ last_or cell.preference (preference_in slot what ++ rest)
 preference_step parents slot cell (side.Mem of current swap scan) rest =
     elim (of.0 == slot) as (λ b. last_or (if b then record cell { memory = record { current = current; swap = swap; scan = scan } } else cell).preference rest ≡ last_or cell.preference rest) [ true ↦ refl | false ↦ refl ]
 preference_step parents slot cell (side.Prefer of preference) rest =
@@ -112,7 +112,7 @@ preference_step parents slot cell (side.Host mem_total swap_total swap_free) res
 preference_step parents slot cell (side.Tasks of added) rest =
     elim (is_under parents of.0 slot) as (λ b. last_or (if b then counted (is_coming added) cell else cell).preference rest ≡ last_or cell.preference rest) [ true ↦ refl | false ↦ refl ]
 
-pub preference_by : (parents : List (Option ℕ)) (slot : ℕ) (cell : Cell) (sides : List Side) → (cell_by parents slot cell sides).preference ≡ last_or cell.preference (told_in (preference_in slot) sides)
+pub preference_by : (parents : List (Option ℕ)) (slot : ℕ) (cell : SideCell) (sides : List Side) → (cell_by parents slot cell sides).preference ≡ last_or cell.preference (told_in (preference_in slot) sides)
 preference_by parents slot cell [] = refl
 preference_by parents slot cell (side ∷ sides) = preference_by parents slot (cell_after parents slot cell side.what) sides ∙ preference_step parents slot cell side.what (told_in (preference_in slot) sides)
 

@@ -10,12 +10,12 @@ use Rattle.psi_spec.specs.Groups.{AreOlder, leads_to}
 use Rattle.psi_spec.proofs.GroupLaws.{by_step}
 use Rattle.slot_clocks.specs.Clocks.{parent_numbers}
 use Rattle.proc_plan.proofs.Upward.{at_itself, not_below, parent_number}
-use Rattle.side_watch.specs.declared.cell.Cell.{Cell}
+use Rattle.side_watch.specs.declared.cell.SideCell.{SideCell}
 use Rattle.side_watch.specs.Sides.{cell_counted, counted, side_cell_in, zero_side_cell}
 use Rattle.side_watch.specs.Watch.{AreSmallCells, IsSmallMemory}
 
 -- a walk that stands past all groups counts none of them
-pub past_all : (parents : List (Option Slot)) (place at : ℕ) (came : Bool) (cell : Cell) → AreOlder (parent_numbers parents) → length parents ≤ place → at < length parents → cell_counted (parent_numbers parents) (Some place) came at cell ≡ cell
+pub past_all : (parents : List (Option Slot)) (place at : ℕ) (came : Bool) (cell : SideCell) → AreOlder (parent_numbers parents) → length parents ≤ place → at < length parents → cell_counted (parent_numbers parents) (Some place) came at cell ≡ cell
 past_all parents place at came cell older past room =
     let other : (place == at) ≡ false = grind (arith, nat_tests) in
     let len : length (parent_numbers parents) ≡ length parents = length-map parents number_of_slot in
@@ -24,7 +24,7 @@ past_all parents place at came cell older past room =
     ap (λ b. if b then counted came cell else cell) off
 
 -- a group is counted where the walk stands, and the walk goes on to the parent
-pub step_up : (parents : List (Option Slot)) (cells : List Cell) (cell : Cell) (place at : ℕ) (came : Bool) → AreOlder (parent_numbers parents) → place < length cells → cell ≡ counted came (side_cell_in cells place) →
+pub step_up : (parents : List (Option Slot)) (cells : List SideCell) (cell : SideCell) (place at : ℕ) (came : Bool) → AreOlder (parent_numbers parents) → place < length cells → cell ≡ counted came (side_cell_in cells place) →
     cell_counted (parent_numbers parents) (number_of_slot (slice_index_or parents place None)) came at (side_cell_in (slice_set cells place cell) at)
     ≡ cell_counted (parent_numbers parents) (Some place) came at (side_cell_in cells at)
 step_up parents cells cell place at came older room is =
@@ -45,10 +45,10 @@ step_up parents cells cell place at came older room is =
     (eqb_tells place at))
 
 -- a count that changes leaves samples small
-pub small_kept : (cells : List Cell) (cell : Cell) (place : ℕ) (came : Bool) → place < length cells → cell ≡ counted came (side_cell_in cells place) → AreSmallCells cells → AreSmallCells (slice_set cells place cell)
+pub small_kept : (cells : List SideCell) (cell : SideCell) (place : ℕ) (came : Bool) → place < length cells → cell ≡ counted came (side_cell_in cells place) → AreSmallCells cells → AreSmallCells (slice_set cells place cell)
 small_kept cells cell place came room is small =
-    All-set (λ (cell : Cell). IsSmallMemory cell.memory) cells place cell (subst (λ (c : Cell). IsSmallMemory c.memory) (sym is) (small place zero_side_cell room)) small
+    All-set (λ (cell : SideCell). IsSmallMemory cell.memory) cells place cell (subst (λ (c : SideCell). IsSmallMemory c.memory) (sym is) (small place zero_side_cell room)) small
 
 -- the cell of a slot that has one, whatever stands for others
-pub cell_here : (cells : List Cell) (slot : ℕ) (other : Cell) → slot < length cells → slice_index_or cells slot other ≡ side_cell_in cells slot
+pub cell_here : (cells : List SideCell) (slot : ℕ) (other : SideCell) → slot < length cells → slice_index_or cells slot other ≡ side_cell_in cells slot
 cell_here cells slot other room = get_or_default cells slot other zero_side_cell room

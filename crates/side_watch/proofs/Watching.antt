@@ -16,7 +16,7 @@ use Rattle.kill_spec.specs.Readings.{no_host}
 use Rattle.kill_spec.specs.Evaluations.{MemorySample, memory_of, preference_of, host_of}
 use Rattle.proc_plan.specs.declared.side.Side.{Side}
 use Rattle.proc_plan.specs.Sides.{sides_of}
-use Rattle.side_watch.specs.declared.cell.Cell.{Cell}
+use Rattle.side_watch.specs.declared.cell.SideCell.{SideCell}
 use Rattle.side_watch.specs.declared.cell.GroupMemory.{GroupMemory}
 use Rattle.side_watch.specs.Sides.{side_sample, zero_side_cell, side_cell_in, cell_by, host_after, host_by, due_by}
 use Rattle.side_watch.specs.Watch.{SideView, side_cell_at, first_watch, seen_events, tasks_under, HasFollowed, Begins, Advances}
@@ -47,7 +47,7 @@ seen_prolongs limits events moment legal =
 -- ---- a watch whose groups are as sides tell them
 
 -- what is kept of the group in a slot once all sides of the events that were seen were taken
-abbrev told_cell : List Event → Option ℕ → ℕ → Cell
+abbrev told_cell : List Event → Option ℕ → ℕ → SideCell
 told_cell events moment slot = cell_by (parents_of (after events).groups) slot zero_side_cell (sides_of (seen_events events moment))
 
 abbrev told_host : List Event → Option ℕ → HostReading
@@ -75,13 +75,13 @@ pub watching : (limits : Limits) (events : List Event) (moment : Option ℕ) (wa
     ((slot : ℕ) → slot < length (after events).groups → side_cell_at watch slot ≡ told_cell events moment slot) → watch.host ≡ told_host events moment → HasFollowed events moment watch
 watching limits events moment watch legal parents each taken cells host =
     let tasks : (slot : ℕ) → slot < length (after events).groups → (side_cell_at watch slot).tasks ≡ tasks_under (after (seen_events events moment)) slot =
-    λ slot room. ap (λ (cell : Cell). cell.tasks) (cells slot room) ∙ told_tasks limits events moment slot legal in
+    λ slot room. ap (λ (cell : SideCell). cell.tasks) (cells slot room) ∙ told_tasks limits events moment slot legal in
     record {
       parents = parents;
       each = each;
       taken = taken;
-      memory = λ slot room. ap (λ (cell : Cell). side_sample cell.memory) (cells slot room) ∙ told_memory events moment slot;
-      preference = λ slot room. ap (λ (cell : Cell). cell.preference) (cells slot room) ∙ told_preference events moment slot;
+      memory = λ slot room. ap (λ (cell : SideCell). side_sample cell.memory) (cells slot room) ∙ told_memory events moment slot;
+      preference = λ slot room. ap (λ (cell : SideCell). cell.preference) (cells slot room) ∙ told_preference events moment slot;
       tasks = tasks;
       populated = λ slot room. ap (nat_lt 0) (tasks slot room) ∙ sym (populated_is_counted (seen_events events moment) slot);
       host = host ∙ told_hosts events moment;
@@ -94,7 +94,7 @@ begins lives limits events legal are =
     watching limits events None (first_watch lives) legal (ap parents_of are) (length-replicate (length lives) zero_side_cell ∙ ap length are) refl
     (λ slot room. get_or-replicate (length lives) slot zero_side_cell zero_side_cell (subst (λ (groups : List GroupLife). slot < length groups) (sym are) room)) refl
 
-pub begins_as : (lives : List GroupLife) (cells : List Cell) (parents : List (Option ℕ)) → cells ≡ replicate (length lives) zero_side_cell → parents ≡ parents_of lives →
+pub begins_as : (lives : List GroupLife) (cells : List SideCell) (parents : List (Option ℕ)) → cells ≡ replicate (length lives) zero_side_cell → parents ≡ parents_of lives →
     Begins lives (record { cells = cells; parents = parents; host = no_host; taken = 0 })
 begins_as lives cells parents cells_are parents_are = rw (cells_are, parents_are) (begins lives)
 
@@ -103,11 +103,11 @@ begins_as lives cells parents cells_are parents_are = rw (cells_are, parents_are
 abbrev memory_from : MemorySample → GroupMemory
 memory_from sample = record { current = sample.current; swap = sample.swap; scan = sample.scan }
 
-cell_of : (cell : Cell) (memory : GroupMemory) (preference : Preference) (tasks : ℕ) → cell.memory ≡ memory → cell.preference ≡ preference → cell.tasks ≡ tasks → cell ≡ record { memory = memory; preference = preference; tasks = tasks }
+cell_of : (cell : SideCell) (memory : GroupMemory) (preference : Preference) (tasks : ℕ) → cell.memory ≡ memory → cell.preference ≡ preference → cell.tasks ≡ tasks → cell ≡ record { memory = memory; preference = preference; tasks = tasks }
 cell_of cell memory preference tasks a b c = rw (← a, ← b, ← c) refl
 
 -- what is kept of two groups is the same, field by field
-same_cell : (one other : Cell) → side_sample one.memory ≡ side_sample other.memory → one.preference ≡ other.preference → one.tasks ≡ other.tasks → one ≡ other
+same_cell : (one other : SideCell) → side_sample one.memory ≡ side_sample other.memory → one.preference ≡ other.preference → one.tasks ≡ other.tasks → one ≡ other
 same_cell one other memory preference tasks =
     let memories : one.memory ≡ other.memory = ap memory_from memory in
     cell_of one other.memory other.preference other.tasks memories preference tasks
@@ -148,7 +148,7 @@ advances old new sides at took limits events moment legal are turn is =
     (hosts ∙ ap (λ host. host_by host due) (is.host ∙ sym (told_hosts events moment)) ∙ sym (hosts_both no_host (sides_of (seen_events events moment)) due) ∙ ap (host_by no_host) on)
 
 -- the same by the fields of the watch
-pub advances_by : (old : SideView) (cells new_cells : List Cell) (parents : List (Option ℕ)) (host new_host : HostReading) (taken new_taken : ℕ) (sides : List Side) (at : ℕ) →
+pub advances_by : (old : SideView) (cells new_cells : List SideCell) (parents : List (Option ℕ)) (host new_host : HostReading) (taken new_taken : ℕ) (sides : List Side) (at : ℕ) →
     old ≡ record { cells = cells; parents = parents; host = host; taken = taken } → length new_cells ≡ length cells →
     ((slot : ℕ) → slot < length cells → side_cell_in new_cells slot ≡ cell_by parents slot (side_cell_in cells slot) (due_by at (drop taken sides))) →
     new_host ≡ host_by host (due_by at (drop taken sides)) → new_taken ≡ taken + length (due_by at (drop taken sides)) →

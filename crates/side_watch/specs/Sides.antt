@@ -10,7 +10,7 @@ use Rattle.kill_spec.specs.Evaluations.{MemorySample}
 use Rattle.proc_plan.specs.declared.side.Side.{Side}
 use Rattle.proc_plan.specs.declared.side.SideAct.{SideAct}
 use Rattle.proc_plan.specs.declared.side.SideAct.TheVariants as side
-use Rattle.side_watch.specs.declared.cell.Cell.{Cell}
+use Rattle.side_watch.specs.declared.cell.SideCell.{SideCell}
 use Rattle.side_watch.specs.declared.cell.GroupMemory.{GroupMemory}
 
 -- ---- a group
@@ -20,7 +20,7 @@ abbrev pub side_sample : GroupMemory → MemorySample
 side_sample memory = record { current = memory.current; swap = memory.swap; scan = memory.scan }
 
 -- a group of which no side told: no memory, neither preferred nor avoided, and no task in it
-abbrev pub zero_side_cell : Cell
+abbrev pub zero_side_cell : SideCell
 zero_side_cell = record {
   memory = record { current = 0; swap = 0; scan = 0 };
   preference = Plain;
@@ -28,7 +28,7 @@ zero_side_cell = record {
 }
 
 -- what is kept of the group in a slot; a slot beyond the last is as a group of which no side told
-abbrev pub side_cell_in : List Cell → ℕ → Cell
+abbrev pub side_cell_in : List SideCell → ℕ → SideCell
 side_cell_in cells slot = slice_index_or cells slot zero_side_cell
 
 -- a task came: otherwise it left
@@ -41,25 +41,25 @@ abbrev pub moved : Bool → ℕ → ℕ
 moved came tasks = if came then min (tasks + 1) (2 ^ 32 - 1) else tasks - 1
 
 -- a group after a task came into it or below it, or left
-abbrev pub counted : Bool → Cell → Cell
+abbrev pub counted : Bool → SideCell → SideCell
 counted came cell = record cell { tasks = moved came cell.tasks }
 
 -- a group after a task came or left whose own group leads to this slot, if it does
-abbrev pub cell_counted : List (Option ℕ) → Option ℕ → Bool → ℕ → Cell → Cell
+abbrev pub cell_counted : List (Option ℕ) → Option ℕ → Bool → ℕ → SideCell → SideCell
 cell_counted parents start came slot cell =
     if leads_to parents start slot then counted came cell else cell
 
 -- the group in a slot after a sample of the memory of the group in another or in the same slot
-abbrev pub with_memory : ℕ → GroupMemory → ℕ → Cell → Cell
+abbrev pub with_memory : ℕ → GroupMemory → ℕ → SideCell → SideCell
 with_memory of memory slot cell = if of == slot then record cell { memory = memory } else cell
 
 -- it after the preference of the group in another or in the same slot was set
-abbrev pub with_preference : ℕ → Preference → ℕ → Cell → Cell
+abbrev pub with_preference : ℕ → Preference → ℕ → SideCell → SideCell
 with_preference of preference slot cell =
     if of == slot then record cell { preference = preference } else cell
 
 -- the group in a slot after one more side
-abbrev pub cell_after : List (Option ℕ) → ℕ → Cell → SideAct → Cell
+abbrev pub cell_after : List (Option ℕ) → ℕ → SideCell → SideAct → SideCell
 cell_after parents slot cell (side.Mem of current swap scan) =
     with_memory of.0 (record { current = current; swap = swap; scan = scan }) slot cell
 cell_after parents slot cell (side.Prefer of preference) = with_preference of.0 preference slot cell
@@ -68,7 +68,7 @@ cell_after parents slot cell (side.Tasks of added) =
     cell_counted parents (Some of.0) (is_coming added) slot cell
 
 -- it after some more sides
-abbrev pub cell_by : List (Option ℕ) → ℕ → Cell → List Side → Cell
+abbrev pub cell_by : List (Option ℕ) → ℕ → SideCell → List Side → SideCell
 cell_by parents slot cell [] = cell
 cell_by parents slot cell (side ∷ sides) =
     cell_by parents slot (cell_after parents slot cell side.what) sides
@@ -102,18 +102,18 @@ due_from taken at sides = due_by at (drop taken sides)
 -- ---- all groups
 
 -- each group comes out of what it was before
-abbrev pub EachIs : List Cell → List Cell → (ℕ → Cell → Cell) → Type 0
+abbrev pub EachIs : List SideCell → List SideCell → (ℕ → SideCell → SideCell) → Type 0
 EachIs old new step =
     (slot : ℕ) → slot < length old → side_cell_in new slot ≡ step slot (side_cell_in old slot)
 
 -- the group in a slot and all above it count a task that came into it or left it
-abbrev pub EachCounts : List (Option ℕ) → ℕ → Bool → List Cell → List Cell → Type 0
+abbrev pub EachCounts : List (Option ℕ) → ℕ → Bool → List SideCell → List SideCell → Type 0
 EachCounts parents of came old new = EachIs old new (cell_counted parents (Some of) came)
 
 -- each group went through one side
-abbrev pub EachTook : List (Option ℕ) → SideAct → List Cell → List Cell → Type 0
+abbrev pub EachTook : List (Option ℕ) → SideAct → List SideCell → List SideCell → Type 0
 EachTook parents what old new = EachIs old new (λ slot cell. cell_after parents slot cell what)
 
 -- each group went through these sides
-abbrev pub Took : List (Option ℕ) → List Side → List Cell → List Cell → Type 0
+abbrev pub Took : List (Option ℕ) → List Side → List SideCell → List SideCell → Type 0
 Took parents sides old new = EachIs old new (λ slot cell. cell_by parents slot cell sides)

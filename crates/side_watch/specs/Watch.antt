@@ -18,25 +18,25 @@ use Rattle.kill_spec.specs.Readings.{IsHostReading, no_host}
 use Rattle.kill_spec.specs.Evaluations.{memory_of, preference_of, host_of, is_populated}
 use Rattle.proc_plan.specs.declared.side.Side.{Side}
 use Rattle.proc_plan.specs.Sides.{sides_of}
-use Rattle.side_watch.specs.declared.cell.Cell.{Cell}
+use Rattle.side_watch.specs.declared.cell.SideCell.{SideCell}
 use Rattle.side_watch.specs.declared.cell.GroupMemory.{GroupMemory}
 use Rattle.side_watch.specs.Sides.{side_sample, zero_side_cell, side_cell_in}
 
 -- A watch: what is kept of the group in each slot, the parent of each, the last sample of the
 -- host's memory, and how many sides were taken.
 pub record SideView : Type 0 where
-  pub cells : List Cell
+  pub cells : List SideCell
   pub parents : List (Option ℕ)
   pub host : HostReading
   pub taken : ℕ
 
 -- the watch of these parts
-abbrev pub watch_view : List Cell → List (Option Slot) → HostReading → ℕ → SideView
+abbrev pub watch_view : List SideCell → List (Option Slot) → HostReading → ℕ → SideView
 watch_view cells parents host taken =
     record { cells = cells; parents = parent_numbers parents; host = host; taken = taken }
 
 -- what is kept of the group in a slot
-abbrev pub side_cell_at : SideView → ℕ → Cell
+abbrev pub side_cell_at : SideView → ℕ → SideCell
 side_cell_at watch slot = side_cell_in watch.cells slot
 
 -- some task lives in the group in a slot or below it, as the watch counts
@@ -50,8 +50,8 @@ pub record IsSmallMemory (memory : GroupMemory) : Type 0 where
   pub scan : memory.scan ≤ 2 ^ 60
 
 -- all samples are small
-abbrev pub AreSmallCells : List Cell → Type 0
-AreSmallCells cells = All (λ (cell : Cell). IsSmallMemory cell.memory) cells
+abbrev pub AreSmallCells : List SideCell → Type 0
+AreSmallCells cells = All (λ (cell : SideCell). IsSmallMemory cell.memory) cells
 
 -- What holds of each watch: parents are older, each group has a place for its parent, and all
 -- samples are small.

@@ -18,7 +18,7 @@ pub struct GroupMemory {
 
 /// What the sides so far tell of a group.
 #[derive(Clone, Copy, Debug)]
-pub(crate) struct Cell {
+pub(crate) struct SideCell {
     /// The last sample of its memory.
     pub(crate) memory: GroupMemory,
     /// The last preference.
@@ -27,12 +27,12 @@ pub(crate) struct Cell {
     pub(crate) tasks: u32,
 }
 
-impl Cell {
+impl SideCell {
     /// A group of which no side told.
-    pub(crate) fn zero() -> Cell
+    pub(crate) fn zero() -> SideCell
         ensures { result ≡ zero_side_cell }
     {
-        Cell {
+        SideCell {
             memory: GroupMemory {
                 current: 0,
                 swap: 0,

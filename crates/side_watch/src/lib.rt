@@ -1,7 +1,7 @@
 //! What a trace tells of its groups beside their stall times, followed moment by moment: memory,
 //! preferences, whether tasks live there, and the memory of the host.
 //!
-//! [`Watch`] takes the sides of a trace in their order. Its contracts say it in the words of
+//! [`SideWatch`] takes the sides of a trace in their order. Its contracts say it in the words of
 //! `kill_spec`: what it tells after a moment is what the events up to that moment tell.
 #![tactic(auto)]
 
@@ -12,4 +12,4 @@ mod watch;
 
 pub use cell::GroupMemory;
 pub use laws::law_sides_tell;
-pub use watch::Watch;
+pub use watch::SideWatch;

@@ -10,13 +10,13 @@ ghost use Rattle.side_watch.specs.Sides.{Took, EachCounts, EachIs, EachTook, due
 ghost use Rattle.side_watch.specs.Sides.{host_after, host_by, with_memory, with_preference};
 ghost use Rattle.side_watch.specs.Watch.{AreSmallCells, IsSmallMemory};
 
-use crate::cell::{Cell, GroupMemory};
+use crate::cell::{GroupMemory, SideCell};
 use kill_spec::HostReading;
 use proc_plan::{Side, SideAct};
 use psi_base::{Ns, Preference, Slot};
 
 // Counts a task that came into a group or left it, for the group and for all above it.
-fn count_task(cells: &mut [Cell], parents: &[Option<Slot>], slot: Slot, came: bool)
+fn count_task(cells: &mut [SideCell], parents: &[Option<Slot>], slot: Slot, came: bool)
     requires older { AreOlder (parent_numbers parents.now) }
     requires each { length cells.old ≡ length parents.now }
     requires small { AreSmallCells cells.old }
@@ -36,7 +36,7 @@ fn count_task(cells: &mut [Cell], parents: &[Option<Slot>], slot: Slot, came: bo
 }
 
 // Sets the last sample of a group's memory, if there is such a group.
-fn set_memory(cells: &mut [Cell], slot: Slot, memory: GroupMemory)
+fn set_memory(cells: &mut [SideCell], slot: Slot, memory: GroupMemory)
     requires fits { IsSmallMemory memory }
     requires small { AreSmallCells cells.old }
     ensures each { length cells.new ≡ length cells.old }
@@ -50,7 +50,7 @@ fn set_memory(cells: &mut [Cell], slot: Slot, memory: GroupMemory)
 }
 
 // Sets a group's preference, if there is such a group.
-fn set_preference(cells: &mut [Cell], slot: Slot, preference: Preference)
+fn set_preference(cells: &mut [SideCell], slot: Slot, preference: Preference)
     requires small { AreSmallCells cells.old }
     ensures each { length cells.new ≡ length cells.old }
     ensures small { AreSmallCells cells.new }
@@ -63,7 +63,7 @@ fn set_preference(cells: &mut [Cell], slot: Slot, preference: Preference)
 }
 
 // Takes all groups through one more side.
-fn take_cells(cells: &mut [Cell], parents: &[Option<Slot>], what: SideAct)
+fn take_cells(cells: &mut [SideCell], parents: &[Option<Slot>], what: SideAct)
     requires older { AreOlder (parent_numbers parents.now) }
     requires each { length cells.old ≡ length parents.now }
     requires fits { IsSmall what }
@@ -117,7 +117,7 @@ fn host_after(host: HostReading, what: SideAct) -> HostReading
 /// Takes all groups and the host through the sides up to a moment (ns), behind so many that were
 /// taken, and tells how many are taken then.
 pub(crate) fn take_due(
-    cells: &mut [Cell],
+    cells: &mut [SideCell],
     parents: &[Option<Slot>],
     host: &mut HostReading,
     sides: &[Side],

@@ -9,7 +9,7 @@ ghost use Rattle.proc_plan.specs.Plans.{AreSmall};
 ghost use Rattle.side_watch.specs.Watch.{Advances, Begins, IsSmallMemory};
 ghost use Rattle.side_watch.specs.Watch.{first_watch, has_tasks, side_cell_at};
 
-use crate::cell::{Cell, GroupMemory};
+use crate::cell::{GroupMemory, SideCell};
 use crate::steps::take_due;
 use kill_spec::HostReading;
 use proc_plan::Side;
@@ -21,9 +21,9 @@ use std::marker::Model;
 /// What the sides of a trace up to a moment tell of all its groups and of the host. Contracts see
 /// all of it.
 #[derive(Drop)]
-pub struct Watch {
+pub struct SideWatch {
     /// By slot.
-    cells: Vec<Cell>,
+    cells: Vec<SideCell>,
     /// By slot, None for the root.
     parents: Vec<Option<Slot>>,
     host: HostReading,
@@ -31,7 +31,7 @@ pub struct Watch {
     taken: usize,
 }
 
-impl Model for Watch {
+impl Model for SideWatch {
     ghost use Rattle.side_watch.specs.Watch.{IsWatch, SideView, watch_view};
 
     ghost Value = { SideView };
@@ -52,18 +52,18 @@ fn parents_of(alloc: Global, lives: &[GroupLife]) -> Result<Vec<Option<Slot>>, N
     Ok(parents)
 }
 
-impl Watch {
+impl SideWatch {
     /// The watch of these groups before any side: no memory, no preference, no task. Takes all
     /// memory that it will need.
     ///
     /// The groups are all that a trace ever makes, in the order of their slots.
-    pub fn make(alloc: Global, lives: &[GroupLife]) -> Result<Watch, NoMemory>
+    pub fn make(alloc: Global, lives: &[GroupLife]) -> Result<SideWatch, NoMemory>
         requires groups { AreGroups lives.now }
         ensures first { IfOk result (λ watch. watch ≡ first_watch lives.now) }
         ensures begins { IfOk result (Begins lives.now) }
     {
-        Ok(Watch {
-            cells: vec![in alloc; Cell::zero(); lives.len()]?,
+        Ok(SideWatch {
+            cells: vec![in alloc; SideCell::zero(); lives.len()]?,
             parents: parents_of(alloc, lives)?,
             host: HostReading {
                 mem_total: 0,
@@ -126,13 +126,13 @@ impl Watch {
     }
 
     // What is kept of a group.
-    fn cell(&self, slot: Slot) -> Cell
+    fn cell(&self, slot: Slot) -> SideCell
         ensures cell { result ≡ side_cell_at self.now slot.0 }
         ensures small { IsSmallMemory result.memory }
     {
         match self.cells.get(slot.0 as usize) {
             Some(cell) => *cell,
-            None => Cell::zero(),
+            None => SideCell::zero(),
         }
     }
 }

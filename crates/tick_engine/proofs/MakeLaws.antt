@@ -13,7 +13,7 @@ use Rattle.pressure_spec.specs.Samples.{group_averages, row_at, totals_after}
 use Rattle.pressure_spec.proofs.WithinLaws.{none_within}
 use Rattle.aggregate.specs.Table.{new_table}
 use Rattle.aggregate.proofs.TableLaws.{keeps_sizes}
-use Rattle.tick_engine.specs.declared.watch.Watch.{Watch}
+use Rattle.tick_engine.specs.declared.watch.TriggerWatch.{TriggerWatch}
 use Rattle.tick_engine.specs.Tables.{tick_at}
 use Rattle.tick_engine.specs.Step.{AreGroupsWithin, engine_group, new_watch, no_group, unsampled_group}
 use Rattle.tick_engine.specs.Engine.{EngineView, IsEngine, StandsFor, group_after}
@@ -48,7 +48,7 @@ groups_within cpus lives slot below =
 pub first_is : (cpus : ℕ) (lives : List GroupLife) (triggers : List TriggerSpec) → cpus ≤ 64 → length lives ≤ 1024 → AreTriggersWithin last_moment (length lives) triggers → IsEngine (first_engine cpus lives triggers)
 first_is cpus lives triggers few_cpus few_groups within =
     let slots : length (map unsampled_group lives) ≡ length lives = length-map lives unsampled_group in
-    let Within : Watch → Type 0 = λ watch. IsTriggerWithin last_moment (length lives) watch.spec in
+    let Within : TriggerWatch → Type 0 = λ watch. IsTriggerWithin last_moment (length lives) watch.spec in
     record {
       few_cpus = few_cpus;
       few_groups = omega (arith, slots, few_groups);

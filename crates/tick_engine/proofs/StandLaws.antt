@@ -16,7 +16,7 @@ use Rattle.pressure_spec.specs.Signal.{TriggerState, fires, new_trigger, trigger
 use Rattle.pressure_spec.specs.Samples.{fired_at, growths, has_fired, history_of, life_of, passes, row_at, totals_after, trigger_over, watched_state}
 use Rattle.pressure_spec.proofs.SampleLaws as samples
 use Rattle.tick_engine.specs.declared.group.Group.{Group}
-use Rattle.tick_engine.specs.declared.watch.Watch.{Watch}
+use Rattle.tick_engine.specs.declared.watch.TriggerWatch.{TriggerWatch}
 use Rattle.tick_engine.specs.Step.{AreGroupsWithin, AreStepped, begun_signals, begun_trigger, engine_group, fired_among, group_step, is_live_group, no_watch, sampled, stepped, watch_begun, watch_in, watch_signals, watch_stepped, watched_total}
 use Rattle.aggregate.specs.Table.{HasSizes}
 use Rattle.psi_spec.specs.Told.{IsTriggerWithin}
@@ -146,7 +146,7 @@ watch_next cpus lives ticks tick old new spec can =
     let trigger = trigger_over spec (history_of cpus lives ticks slot) in
     let later = trigger_over spec (history_of cpus lives (ticks ++ tick ∷ []) slot) in
     let state : Group → Option TriggerState → Option TriggerState = λ group trigger. if is_live_group group tick.at then stepped trigger tick.at (at_state group.totals (watched_state spec)) else trigger in
-    let watch : Option TriggerState → Watch = λ trigger. record { spec = spec; trigger = trigger } in
+    let watch : Option TriggerState → TriggerWatch = λ trigger. record { spec = spec; trigger = trigger } in
     let first = begun_is cpus lives ticks tick spec old can.ordered can.later can.group_before in
     let begun_now = begun_next spec (no_tick cpus (length lives)) ticks tick can.ordered can.later in
     let total = at_state (totals_after cpus lives (ticks ++ tick ∷ []) slot) (watched_state spec) in
@@ -195,7 +195,7 @@ signals_not : (groups : List Group) (now : ℕ) → watch_signals groups now no_
 signals_not groups now = grind arith
 
 -- tests of watches, by the numbers of their triggers
-signals_by_number : (groups : List Group) (now : ℕ) (watch : TriggerSpec → Watch) (test : TriggerSpec → Bool) (triggers : List TriggerSpec) → All (λ spec. watch_signals groups now (watch spec) ≡ test spec) triggers →
+signals_by_number : (groups : List Group) (now : ℕ) (watch : TriggerSpec → TriggerWatch) (test : TriggerSpec → Bool) (triggers : List TriggerSpec) → All (λ spec. watch_signals groups now (watch spec) ≡ test spec) triggers →
     (i : ℕ) → watch_signals groups now (watch_in (map watch triggers) i) ≡ passes (slice_get triggers i) test
 signals_by_number groups now watch test [] all i = signals_not groups now
 signals_by_number groups now watch test (spec ∷ triggers) all zero = all 0 spec (omega arith)
@@ -206,7 +206,7 @@ pub fired_next : (cpus : ℕ) (lives : List GroupLife) (triggers : List TriggerS
     fired_among new tick.at (map (watch_begun old tick.at) (map (watch_after cpus lives ticks) triggers)) (length triggers) ≡ fired_at cpus lives triggers ticks tick
 unfolding fired_at
 fired_next cpus lives triggers ticks tick old new can =
-    let watch : TriggerSpec → Watch = λ spec. watch_begun old tick.at (watch_after cpus lives ticks spec) in
+    let watch : TriggerSpec → TriggerWatch = λ spec. watch_begun old tick.at (watch_after cpus lives ticks spec) in
     let begun_trigger = map_map (watch_begun old tick.at) (watch_after cpus lives ticks) triggers in
     ap (λ watches. fired_among new tick.at watches (length triggers)) begun_trigger
     ∙ filter_agree _ _ (signals_by_number new tick.at watch (has_fired cpus lives ticks tick) triggers (λ k d below. signals_next cpus lives ticks tick old new (get_or triggers k d) (can k d below))) (range_with_len 0 (length triggers))
@@ -249,8 +249,8 @@ can_watch : (old new : EngineView) (cpus : ℕ) (lives : List GroupLife) (trigge
 can_watch old new cpus lives triggers ticks tick engine next is stands = λ k d below.
     let spec = get_or triggers k d in
     let many : length old.watches ≡ length triggers = ap length stands.watches ∙ length-map triggers (watch_after cpus lives ticks) in
-    let watch : get_or old.watches k no_watch ≡ watch_after cpus lives ticks spec = ap (λ (watches : List Watch). get_or watches k no_watch) stands.watches ∙ get_or-map (watch_after cpus lives ticks) triggers k d no_watch below in
-    let within : spec.slot.0 < length old.groups = omega (arith, (engine.watches k no_watch (omega (arith, many, below))).slot, ap (λ (watch : Watch). watch.spec.slot.0) watch) in
+    let watch : get_or old.watches k no_watch ≡ watch_after cpus lives ticks spec = ap (λ (watches : List TriggerWatch). get_or watches k no_watch) stands.watches ∙ get_or-map (watch_after cpus lives ticks) triggers k d no_watch below in
+    let within : spec.slot.0 < length old.groups = omega (arith, (engine.watches k no_watch (omega (arith, many, below))).slot, ap (λ (watch : TriggerWatch). watch.spec.slot.0) watch) in
     let slot : spec.slot.0 < length lives = omega (arith, within, stands.slots) in
     record {
       ordered = stands.ordered;
@@ -286,8 +286,8 @@ stands_next old new cpus lives triggers ticks tick engine next is stands =
     }
 
 -- watches stay in range as they begin
-pub begun_within : (groups : List Group) (now slots : ℕ) (watches : List Watch) → AreWatchesWithin slots watches → AreWatchesWithin slots (map (watch_begun groups now) watches)
-begun_within groups now slots watches all = All-map (λ (watch : Watch). IsTriggerWithin last_moment slots watch.spec) (watch_begun groups now) watches all
+pub begun_within : (groups : List Group) (now slots : ℕ) (watches : List TriggerWatch) → AreWatchesWithin slots watches → AreWatchesWithin slots (map (watch_begun groups now) watches)
+begun_within groups now slots watches all = All-map (λ (watch : TriggerWatch). IsTriggerWithin last_moment slots watch.spec) (watch_begun groups now) watches all
 
 -- an engine stays one over a tick
 pub engine_kept : (old new : EngineView) (tick : Tick) → IsEngine old → IsNextTick old.last tick → HasSizes old.cpus (length old.groups) tick.table → IsTicked tick old new →
@@ -295,7 +295,7 @@ pub engine_kept : (old new : EngineView) (tick : Tick) → IsEngine old → IsNe
 engine_kept old new tick engine next sizes is totals =
     let begun_trigger = map (watch_begun old.groups tick.at) old.watches in
     let many = ticked_many is in
-    let Within : Watch → Type 0 = λ watch. IsTriggerWithin last_moment (length old.groups) watch.spec in
+    let Within : TriggerWatch → Type 0 = λ watch. IsTriggerWithin last_moment (length old.groups) watch.spec in
     let within : All Within (map (watch_stepped new.groups tick.at) begun_trigger) = All-map Within (watch_stepped new.groups tick.at) begun_trigger (begun_within old.groups tick.at (length old.groups) old.watches engine.watches) in
     record {
       few_cpus = omega (arith, is.cpus, engine.few_cpus);

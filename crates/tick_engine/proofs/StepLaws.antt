@@ -12,7 +12,7 @@ use Rattle.psi_spec.specs.World.{longest_irq}
 use Rattle.pressure_spec.specs.Samples.{growths, row_at}
 use Rattle.pressure_spec.proofs.WithinLaws.{growths_next, irq_sum_most, totals_kept, totals_sampled}
 use Rattle.tick_engine.specs.declared.group.Group.{Group}
-use Rattle.tick_engine.specs.declared.watch.Watch.{Watch}
+use Rattle.tick_engine.specs.declared.watch.TriggerWatch.{TriggerWatch}
 use Rattle.tick_engine.specs.Step.{AreGroupsWithin, AreStatesWithin, AreTotalsWithin, fired_among, group_step, is_live_group, no_group, sampled, watch_in, watch_signals}
 
 -- a list that has f of the elements of another at each place
@@ -66,7 +66,7 @@ range_more : (count : ℕ) → range_with_len 0 (count + 1) ≡ range_with_len 0
 range_more count = sym (map-id (range_with_len 0 (count + 1))) ∙ map-range_with_len_more (λ (i : ℕ). i) 0 count count (omega arith) ∙ ap (λ (numbers : List ℕ). numbers ++ count ∷ []) (map-id (range_with_len 0 count))
 
 -- the numbers that signal among one watch more
-pub fired_more : (groups : List Group) (now : ℕ) (watches : List Watch) (count : ℕ) →
+pub fired_more : (groups : List Group) (now : ℕ) (watches : List TriggerWatch) (count : ℕ) →
     fired_among groups now watches (count + 1) ≡ fired_among groups now watches count ++ (if watch_signals groups now (watch_in watches count) then count ∷ [] else [])
 fired_more groups now watches count =
     let test = λ (i : ℕ). watch_signals groups now (watch_in watches i) in

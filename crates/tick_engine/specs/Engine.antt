@@ -11,7 +11,7 @@ use Rattle.pressure_spec.specs.Ticks.{Tick, AreNextTicks, last_tick, no_tick}
 use Rattle.pressure_spec.specs.Samples.{fired_at, group_averages, history_of, life_of, totals_after, trigger_over}
 use Rattle.aggregate.specs.Table.{HasSizes}
 use Rattle.tick_engine.specs.declared.group.Group.{Group}
-use Rattle.tick_engine.specs.declared.watch.Watch.{Watch}
+use Rattle.tick_engine.specs.declared.watch.TriggerWatch.{TriggerWatch}
 use Rattle.tick_engine.specs.Step.{AreGroupsWithin, engine_group}
 
 -- An engine: for how many processors it is, the last tick, what it keeps of each group and of each trigger, and the numbers
@@ -20,11 +20,11 @@ pub record EngineView : Type 0 where
   pub cpus : ℕ
   pub last : Tick
   pub groups : List Group
-  pub watches : List Watch
+  pub watches : List TriggerWatch
   pub fired : List ℕ
 
 -- an engine with these parts
-abbrev pub seen_as : ℕ → Tick → List Group → List Watch → List ℕ → EngineView
+abbrev pub seen_as : ℕ → Tick → List Group → List TriggerWatch → List ℕ → EngineView
 seen_as cpus last groups watches fired = record { cpus = cpus; last = last; groups = groups; watches = watches; fired = fired }
 
 -- the totals (ns) of the group in a slot
@@ -46,7 +46,7 @@ abbrev pub has_begun : List Tick → TriggerSpec → Bool
 has_begun ticks trigger = list_any (λ (tick : Tick). nat_le trigger.at tick.at) ticks
 
 -- what is kept of a trigger after ticks
-abbrev pub watch_after : ℕ → List GroupLife → List Tick → TriggerSpec → Watch
+abbrev pub watch_after : ℕ → List GroupLife → List Tick → TriggerSpec → TriggerWatch
 watch_after cpus lives ticks trigger = record { spec = trigger; trigger = if has_begun ticks trigger then Some (trigger_over trigger (history_of cpus lives ticks trigger.slot.0)) else None }
 
 -- An engine stands for ticks, of groups with these lives on so many processors and with these triggers: the ticks come one
@@ -70,7 +70,7 @@ EngineTakes old tick new = (cpus : ℕ) (lives : List GroupLife) (triggers : Lis
 -- ---- what is kept of each engine
 
 -- each trigger is one that a trace may set on so many groups
-abbrev pub AreWatchesWithin : ℕ → List Watch → Type 0
+abbrev pub AreWatchesWithin : ℕ → List TriggerWatch → Type 0
 AreWatchesWithin slots watches = All (λ watch. IsTriggerWithin last_moment slots watch.spec) watches
 
 -- What holds of each engine: its processors, groups and triggers are few, the last table has its sizes, no total is longer

@@ -12,7 +12,7 @@ use Rattle.pressure_spec.specs.Average.{average_step, new_averages}
 use Rattle.pressure_spec.specs.Signal.{TriggerState, fires, new_trigger, trigger_step}
 use Rattle.pressure_spec.specs.Samples.{growths, row_at, watched_state}
 use Rattle.tick_engine.specs.declared.group.Group.{Group}
-use Rattle.tick_engine.specs.declared.watch.Watch.{Watch}
+use Rattle.tick_engine.specs.declared.watch.TriggerWatch.{TriggerWatch}
 
 -- ---- groups
 
@@ -60,7 +60,7 @@ AreStepped last tick old new = (slot : ℕ) → slot < length old → engine_gro
 -- ---- triggers
 
 -- the watch of a trigger that hasn't begun
-abbrev pub new_watch : TriggerSpec → Watch
+abbrev pub new_watch : TriggerSpec → TriggerWatch
 new_watch spec = record { spec = spec; trigger = None }
 
 -- the total (ns) that a trigger watches
@@ -83,29 +83,29 @@ begun_signals None now total = false
 begun_signals (Some trigger) now total = fires trigger now total
 
 -- the watch of a trigger that begins, if it is to begin
-abbrev pub watch_begun : List Group → ℕ → Watch → Watch
+abbrev pub watch_begun : List Group → ℕ → TriggerWatch → TriggerWatch
 watch_begun groups now watch = record { spec = watch.spec; trigger = begun_trigger groups now watch.spec watch.trigger }
 
 -- the group of a watch is live at a moment (ns)
-abbrev pub is_watching : List Group → ℕ → Watch → Bool
+abbrev pub is_watching : List Group → ℕ → TriggerWatch → Bool
 is_watching groups now watch = is_live_group (engine_group groups watch.spec.slot.0) now
 
 -- a watch after a tick: its trigger is stepped where its group is live
-abbrev pub watch_stepped : List Group → ℕ → Watch → Watch
+abbrev pub watch_stepped : List Group → ℕ → TriggerWatch → TriggerWatch
 watch_stepped groups now watch = record { spec = watch.spec; trigger = if is_watching groups now watch then stepped watch.trigger now (watched_total groups watch.spec) else watch.trigger }
 
 -- a watch signals at a tick
-abbrev pub watch_signals : List Group → ℕ → Watch → Bool
+abbrev pub watch_signals : List Group → ℕ → TriggerWatch → Bool
 watch_signals groups now watch = is_watching groups now watch && begun_signals watch.trigger now (watched_total groups watch.spec)
 
 -- a watch that there isn't, in place of one
-abbrev pub no_watch : Watch
+abbrev pub no_watch : TriggerWatch
 no_watch = record { spec = record { at = 0; slot = record { 0 = 0 }; res = Io; level = SomeStalled; threshold_us = 0; window_us = 0 }; trigger = None }
 
 -- the watch of the trigger with a number
-abbrev pub watch_in : List Watch → ℕ → Watch
+abbrev pub watch_in : List TriggerWatch → ℕ → TriggerWatch
 watch_in watches i = slice_index_or watches i no_watch
 
 -- the numbers of the first so many watches that signal at a tick, ascending
-abbrev pub fired_among : List Group → ℕ → List Watch → ℕ → List ℕ
+abbrev pub fired_among : List Group → ℕ → List TriggerWatch → ℕ → List ℕ
 fired_among groups now watches count = filter (λ i. watch_signals groups now (watch_in watches i)) (range_with_len 0 count)

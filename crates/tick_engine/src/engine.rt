@@ -13,7 +13,7 @@ ghost use Rattle.tick_engine.specs.Tables.{tick_at};
 
 use crate::group::{Group, tick_all};
 use crate::last::LastTick;
-use crate::watch::{Watch, begin_all, step_all};
+use crate::watch::{TriggerWatch, begin_all, step_all};
 use aggregate::Rows;
 use fixed_average::Averages;
 use pressure_spec::{Amounts, TIMES, Times};
@@ -29,7 +29,7 @@ use std::marker::Model;
 pub struct Engine {
     last: LastTick,
     groups: Vec<Group>,
-    watches: Vec<Watch>,
+    watches: Vec<TriggerWatch>,
     /// Room for what the times of a group grow by, one place a processor.
     growths: Vec<Times>,
     /// The numbers of the triggers that signalled at the last tick, with room for all of them.
@@ -69,12 +69,12 @@ fn no_growths(alloc: Global, cpus: u32) -> Result<Vec<Times>, NoMemory>
 }
 
 /// The triggers, before the first tick.
-fn watches_of(alloc: Global, triggers: &[TriggerSpec]) -> Result<Vec<Watch>, NoMemory>
+fn watches_of(alloc: Global, triggers: &[TriggerSpec]) -> Result<Vec<TriggerWatch>, NoMemory>
     ensures { IfOk result (λ watches. watches.items ≡ map new_watch triggers.now) }
 {
     let mut watches = Vec::with_capacity(alloc, triggers.len())?;
     'triggers: for trigger in triggers {
-        watches.push(Watch::of(*trigger))?;
+        watches.push(TriggerWatch::of(*trigger))?;
     }
     Ok(watches)
 }

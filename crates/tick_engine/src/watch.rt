@@ -16,7 +16,7 @@ use window_trigger::Trigger;
 
 /// A trigger as the trace sets it, and the trigger itself from the first tick on that isn't before its line.
 #[derive(Drop)]
-pub(crate) struct Watch {
+pub(crate) struct TriggerWatch {
     pub(crate) spec: TriggerSpec,
     pub(crate) trigger: Option<Trigger>,
 }
@@ -58,12 +58,12 @@ fn trigger_with(spec: &TriggerSpec, total: u64) -> Trigger
     }
 }
 
-impl Watch {
+impl TriggerWatch {
     /// A watch of a trigger that hasn't begun.
-    pub(crate) fn of(spec: TriggerSpec) -> Watch
+    pub(crate) fn of(spec: TriggerSpec) -> TriggerWatch
         ensures { result ≡ new_watch spec }
     {
-        Watch {
+        TriggerWatch {
             spec,
             trigger: None,
         }
@@ -101,7 +101,7 @@ impl Watch {
 }
 
 /// Begins each trigger whose line isn't later than a tick and that hasn't begun, with its total at the tick before.
-pub(crate) fn begin_all(watches: &mut [Watch], groups: &[Group], now: Ns)
+pub(crate) fn begin_all(watches: &mut [TriggerWatch], groups: &[Group], now: Ns)
     requires watches { AreWatchesWithin (length groups.now) watches.old }
     requires totals { All (λ group. AreStatesWithin last_moment group) groups.now }
     ensures { watches.new ≡ map (watch_begun groups.now now) watches.old }
@@ -125,7 +125,12 @@ fn add_where(fired: &mut Vec<u32>, number: u32, has_signalled: bool)
 }
 
 /// Steps each trigger that has begun and whose group is live, and puts in the numbers of those that signal.
-pub(crate) fn step_all(watches: &mut [Watch], groups: &[Group], now: Ns, fired: &mut Vec<u32>)
+pub(crate) fn step_all(
+    watches: &mut [TriggerWatch],
+    groups: &[Group],
+    now: Ns,
+    fired: &mut Vec<u32>,
+)
     requires few { length watches.old ≤ 256 }
     requires room { length watches.old ≤ vec_capacity fired.old }
     requires watches { AreWatchesWithin (length groups.now) watches.old }

@@ -4,7 +4,7 @@ use kill_spec::HostReading;
 use plan_tests::events_of;
 use proc_plan::Plans;
 use psi_base::{Preference, Slot};
-use side_watch::{GroupMemory, Watch};
+use side_watch::{GroupMemory, SideWatch};
 use std::test::Fail;
 
 /// A task in a group of a group, which moves up and exits, and a path that is made again.
@@ -28,7 +28,7 @@ const LINES: [&[u8]; 16] = [
 ];
 
 /// Which of the four groups have a live task in them or below them: the root, `/a`, and those of the path `/a/b`.
-fn populated(watch: &Watch) -> [bool; 4] {
+fn populated(watch: &SideWatch) -> [bool; 4] {
     [
         watch.is_populated(Slot(0)),
         watch.is_populated(Slot(1)),
@@ -37,7 +37,7 @@ fn populated(watch: &Watch) -> [bool; 4] {
     ]
 }
 
-fn preferences(watch: &Watch) -> [Preference; 4] {
+fn preferences(watch: &SideWatch) -> [Preference; 4] {
     [
         watch.preference(Slot(0)),
         watch.preference(Slot(1)),
@@ -47,7 +47,7 @@ fn preferences(watch: &Watch) -> [Preference; 4] {
 }
 
 /// The memory of the two groups of the path `/a/b`.
-fn memories(watch: &Watch) -> [GroupMemory; 2] {
+fn memories(watch: &SideWatch) -> [GroupMemory; 2] {
     [watch.memory(Slot(2)), watch.memory(Slot(3))]
 }
 
@@ -83,7 +83,7 @@ fn moments_of_a_trace(rt: HostRuntime) -> Result<(), Fail> {
     let alloc = rt.alloc();
     let events = events_of(alloc, &LINES)?;
     let plans = Plans::build(alloc, 1, 12, &events)?;
-    let mut watch = Watch::make(alloc, plans.lives())?;
+    let mut watch = SideWatch::make(alloc, plans.lives())?;
 
     watch.advance(plans.sides(), 1);
     assert_eq!(rt; populated(&watch), [false; 4]);

@@ -3,7 +3,7 @@ use Rattle.std.specs.Prelude.{map}
 use Rattle.std.proofs.lemmas.List.{length-map, take_at}
 use Rattle.pressure_spec.specs.Ticks.{IsNextTick}
 use Rattle.aggregate.specs.Table.{HasSizes}
-use Rattle.tick_engine.specs.declared.watch.Watch.{Watch}
+use Rattle.tick_engine.specs.declared.watch.TriggerWatch.{TriggerWatch}
 use Rattle.tick_engine.specs.Tables.{tick_at}
 use Rattle.tick_engine.specs.Step.{engine_group, group_step, watch_begun}
 use Rattle.tick_engine.specs.Engine.{EngineView, StandsFor}
@@ -72,7 +72,7 @@ groups_whole c =
     let long : c.self.inside.groups.len ≡ length c.self.inside.groups.items = omega (arith, c.deref_mut-2.ensures.len, ap length c.deref_mut-2.ensures.value) in
     seam c.tick_all.new.groups _ _ (length c.self.inside.groups.items) (ticked c).slots long
 
-watches_whole : (c : goal.After-set) → (rest : List Watch) → take c.self.inside.watches.len (c.step_all.new.watches ++ rest) ≡ c.step_all.new.watches
+watches_whole : (c : goal.After-set) → (rest : List TriggerWatch) → take c.self.inside.watches.len (c.step_all.new.watches ++ rest) ≡ c.step_all.new.watches
 watches_whole c rest =
     let long : c.self.inside.watches.len ≡ length c.self.inside.watches.items = omega (arith, c.deref_mut.ensures.len, ap length c.deref_mut.ensures.value) in
     seam c.step_all.new.watches rest _ (length c.self.inside.watches.items) (stand.ticked_many (ticked c)) long

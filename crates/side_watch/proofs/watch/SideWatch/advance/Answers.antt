@@ -2,7 +2,7 @@ use Rattle.std.proofs.Common.{◌≡◌, ◌++◌, take, drop, length, sym, rule
 use Rattle.std.proofs.Math.Seq.{take-append_seam}
 use Rattle.slot_clocks.specs.Clocks.{parent_numbers}
 use Rattle.side_watch.proofs.Watching as laws
-use Rattle.side_watch.proofs.watch.Watch.advance.Goals as goal
+use Rattle.side_watch.proofs.watch.SideWatch.advance.Goals as goal
 
 pub returns : goal.returns
 returns c =

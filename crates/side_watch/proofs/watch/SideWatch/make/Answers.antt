@@ -3,7 +3,7 @@ use Rattle.std.specs.Prelude.{replicate}
 use Rattle.slot_clocks.specs.Clocks.{parent_numbers}
 use Rattle.side_watch.specs.Sides.{zero_side_cell}
 use Rattle.side_watch.proofs.Watching as laws
-use Rattle.side_watch.proofs.watch.Watch.make.Goals as goal
+use Rattle.side_watch.proofs.watch.SideWatch.make.Goals as goal
 
 pub returns-clause-begins : goal.returns-clause-begins
 returns-clause-begins c =
