@@ -8,7 +8,7 @@ use psi_base::{Sink, WriteFailed};
 use ruleset_json::{cause_name, put_placed};
 
 // The name of a cause.
-fn name_of(cause: DropCause) -> &'static [u8]
+fn drop_cause_name(cause: DropCause) -> &'static [u8]
     ensures { result.now ≡ drop_cause_name cause }
 {
     match cause {
@@ -23,5 +23,5 @@ pub fn put_drop_fault<K: Sink>(out: &mut K, fault: DropFault) -> Result<(), Writ
     ensures bytes { PutsAll (K.has out.old) (K.has out.new) result (drop_fault_text fault) }
     ensures cause { HasCause (K.faults out.old) (K.faults out.new) result }
 {
-    put_placed(out, b"drop-in", fault.place, name_of(fault.what))
+    put_placed(out, b"drop-in", fault.place, drop_cause_name(fault.what))
 }

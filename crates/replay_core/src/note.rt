@@ -14,7 +14,7 @@ use ruleset_json::{RulesFault, put_fault};
 use run_spec::{Command, Status, Which};
 
 // The name of a cause.
-fn name_of(cause: Cause) -> &'static [u8]
+fn cause_name(cause: Cause) -> &'static [u8]
     ensures { result.now ≡ cause_name cause }
 {
     match cause {
@@ -68,7 +68,7 @@ pub fn put_refusal<N: Sink>(note: &mut N, line: u32, cause: Cause) -> Result<(),
 {
     let mut line_digits = Buffer::new();
     let line = line_digits.format(line).as_bytes();
-    let name = name_of(cause);
+    let name = cause_name(cause);
     match field_of(cause) {
         Some(field) => {
             let mut field_digits = Buffer::new();
