@@ -65,7 +65,7 @@ pub record Step (cpus at room : ℕ) (w : World) (what : Act) : Type 0 where
   pub later : Stands cpus at room (after_event w (event_at at what))
 
 -- an act of this kind, with no cause of its own against it
-pub step_is : (cpus at room : ℕ) (w : World) (what : Act) → Stands cpus at (room + 1) w → act_cause cpus w.groups w.tasks w.irqs w.triggers at what ≡ None → ActFits what → IsAmong (phrase_of what).verb (verbs_of One)
+pub step_is : (cpus at room : ℕ) (w : World) (what : Act) → Stands cpus at (room + 1) w → act_cause cpus w.groups w.tasks w.irqs w.triggers w.pressures at what ≡ None → ActFits what → IsAmong (phrase_of what).verb (verbs_of One)
     → groups_after at w.groups what ≡ w.groups → ends what ≡ false → IsCalm (tasks_after w.groups w.tasks what) → Step cpus at room w what
 step_is cpus at room w what so none fits known same goes calm =
     let few = so.few in

@@ -70,7 +70,7 @@ next_is shape shaped count more w so state =
     record {
       fits = record { at = omega (arith, last, wait, few, more); act = step.fits };
       known = step.known;
-      legal = first_of_act (limits_in shape) w (next_event shape w state) so.going forward early room ∙ step.legal w.groups w.irqs w.triggers (next_event shape w state).at;
+      legal = first_of_act (limits_in shape) w (next_event shape w state) so.going forward early room ∙ step.legal w.groups w.irqs w.triggers w.pressures (next_event shape w state).at;
       light = step.light;
       later = record {
         tasks = step.live w.groups;

@@ -89,10 +89,10 @@ switch_live shape tasks are cpu room next how stays =
 
 -- ---- what a task does next
 
--- an act may be spelled, its verb is one of every version, and no cause of its own is against it, whatever groups, `irq` lines
--- and triggers there are and whenever it is; all tasks live on after it, and it isn't the end and takes no memory
+-- an act may be spelled, its verb is one of every version, and no cause of its own is against it, whatever groups, `irq` lines,
+-- triggers and `pressure` lines there are and whenever it is; all tasks live on after it, and it isn't the end and takes no memory
 pub record IsStep (shape : Shape) (tasks : Tasks) (a : Act) : Type 0 where
-  pub legal : (groups : List GroupLife) (irqs : List ℕ) (triggers at : ℕ) → act_cause shape.cpus groups tasks irqs triggers at a ≡ None
+  pub legal : (groups : List GroupLife) (irqs : List ℕ) (triggers pressures at : ℕ) → act_cause shape.cpus groups tasks irqs triggers pressures at a ≡ None
   pub fits : ActFits a
   pub known : IsAmong (phrase_of a).verb first_verbs
   pub live : (groups : List GroupLife) → AreLive shape (tasks_after groups tasks a)
@@ -134,7 +134,7 @@ wake_step shape tasks pid task it sleeps state =
     let room : drawn (next_state state) shape.cpus < shape.cpus = mod-lt _ (omega (arith, some)) in
     let there = there_is shape.cpus (drawn (next_state state) shape.cpus) room in
     record {
-      legal = λ groups irqs triggers at. rw (it.is, there, sleeps) refl;
+      legal = λ groups irqs triggers pressures at. rw (it.is, there, sleeps) refl;
       fits = (number_fits shape tasks pid task it, (processor_fits shape it.shaped _ room, tt));
       known = found_first verb.Wake refl;
       live = λ groups. change_live shape tasks it.are pid (readied (drawn (next_state state) shape.cpus)) (λ _ _. room);
@@ -167,7 +167,7 @@ start_step shape tasks pid task it ready how stays right =
     let room = place_of shape tasks pid task it in
     let there = there_is shape.cpus task.cpu.0 room in
     record {
-      legal = λ groups irqs triggers at. rw (it.is, there, ready_on task ready, right, stays) refl;
+      legal = λ groups irqs triggers pressures at. rw (it.is, there, ready_on task ready, right, stays) refl;
       fits = (processor_fits shape it.shaped _ room, (number_fits shape tasks pid task it, (tt, tt)));
       known = found_first verb.Switch refl;
       live = λ groups. switch_live shape tasks it.are task.cpu.0 room (Some (record { 0 = pid })) how stays;
@@ -192,7 +192,7 @@ leave_step shape tasks pid task it runs how stays right =
     let room = place_of shape tasks pid task it in
     let there = there_is shape.cpus task.cpu.0 room in
     record {
-      legal = λ groups irqs triggers at. rw (there, right, stays) refl;
+      legal = λ groups irqs triggers pressures at. rw (there, right, stays) refl;
       fits = (processor_fits shape it.shaped _ room, (tt, (tt, tt)));
       known = found_first verb.Switch refl;
       live = λ groups. switch_live shape tasks it.are task.cpu.0 room None how stays;
@@ -203,7 +203,7 @@ leave_step shape tasks pid task it runs how stays right =
 -- a stall of the running task begins or ends
 stall_step : (shape : Shape) (tasks : Tasks) (pid : ℕ) (task : Task) → IsTask shape tasks pid task → is_running task.mode ≡ true → task.stalled ≡ false → IsStep shape tasks (act.Stall (record { 0 = pid }))
 stall_step shape tasks pid task it runs calm = record {
-  legal = λ groups irqs triggers at. rw (it.is, runs, calm) refl;
+  legal = λ groups irqs triggers pressures at. rw (it.is, runs, calm) refl;
   fits = (number_fits shape tasks pid task it, tt);
   known = found_first verb.Stall refl;
   live = λ groups. change_live shape tasks it.are pid (λ task. record task { stalled = true }) (λ _ room. room);
@@ -213,7 +213,7 @@ stall_step shape tasks pid task it runs calm = record {
 
 unstall_step : (shape : Shape) (tasks : Tasks) (pid : ℕ) (task : Task) → IsTask shape tasks pid task → is_running task.mode ≡ true → task.stalled ≡ true → IsStep shape tasks (act.Unstall (record { 0 = pid }))
 unstall_step shape tasks pid task it runs stalled = record {
-  legal = λ groups irqs triggers at. rw (it.is, runs, stalled) refl;
+  legal = λ groups irqs triggers pressures at. rw (it.is, runs, stalled) refl;
   fits = (number_fits shape tasks pid task it, tt);
   known = found_first verb.Unstall refl;
   live = λ groups. change_live shape tasks it.are pid (λ task. record task { stalled = false }) (λ _ room. room);
