@@ -126,8 +126,43 @@ def test_accounting_changes(top: str) -> None:
     time.sleep(0.5)
     folder.write(f"{top}/cgroup{WEB}/cgroup.pressure", "0\n")
     run.ended(0)
-    found = re.findall(rf"accounting {WEB} (on|off)", read(f"{top}.markers"))
-    must_be("changes of cgroup.pressure", found, ["on", "off"])
+    must_be("changes of cgroup.pressure", changes_of_accounting(top), [f"{WEB} on", f"{WEB} off"])
+
+
+def changes_of_accounting(top: str) -> list[str]:
+    """What markers tell of `cgroup.pressure`."""
+    return re.findall(r"accounting (\S+ (?:on|off))", read(f"{top}.markers"))
+
+
+def test_an_unaccounted_group_that_comes_again(top: str) -> None:
+    """One that is made anew is accounted until it is switched off itself, though no sample may have seen that. The files are
+    changed at once, by a rename, so that each sample finds the one folder or the other."""
+    folder.make_machine(top)
+    run = Run(top, "--seconds", "2.5", "--memory-s", "0.1")
+    run.instance()
+    for number, accounting in enumerate("01"):
+        time.sleep(0.5)
+        folder.write(f"{top}/cgroup/new{number}/cgroup.pressure", accounting)
+        os.rename(f"{top}/cgroup{WEB}", f"{top}/cgroup/old{number}")
+        os.rename(f"{top}/cgroup/new{number}", f"{top}/cgroup{WEB}")
+        shutil.rmtree(f"{top}/cgroup/old{number}")
+    run.ended(0, is_same=False)
+    found = [it for it in changes_of_accounting(top) if it.startswith(WEB)]
+    must_be("what is told of the group", found, [f"{WEB} off"])
+
+
+def test_accounting_without_its_file(top: str) -> None:
+    """A group that goes away while it is looked at isn't told to be accounted; and before Linux 6.1 nothing is told at all."""
+    folder.make_machine(top)
+    run = Run(top, "--seconds", "1", "--memory-s", "0.1")
+    run.instance()
+    time.sleep(0.3)
+    os.remove(f"{top}/cgroup{WEB}/cgroup.pressure")
+    run.ended(0, is_same=False)
+    must_be("changes", changes_of_accounting(top), [])
+    old = Run(top, "--seconds", "0.3", "--memory-s", "0.1", name="old").ended(0)
+    must("unaccounted" not in old.file("snapshot").decode(), "nothing is unaccounted where there is no such file")
+    must_be("changes without the file", changes_of_accounting(top), [])
 
 
 def test_a_busy_processor(top: str) -> None:

@@ -21,7 +21,7 @@ import subprocess
 import sys
 from typing import NamedTuple
 
-from .pressure import Compared, Pair, compared, machine_readings, replay_series
+from .pressure import Compared, Pair, compared, machine_readings, made_in, replay_series
 from .recording import read_recording
 from .source import Unreadable
 from .words import Parser, nanoseconds, share
@@ -159,7 +159,8 @@ def run(options: Options) -> int:
     source = read_recording(options.folder, True)
     start = source.start + options.start
     series = replay_series(replayed(options.trace, options.tick_ms))
-    found = compared(machine_readings(options.folder, source), series, start, start + end_of(options.trace))
+    readings = machine_readings(options.folder, source)
+    found = compared(readings, series, made_in(source), start, start + end_of(options.trace))
     if found is None:
         raise Unreadable("less than two readings of the machine's pressure files lie in the trace")
     text, beyond = report(found, options.limits, options.shown)

@@ -7,6 +7,7 @@ from collections.abc import Sequence
 from dataclasses import dataclass, field
 from typing import NamedTuple
 
+from .accounts import Accounts, accounts_of
 from .events import NAMES, Attach, Event, GroupMade, GroupRemoved
 from .first import Beginning, First, beginning_of, tells_of_births
 from .groups import ROOT, Groups, parent_of
@@ -17,9 +18,11 @@ from .waits import Method, waits_for_io
 from .window import Window
 from .world import How, State, World
 
-# What a trace may have at most: lines of events with the end's among them, tasks at once, and processors.
+# What a trace may have at most: lines of events with the end's among them, tasks at once, lines that switch accounting, and
+# processors.
 MOST_EVENTS = 4_000_000
 MOST_TASKS = 65_536
+MOST_SWITCHES = 65_536
 MOST_PROCESSORS = 64
 
 
@@ -34,10 +37,11 @@ class Known(NamedTuple):
 
 @dataclass
 class Prior:
-    """What is known before the trace begins: groups, tasks and samples of memory. `is_sound` says whether nothing was lost
-    up to then."""
+    """What is known before the trace begins: groups, those of them that aren't accounted, tasks and samples of memory. `is_sound`
+    says whether nothing was lost up to then."""
 
     groups: list[str]
+    off: set[str]
     tasks: dict[int, Known]
     samples: Samples
     is_sound: bool = True
@@ -56,10 +60,17 @@ class Converted(NamedTuple):
     limit: str | None
 
 
+class Told(NamedTuple):
+    """What all events tell together: the places of the switches by which a wait for IO begins, and who was accounted when."""
+
+    waits: set[int]
+    accounts: Accounts
+
+
 # ---------------------------------------------------------------- what was there before
 
 
-def snapshot_prior(snapshot: Snapshot, events: Sequence[Event], beginning: Beginning) -> Prior:
+def snapshot_prior(snapshot: Snapshot, events: Sequence[Event], beginning: Beginning, off: set[str]) -> Prior:
     """What a snapshot says of the recording's first moment, though it was taken later: what came since isn't in it."""
     first_events: dict[str, type] = {}
     for event in events:
@@ -67,7 +78,7 @@ def snapshot_prior(snapshot: Snapshot, events: Sequence[Event], beginning: Begin
             first_events.setdefault(escaped_path(event.path), type(event))
     groups = [path for path in sorted(snapshot.groups) if first_events.get(path) is not GroupMade]
     moved = {it.task for it in events if isinstance(it, Attach) and not it.hierarchy and it.moment < snapshot.moment}
-    prior = Prior(groups, {}, Samples())
+    prior = Prior(groups, off, {}, Samples())
     for number, task in snapshot.tasks.items():
         if number in beginning.born:
             continue
@@ -90,7 +101,7 @@ def world_prior(world: World, samples: Samples, is_sound: bool) -> Prior:
         number: Known(task.group, task.process, First(task.state, task.processor), task.is_stalled)
         for number, task in world.tasks.items()
     }
-    return Prior(sorted(world.groups.live - world.groups.leaving), tasks, samples, is_sound)
+    return Prior(sorted(world.groups.live - world.groups.leaving), world.off, tasks, samples, is_sound)
 
 
 # ---------------------------------------------------------------- the first moment
@@ -131,6 +142,7 @@ def begin(world: World, prior: Prior, beginning: Beginning) -> None:
         world.put(words)
     for path in prior.groups:
         world.make_group(path)
+        world.switch_accounting(path, path not in prior.off)
     if prior.samples.host:
         world.put(f"host {prior.samples.host}")
     for path, sample in sorted(prior.samples.groups.items()):
@@ -163,21 +175,30 @@ def place_of(events: Sequence[Event], moment: int) -> int:
     return bisect_left([event.moment for event in events], moment)
 
 
-def prior_of(source: Source, until: int, waits: set[int], deepest: int | None, is_sound: bool) -> Prior:
+def prior_of(source: Source, until: int, told: Told, deepest: int | None, is_sound: bool) -> Prior:
     """What is known when the event at the place `until` is next."""
     beginning = beginning_of(source.events, tells_of_births(source.events))
-    prior = snapshot_prior(source.snapshot, source.events, beginning)
+    prior = snapshot_prior(source.snapshot, source.events, beginning, told.accounts.off)
     if not until:
         return prior
     world = World(source.processors, Groups(deepest))
     begin(world, prior, beginning)
-    player = Player(world, source.events, waits)
+    player = Player(world, source.events, told.waits, told.accounts.found)
     for place in range(until):
         player.play(place, source.events[place])
         world.lines.clear()
     after = world_prior(world, player.samples, is_sound)
     after.mended = prior.mended
     return after
+
+
+def limit_of(world: World) -> str | None:
+    """The limit of traces that the world is beyond, if any."""
+    if len(world.lines) >= MOST_EVENTS:
+        return f"{MOST_EVENTS} events"
+    if len(world.tasks) > MOST_TASKS:
+        return f"{MOST_TASKS} tasks"
+    return f"{MOST_SWITCHES} switches of accounting" if world.switches > MOST_SWITCHES else None
 
 
 def play(player: Player, source: Source, places: range, window: Window) -> str | None:
@@ -188,8 +209,8 @@ def play(player: Player, source: Source, places: range, window: Window) -> str |
         written, now = len(world.lines), world.now
         world.now = max(event.moment - window.start, now)
         player.play(place, event)
-        if len(world.lines) >= MOST_EVENTS or len(world.tasks) > MOST_TASKS:
-            limit = f"{MOST_EVENTS} events" if len(world.lines) >= MOST_EVENTS else f"{MOST_TASKS} tasks"
+        limit = limit_of(world)
+        if limit:
             del world.lines[written:]
             world.now = now
             return limit
@@ -199,7 +220,7 @@ def play(player: Player, source: Source, places: range, window: Window) -> str |
 
 class Wanted(NamedTuple):
     """What is to be made of a recording: of which part, by what waits for IO are told, with how many levels of groups,
-    with which lines once a group is there, and whether with interrupts, which a trace of version 2 has."""
+    with which lines once a group is there, and whether with interrupts."""
 
     window: Window
     method: Method
@@ -211,22 +232,22 @@ class Wanted(NamedTuple):
 def convert(source: Source, wanted: Wanted) -> Converted:
     """Makes the trace."""
     window, deepest = wanted.window, wanted.deepest
-    waits = waits_for_io(source.events, wanted.method)
+    told = Told(waits_for_io(source.events, wanted.method), accounts_of(source.events, source.snapshot))
     is_sound = not any(gap.start < window.start for gap in source.gaps)
     places = range(place_of(source.events, window.start), place_of(source.events, window.end + 1))
-    prior = prior_of(source, places.start, waits, deepest, is_sound)
+    prior = prior_of(source, places.start, told, deepest, is_sound)
     world = World(source.processors, Groups(deepest), wanted.has_interrupts)
     world.upon = wanted.upon
     world.mended.update(prior.mended)
     begin(world, prior, beginning_of(source.events[places.start : places.stop], tells_of_births(source.events)))
-    player = Player(world, source.events, waits)
+    player = Player(world, source.events, told.waits, told.accounts.found)
     limit = play(player, source, places, window)
     if world.groups.leaving:
         world.mended["removed group that a task never left"] += len(world.groups.leaving)
     counts = Counter(NAMES[type(event)] for event in source.events[places.start : places.stop])
-    lines = [f"psitrace {2 if wanted.has_interrupts else 1} cpus={source.processors}", *world.lines, f"{world.now} end"]
+    lines = [f"psitrace {world.version()} cpus={source.processors}", *world.lines, f"{world.now} end"]
     uninterruptible = waits_for_io(source.events, Method.STATE)
-    return Converted(lines, world, counts, count_in(waits, places), count_in(uninterruptible, places), player.victims, limit)
+    return Converted(lines, world, counts, count_in(told.waits, places), count_in(uninterruptible, places), player.victims, limit)
 
 
 def count_in(found: set[int], places: range) -> int:

@@ -125,7 +125,8 @@ def pressure_marker(number: int, is_end: bool) -> str:
 
 
 def accounting_marker(path: str, is_on: bool) -> str:
-    """A group's `cgroup.pressure` was seen to have changed; `path` is escaped."""
+    """A group's `cgroup.pressure` was seen to be another than at the sample before, or than that of a new group, which is 1; `path`
+    is escaped."""
     return f"{MARK}accounting {path} {'on' if is_on else 'off'}"
 
 

@@ -5,6 +5,7 @@ from __future__ import annotations
 from collections import Counter, defaultdict
 from collections.abc import Callable, Sequence
 
+from .accounts import Account
 from .events import (
     CLONE_INTO_CGROUP, CLONE_THREAD, GONE, Attach, Event, Exec, FirstWakeup, GroupMade, GroupRemoved, Interrupts, Marker,
     Migration, NewTask, StallBegins, StallEnds, Switch, Victim, Wakeup,
@@ -28,10 +29,11 @@ class Samples:
 
 
 class Player:
-    """Plays events one by one. `waits` has the places of the switches by which a wait for IO begins."""
+    """Plays events one by one. `waits` has the places of the switches by which a wait for IO begins, and `accounts` what was found
+    of the accounting of groups at which places."""
 
-    def __init__(self, world: World, events: Sequence[Event], waits: set[int]) -> None:
-        self.world, self.waits = world, waits
+    def __init__(self, world: World, events: Sequence[Event], waits: set[int], accounts: dict[int, list[Account]]) -> None:
+        self.world, self.waits, self.accounts = world, waits, accounts
         self.samples = Samples()
         self.victims: list[tuple[int, int]] = []
         # The group that each process made last.
@@ -69,6 +71,8 @@ class Player:
             self.group(event)
         elif isinstance(event, Victim):
             self.victims.append((self.world.now, event.task))
+        for account in self.accounts.get(place, ()):
+            self.world.switch_accounting(*account)
 
     # ------------------------------------------------------------ who is who
 

@@ -5,6 +5,7 @@ import re
 from bisect import bisect_left
 from typing import NamedTuple
 
+from .events import GroupMade
 from .layout import MARK, PRESSURE, escaped_path
 from .recording import text_of
 from .source import Source
@@ -107,16 +108,29 @@ def growth(before: Totals, after: Totals) -> tuple[int, int]:
     return after.some - before.some, after.full - before.full
 
 
-def compared(readings: Readings, series: Series, start: int, end: int) -> Compared | None:
+def made_in(source: Source) -> dict[str, int]:
+    """When the groups that were made in a recording were, in ns, by path: the last of them, where one came again."""
+    made = (it for it in source.events if isinstance(it, GroupMade) and not it.hierarchy)
+    return {escaped_path(it.path): it.moment for it in made}
+
+
+def first_totals(file: File, readings: list[dict[File, Totals]], made: dict[str, int]) -> Totals | None:
+    """The totals from which a file's growth is counted: those of the first reading, and where its group wasn't accounted then, so
+    that it had no files, of the first that has some. None where the group was made later: it began at 0."""
+    is_new = file not in readings[0] and made.get(file.path, 0) > max(it.moment for it in readings[0].values())
+    return None if is_new else next(files[file] for files in readings if file in files)
+
+
+def compared(readings: Readings, series: Series, made: dict[str, int], start: int, end: int) -> Compared | None:
     """All files that both have at the last reading of a trace that lasts from `start` to `end`, in ns of the recording's
-    clock. A group that was made after the first reading began at 0. None where less than two readings lie in the trace."""
+    clock; `made` says when groups were made in it. None where less than two readings lie in the trace."""
     inside = [number for number, files in readings.items() if all(start <= it.moment <= end for it in files.values())]
     if len(inside) < 2:
         return None
     first, last = readings[inside[0]], readings[inside[-1]]
     pairs = []
     for file, after in sorted(last.items()):
-        reports, before = series.get(file), first.get(file)
+        reports, before = series.get(file), first_totals(file, [readings[it] for it in inside], made)
         if reports:
             ours = totals_at(reports, before.moment - start) if before else Totals(0, 0, 0)
             theirs = before or Totals(start, 0, 0)

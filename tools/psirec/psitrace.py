@@ -4,7 +4,8 @@
   tools/psitrace TEXT --cpus N > X.trace      text of trace, trace_pipe, trace-cmd report or perf script: as much as it has
 
 A text is a file (also a gzipped one) or - for the standard input. S is a number of seconds with at most nine decimals, from
-the start of the recording. The trace begins at 0 wherever it is cut.
+the start of the recording. The trace begins at 0 wherever it is cut. It has version 2 with --interrupts, and where a group wasn't
+accounted all the time (its cgroup.pressure was 0); else version 1.
 
 The status is 0; 1 for faulty words; 2 where something can't be read or written; 3 where events were lost or a limit of traces
 was met: then nothing is written, unless --force is given, with which the longest stretch without loss is.
@@ -94,8 +95,8 @@ def parser() -> Parser:
                        help="put a trigger into the trace, times in us, such as '/ memory full 100000 1000000'; also more"
                        " than once")  # fmt: skip
     words.add_argument("--interrupts", dest="has_interrupts", action="store_true",
-                       help="write for how long interrupts held up who ran, where the recorder's machine accounted them: a trace of"
-                       " version 2")  # fmt: skip
+                       help="write for how long interrupts held up who ran, where the recorder's machine accounted"
+                       " them")  # fmt: skip
     words.add_argument("--force", dest="is_forced", action="store_true",
                        help="write what is sound, though something was lost: the longest stretch without loss")  # fmt: skip
     return words

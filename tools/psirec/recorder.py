@@ -110,7 +110,7 @@ class Recorder:
         """Until it ends; why it does."""
         self.read_pressure()
         self.take_snapshot()
-        self.memory.unaccounted = set(self.snapshots[-1].unaccounted)
+        self.memory.unaccounted = self.snapshots[-1].unaccounted
         jobs = self.jobs()
         reason = Reason.SECONDS
         while not self.signals.came:

@@ -27,10 +27,12 @@ Mark = Callable[[str], bool]
 
 @dataclass(frozen=True)
 class Group:
-    """A group: its folder, and its path as a recording spells it."""
+    """A group: its folder, its path as a recording spells it, and the folder's number, which is another where a group of that
+    path was removed and made again."""
 
     folder: str
     path: str
+    number: int
 
     def is_root(self) -> bool:
         """The root has none of the files of memory, and its pressure stands below /proc."""
@@ -39,13 +41,13 @@ class Group:
 
 def groups(machine: Machine) -> Iterator[Group]:
     """All groups, a parent before its children."""
-    pending = [machine.groups]
+    pending = [(machine.groups, 0)]
     while pending:
-        folder = pending.pop()
-        yield Group(folder, layout.escaped_path(os.fsencode(folder[len(machine.groups) :])))
+        folder, number = pending.pop()
+        yield Group(folder, layout.escaped_path(os.fsencode(folder[len(machine.groups) :])), number)
         try:
             with os.scandir(folder) as entries:
-                children = sorted(it.path for it in entries if it.is_dir(follow_symlinks=False))
+                children = sorted((it.path, it.inode()) for it in entries if it.is_dir(follow_symlinks=False))
         except OSError:
             continue
         pending.extend(reversed(children))
@@ -74,14 +76,21 @@ def number_in(path: str) -> int | None:
     return int(words[0]) if words and words[0].isdigit() else None
 
 
+def is_accounted(group: Group) -> bool | None:
+    """Whether the group's pressure is accounted, by its `cgroup.pressure`; None where there is no such file: the root may have
+    none, and before Linux 6.1 no group has one."""
+    number = number_in(f"{group.folder}/cgroup.pressure")
+    return None if number is None else number != 0
+
+
 @dataclass
 class MemorySampler:
     """Writes the memory of the machine and of each group as markers, and the groups whose `cgroup.pressure` has changed,
-    which no event tells."""
+    which no event tells. `unaccounted` are those that weren't accounted when they were last looked at."""
 
     machine: Machine
     mark: Mark
-    unaccounted: set[str] = field(default_factory=set)
+    unaccounted: set[Group] = field(default_factory=set)
     too_long: int = 0
 
     def sample(self) -> None:
@@ -90,19 +99,27 @@ class MemorySampler:
         total, swap_total, swap_free = (known.get(it, 0) for it in ("MemTotal", "SwapTotal", "SwapFree"))
         self.write(layout.host_marker(total, swap_total, swap_free))
         self.write(layout.memory_marker("/", total - known.get("MemAvailable", total), swap_total - swap_free, 0))
+        unaccounted = set()
         for group in groups(self.machine):
-            self.sample_group(group)
+            self.sample_memory(group)
+            if self.sample_accounting(group) is False:
+                unaccounted.add(group)
+        self.unaccounted = unaccounted
 
-    def sample_group(self, group: Group) -> None:
+    def sample_memory(self, group: Group) -> None:
         """A group without the files of memory, as the root, has no sample."""
         current = number_in(f"{group.folder}/memory.current")
         if current is not None:
             swap = number_in(f"{group.folder}/memory.swap.current") or 0
             self.write(layout.memory_marker(group.path, current, swap, scanned_pages(group)))
-        is_accounted = number_in(f"{group.folder}/cgroup.pressure")
-        if is_accounted is not None and (is_accounted == 0) != (group.path in self.unaccounted):
-            self.unaccounted ^= {group.path}
-            self.write(layout.accounting_marker(group.path, is_accounted != 0))
+
+    def sample_accounting(self, group: Group) -> bool | None:
+        """Whether the group is accounted, which is told where it has changed. A group that was made since is accounted at first,
+        also where its path is that of one that wasn't."""
+        is_on = is_accounted(group)
+        if is_on is not None and is_on == (group in self.unaccounted):
+            self.write(layout.accounting_marker(group.path, is_on))
+        return is_on
 
     def write(self, marker: str) -> None:
         """Counts those that are too long for a marker: their paths are too long for a trace as well."""
@@ -146,7 +163,7 @@ class Snapshot:
 
     moment: int
     lines: list[str]
-    unaccounted: set[str]
+    unaccounted: set[Group]
 
     def text(self) -> bytes:
         """The file."""
@@ -183,8 +200,8 @@ def take_snapshot(machine: Machine, moment: int) -> Snapshot:
     lines, unaccounted = [], set()
     for group in groups(machine):
         lines.append(layout.group_line(group.path, preference(group)))
-        if number_in(f"{group.folder}/cgroup.pressure") == 0:
-            unaccounted.add(group.path)
+        if is_accounted(group) is False:
+            unaccounted.add(group)
             lines.append(layout.unaccounted_line(group.path))
         for number in read_file(f"{group.folder}/cgroup.threads").split():
             line = task_line(machine, number, group)

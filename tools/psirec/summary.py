@@ -4,10 +4,12 @@ from __future__ import annotations
 from datetime import datetime, timezone
 
 from .convert import Converted
+from .groups import ROOT
 from .source import Source
 from .waits import Method
 from .window import Window, seconds
 from .words import SECOND
+from .world import World
 
 # How long it takes until an average that began at 0 means something: three of its periods, in s.
 SETTLED_10, SETTLED_60 = 30, 180
@@ -52,14 +54,25 @@ def whole_lines(source: Source, converted: Converted, window: Window, whole: Win
     return lines
 
 
+def accounting_lines(source: Source, world: World) -> list[str]:
+    """Who wasn't accounted, if somebody wasn't, and what the trace makes of it."""
+    lines = []
+    if ROOT in source.snapshot.unaccounted:
+        lines.append("the machine doesn't account the root, a trace does")
+    if world.switches:
+        version = "so it has version 2" + ("" if world.has_interrupts else ", without times of interrupts")
+        groups = ", ".join(sorted(world.switched))
+        lines.append(f"not accounted all the time: {groups}: lines `pressure` {world.switches}, {version}")
+    return lines
+
+
 def told_lines(source: Source, converted: Converted) -> list[str]:
     """What a trace has no word for, or another."""
     lines = list(source.notes)
     omitted = [path for path, preference in sorted(source.snapshot.groups.items()) if preference == "omit"]
     if omitted:
         lines.append(f"omit is told as avoid: {', '.join(omitted)}")
-    if source.snapshot.unaccounted:
-        lines.append(f"the machine doesn't account these groups, a trace does: {', '.join(source.snapshot.unaccounted)}")
+    lines += accounting_lines(source, converted.world)
     if converted.counts["psi_account_irqtime"] and not converted.world.has_interrupts:
         lines.append("times of interrupts are left out: --interrupts writes them, into a trace of version 2")
     lines += [f"the kernel's own killer chose task {task} at {seconds(moment)} s" for moment, task in converted.victims]

@@ -8,7 +8,7 @@ from __future__ import annotations
 from collections import Counter
 from enum import Enum, auto
 
-from .groups import Groups, parent_of
+from .groups import ROOT, Groups, parent_of
 
 # A label is the kernel's number of the task, unless that is taken: then it is this much more.
 LABEL_STEP = 100_000_000
@@ -59,12 +59,16 @@ class Task:
 class World:
     """The tasks by their numbers in the kernel, and who runs on each processor. `now` is ns since the trace's start.
 
-    Where it has interrupts the trace has version 2, and `interrupted` is the moment (ns) of the last line of them by processor."""
+    Where it has interrupts, `interrupted` is the moment (ns) of the last line of them by processor. `off` has the groups that
+    aren't accounted, and `switched` the paths whose accounting was switched, by so many lines as `switches` says."""
 
     def __init__(self, processors: int, groups: Groups, has_interrupts: bool = False) -> None:
         self.processors, self.groups, self.has_interrupts = processors, groups, has_interrupts
         self.now = 0
         self.interrupted: dict[int, int] = {}
+        self.off: set[str] = set()
+        self.switched: set[str] = set()
+        self.switches = 0
         self.lines: list[str] = []
         self.tasks: dict[int, Task] = {}
         self.runs: dict[int, int] = {}
@@ -76,6 +80,10 @@ class World:
     def put(self, words: str) -> None:
         """Writes a line."""
         self.lines.append(f"{self.now} {words}")
+
+    def version(self) -> int:
+        """The version of the trace: the first that has all of its lines."""
+        return 2 if self.has_interrupts or self.switches else 1
 
     # ------------------------------------------------------------ groups
 
@@ -91,13 +99,17 @@ class World:
 
     def remove_group(self, path: str) -> None:
         """Removes the group, now or when its last task has left."""
-        for one in self.groups.remove(path):
-            self.put(f"rmgroup {one}")
+        self.end_groups(self.groups.remove(path))
 
     def leave_group(self, path: str) -> None:
         """One task fewer is in the group."""
-        for one in self.groups.leave(path):
+        self.end_groups(self.groups.leave(path))
+
+    def end_groups(self, gone: list[str]) -> None:
+        """These groups are gone. One that is made again is accounted."""
+        for one in gone:
             self.put(f"rmgroup {one}")
+            self.off.discard(one)
 
     def make_again(self, path: str) -> None:
         """Makes a group whose path the kernel had removed before: what is left in that goes to the group above."""
@@ -107,6 +119,7 @@ class World:
                 self.mended["task of a removed group put into the one above"] += 1
         if self.groups.is_leaving(path):
             self.groups.keep(path)
+            self.switch_accounting(path, True)
             self.mended["removed group kept, since it came again"] += 1
         self.make_group(path)
 
@@ -116,6 +129,16 @@ class World:
         self.groups.enter(path)
         self.put(f"move {task.label} {path}")
         self.leave_group(before)
+
+    def switch_accounting(self, path: str, is_on: bool) -> None:
+        """The group is accounted from now on, or isn't, where that is another thing than before. A trace always accounts the
+        root, and knows nothing of a group for which another stands."""
+        if path == ROOT or path not in self.groups.live or is_on != (path in self.off):
+            return
+        (self.off.discard if is_on else self.off.add)(path)
+        self.switched.add(path)
+        self.switches += 1
+        self.put(f"pressure {path} {'on' if is_on else 'off'}")
 
     # ------------------------------------------------------------ interrupts
 
