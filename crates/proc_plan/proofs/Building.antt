@@ -10,7 +10,7 @@ use Rattle.psi_base.specs.declared.event.Fault.TheVariants as fault
 use Rattle.psi_base.specs.declared.event.Refusal.{Refusal}
 use Rattle.psi_spec.specs.Grammar.{Fits}
 use Rattle.psi_spec.specs.Trace.{AllFit}
-use Rattle.psi_spec.specs.World.{World, Limits, first_world}
+use Rattle.psi_spec.specs.World.{World, Limits}
 use Rattle.proc_plan.specs.Plans.{HasTaken, HasTakenAll, IsFaultAt, IsRefusal, PlannerTakes, PlannerView}
 use Rattle.proc_plan.proofs.Finishing.{ended_is_accepted}
 use Rattle.proc_plan.proofs.Taking.{lines_of}

@@ -34,7 +34,7 @@ step_up parents ons times place at irq older room =
     (λ same.
     let off : leads_to numbers (slice_index_or numbers place None) place ≡ false = not_below numbers place (slice_index_or numbers place None) older refl in
     subst (λ n. irq_at (slice_set times place more) n + (if ons n && leads_to numbers (slice_index_or numbers place None) n then irq else 0) ≡ irq_at times n + (if ons n && is_under numbers place n then irq else 0)) same.1
-    (rw (off, at_itself numbers place older, get_or-set_same times place more 0 room) (one_time (ons place) (irq_at times place) irq)))
+    (rw (off, at_itself numbers place, get_or-set_same times place more 0 room) (one_time (ons place) (irq_at times place) irq)))
     (λ other.
     let under : is_under numbers place at ≡ leads_to numbers (slice_index_or numbers place None) at = by_step numbers place at older ∙ rw other.0 refl in
     rw (under, get_or-set_other times place at more 0 (λ is. other.1 (sym is))) refl)

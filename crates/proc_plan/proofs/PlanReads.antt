@@ -10,7 +10,7 @@ use Rattle.psi_counts.specs.declared.changes.Change.{Change}
 use Rattle.psi_counts.specs.declared.changes.Counts.{Counts}
 use Rattle.psi_spec.specs.Groups.{AreOlder, HaveParents, leads_to}
 use Rattle.psi_spec.specs.Stall.{is_under, number_of_slot}
-use Rattle.plan_laws.specs.Plan.{AreInOrder, IsPlan, PlanView, changes_up_to, current_after, is_gate_of, is_part_in, last_change}
+use Rattle.plan_laws.specs.Plan.{AreInOrder, PlanView, changes_up_to, current_after, is_gate_of, is_part_in, last_change}
 use Rattle.psi_counts.specs.Touch.{HasNoCounts, IsOfOne, is_current_in}
 use Rattle.plan_laws.proofs.PlanSteps.{place_of_moment}
 use Rattle.slot_clocks.specs.Walk.{slot_in}
@@ -89,15 +89,15 @@ current_off parents slot None off = refl
 current_off parents slot (Some running) off = off
 
 -- a slot that is off the chain that a change begins with is off what it takes, and no gate is the slot's
-gate_off : (parents : List (Option ℕ)) (slot : ℕ) (gate : Option (Slot × Bool)) (minus : Option (Slot × Counts)) → AreOlder parents → IfSome gate (λ _. minus ≡ None) → leads_to parents (number_of_slot (option_or (slot_in gate) (slot_in minus))) slot ≡ false
+gate_off : (parents : List (Option ℕ)) (slot : ℕ) (gate : Option (Slot × Bool)) (minus : Option (Slot × Counts)) → IfSome gate (λ _. minus ≡ None) → leads_to parents (number_of_slot (option_or (slot_in gate) (slot_in minus))) slot ≡ false
     → (is_part_in parents slot minus ≡ false) × (is_gate_of slot gate ≡ false)
-gate_off parents slot None minus older none off = (part_off parents slot minus off, refl)
-gate_off parents slot (Some gate) minus older none off = (
+gate_off parents slot None minus none off = (part_off parents slot minus off, refl)
+gate_off parents slot (Some gate) minus none off = (
   ap (is_part_in parents slot) none,
   elim (gate.0.0 == slot) as (λ b. (gate.0.0 == slot) ≡ b → b ≡ false) [
     | true ↦ λ same.
         let equal : gate.0.0 ≡ slot = grind (arith, nat_tests) in
-        absurd (cc (sym off ∙ ap (is_under parents gate.0.0) (sym equal) ∙ at_itself parents gate.0.0 older))
+        absurd (cc (sym off ∙ ap (is_under parents gate.0.0) (sym equal) ∙ at_itself parents gate.0.0))
     | false ↦ λ _. refl
   ] refl,
 )
@@ -109,11 +109,16 @@ no_minus change is = alone change.gate is.gate
     alone None is = tt
     alone (Some gate) is = is.0.0
 
+-- the change at a place is one
+pub same_change : (plan : PlanView) (k : ℕ) (one other : Change) → slice_get plan.changes k ≡ Some one → slice_get plan.changes k ≡ Some other → one ≡ other
+same_change plan k one other is too = let same : Some one ≡ Some other = sym is ∙ too in cc same
+
 -- a change is aside of each slot that is on none of its chains
-pub others_aside : (plan : PlanView) (k : ℕ) (starts : List (Option Slot)) → IsPlan plan → AreConcerned plan k starts → OthersAreAside plan k starts
-others_aside plan k starts whole are slot change is off =
+pub others_aside : (plan : PlanView) (k : ℕ) (starts : List (Option Slot)) (one : Change) → slice_get plan.changes k ≡ Some one → IsOfOne one → AreConcerned plan k starts → OthersAreAside plan k starts
+others_aside plan k starts one there is_one are slot change is off =
+    let of_one : IsOfOne change = subst IsOfOne (same_change plan k one change there is) is_one in
     let none = subst (λ starts. IsOnNone plan.parents starts slot) (are change is) off in
-    let first = gate_off plan.parents slot change.gate change.minus whole.older (no_minus change (whole.ones k change is)) (none 0 None (omega arith)) in
+    let first = gate_off plan.parents slot change.gate change.minus (no_minus change of_one) (none 0 None (omega arith)) in
     record {
       minus = first.0;
       gate = first.1;
@@ -121,10 +126,6 @@ others_aside plan k starts whole are slot change is off =
       before = current_off plan.parents slot (current_after plan k) (none 2 None (omega arith));
       current = current_off plan.parents slot change.current (none 3 None (omega arith));
     }
-
--- the change at a place is one
-pub same_change : (plan : PlanView) (k : ℕ) (one other : Change) → slice_get plan.changes k ≡ Some one → slice_get plan.changes k ≡ Some other → one ≡ other
-same_change plan k one other is too = let same : Some one ≡ Some other = sym is ∙ too in cc same
 
 -- ---- parents
 

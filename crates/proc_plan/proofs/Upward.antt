@@ -1,12 +1,12 @@
 -- A walk up from a slot to the root.
-use Rattle.std.proofs.Common.{◌≡◌, ℕ, ◌<◌, List, refl, sym, ◌∙◌, arith, true, false, Option, None, Some}
+use Rattle.std.proofs.Common.{◌≡◌, ℕ, zero, suc, ◌<◌, List, refl, sym, arith, true, false, Option, None, Some}
 use Rattle.std.specs.Prelude.{slice_index_or, ◌==◌}
 use Rattle.std.proofs.lemmas.Bool.Decides.{nat_tests}
 use Rattle.std.proofs.Math.ListN.{get_or-map}
 use Rattle.psi_base.specs.declared.event.Slot.{Slot}
 use Rattle.psi_spec.specs.Stall.{is_under, number_of_slot}
 use Rattle.psi_spec.specs.Groups.{AreOlder, leads_to}
-use Rattle.psi_spec.proofs.GroupLaws.{by_step, ancestors_older}
+use Rattle.psi_spec.proofs.GroupLaws.{ancestors_older}
 use Rattle.slot_clocks.specs.Clocks.{parent_numbers}
 use Rattle.slot_clocks.specs.Walk.{height}
 
@@ -19,8 +19,10 @@ itself : (n : ℕ) → (n == n) ≡ true
 itself n = grind (arith, nat_tests)
 
 -- a slot leads to itself
-pub at_itself : (parents : List (Option ℕ)) (slot : ℕ) → AreOlder parents → is_under parents slot slot ≡ true
-at_itself parents slot older = by_step parents slot slot older ∙ rw (itself slot) refl
+pub at_itself : (parents : List (Option ℕ)) (slot : ℕ) → is_under parents slot slot ≡ true
+unfolding is_under
+at_itself parents zero = refl
+at_itself parents (suc slot) = rw (itself (suc slot)) refl
 
 -- a parent doesn't lead to its child
 pub not_below : (parents : List (Option ℕ)) (place : ℕ) (o : Option ℕ) → AreOlder parents → slice_index_or parents place None ≡ o → leads_to parents o place ≡ false

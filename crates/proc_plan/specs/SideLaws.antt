@@ -4,7 +4,6 @@ use Rattle.std.specs.FinMap as tasks_by
 use Rattle.std.specs.List.Sorted.{IsNonDecreasingBy}
 use Rattle.psi_base.specs.declared.event.Slot.{Slot}
 use Rattle.psi_base.specs.declared.event.Event.{Event}
-use Rattle.psi_spec.specs.declared.machine.Task.{Task}
 use Rattle.psi_spec.specs.World.{Tasks, Limits, first_world, after, up_to, most_tasks}
 use Rattle.psi_spec.specs.Refusal.{AreLegal}
 use Rattle.psi_counts.specs.Counts.{how_many}

@@ -136,10 +136,7 @@ fn pack_part(part: Option<(Slot, Counts)>) -> (bool, Slot, Marks)
 }
 
 // What the second slot of a change is for, that slot, and the marks of what is added. A change with a gate adds no counts.
-fn pack_second(
-    plus: Option<(Slot, Counts)>,
-    gate: Option<(Slot, bool)>,
-) -> (Second, Slot, Marks)
+fn pack_second(plus: Option<(Slot, Counts)>, gate: Option<(Slot, bool)>) -> (Second, Slot, Marks)
     requires one { IfSome plus (λ p. AreAtMost 1 p.1) }
     requires alone { IfSome gate (λ _. plus ≡ None) }
     ensures plus { part_by (adds_by result.0) result.1 result.2 ≡ plus }

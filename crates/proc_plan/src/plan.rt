@@ -1,6 +1,7 @@
 //! The changes of one processor.
 
 ghost use Rattle.std.specs.Prelude.{◌≡◌, ◌+◌, ◌-◌, ◌<◌, ◌≤◌, ◌↔◌, length, nat_le, slice_get, slice_index_or, None, Some};
+ghost use Rattle.psi_counts.specs.Touch.{IsOfOne};
 ghost use Rattle.psi_spec.specs.Stall.{number_of_slot};
 ghost use Rattle.plan_laws.specs.Plan.{IsPlan, changes_up_to, current_after, last_change};
 ghost use Rattle.slot_clocks.specs.Clocks.{parent_numbers};
@@ -67,11 +68,12 @@ impl Plan {
         self.changes.all().len() as u64
     }
 
-    /// The change with a number from 1.
+    /// The change with a number from 1. It takes and adds the counts of one task at most, and none where it has a gate.
     pub fn change(&self, k: u64) -> Change
         requires from { 1 ≤ k }
         requires to { k ≤ length self.now.changes }
-        ensures { slice_get self.now.changes (k - 1) ≡ Some result }
+        ensures change { slice_get self.now.changes (k - 1) ≡ Some result }
+        ensures one { IsOfOne result }
     {
         self.changes.all()[k as usize - 1].change()
     }

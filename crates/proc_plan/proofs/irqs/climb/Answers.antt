@@ -13,7 +13,7 @@ overflow_add-times c =
     let below : height (Some c.in-Some.slot) ≤ length c.args.parents.now = rw c.in-Some.is at c.up.invariant.below in
     let within : place < length c.args.times.now = omega (arith, below, c.requires.room) in
     let grown = rw c.in-Some.is at (c.up.invariant.grown place within) in
-    let here = added_here (cell_at c.args.clocks.now place).on (is_under (parent_numbers c.args.parents.now) place place) c.args.irq (at_itself (parent_numbers c.args.parents.now) place c.requires.older) in
+    let here = added_here (cell_at c.args.clocks.now place).on (is_under (parent_numbers c.args.parents.now) place place) c.args.irq (at_itself (parent_numbers c.args.parents.now) place) in
     rw (c.time_if.ensures, c.is_on.ensures) (omega (arith, grown, here, c.requires.fits place within))
 
 pub up-smaller : goal.up-smaller

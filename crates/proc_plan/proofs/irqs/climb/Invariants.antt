@@ -14,7 +14,7 @@ invariant-up l = record {
   below : height l.next ≤ length l.parents;
   grown : (at : ℕ) → at < length l.fn.times →
       irq_at l.times at + (if (cell_at l.clocks at).on && leads_to (parent_numbers l.parents) (number_of_slot l.next) at then l.irq else 0)
-      ≡ irq_at l.fn.times at + irq_taken (parent_numbers l.parents) l.clocks l.current l.irq at;
+      ≡ irq_at l.fn.times at + irq_taken (parent_numbers l.parents) l.clocks l.fn.current l.irq at;
 }
 
 abbrev pub decreases-up : goal.decreases-up

@@ -8,7 +8,7 @@ use Rattle.proc_plan.proofs.room.add_gate.Given as goal
 abbrev pub invariant-cpus : goal.invariant-cpus
 invariant-cpus l = record {
   each : length l.changes ≡ length l.fn.changes;
-  room : (cpu : ℕ) → l.counter ≤ cpu → HasRoomWithin l.changes cpu;
-  added : (cpu : ℕ) → cpu < l.counter → changes_in l.changes cpu ≡ changes_in l.fn.changes cpu ++ gate_change l.at (shown (running_on l.table.world.tasks cpu)) l.gate ∷ [];
-  others : (cpu : ℕ) → l.counter ≤ cpu → changes_in l.changes cpu ≡ changes_in l.fn.changes cpu;
+  room : (cpu : ℕ) → l.cpu ≤ cpu → HasRoomWithin l.changes cpu;
+  added : (cpu : ℕ) → cpu < l.cpu → changes_in l.changes cpu ≡ changes_in l.fn.changes cpu ++ gate_change l.at (shown (running_on l.table.world.tasks cpu)) l.gate ∷ [];
+  others : (cpu : ℕ) → l.cpu ≤ cpu → changes_in l.changes cpu ≡ changes_in l.fn.changes cpu;
 }

@@ -6,5 +6,5 @@ abbrev pub invariant-cpus : goal.invariant-cpus
 invariant-cpus l = record {
   same : lists_of l.changes ≡ lists_of l.fn.changes;
   each : length l.changes ≡ length l.fn.changes;
-  room : (cpu : ℕ) → cpu < l.counter → HasRoom l.changes cpu;
+  room : (cpu : ℕ) → cpu < l.place → HasRoom l.changes cpu;
 }

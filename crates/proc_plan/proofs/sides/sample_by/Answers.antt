@@ -1,6 +1,3 @@
-use Rattle.psi_spec.specs.Fields.{InRange}
-use Rattle.psi_spec.specs.Grammar.{ActFits, AreInRange, form_of, kinds_of, phrase_of}
-use Rattle.proc_plan.specs.Sides.{IsSmall}
 use Rattle.proc_plan.proofs.sides.sample_by.Goals as goal
 
 pub returns-in-Mem-clause-small : goal.returns-in-Mem-clause-small

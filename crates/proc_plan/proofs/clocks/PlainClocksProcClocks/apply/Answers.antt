@@ -22,15 +22,12 @@ apply-requires-clause-current c =
 pub apply-requires-clause-slots : goal.apply-requires-clause-slots
 apply-requires-clause-slots c =
     let place : c.self.inside.count + 1 - 1 ≡ c.self.inside.count = omega arith in
-    let is = rw place at c.change-change.ensures in
+    let is = rw place at c.change-change.ensures.change in
     let known = as_many_parents c.self.inside.parents.now c.self.inside.plan.now c.self.invariant.1 in
     subst (λ n. HasSlotsBelow n c.change-change.result) known (c.self.invariant.0.whole.slots c.self.inside.count c.change-change.result is)
 
 pub apply-requires-clause-alone : goal.apply-requires-clause-alone
-apply-requires-clause-alone c =
-    let place : c.self.inside.count + 1 - 1 ≡ c.self.inside.count = omega arith in
-    let is = rw place at c.change-change.ensures in
-    no_minus c.change-change.result (c.self.invariant.0.whole.ones c.self.inside.count c.change-change.result is)
+apply-requires-clause-alone c = no_minus c.change-change.result c.change-change.ensures.one
 
 pub apply-requires-clause-told : goal.apply-requires-clause-told
 apply-requires-clause-told c = rw c.self.invariant.1 (told c.self.inside.plan.now c.self.inside.clocks c.self.inside.count c.self.invariant.0)
@@ -38,13 +35,13 @@ apply-requires-clause-told c = rw c.self.invariant.1 (told c.self.inside.plan.no
 pub apply-requires-clause-fits : goal.apply-requires-clause-fits
 apply-requires-clause-fits c =
     let place : c.self.inside.count + 1 - 1 ≡ c.self.inside.count = omega arith in
-    let is = rw place at c.change-change.ensures in
+    let is = rw place at c.change-change.ensures.change in
     rw c.self.invariant.1 (can_follow c.self.inside.plan.now c.self.inside.clocks c.self.inside.count c.change-change.result c.self.invariant.0 is)
 
 pub apply-requires-clause-later : goal.apply-requires-clause-later
 apply-requires-clause-later c =
     let place : c.self.inside.count + 1 - 1 ≡ c.self.inside.count = omega arith in
-    let is = rw place at c.change-change.ensures in
+    let is = rw place at c.change-change.ensures.change in
     let are = c.self.invariant.0 in
     let room : c.self.inside.count < length c.self.inside.plan.now.changes = search (arith, c.requires, c.self.view_is) in
     omega (arith, are.last, are.whole.order c.self.inside.count room, (current_by_change c.self.inside.plan.now c.self.inside.count c.change-change.result is).1)
@@ -52,7 +49,7 @@ apply-requires-clause-later c =
 pub apply-requires-clause-early : goal.apply-requires-clause-early
 apply-requires-clause-early c =
     let place : c.self.inside.count + 1 - 1 ≡ c.self.inside.count = omega arith in
-    let is = rw place at c.change-change.ensures in
+    let is = rw place at c.change-change.ensures.change in
     let are = c.self.invariant.0 in
     let room : c.self.inside.count + 1 ≤ length c.self.inside.plan.now.changes = search (arith, c.requires, c.self.view_is) in
     omega (arith, are.whole.early (c.self.inside.count + 1) room, (current_by_change c.self.inside.plan.now c.self.inside.count c.change-change.result is).1)
@@ -66,14 +63,14 @@ add_irq-requires-clause-room c = rw c.deref_mut.ensures.value (c.self.invariant.
 pub add_irq-requires-clause-below : goal.add_irq-requires-clause-below
 add_irq-requires-clause-below c =
     let place : c.self.inside.count + 1 - 1 ≡ c.self.inside.count = omega arith in
-    let is = rw place at c.change-change.ensures in
+    let is = rw place at c.change-change.ensures.change in
     let known = as_many_parents c.self.inside.parents.now c.self.inside.plan.now c.self.invariant.1 in
     subst (λ n. IfSome c.change-change.result.current (λ (running : Slot × Bool). running.0.0 < n)) known (c.self.invariant.0.whole.slots c.self.inside.count c.change-change.result is).current
 
 pub add_irq-requires-clause-fits : goal.add_irq-requires-clause-fits
 add_irq-requires-clause-fits c =
     let place : c.self.inside.count + 1 - 1 ≡ c.self.inside.count = omega arith in
-    let is = rw place at c.change-change.ensures in
+    let is = rw place at c.change-change.ensures.change in
     let room : c.self.inside.count < length c.self.inside.plan.now.changes = search (arith, c.requires, c.self.view_is) in
     let fit = irqs_fit c.self.inside.plan.now c.self.inside.irqs.items c.self.inside.count c.change-change.result c.self.invariant.0.whole c.self.invariant.2 room is in
     rw (c.deref_mut.ensures.value, c.self.invariant.1)
@@ -84,7 +81,7 @@ add_irq-requires-clause-fits c =
 pub invariant_of-self : goal.invariant_of-self
 invariant_of-self c =
     let place : c.self.inside.count + 1 - 1 ≡ c.self.inside.count = omega arith in
-    let is = rw place at c.change-change.ensures in
+    let is = rw place at c.change-change.ensures.change in
     let e = rw c.self.invariant.1 at c.apply.ensures in
     let made : AreMade c.self.inside.plan.now c.change-change.result c.self.inside.clocks c.apply.new.self = record { room = e.room; counts = e.counts; gates = e.gates; clocks = e.clocks; whole = e.whole; told = e.told; current = e.current; last = e.last } in
     let size : c.self.inside.irqs.len ≡ length c.add_irq.new.times = search rules in
@@ -93,5 +90,5 @@ invariant_of-self c =
       next_clocks c.self.inside.plan.now c.self.inside.clocks c.apply.new.self c.self.inside.count c.change-change.result c.self.invariant.0 is made,
       c.self.invariant.1,
       rw kept (next_irqs c.self.inside.plan.now c.self.inside.irqs.items c.add_irq.new.times c.self.inside.count c.change-change.result c.self.invariant.2 is grown.room
-      (λ slot below. grown.grown slot below ∙ ap (λ n. irq_at c.self.inside.irqs.items slot + n) (taken_is c.self.inside.plan.now c.self.inside.clocks c.self.inside.count c.change-change.result slot c.self.invariant.0))),
+          (λ slot below. grown.grown slot below ∙ ap (λ n. irq_at c.self.inside.irqs.items slot + n) (taken_is c.self.inside.plan.now c.self.inside.clocks c.self.inside.count c.change-change.result slot c.self.invariant.0))),
     )
