@@ -122,15 +122,14 @@ found_or at k default (Some d) = value_at at k d
 unfoldable pub argument_at : Place → (a : Argument) → Option Data → Result (ArgumentValue a.kind) RulesFault
 argument_at at a args = found_or at a.kind a.default (option_and_then (get (key_word a.key)) args)
 
--- one value of each argument
-abbrev pub ArgumentValues : List Argument → Type 0
-ArgumentValues [] = Unit {0}
-ArgumentValues (a ∷ rest) = ArgumentValue a.kind × ArgumentValues rest
+-- what is made of arguments: a function of a value of each of them, in their order
+abbrev pub Maker : List Argument → Type 0 → Type 0
+Maker [] Made = Made
+Maker (a ∷ known) Made = ArgumentValue a.kind → Maker known Made
 
--- the values of all arguments, in their order
-abbrev pub values_at : Place → (known : List Argument) → Option Data → Result (ArgumentValues known) RulesFault
-values_at at [] args = Ok tt
-values_at at (a ∷ known) args = do
-  first ← argument_at at a args
-  others ← values_at at known args
-  Ok (first, others)
+-- what it gives for the arguments of a plugin, which are read in that order
+abbrev pub made_from : {Made : Type 0} → Place → (known : List Argument) → Maker known Made → Option Data → Result Made RulesFault
+made_from at [] made args = Ok made
+made_from at (a ∷ known) make args = do
+  value ← argument_at at a args
+  made_from at known (make value) args

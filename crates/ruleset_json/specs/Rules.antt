@@ -16,7 +16,7 @@ use Rattle.ruleset_json.specs.declared.types.DetectorGroup.{DetectorGroup}
 use Rattle.ruleset_json.specs.declared.types.Action.{Action}
 use Rattle.ruleset_json.specs.declared.types.Rule.{Rule}
 use Rattle.ruleset_json.specs.declared.types.Rules.{Rules}
-use Rattle.ruleset_json.specs.Arguments.{◌>>=◌, refused_for, or_fault, number, optional, argument_at, values_at}
+use Rattle.ruleset_json.specs.Arguments.{◌>>=◌, refused_for, or_fault, number, optional, argument_at, made_from}
 use Rattle.ruleset_json.specs.Names.{detector_named, action_named}
 use Rattle.ruleset_json.specs.Plugins.{Plugin, detector_of, action_of, after_arguments, longest}
 
@@ -68,9 +68,7 @@ arguments_in at (Some d) = do
 
 -- what a plugin makes of its arguments
 unfoldable pub made_at : {Made : Type 0} → Place → Plugin Made → Option Data → Result Made RulesFault
-made_at at known args = do
-  values ← values_at at known.arguments args
-  Ok (known.make values)
+made_at at known args = made_from at known.arguments known.make args
 
 -- what an action makes of its arguments, in a ruleset that rests for so long (s) after a kill
 unfoldable pub action_made_at : Place → ℕ → ActionName → Option Data → Result Action RulesFault
