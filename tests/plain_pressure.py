@@ -7,6 +7,7 @@ from __future__ import annotations
 import dataclasses
 import pathlib
 import re
+import subprocess
 from collections.abc import Iterator
 from typing import Any
 
@@ -166,3 +167,26 @@ class Replay:
     def is_report(self) -> bool:
         period, before = self.run.period, self.now - self.run.tick
         return self.now + self.run.tick > self.end or bool(period) and self.now // period > before // period
+
+
+# ---------------------------------------------------------------- the program held against it
+
+
+def difference(run: Run, words: list[str], wanted: list[str]) -> str:
+    """Where what the program prints of the trace first differs from these lines, or nothing."""
+    done = subprocess.run(words, input=run.trace, capture_output=True, encoding="utf-8")
+    if done.returncode != 0:
+        return f"the status of {words[1]} is {done.returncode}: {done.stderr}"
+    printed = done.stdout.replace(" kills=0", "").splitlines()
+    for number, (found, line) in enumerate(zip(printed, wanted), 1):
+        if found != line:
+            return f"line {number} of {words[1]} is {found}, and by the page {line}"
+    return "" if len(printed) == len(wanted) else f"{words[1]} prints {len(printed)} lines, and by the page {len(wanted)}"
+
+
+def fault_of(run: Run, program: str) -> str:
+    """Where `replay` or `stall` first differs from what the page's formulas give, or nothing."""
+    replay = Replay(run)
+    wanted = list(replay.output())
+    words = [program, "replay", "-", f"--tick-ms={run.tick // 10**6}", f"--report-s={run.period // 10**9}"]
+    return difference(run, words, wanted) or difference(run, [program, "stall", "-"], list(replay.stall()))

@@ -260,6 +260,8 @@ class Maker:
     """Makes a legal trace at random: at each turn time passes, or not, and something happens that may."""
 
     PATHS = ("/a", "/a/b", "/a/b/c", "/d", "/d/e")
+    # How many turns there are, at least and at most.
+    TURNS = (30, 120)
     # By the version of the trace, how often each verb comes.
     FIRST = dict(fork=2, switch=8, wake=4, stall=2, unstall=2, migrate=2, move=3, group=4, rmgroup=2, side=1)
     OFTEN = {1: FIRST, 2: {**FIRST, "irq": 8, "pressure": 5}}
@@ -273,7 +275,7 @@ class Maker:
 
     def trace(self) -> str:
         """The whole trace, with its end."""
-        for _ in range(self.draw.randint(30, 120)):
+        for _ in range(self.draw.randint(*self.TURNS)):
             verb = self.draw.choices(list(self.often), list(self.often.values()))[0]
             for event in getattr(self, f"some_{verb}")():
                 self.machine.take(*event)
@@ -372,9 +374,9 @@ class Maker:
         return self.some([*sides, ("trigger", path, resource, level, "50000", "500000")])
 
 
-def random_run(number: int, version: int = 1) -> Run:
-    """A random trace of this version, the same for each number."""
-    maker = Maker(number, version)
+def random_run(number: int, version: int = 1, kind: type[Maker] = Maker) -> Run:
+    """A random trace of this version by a kind of maker, the same for each number."""
+    maker = kind(number, version)
     trace = maker.trace()
     # Mostly at the ticks that it was made for.
     tick_ms = maker.tick // MS * maker.draw.choice((2, 2, 2, 1, 7)) // 2
