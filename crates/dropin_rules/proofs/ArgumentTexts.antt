@@ -8,6 +8,7 @@ use Rattle.std.proofs.lemmas.Bool.{and_parts, and_from, cases_lt, le-leb}
 use Rattle.std.proofs.lemmas.Fmt.{decimal_digit, decimal_step, digits_decimal}
 use Rattle.std.proofs.lemmas.Grind.{common_steps}
 use Rattle.std.proofs.lemmas.List.{append_assoc}
+use Rattle.psi_base.specs.Number.{digits_after, digits_of}
 use Rattle.psi_base.specs.Path.{parts_at}
 use Rattle.psi_base.proofs.NumberLaws.{number_of-decimal, numerals}
 use Rattle.psi_base.proofs.PartLaws.{HasNone, parts_at-all, parts_at-line}
@@ -21,7 +22,7 @@ use Rattle.ruleset_json.specs.declared.fault.Place.{Place}
 use Rattle.ruleset_json.specs.declared.types.Size.{Size}
 use Rattle.ruleset_json.specs.declared.types.Size.TheVariants as bytes_or_percent
 use Rattle.ruleset_json.specs.Arguments.{argument_of, patterns, resource, number, ratio, size, truth, truth_text}
-use Rattle.ruleset_json.specs.Forms.{digit_of, digit_at, fraction_of, front, last, number_up_to, ratio_of, resource_of, size_of, thousandths_of, truth_of, unit_of}
+use Rattle.ruleset_json.specs.Forms.{fraction_of, front, last, number_up_to, ratio_of, resource_of, size_of, thousandths_of, truth_of, unit_of}
 use Rattle.ruleset_json.specs.Ranges.{IsRatio, IsSize, IsStallable}
 use Rattle.dropin_rules.specs.RulesText.{ratio_text, size_text}
 
@@ -59,12 +60,13 @@ all_digits (byte ∷ bytes) digits =
 no_point : (n : ℕ) → n < 2 ^ 64 → HasNone 46 (decimal n) (length (decimal n))
 no_point n fits = none_of 46 is_ascii_digit (decimal n) refl (all_digits (decimal n) (digits_decimal numerals n fits))
 
-digit_read : (n : ℕ) → n < 10 → digit_of (48 + n) ≡ Some n
-digit_read n small = grind arith
+three_read : (a b c : ℕ) → a < 10 → b < 10 → c < 10 → digits_of ((48 + a) ∷ (48 + b) ∷ (48 + c) ∷ []) ≡ Some (a * 100 + b * 10 + c)
+unfolding digits_after
+three_read a b c first second third = grind arith
 
 fraction_read : (a b c : ℕ) → a < 10 → b < 10 → c < 10 → fraction_of ((48 + a) ∷ (48 + b) ∷ (48 + c) ∷ []) ≡ Some (a * 100 + b * 10 + c)
-unfolding fraction_of digit_at
-fraction_read a b c first second third = rw (digit_read a first, digit_read b second, digit_read c third) refl
+unfolding fraction_of
+fraction_read a b c first second third = three_read a b c first second third
 
 three_digits_none : (a b c : ℕ) → HasNone 46 ((48 + a) ∷ (48 + b) ∷ (48 + c) ∷ []) 3
 three_digits_none a b c = none_of 46 (λ byte. nat_le 47 byte) ((48 + a) ∷ (48 + b) ∷ (48 + c) ∷ []) refl (grind arith)

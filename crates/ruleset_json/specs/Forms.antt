@@ -1,8 +1,8 @@
 -- The texts of arguments, as this profile has them after oomd's: numbers, ratios, sizes, truths and resources.
-use Rattle.std.specs.Prelude.{ℕ, ◌+◌, ◌-◌, ◌*◌, ◌/◌, ◌^◌, List, [], ◌∷◌, take, length, slice_index, nat_lt, nat_le, ◌==◌, ◌&&◌, ◌||◌, Bool, true, false, if◌then◌else◌, codes, Option, None, Some, option_map}
+use Rattle.std.specs.Prelude.{ℕ, ◌+◌, ◌-◌, ◌*◌, ◌/◌, ◌^◌, List, [], ◌∷◌, ◌++◌, take, length, slice_index, nat_lt, nat_le, ◌==◌, ◌&&◌, ◌||◌, Bool, true, false, if◌then◌else◌, codes, Option, None, Some, option_map}
 use Rattle.std.specs.List.{list_any}
 use Rattle.std.specs.Str.{bytes_eq}
-use Rattle.psi_base.specs.Number.{number_of}
+use Rattle.psi_base.specs.Number.{digits_of, number_of}
 use Rattle.psi_base.specs.Path.{parts_at}
 use Rattle.psi_base.specs.declared.event.Res.{Res}
 use Rattle.psi_base.specs.declared.event.Res.TheVariants as res
@@ -27,25 +27,9 @@ number_up_to most text = at_most most (number_of text)
 
 -- ---- numbers with a point
 
--- the digit that a byte is
-abbrev pub digit_of : ℕ → Option ℕ
-digit_of byte = if nat_le 48 byte && nat_le byte 57 then Some (byte - 48) else None
-
--- the digit at a place behind a point, counted from 0: behind the last one stand zeros
-unfoldable pub digit_at : List ℕ → ℕ → Option ℕ
-digit_at digits place = if nat_lt place (length digits) then digit_of (slice_index digits place) else Some 0
-
--- the first three digits behind a point, in thousandths
-abbrev pub three_digits : List ℕ → Option ℕ
-three_digits digits = do
-  tenths ← digit_at digits 0
-  hundredths ← digit_at digits 1
-  thousandths ← digit_at digits 2
-  Some (tenths * 100 + hundredths * 10 + thousandths)
-
--- what one to three digits behind a point are, in thousandths
+-- what one to three digits behind a point are, in thousandths: behind the last one stand zeros
 unfoldable pub fraction_of : List ℕ → Option ℕ
-fraction_of digits = if nat_lt 0 (length digits) && nat_le (length digits) 3 then three_digits digits else None
+fraction_of digits = if nat_lt 0 (length digits) && nat_le (length digits) 3 then digits_of (take 3 (digits ++ codes "00")) else None
 
 -- a number of at most so much, and a fraction of it in thousandths behind a point, if there is one
 abbrev pub pointed : ℕ → List (List ℕ) → Option (ℕ × ℕ)

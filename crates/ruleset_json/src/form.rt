@@ -1,10 +1,10 @@
 //! The texts of arguments: numbers, ratios, sizes, truths and resources.
-ghost use Rattle.std.specs.Prelude.{◌≡◌, ℕ, ◌<◌, ◌≤◌, ◌^◌, ◌*◌, ◌+◌, IfSome};
+ghost use Rattle.std.specs.Prelude.{◌≡◌, ℕ, ◌<◌, ◌≤◌, ◌^◌, ◌*◌, ◌+◌, ◌++◌, ◌&&◌, nat_le, nat_lt, length, take, codes, if◌then◌else◌, Some, None, IfSome};
 ghost use Rattle.ruleset_json.specs.Forms as form;
 ghost use Rattle.ruleset_json.specs.Ranges.{IsRatio, IsSize, IsStallable};
 
 use crate::types::Size;
-use psi_base::{Parts, Res, read_number};
+use psi_base::{Parts, Res, read_digits, read_number};
 
 /// The largest size, in bytes.
 const LARGEST_BYTES: u64 = 1 << 60;
@@ -35,36 +35,30 @@ pub fn number(text: &[u8], most: u32) -> Option<u32>
     }
 }
 
-// The digit at a place behind a point, counted from 0: behind the last one stand zeros.
-#[tactic(auto, unfolding(crate::specs::Forms::digit_at))]
-fn digit_at(digits: &[u8], place: usize) -> Option<u32>
-    ensures value { result ≡ form.digit_at digits.now place }
-    ensures range { IfSome result (λ n. n ≤ 9) }
+// One to three digits behind a point, with zeros behind them: three in all.
+fn padded(digits: &[u8]) -> Option<[u8; 3]>
+    ensures { result
+        ≡ (if nat_lt 0 (length digits.now) && nat_le (length digits.now) 3
+        then Some (take 3 (digits.now ++ codes "00")) else None) }
 {
-    if place >= digits.len() {
-        return Some(0);
-    }
-    let byte = digits[place];
-    if byte >= b'0' && byte <= b'9' {
-        Some(u32::from(byte - b'0'))
-    } else {
-        None
+    match digits {
+        [tenths] => Some([*tenths, b'0', b'0']),
+        [tenths, hundredths] => Some([*tenths, *hundredths, b'0']),
+        [tenths, hundredths, thousandths] => Some([*tenths, *hundredths, *thousandths]),
+        _ => None,
     }
 }
 
 // What one to three digits behind a point are, in thousandths.
-#[tactic(auto, unfolding(crate::specs::Forms::fraction_of))]
+#[tactic(auto, unfolding(crate::specs::Forms::fraction_of), using(crate::proofs::Fractions::padded_most))]
 fn fraction(digits: &[u8]) -> Option<u32>
     ensures value { result ≡ form.fraction_of digits.now }
     ensures range { IfSome result (λ n. n ≤ 999) }
 {
-    if digits.is_empty() || digits.len() > 3 {
-        return None;
+    match read_digits(&padded(digits)?) {
+        Some(n) => Some(n as u32),
+        None => None,
     }
-    let tenths = digit_at(digits, 0)?;
-    let hundredths = digit_at(digits, 1)?;
-    let thousandths = digit_at(digits, 2)?;
-    Some(tenths * 100 + hundredths * 10 + thousandths)
 }
 
 // The thousandths of a number of at most so much, which may be followed by a point and one to three digits.
