@@ -278,7 +278,8 @@ pub(crate) fn walk(
     current: Option<(Slot, bool)>,
     change: &Change,
 )
-    requires can { CanClimb parents.now current change.now (chains_of current change.now) cells.old }
+    requires can { CanClimb parents.now current change.now
+        (chains_of current change.now) cells.old }
     requires alone { IfSome change.now.gate (λ _. change.now.minus ≡ None) }
     ensures turned { AreTurned (parent_numbers parents.now) change.now cells.old cells.new }
     ensures room { length cells.new ≡ length cells.old }

@@ -56,7 +56,7 @@ impl SlotClocks {
     ///
     /// It takes time for each group on the chains of four slots: of the counts that are taken, of those that are added, of
     /// the task that ran and of the task that runs.
-    #[tactic(auto, using(crate::proofs::StartLaws::may_start, crate::proofs::StartLaws::starts_low, crate::proofs::GateLaws::told_apart, crate::proofs::GateLaws::turned_since))]
+    #[tactic(auto, using(crate::proofs::GateLaws::turned_since))]
     pub fn apply(&mut self, parents: &[Option<Slot>], change: &Change)
         requires older { AreOlder (parent_numbers parents.now) }
         requires room { length parents.now ≤ length self.old.cells }
