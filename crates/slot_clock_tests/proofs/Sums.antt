@@ -1,18 +1,21 @@
 -- Counts of groups as sums over tasks.
-use Rattle.std.proofs.Common.{◌≡◌, ℕ, ◌+◌, ◌≤◌, ◌<◌, ◌^◌, List, length, refl, sym, ap, ◌∙◌, arith, Bool, true, false, Option, None, Some, sum_by, ◌⊎◌, inl, inr}
-use Rattle.std.specs.Prelude.{IfSome, slice_index_or, if◌then◌else◌}
+use Rattle.std.proofs.Common.{◌≡◌, ℕ, zero, suc, ◌+◌, ◌≤◌, ◌<◌, ◌^◌, List, length, refl, sym, ap, ◌∙◌, arith, Bool, true, false, Option, None, Some, sum_by, ◌⊎◌, inl, inr}
+use Rattle.std.specs.Prelude.{◌&&◌, IfSome, replicate, slice_index_or, if◌then◌else◌}
 use Rattle.std.specs.List.{All}
 use Rattle.std.proofs.Math.ListN.{get_or-map}
-use Rattle.std.proofs.lemmas.List.{get_or_past}
-use Rattle.std.proofs.lemmas.List.Sums.{sum_by-le, get_or-le-sum_by}
-use Rattle.std.proofs.lemmas.List.Elements.{All-from_get_or, All-get_or}
+use Rattle.std.proofs.lemmas.List.{get_or_past, length-replicate}
+use Rattle.std.proofs.lemmas.List.Sums.{sum_by-cons, sum_by-le, get_or-le-sum_by}
+use Rattle.std.proofs.lemmas.List.Elements.{All-from_get_or, All-get_or, All-replicate}
 use Rattle.psi_base.specs.declared.event.Slot.{Slot}
+use Rattle.psi_base.specs.declared.event.State.{State}
+use Rattle.psi_base.specs.declared.event.State.TheVariants.{IoSome, IoFull, MemSome, MemFull, CpuSome, CpuFull, Nonidle}
 use Rattle.psi_counts.specs.declared.changes.Counts.{Counts}
 use Rattle.psi_spec.specs.Groups.{AreOlder}
 use Rattle.psi_spec.specs.Stall.{is_under, number_of_slot}
+use Rattle.psi_counts.specs.Counts.{mask_holds, tells}
 use Rattle.psi_counts.specs.Touch.{AreAtMost, no_counts, on_chain}
-use Rattle.slot_clocks.specs.Clocks.{CanFollow, parent_numbers}
-use Rattle.slot_clock_tests.specs.Machine.{AreSums, IsTask}
+use Rattle.slot_clocks.specs.Clocks.{AreTold, CanFollow, ClocksView, cell_at, first_clocks, parent_numbers, zero_cell}
+use Rattle.slot_clock_tests.specs.Machine.{AreSums, IsMachine, IsTask}
 
 none_at_most : AreAtMost 1 no_counts
 none_at_most = record { io = omega arith; stalled = omega arith; running = omega arith; stalled_running = omega arith }
@@ -45,6 +48,58 @@ can_follow parents slot groups i tasks now counts sums all is few room = record 
   running = can parents slot groups i tasks now (λ n. n.running) counts.running (λ n low. low.running) all is few room sums.running;
   stalled_running = can parents slot groups i tasks now (λ n. n.stalled_running) counts.stalled_running (λ n low. low.stalled_running) all is few room sums.stalled_running;
 }
+
+-- ---- the first clocks
+
+-- no change has reached a cell
+first_cell : (slots slot : ℕ) → cell_at (first_clocks slots) slot ≡ zero_cell
+first_cell zero slot = refl
+first_cell (suc slots) zero = refl
+first_cell (suc slots) (suc slot) = first_cell slots slot
+
+nothing_told : (state : State) → mask_holds zero_cell.clock.mask state ≡ (zero_cell.on && tells state zero_cell.counts false false)
+nothing_told IoSome = refl
+nothing_told IoFull = refl
+nothing_told MemSome = refl
+nothing_told MemFull = refl
+nothing_told CpuSome = refl
+nothing_told CpuFull = refl
+nothing_told Nonidle = refl
+
+-- so no state holds
+first_told : (parents : List (Option ℕ)) (slots : ℕ) → AreTold parents (first_clocks slots)
+first_told parents slots slot state = rw (first_cell slots slot) (nothing_told state)
+
+none_counted : (parents : List (Option ℕ)) (slot count : ℕ) (f : Counts → ℕ) → f no_counts ≡ 0 → sum_by (λ task. f (on_chain parents slot task)) (replicate count None) ≡ 0
+none_counted parents slot zero f none = refl
+none_counted parents slot (suc count) f none =
+    let first = sum_by-cons (λ task. f (on_chain parents slot task)) None (replicate count None) in
+    let rest = none_counted parents slot count f none in
+    omega (arith, first, none, rest)
+
+-- and no task is counted
+first_sums : (parents : List (Option ℕ)) (slots count slot : ℕ) → AreSums parents slot (replicate count None) (cell_at (first_clocks slots) slot).counts
+first_sums parents slots count slot =
+    rw (first_cell slots slot)
+    (record {
+      io = sym (none_counted parents slot count (λ n. n.io) refl);
+      stalled = sym (none_counted parents slot count (λ n. n.stalled) refl);
+      running = sym (none_counted parents slot count (λ n. n.running) refl);
+      stalled_running = sym (none_counted parents slot count (λ n. n.stalled_running) refl);
+    })
+
+-- the first clocks stand for tasks of which none is alive
+pub first_machine : (parents : List (Option ℕ)) (groups count : ℕ) (tasks : List (Option (Slot × Counts))) (clocks : ClocksView) → AreOlder parents → tasks ≡ replicate count None → count ≤ 1000 → clocks ≡ first_clocks groups → IsMachine parents groups tasks clocks 0
+first_machine parents groups count tasks clocks older none few first = rw (none, first) (record {
+  older = older;
+  are_tasks = All-replicate (IsTask groups) count None tt;
+  few = omega (arith, few, length-replicate {A = Option (Slot × Counts)} count None);
+  sums = first_sums parents groups count;
+  room = omega (arith, length-replicate groups zero_cell);
+  told = first_told parents groups;
+  current = tt;
+  in_time = refl;
+})
 
 -- ---- parents
 
