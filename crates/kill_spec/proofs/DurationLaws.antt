@@ -4,7 +4,8 @@ use Rattle.std.specs.Prelude.{All, Bool, true, false, ◌&&◌, ◌||◌, nat_le
 use Rattle.std.proofs.lemmas.Bool.{leb-true, le-leb}
 use Rattle.std.proofs.lemmas.List.Elements.{All-cons, All-nil}
 use Rattle.kill_spec.specs.Readings.{Reading}
-use Rattle.kill_spec.specs.Detectors.{HeldFor, BreakStartsAnew, HeldForTells, LongerIsLater, held_for, of_seconds}
+use Rattle.kill_spec.specs.Detectors.{held_for, of_seconds}
+use Rattle.kill_spec.specs.Laws.{HeldFor, BreakStartsAnew, HeldForTells, LongerIsLater}
 
 -- ---- tests
 

@@ -9,7 +9,8 @@ use Rattle.kill_spec.specs.declared.kill.Kill.{Kill}
 use Rattle.kill_spec.specs.Readings.{Reading}
 use Rattle.kill_spec.specs.Detectors.{ruleset_fires}
 use Rattle.kill_spec.specs.Victims.{after_of, victim}
-use Rattle.kill_spec.specs.Kills.{and_then, chain, delay_of, ends_chain, is_resting, kill_by, kill_of, kills_at, kills_of, last_ending, EndedBy, EndingsApart, EndsOnce, KillsAreOfActions}
+use Rattle.kill_spec.specs.Kills.{and_then, chain, delay_of, ends_chain, is_resting, kill_by, kill_of, kills_at, kills_of, last_ending}
+use Rattle.kill_spec.specs.Laws.{EndedBy, EndingsApart, EndsOnce, KillsAreOfActions}
 
 -- ---- lists
 

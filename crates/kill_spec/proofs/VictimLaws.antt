@@ -14,7 +14,8 @@ use Rattle.ruleset_json.specs.declared.types.Action.TheVariants as action
 use Rattle.kill_spec.specs.declared.reading.GroupReading.{GroupReading}
 use Rattle.kill_spec.specs.Readings.{IsGroupReading, IsReading, Reading, path_of}
 use Rattle.kill_spec.specs.Detectors.{matches}
-use Rattle.kill_spec.specs.Victims.{◌or_else◌, DescentEnds, IsPopulatedIn, VictimsMatch, after_of}
+use Rattle.kill_spec.specs.Victims.{◌or_else◌, after_of}
+use Rattle.kill_spec.specs.Laws.{DescentEnds, IsPopulatedIn, VictimsMatch}
 use Rattle.kill_spec.specs.Victims.{best_of, candidates, children, choice, descended}
 use Rattle.kill_spec.specs.Victims.{growing_choice, is_growing, large_choice, largest, names_slot}
 use Rattle.kill_spec.specs.Victims.{action_patterns, largest_few, unbeaten, victim}

@@ -1,7 +1,7 @@
 -- When a detector is true, and when a ruleset fires: oomd's detectors in this profile. A detector
 -- sees the readings of all evaluations, the newest first.
-use Rattle.std.specs.Prelude.{◌≡◌, ◌↔◌, ℕ, ◌-◌, ◌*◌, ◌≤◌, max, List, [], ◌∷◌, ◌++◌, map, filter, fold, All}
-use Rattle.std.specs.Prelude.{nat_le, nat_lt, ◌&&◌, ◌||◌, not, Bool, true, false, if◌then◌else◌}
+use Rattle.std.specs.Prelude.{ℕ, ◌-◌, ◌*◌, max, List, [], ◌∷◌, map, filter, fold}
+use Rattle.std.specs.Prelude.{nat_le, nat_lt, ◌&&◌, ◌||◌, not, Bool, false, if◌then◌else◌}
 use Rattle.std.specs.List.{list_all, list_any}
 use Rattle.psi_base.specs.declared.event.Res.{Res}
 use Rattle.psi_spec.specs.declared.machine.GroupLife.{GroupLife}
@@ -124,38 +124,3 @@ group_holds lives group now past =
 abbrev pub ruleset_fires : List GroupLife → Rule → Reading → List Reading → Bool
 ruleset_fires lives rule now past =
     list_any (λ (group : DetectorGroup). group_holds lives group now past) rule.groups
-
--- ---- laws
-
--- Readings, the newest first, in which a condition has held for a duration (ns) up to a moment (ns):
--- it holds at some reading that is at least so long ago, and at each one since.
-pub record HeldFor (condition : Reading → Bool) (duration at : ℕ) (readings : List Reading) : Type 0 where
-  pub since : List Reading
-  pub first : Reading
-  pub earlier : List Reading
-  pub all : readings ≡ since ++ first ∷ earlier
-  pub each : All (λ reading. condition reading ≡ true) since
-  pub starts : condition first ≡ true
-  pub long : duration ≤ at - first.at
-
--- The test says whether a condition has held for a duration.
-abbrev pub HeldForTells : Type 0
-HeldForTells = (condition : Reading → Bool) (duration at : ℕ) (readings : List Reading) →
-    (held_for condition duration at readings ≡ true) ↔ HeldFor condition duration at readings
-
--- For a duration of 0 a condition is true where it holds at the present reading.
-abbrev pub HoldsAtOnce : Type 0
-HoldsAtOnce = (condition : Reading → Bool) (now : Reading) (past : List Reading) →
-    holds_for condition 0 now past ≡ condition now
-
--- One reading at which a condition doesn't hold starts its duration anew: what was before it counts
--- for nothing.
-abbrev pub BreakStartsAnew : Type 0
-BreakStartsAnew = (condition : Reading → Bool) (duration_s : ℕ) (now broken : Reading) (newer older : List Reading) →
-    condition broken ≡ false →
-    holds_for condition duration_s now (newer ++ broken ∷ older) ≡ holds_for condition duration_s now newer
-
--- For a longer duration a condition is never true where it isn't for a shorter one.
-abbrev pub LongerIsLater : Type 0
-LongerIsLater = (condition : Reading → Bool) (shorter_s longer_s : ℕ) (now : Reading) (past : List Reading) →
-    shorter_s ≤ longer_s → holds_for condition longer_s now past ≡ true → holds_for condition shorter_s now past ≡ true

@@ -1,12 +1,12 @@
 -- Which groups are killed at an evaluation: chains of actions, and rulesets that rest after a kill.
-use Rattle.std.specs.Prelude.{◌≡◌, ℕ, ◌+◌, ◌≤◌, List, [], ◌∷◌, ◌++◌, find, nat_lt, ◌&&◌, not}
-use Rattle.std.specs.Prelude.{Bool, true, false, if◌then◌else◌, slice_get, Option, None, Some, Any, Contains}
+use Rattle.std.specs.Prelude.{ℕ, ◌+◌, List, [], ◌∷◌, ◌++◌, find, nat_lt, ◌&&◌, not}
+use Rattle.std.specs.Prelude.{Bool, false, if◌then◌else◌, slice_get, Option, None, Some}
 use Rattle.psi_spec.specs.declared.machine.GroupLife.{GroupLife}
 use Rattle.ruleset_json.specs.declared.types.Action.{Action}
 use Rattle.ruleset_json.specs.declared.types.Rule.{Rule}
 use Rattle.kill_spec.specs.declared.reading.GroupReading.{GroupReading}
 use Rattle.kill_spec.specs.declared.kill.Kill.{Kill}
-use Rattle.kill_spec.specs.Readings.{AreReadings, Reading}
+use Rattle.kill_spec.specs.Readings.{Reading}
 use Rattle.kill_spec.specs.Detectors.{of_seconds, ruleset_fires}
 use Rattle.kill_spec.specs.Victims.{◌or_else◌, after_of, victim}
 
@@ -89,45 +89,3 @@ kills_from lives number (rule ∷ rules) now past =
 -- the kills of a rules file's rulesets at a reading, after others
 unfoldable pub kills : List GroupLife → List Rule → Reading → List Reading → List Kill
 kills lives rules now past = kills_from lives 0 rules now past
-
--- ---- laws
-
--- A kill ended the chain of a ruleset at a moment: it is among the ruleset's kills at some of these readings.
-abbrev pub EndedBy : List GroupLife → ℕ → Rule → List Reading → Kill → Type 0
-EndedBy lives number rule readings kill =
-    Any (λ kills. Contains kills kill) (kills_of lives number rule readings) × (ends_chain rule.actions kill ≡ true)
-
--- A ruleset never has two chain-ending kills closer than the delay of the first: the later of two comes no sooner than the
--- earlier's action allows.
-abbrev pub EndingsApart : Type 0
-EndingsApart = (lives : List GroupLife) (number : ℕ) (rule : Rule) (now : Reading) (past : List Reading) (first second : Kill) →
-    AreReadings lives (now ∷ past) →
-    EndedBy lives number rule past first →
-    Contains (kills_at lives number rule now past (kills_of lives number rule past)) second →
-    ends_chain rule.actions second ≡ true →
-    first.at + delay_of (slice_get rule.actions first.action) ≤ second.at
-
--- At one reading it never has two: the first kill that ends a chain is its last.
-abbrev pub EndsOnce : Type 0
-EndsOnce = (lives : List GroupLife) (number : ℕ) (rule : Rule) (now : Reading) (past : List Reading)
-    (first second : Kill) →
-    Contains (kills_at lives number rule now past (kills_of lives number rule past)) first →
-    Contains (kills_at lives number rule now past (kills_of lives number rule past)) second →
-    ends_chain rule.actions first ≡ true → ends_chain rule.actions second ≡ true → first ≡ second
-
--- A kill is of its ruleset and by the action that it names, whose victim it is.
-pub record IsKillOf (lives : List GroupLife) (number : ℕ) (rule : Rule) (now : Reading) (past : List Reading) (kill : Kill) : Type 0 where
-  pub at : kill.at ≡ now.at
-  pub rule_is : kill.rule ≡ number
-  pub act : Action
-  pub by : slice_get rule.actions kill.action ≡ Some act
-  pub group : GroupReading
-  pub chosen : victim lives act now past ≡ Some group
-  pub slot : kill.victim ≡ group.slot
-  pub fired : ruleset_fires lives rule now past ≡ true
-
--- Each kill of a ruleset is so: no group is killed but as the victim of an action of a ruleset that fires.
-abbrev pub KillsAreOfActions : Type 0
-KillsAreOfActions = (lives : List GroupLife) (number : ℕ) (rule : Rule) (now : Reading) (past : List Reading) (kill : Kill) →
-    Contains (kills_at lives number rule now past (kills_of lives number rule past)) kill →
-    IsKillOf lives number rule now past kill

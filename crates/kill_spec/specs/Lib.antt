@@ -4,3 +4,4 @@ pub mod Victims
 pub mod Choices
 pub mod Kills
 pub mod Evaluations
+pub mod Laws

@@ -1,8 +1,8 @@
 -- Which group an action kills: oomd's choices in this profile.
-use Rattle.std.specs.Prelude.{◌≡◌, ℕ, zero, suc, ◌+◌, ◌-◌, ◌*◌, ◌/◌, max, List, [], ◌∷◌, ◌++◌}
+use Rattle.std.specs.Prelude.{ℕ, zero, suc, ◌+◌, ◌-◌, ◌*◌, ◌/◌, max, List, [], ◌∷◌, ◌++◌}
 use Rattle.std.specs.Prelude.{filter, find, length, take, sum, sum_by, option_map, nat_le, nat_lt, ◌==◌, ◌&&◌, ◌||◌, not}
 use Rattle.std.specs.Prelude.{Bool, true, false, if◌then◌else◌, Option, None, Some}
-use Rattle.std.specs.Prelude.{slice_index_or, Contains}
+use Rattle.std.specs.Prelude.{slice_index_or}
 use Rattle.std.specs.List.{list_any}
 use Rattle.std.specs.Ordering.{nat_cmp}
 use Rattle.std.specs.declared.cmp.Ordering.{Ordering}
@@ -13,8 +13,7 @@ use Rattle.psi_base.specs.declared.event.Preference.{Preference}
 use Rattle.psi_base.specs.declared.event.Preference.TheVariants.{Prefer, Plain, Avoid}
 use Rattle.psi_spec.specs.declared.machine.GroupLife.{GroupLife}
 use Rattle.psi_spec.specs.Stall.{parents_of}
-use Rattle.psi_spec.specs.Groups.{AreOlder}
-use Rattle.path_match.specs.Match.{Pattern, is_match}
+use Rattle.path_match.specs.Match.{Pattern}
 use Rattle.ruleset_json.specs.declared.types.Size.{Size}
 use Rattle.ruleset_json.specs.declared.types.Size.TheVariants as size
 use Rattle.ruleset_json.specs.declared.types.After.{After}
@@ -22,7 +21,7 @@ use Rattle.ruleset_json.specs.declared.types.Action.{Action}
 use Rattle.ruleset_json.specs.declared.types.Action.TheVariants as action
 use Rattle.kill_spec.specs.declared.reading.GroupReading.{GroupReading}
 use Rattle.kill_spec.specs.declared.reading.HostReading.{HostReading}
-use Rattle.kill_spec.specs.Readings.{IsReading, Reading, full_average, group_in, path_of, rise, sixty_seconds, ten_seconds}
+use Rattle.kill_spec.specs.Readings.{Reading, full_average, group_in, path_of, rise, sixty_seconds, ten_seconds}
 use Rattle.kill_spec.specs.Detectors.{matches}
 
 -- ---- what actions say
@@ -233,21 +232,3 @@ victim lives act now past =
     if (after_of act).recursive
     then option_map (descended lives act now past (length lives)) (choice lives act now past (candidates lives (action_patterns act) now))
     else choice lives act now past (candidates lives (action_patterns act) now)
-
--- ---- laws
-
--- A group is a live one in which, or below which, some task is live, as a reading tells.
-abbrev pub IsPopulatedIn : Reading → GroupReading → Type 0
-IsPopulatedIn reading group = Contains reading.groups group × (group.populated ≡ true)
-
--- The victim of an action is populated; and it matches the action's patterns, unless the action is recursive.
-abbrev pub VictimsMatch : Type 0
-VictimsMatch = (lives : List GroupLife) (act : Action) (now : Reading) (past : List Reading) (group : GroupReading) →
-    victim lives act now past ≡ Some group →
-    IsPopulatedIn now group × ((after_of act).recursive ≡ false → is_match (action_patterns act) (path_of lives group) ≡ true)
-
--- More choices below the one that was chosen change nothing, once there are as many as groups.
-abbrev pub DescentEnds : Type 0
-DescentEnds = (lives : List GroupLife) (act : Action) (now : Reading) (past : List Reading) (more : ℕ) (group : GroupReading) →
-    AreOlder (parents_of lives) → IsReading lives now →
-    descended lives act now past (length lives + more) group ≡ descended lives act now past (length lives) group

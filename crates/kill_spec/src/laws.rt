@@ -1,8 +1,6 @@
 //! Laws of the definitions. Each function has an empty body: its contract is the law.
 ghost use Rattle.kill_spec.specs.Choices.{LargestIsChoice, UnbeatenIsChoice};
-ghost use Rattle.kill_spec.specs.Detectors.{BreakStartsAnew, HeldForTells, HoldsAtOnce, LongerIsLater};
-ghost use Rattle.kill_spec.specs.Kills.{EndingsApart, EndsOnce, KillsAreOfActions};
-ghost use Rattle.kill_spec.specs.Victims.{DescentEnds, VictimsMatch};
+ghost use Rattle.kill_spec.specs.Laws.{BreakStartsAnew, HeldForTells, HoldsAtOnce, LongerIsLater, EndingsApart, EndsOnce, KillsAreOfActions, DescentEnds, VictimsMatch};
 
 /// A condition for a duration: it has held at some reading that is at least so long ago and at each one since. For a duration
 /// of 0 it is the condition itself; one reading at which it doesn't hold starts it anew; and for a longer duration it is

@@ -3,7 +3,8 @@
 //!
 //! In `specs/`, in the order of reading: `Readings` (what is seen at an evaluation), `Detectors` (when a detector is true
 //! and a ruleset fires), `Victims` (which group an action kills), `Kills` (which groups are killed at an evaluation),
-//! `Evaluations` (what is seen at the evaluations of a trace). `Choices` has laws alone: what tells a choice among groups.
+//! `Evaluations` (what is seen at the evaluations of a trace). `Laws` and `Choices` have laws alone: what follows, and what tells a
+//! choice among groups.
 #![tactic(auto)]
 
 mod kill;

@@ -11,10 +11,10 @@ use Rattle.psi_spec.specs.declared.machine.GroupLife.{GroupLife}
 use Rattle.psi_spec.specs.Groups.{is_live_at}
 use Rattle.pressure_spec.specs.Ticks.{Tick, no_row, no_tick, last_tick, IsNextTick, AreNextTicks}
 use Rattle.pressure_spec.specs.Share.{at_state, no_totals, plus, pressure_places, shares}
-use Rattle.pressure_spec.specs.Average.{AverageState, IsAverageState, average_of, average_step, averages_after, last_totals, HasTotals}
+use Rattle.pressure_spec.specs.Average.{AverageState, IsAverageState, average_step, averages_after}
+use Rattle.pressure_spec.specs.Laws.{average_of, HasTotals, samples_from, TotalIsSum, TotalsNeverFall, GroupsAtMostHundred, FiredApart}
+use Rattle.pressure_spec.specs.Samples.{last_totals, life_of, row_at, growths, with_shares, history_from, history_of, totals_after, group_averages, watched_state, first_value, seen_by, trigger_over, has_fired}
 use Rattle.pressure_spec.specs.Signal.{TriggerState, new_trigger, trigger_step, trigger_after, fires}
-use Rattle.pressure_spec.specs.Samples.{life_of, row_at, growths, with_shares, history_from, history_of, totals_after, group_averages, watched_state, first_value, seen_by, trigger_over, has_fired}
-use Rattle.pressure_spec.specs.Laws.{samples_from, TotalIsSum, TotalsNeverFall, GroupsAtMostHundred, FiredApart}
 use Rattle.pressure_spec.proofs.ShareLaws.{get_or-zip_with, length-zip_with}
 use Rattle.pressure_spec.proofs.AverageLaws.{at_most_hundred}
 use Rattle.pressure_spec.proofs.SignalLaws.{signals_apart}

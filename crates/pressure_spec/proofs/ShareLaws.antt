@@ -7,8 +7,8 @@ use Rattle.std.proofs.lemmas.List.Sums.{sum_by-cons, sum_by-append}
 use Rattle.std.proofs.lemmas.List.{length-map, get_or-map}
 use Rattle.std.proofs.lemmas.List.FromFn.{fill_by_all, get_or-map-range_with_len}
 use Rattle.psi_spec.specs.Trace.{longest_tick}
-use Rattle.pressure_spec.specs.Share.{AreTimesWithin, zip_with, irq_place, irq_quantity, pressure_places, weight, total_weight, time_sum, weighted_time, share_of, shares, ShareIsMean, ShareSumFits, ShareWithinSum, SharesWithin, IdleHasNone}
-use Rattle.pressure_spec.specs.Laws.{TotalsGrow, totals_of}
+use Rattle.pressure_spec.specs.Share.{AreTimesWithin, zip_with, irq_place, irq_quantity, pressure_places, weight, total_weight, time_sum, weighted_time, share_of, shares}
+use Rattle.pressure_spec.specs.Laws.{ShareIsMean, ShareSumFits, ShareWithinSum, SharesWithin, IdleHasNone, TotalsGrow, totals_of}
 use Rattle.psi_spec.specs.World.{longest_irq}
 
 pub length-zip_with : {A B C : Type 0} (f : A → B → C) → (xs : List A) (ys : List B) → length xs ≡ length ys → length (zip_with f xs ys) ≡ length xs

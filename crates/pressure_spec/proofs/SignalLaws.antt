@@ -2,7 +2,8 @@
 use Rattle.std.proofs.Common.{◌≡◌, ℕ, suc, ◌+◌, ◌*◌, ◌≤◌, List, [], ◌∷◌, ◌++◌, refl, ap, ◌∙◌, arith, true, false}
 use Rattle.std.specs.Prelude.{All, Option, Some}
 use Rattle.std.proofs.lemmas.List.Sums.{fold-append}
-use Rattle.pressure_spec.specs.Signal.{TriggerState, new_trigger, is_free, seen, trigger_step, fires, trigger_after, fired_after, SignalsApart, PendingIsSignalled, RemembersLast, QuietWhenStill, still}
+use Rattle.pressure_spec.specs.Signal.{TriggerState, new_trigger, is_free, seen, trigger_step, fires, trigger_after}
+use Rattle.pressure_spec.specs.Laws.{fired_after, SignalsApart, PendingIsSignalled, RemembersLast, QuietWhenStill, still}
 
 -- the last signal was at a moment or after it
 pub record SignalledSince (trigger : TriggerState) (size from : ℕ) : Type 0 where

@@ -11,8 +11,7 @@ use Rattle.psi_spec.specs.Trace.{last_moment}
 use Rattle.pressure_spec.specs.Ticks.{Tick, AreNextTicks, IsNextTick, last_tick, no_row, no_tick, time_in, time_of, times_with}
 use Rattle.pressure_spec.specs.Share.{AreAmountsWithin, AreTimesWithin, irq_place, irq_quantity, no_totals, plus, shares, time_sum, zip_with}
 use Rattle.psi_spec.specs.World.{longest_irq}
-use Rattle.pressure_spec.specs.Average.{last_totals}
-use Rattle.pressure_spec.specs.Samples.{growths, history_from, life_of, row_at, totals_after, with_shares}
+use Rattle.pressure_spec.specs.Samples.{last_totals, growths, history_from, life_of, row_at, totals_after, with_shares}
 use Rattle.pressure_spec.specs.Laws.{IrqTotalBound, NextSharesWithin, TotalsWithin}
 use Rattle.pressure_spec.proofs.ShareLaws.{get_or-shares, share_within_sum, shares_within}
 use Rattle.pressure_spec.proofs.SampleLaws.{no_tick_row}

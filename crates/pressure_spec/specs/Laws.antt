@@ -1,5 +1,5 @@
--- What follows from what pressure is: laws of groups over any list of ticks.
-use Rattle.std.specs.Prelude.{◌≡◌, ℕ, ◌+◌, ◌-◌, ◌*◌, ◌≤◌, ◌<◌, List, [], ◌∷◌, ◌++◌, length, map, slice_index, sum_by, true, if◌then◌else◌}
+-- What follows from what pressure is: laws of shares, of averages and of signals, and of groups over any list of ticks.
+use Rattle.std.specs.Prelude.{◌≡◌, ℕ, ◌+◌, ◌-◌, ◌*◌, ◌≤◌, ◌<◌, List, [], ◌∷◌, ◌++◌, length, map, slice_index, sum_by, true, if◌then◌else◌, ◌/◌, ◌^◌, All, min, slice_index_or, Bool, false, Some}
 use Rattle.std.specs.List.{range_with_len}
 use Rattle.std.specs.List.Sorted.{IsNonDecreasingBy}
 use Rattle.psi_base.specs.declared.event.TriggerSpec.{TriggerSpec}
@@ -7,11 +7,141 @@ use Rattle.psi_spec.specs.declared.machine.GroupLife.{GroupLife}
 use Rattle.psi_spec.specs.World.{longest_irq}
 use Rattle.psi_spec.specs.Groups.{is_live_at}
 use Rattle.pressure_spec.specs.Ticks.{AreNextTicks, IsNextTick, Tick, last_tick, no_row, no_tick}
-use Rattle.pressure_spec.specs.Share.{AreAmountsWithin, irq_place, irq_quantity, most_irq_total, plus, pressure_places, shares, time_sum}
-use Rattle.pressure_spec.specs.Average.{average_of}
-use Rattle.pressure_spec.specs.Samples.{group_averages, growths, has_fired, life_of, row_at, totals_after}
+use Rattle.pressure_spec.specs.Share.{AreAmountsWithin, AreTimesWithin, irq_place, irq_quantity, most_irq_total, plus, pressure_places, share_of, shares, time_sum, total_weight, weighted_time}
+use Rattle.pressure_spec.specs.Average.{AverageState, IsAverageState, average_step, averages_after, load, period, power_from, product, sampled_time}
+use Rattle.pressure_spec.specs.Samples.{group_averages, growths, has_fired, last_totals, life_of, row_at, totals_after}
+use Rattle.psi_spec.specs.Trace.{longest_tick}
+use Rattle.pressure_spec.specs.Signal.{TriggerState, fires, is_free, new_trigger, trigger_after, trigger_step}
 
--- ---- totals
+-- ---- shares
+
+-- A share is a mean: it is at most the longest time at its place on a processor, and at least the shortest where some
+-- processor has weight.
+abbrev pub ShareIsMean : Type 0
+ShareIsMean = (rows : List (List ℕ)) (place least most : ℕ) →
+    All (λ times. (least ≤ slice_index times place) × (slice_index times place ≤ most)) rows →
+    (share_of rows place ≤ most) × (0 < total_weight rows → least ≤ share_of rows place)
+
+-- So no share of a state is longer than an interval that no time in a state is longer than, and no share of interrupt time is
+-- above what no interrupt time is above.
+abbrev pub SharesWithin : Type 0
+SharesWithin = (rows : List (List ℕ)) (most most_irq : ℕ) → All (AreTimesWithin most most_irq) rows → AreAmountsWithin most most_irq (shares rows)
+
+-- A share is at most the processors' times together.
+abbrev pub ShareWithinSum : Type 0
+ShareWithinSum = (rows : List (List ℕ)) (place : ℕ) → share_of rows place ≤ time_sum rows place
+
+-- The sum in a share fits 64 bits: each of at most 64 processors has at most the longest tick, and of interrupts a second more,
+-- and weighs at most as many timer ticks as the longest tick has.
+abbrev pub ShareSumFits : Type 0
+ShareSumFits = (rows : List (List ℕ)) (place : ℕ) → length rows ≤ 64 → place ≤ irq_place → All (AreTimesWithin longest_tick (longest_tick + longest_irq)) rows →
+    (weighted_time rows place ≤ 64 * (longest_tick + longest_irq) * (longest_tick / 1000000)) × (weighted_time rows place < 2 ^ 64)
+
+-- Where no processor has weight, which takes a whole timer tick, there is no share.
+abbrev pub IdleHasNone : Type 0
+IdleHasNone = (rows : List (List ℕ)) (place : ℕ) → total_weight rows ≡ 0 → share_of rows place ≡ 0
+
+-- ---- averages
+
+-- an average by the places of its quantity and of its factor
+abbrev pub average_of : AverageState → ℕ → ℕ → ℕ
+average_of s place factor = slice_index (slice_index_or s.averages place []) factor
+
+-- how much (ns) of the total of a quantity was sampled, by its place
+abbrev pub sampled_of : AverageState → ℕ → ℕ
+sampled_of s place = slice_index s.sampled place
+
+-- each tick has a total of each pressure quantity
+abbrev pub HasTotals : List (ℕ × List ℕ) → Type 0
+HasTotals ticks = All (λ tick. length tick.1 ≡ length pressure_places) ticks
+
+-- no total falls from one tick to the next
+abbrev pub NeverFalls : List ℕ → List (ℕ × List ℕ) → Type 0
+NeverFalls before [] = Unit {0}
+NeverFalls before (tick ∷ ticks) = ((place : ℕ) → slice_index before place ≤ slice_index tick.1 place) × NeverFalls tick.1 ticks
+
+-- Of the powers by halves: x to the 0 is the result so far; an odd number takes one x, and a number halves as x squares.
+pub record PowerHalves : Type 0 where
+  pub zero : (result x : ℕ) → power_from result x 0 ≡ result
+  pub even : (result x n : ℕ) → power_from result x (2 * n) ≡ power_from result (product x x) n
+  pub odd : (result x n : ℕ) → power_from result x (2 * n + 1) ≡ power_from (product result x) (product x x) n
+
+-- An average goes toward what is active and never past it. It stands still only there, where the factor is below one.
+pub record LoadApproaches : Type 0 where
+  pub up : (average factor active : ℕ) → factor ≤ 2048 → average ≤ active → (average ≤ load average factor active) × (load average factor active ≤ active)
+  pub down : (average factor active : ℕ) → factor ≤ 2048 → active ≤ average → (active ≤ load average factor active) × (load average factor active ≤ average)
+  pub rises : (average factor active : ℕ) → factor < 2048 → average < active → average < load average factor active
+  pub falls : (average factor active : ℕ) → factor < 2048 → active < average → load average factor active < average
+
+-- After every list of ticks no average is above 100 percent, and the next update is due within a period.
+abbrev pub AtMostHundred : Type 0
+AtMostHundred = (at : ℕ) (ticks : List (ℕ × List ℕ)) → HasTotals ticks → IsAverageState (averages_after at ticks)
+
+-- An update in which no period was missed and all of the time was stalled raises each average of the quantity toward 100
+-- percent, and not past it.
+abbrev pub RisesWhenStalled : Type 0
+RisesWhenStalled = (old : AverageState) (now : ℕ) (totals : List ℕ) (place factor : ℕ) →
+    IsAverageState old → length totals ≡ length pressure_places → place < length pressure_places → factor < 3 →
+    old.next ≤ now → now < old.next + period → sampled_of old place + sampled_time old now ≤ slice_index totals place →
+    (average_of old place factor ≤ average_of (average_step old now totals) place factor)
+    × (average_of (average_step old now totals) place factor ≤ 204800)
+    × (average_of old place factor < 204800 → average_of old place factor < average_of (average_step old now totals) place factor)
+
+-- An update in which nothing was stalled lowers each average of the quantity toward 0.
+abbrev pub FallsWhenFree : Type 0
+FallsWhenFree = (old : AverageState) (now : ℕ) (totals : List ℕ) (place factor : ℕ) →
+    IsAverageState old → length totals ≡ length pressure_places → place < length pressure_places → factor < 3 →
+    old.next ≤ now → slice_index totals place ≤ sampled_of old place →
+    (average_of (average_step old now totals) place factor ≤ average_of old place factor)
+    × (0 < average_of old place factor → average_of (average_step old now totals) place factor < average_of old place factor)
+
+-- What an update can't sample is carried to a later one: it takes what waits, and at most the time.
+abbrev pub CarriesTheRest : Type 0
+CarriesTheRest = (old : AverageState) (now : ℕ) (totals : List ℕ) (place : ℕ) →
+    IsAverageState old → length totals ≡ length pressure_places → place < length pressure_places → old.next ≤ now →
+    sampled_of (average_step old now totals) place ≡ sampled_of old place + min (slice_index totals place - sampled_of old place) (sampled_time old now)
+
+-- No more is sampled than there was: what was sampled and what waits are together the total.
+abbrev pub SamplesWithinTotal : Type 0
+SamplesWithinTotal = (at : ℕ) (ticks : List (ℕ × List ℕ)) (place : ℕ) → HasTotals ticks → NeverFalls [] ticks → place < length pressure_places →
+    sampled_of (averages_after at ticks) place ≤ slice_index (last_totals [] ticks) place
+
+-- ---- signals
+
+-- the trigger signals at a tick that comes after others
+abbrev pub fired_after : TriggerState → List (ℕ × ℕ) → ℕ × ℕ → Bool
+fired_after trigger ticks tick = fires (trigger_after trigger ticks) tick.0 tick.1
+
+-- Two signals of one trigger are at least its window apart, whatever comes between.
+abbrev pub SignalsApart : Type 0
+SignalsApart = (at value threshold_us window_us : ℕ) (before between : List (ℕ × ℕ)) (first second : ℕ × ℕ) →
+    fired_after (new_trigger at value threshold_us window_us) before first ≡ true →
+    fired_after (new_trigger at value threshold_us window_us) (before ++ first ∷ between) second ≡ true →
+    first.0 + window_us * 1000 ≤ second.0
+
+-- A pending event isn't lost: the first tick signals it that is a window after the last signal, whatever the ticks before it tell.
+abbrev pub PendingIsSignalled : Type 0
+PendingIsSignalled = (trigger : TriggerState) (waits : List (ℕ × ℕ)) (tick : ℕ × ℕ) → trigger.pending ≡ true →
+    All (λ (wait : ℕ × ℕ). is_free trigger.last_event trigger.size wait.0 ≡ false) waits →
+    is_free trigger.last_event trigger.size tick.0 ≡ true →
+    fired_after trigger waits tick ≡ true
+
+-- A trigger remembers the moment of its last signal, and no other.
+abbrev pub RemembersLast : Type 0
+RemembersLast = (trigger : TriggerState) (now value : ℕ) →
+    (fires trigger now value ≡ true → (trigger_step trigger now value).last_event ≡ Some now)
+    × (fires trigger now value ≡ false → (trigger_step trigger now value).last_event ≡ trigger.last_event)
+
+-- ticks at which the total is the same
+abbrev pub still : ℕ → List ℕ → List (ℕ × ℕ)
+still value moments = map (λ now. (now, value)) moments
+
+-- A trigger whose total never changes doesn't signal.
+abbrev pub QuietWhenStill : Type 0
+QuietWhenStill = (at value threshold_us window_us now : ℕ) (moments : List ℕ) →
+    fires (trigger_after (new_trigger at value threshold_us window_us) (still value moments)) now value ≡ false
+
+-- ---- groups over ticks
 
 -- the totals (ns) of a group: of each quantity the sum of its shares, over a list of samples that have a share of each
 unfoldable pub totals_of : List (List ℕ) → List ℕ

@@ -14,7 +14,7 @@ use Rattle.psi_spec.specs.World.{root}
 use Rattle.psi_spec.specs.Groups.{is_live_at}
 use Rattle.pressure_spec.specs.Ticks.{Tick, no_row}
 use Rattle.pressure_spec.specs.Share.{at_state, no_totals, plus, shares, zip_with}
-use Rattle.pressure_spec.specs.Average.{AverageState, averages_after, last_totals}
+use Rattle.pressure_spec.specs.Average.{AverageState, averages_after}
 use Rattle.pressure_spec.specs.Signal.{TriggerState, fires, new_trigger, trigger_after}
 
 -- ---- the history of a group
@@ -49,6 +49,11 @@ abbrev pub history_of : ℕ → List GroupLife → List Tick → ℕ → List (�
 history_of cpus lives ticks slot = history_from (life_of lives slot) slot (no_row cpus) no_totals ticks
 
 -- ---- totals and averages
+
+-- the totals (ns) at the last tick of a history, or those before it where it has none
+abbrev pub last_totals : List ℕ → List (ℕ × List ℕ) → List ℕ
+last_totals before [] = before
+last_totals before (tick ∷ history) = last_totals tick.1 history
 
 -- the totals (ns) of a group after ticks: the last of its history
 unfoldable pub totals_after : ℕ → List GroupLife → List Tick → ℕ → List ℕ

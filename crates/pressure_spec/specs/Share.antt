@@ -1,11 +1,9 @@
 -- How long a group was in each state in an interval, and how long interrupts took from it, over all processors: the kernel's
 -- collect_percpu_times.
-use Rattle.std.specs.Prelude.{◌≡◌, ℕ, ◌+◌, ◌*◌, ◌/◌, ◌^◌, ◌<◌, ◌≤◌, max, List, [], ◌∷◌, length, map, sum_by, slice_index, All}
+use Rattle.std.specs.Prelude.{ℕ, ◌+◌, ◌*◌, ◌/◌, ◌<◌, ◌≤◌, max, List, [], ◌∷◌, map, sum_by, slice_index}
 use Rattle.psi_base.specs.declared.event.State.{State}
 use Rattle.psi_base.specs.declared.event.State.TheVariants.{Nonidle}
 use Rattle.psi_spec.specs.Stall.{state_number}
-use Rattle.psi_spec.specs.World.{longest_irq}
-use Rattle.psi_spec.specs.Trace.{longest_tick}
 
 -- f of the elements of two lists, place by place
 abbrev pub zip_with : {A B C : Type 0} → (A → B → C) → List A → List B → List C
@@ -78,31 +76,3 @@ pub record AreTimesWithin (most most_irq : ℕ) (times : List ℕ) : Type 0 wher
 pub record AreAmountsWithin (most most_irq : ℕ) (amounts : List ℕ) : Type 0 where
   pub states : (quantity : ℕ) → quantity < irq_quantity → slice_index amounts quantity ≤ most
   pub irq : slice_index amounts irq_quantity ≤ most_irq
-
--- ---- laws
-
--- A share is a mean: it is at most the longest time at its place on a processor, and at least the shortest where some
--- processor has weight.
-abbrev pub ShareIsMean : Type 0
-ShareIsMean = (rows : List (List ℕ)) (place least most : ℕ) →
-    All (λ times. (least ≤ slice_index times place) × (slice_index times place ≤ most)) rows →
-    (share_of rows place ≤ most) × (0 < total_weight rows → least ≤ share_of rows place)
-
--- So no share of a state is longer than an interval that no time in a state is longer than, and no share of interrupt time is
--- above what no interrupt time is above.
-abbrev pub SharesWithin : Type 0
-SharesWithin = (rows : List (List ℕ)) (most most_irq : ℕ) → All (AreTimesWithin most most_irq) rows → AreAmountsWithin most most_irq (shares rows)
-
--- A share is at most the processors' times together.
-abbrev pub ShareWithinSum : Type 0
-ShareWithinSum = (rows : List (List ℕ)) (place : ℕ) → share_of rows place ≤ time_sum rows place
-
--- The sum in a share fits 64 bits: each of at most 64 processors has at most the longest tick, and of interrupts a second more,
--- and weighs at most as many timer ticks as the longest tick has.
-abbrev pub ShareSumFits : Type 0
-ShareSumFits = (rows : List (List ℕ)) (place : ℕ) → length rows ≤ 64 → place ≤ irq_place → All (AreTimesWithin longest_tick (longest_tick + longest_irq)) rows →
-    (weighted_time rows place ≤ 64 * (longest_tick + longest_irq) * (longest_tick / 1000000)) × (weighted_time rows place < 2 ^ 64)
-
--- Where no processor has weight, which takes a whole timer tick, there is no share.
-abbrev pub IdleHasNone : Type 0
-IdleHasNone = (rows : List (List ℕ)) (place : ℕ) → total_weight rows ≡ 0 → share_of rows place ≡ 0

@@ -1,5 +1,5 @@
 -- When a trigger signals: the kernel's window_update and update_triggers, in this profile.
-use Rattle.std.specs.Prelude.{◌≡◌, ℕ, ◌+◌, ◌-◌, ◌*◌, ◌/◌, ◌≤◌, List, ◌∷◌, ◌++◌, fold, map, All, nat_le, nat_lt, ◌==◌, ◌&&◌, ◌||◌, Bool, true, false, if◌then◌else◌, Option, None, Some}
+use Rattle.std.specs.Prelude.{ℕ, ◌+◌, ◌-◌, ◌*◌, ◌/◌, List, fold, nat_le, nat_lt, ◌==◌, ◌&&◌, ◌||◌, Bool, true, false, if◌then◌else◌, Option, None, Some}
 
 -- A trigger: its threshold and its window's size (ns); the moment at which its window began and the total (ns) then;
 -- the total at the last tick; the growth in the window before; whether an event is pending; and the moment of the last
@@ -78,38 +78,3 @@ fires old now value = signals (seen old now value) now
 -- a trigger after ticks, each a moment (ns) and the total (ns) at it
 abbrev pub trigger_after : TriggerState → List (ℕ × ℕ) → TriggerState
 trigger_after trigger ticks = fold (λ state tick. trigger_step state tick.0 tick.1) trigger ticks
-
--- the trigger signals at a tick that comes after others
-abbrev pub fired_after : TriggerState → List (ℕ × ℕ) → ℕ × ℕ → Bool
-fired_after trigger ticks tick = fires (trigger_after trigger ticks) tick.0 tick.1
-
--- ---- laws
-
--- Two signals of one trigger are at least its window apart, whatever comes between.
-abbrev pub SignalsApart : Type 0
-SignalsApart = (at value threshold_us window_us : ℕ) (before between : List (ℕ × ℕ)) (first second : ℕ × ℕ) →
-    fired_after (new_trigger at value threshold_us window_us) before first ≡ true →
-    fired_after (new_trigger at value threshold_us window_us) (before ++ first ∷ between) second ≡ true →
-    first.0 + window_us * 1000 ≤ second.0
-
--- A pending event isn't lost: the first tick signals it that is a window after the last signal, whatever the ticks before it tell.
-abbrev pub PendingIsSignalled : Type 0
-PendingIsSignalled = (trigger : TriggerState) (waits : List (ℕ × ℕ)) (tick : ℕ × ℕ) → trigger.pending ≡ true →
-    All (λ (wait : ℕ × ℕ). is_free trigger.last_event trigger.size wait.0 ≡ false) waits →
-    is_free trigger.last_event trigger.size tick.0 ≡ true →
-    fired_after trigger waits tick ≡ true
-
--- A trigger remembers the moment of its last signal, and no other.
-abbrev pub RemembersLast : Type 0
-RemembersLast = (trigger : TriggerState) (now value : ℕ) →
-    (fires trigger now value ≡ true → (trigger_step trigger now value).last_event ≡ Some now)
-    × (fires trigger now value ≡ false → (trigger_step trigger now value).last_event ≡ trigger.last_event)
-
--- ticks at which the total is the same
-abbrev pub still : ℕ → List ℕ → List (ℕ × ℕ)
-still value moments = map (λ now. (now, value)) moments
-
--- A trigger whose total never changes doesn't signal.
-abbrev pub QuietWhenStill : Type 0
-QuietWhenStill = (at value threshold_us window_us now : ℕ) (moments : List ℕ) →
-    fires (trigger_after (new_trigger at value threshold_us window_us) (still value moments)) now value ≡ false

@@ -1,10 +1,9 @@
 //! Laws of the arithmetic of pressure: of averages, shares and triggers. Each function has an empty body: its contract
 //! is the law.
 
-ghost use Rattle.pressure_spec.specs.Share.{IdleHasNone, ShareIsMean, ShareSumFits, ShareWithinSum, SharesWithin};
-ghost use Rattle.pressure_spec.specs.Laws.{FiredApart, GroupsAtMostHundred, IrqTotalBound, NextSharesWithin, TotalIsSum, TotalsGrow, TotalsNeverFall, TotalsWithin};
-ghost use Rattle.pressure_spec.specs.Signal.{PendingIsSignalled, QuietWhenStill, RemembersLast, SignalsApart};
-ghost use Rattle.pressure_spec.specs.Average.{AtMostHundred, CarriesTheRest, FallsWhenFree, LoadApproaches, PowerHalves, RisesWhenStalled, SamplesWithinTotal};
+ghost use Rattle.pressure_spec.specs.Laws.{AtMostHundred, CarriesTheRest, FallsWhenFree, FiredApart, GroupsAtMostHundred, IdleHasNone, IrqTotalBound, LoadApproaches};
+ghost use Rattle.pressure_spec.specs.Laws.{NextSharesWithin, PendingIsSignalled, PowerHalves, QuietWhenStill, RemembersLast, RisesWhenStalled, SamplesWithinTotal, ShareIsMean};
+ghost use Rattle.pressure_spec.specs.Laws.{ShareSumFits, ShareWithinSum, SharesWithin, SignalsApart, TotalIsSum, TotalsGrow, TotalsNeverFall, TotalsWithin};
 
 /// Fixed-point numbers: powers are taken by halves, and an average goes toward what is active and never past it.
 pub fn law_fixed_point()

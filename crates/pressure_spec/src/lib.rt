@@ -1,6 +1,6 @@
 //! What pressure is: shares of an interval and totals, averages, and the signals of triggers.
 //!
-//! In `specs/`: `Share`, `Average`, `Signal`, `Ticks`, `Samples` and `File`.
+//! In `specs/`: `Share`, `Average`, `Signal`, `Ticks`, `Samples` and `File`, and `Laws`, what follows from them.
 #![tactic(auto)]
 
 mod arithmetic;

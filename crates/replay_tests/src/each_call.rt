@@ -167,7 +167,7 @@ fn one_kill(rt: HostRuntime) -> Result<(), Fail> {
     Ok(())
 }
 
-/// The live line may be of any of the changes, another one in each run.
+/// The live line may be of the tick before, or of any of the changes since then, another one in each run.
 #[test]
 fn one_live_line(rt: HostRuntime) -> Result<(), Fail> {
     let alloc = rt.alloc();

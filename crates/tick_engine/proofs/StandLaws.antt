@@ -11,9 +11,8 @@ use Rattle.psi_spec.specs.declared.machine.GroupLife.{GroupLife}
 use Rattle.psi_spec.specs.Groups.{is_live_at}
 use Rattle.pressure_spec.specs.Ticks.{Tick, AreNextTicks, IsNextTick, last_tick, no_row, no_tick}
 use Rattle.pressure_spec.specs.Share.{at_state, no_totals, plus, shares}
-use Rattle.pressure_spec.specs.Average.{last_totals}
+use Rattle.pressure_spec.specs.Samples.{last_totals, fired_at, growths, has_fired, history_of, life_of, passes, row_at, totals_after, trigger_over, watched_state}
 use Rattle.pressure_spec.specs.Signal.{TriggerState, fires, new_trigger, trigger_step}
-use Rattle.pressure_spec.specs.Samples.{fired_at, growths, has_fired, history_of, life_of, passes, row_at, totals_after, trigger_over, watched_state}
 use Rattle.pressure_spec.proofs.SampleLaws as samples
 use Rattle.tick_engine.specs.declared.group.Group.{Group}
 use Rattle.tick_engine.specs.declared.watch.TriggerWatch.{TriggerWatch}
