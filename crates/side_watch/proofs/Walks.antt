@@ -35,7 +35,7 @@ step_up parents cells cell place at came older room is =
     (λ same.
     let at_is : place ≡ at = same.1 in
     let off : leads_to numbers (slice_index_or numbers place None) place ≡ false = not_below numbers place (slice_index_or numbers place None) older refl in
-    let on : is_under numbers place place ≡ true = at_itself numbers place older in
+    let on : is_under numbers place place ≡ true = at_itself numbers place in
     subst (λ n. cell_counted numbers (slice_index_or numbers place None) came n (side_cell_in (slice_set cells place cell) n) ≡ cell_counted numbers (Some place) came n (side_cell_in cells n)) at_is
     (rw (off, on, get_or-set_same cells place cell zero_side_cell room) is))
     (λ other.
