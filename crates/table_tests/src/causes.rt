@@ -189,6 +189,18 @@ fn accounts_that_are_switched(rt: HostRuntime) -> Result<(), Fail> {
     Ok(())
 }
 
+// One line more than a limit is refused: the 257th trigger.
+#[test]
+fn triggers_up_to_the_limit(rt: HostRuntime) -> Result<(), Fail> {
+    let mut table = Table::new(rt.alloc(), 1, 1000)?;
+    let event = read_event(rt.alloc(), 1, b"1 trigger / io some 1 500000")?;
+    for count in 0..256u32 {
+        assert!(rt; table.play(&event).is_ok(), "trigger {count}");
+    }
+    assert!(rt; table.play(&event) == Err(Fault::Refused(Cause::TooManyTriggers)));
+    Ok(())
+}
+
 // So is the 65,537th `pressure` line, ahead of what else stands against it.
 #[test]
 fn pressure_lines_up_to_the_limit(rt: HostRuntime) -> Result<(), Fail> {
@@ -203,18 +215,6 @@ fn pressure_lines_up_to_the_limit(rt: HostRuntime) -> Result<(), Fail> {
     let root = read_event(alloc, 2, b"1 pressure / off")?;
     assert!(rt; table.play(&root) == Err(Fault::Refused(Cause::TooManyPressures)));
     assert!(rt; table.play(&event) == Err(Fault::Refused(Cause::TooManyPressures)));
-    Ok(())
-}
-
-// One line more than a limit is refused: the 257th trigger.
-#[test]
-fn triggers_up_to_the_limit(rt: HostRuntime) -> Result<(), Fail> {
-    let mut table = Table::new(rt.alloc(), 1, 1000)?;
-    let event = read_event(rt.alloc(), 1, b"1 trigger / io some 1 500000")?;
-    for count in 0..256u32 {
-        assert!(rt; table.play(&event).is_ok(), "trigger {count}");
-    }
-    assert!(rt; table.play(&event) == Err(Fault::Refused(Cause::TooManyTriggers)));
     Ok(())
 }
 
