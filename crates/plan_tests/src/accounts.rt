@@ -1,9 +1,14 @@
 //! Accounts of groups that are switched, by the plans of processors and their clocks.
 
+ghost use Rattle.std.specs.Prelude.{◌≡◌, ◌<◌, ◌≤◌, length};
+ghost use Rattle.psi_spec.specs.Trace.{last_moment};
+ghost use Rattle.plan_laws.specs.Plan.{last_change};
+
 use crate::events_of;
-use proc_plan::{IrqClocks, PlainClocks, Plans, ProcClocks};
-use psi_base::{Cpu, Ns, Slot};
+use proc_plan::{IrqClocks, PlainClocks, Plan, Plans, ProcClocks};
+use psi_base::{Cpu, NoMemory, Ns, Slot};
 use psi_counts::Change;
+use std::alloc::Global;
 use std::test::Fail;
 
 /// The task of a group waits for IO, and for half a second the group's account is off.
@@ -27,6 +32,29 @@ fn gate(at: Ns, on: bool) -> Change {
         irq: 0,
         gate: Some((Slot(1), on)),
     }
+}
+
+// What the clocks of a plan tell of a group after all changes: for how long (ns) interrupts took from it, and for how long it was in
+// each state up to a moment (ns).
+fn after_all(
+    alloc: Global,
+    plan: &Plan,
+    slots: u32,
+    slot: Slot,
+    at: Ns,
+) -> Result<(u64, [u64; 7]), NoMemory>
+    requires slots { slots ≡ length plan.now.parents }
+    requires slot { slot.0 < slots }
+    requires past { last_change plan.now (length plan.now.changes) ≤ at }
+    requires early { at ≤ last_moment }
+{
+    let mut clocks = PlainClocks::make(alloc, plan, slots)?;
+    let changes = plan.len();
+    'changes: while clocks.count() < changes {
+        clocks.apply();
+    }
+    let irq = clocks.own_irq(slot);
+    Ok((irq, clocks.own(slot).opened(at)))
 }
 
 // Both processors have the switches, and the second has nothing else.
@@ -68,15 +96,15 @@ fn clocks_of_a_group_off(rt: HostRuntime) -> Result<(), Fail> {
         clocks.own(Slot(0)).to_words(),
         [0, 0, 0, 0, 0, 0, 0, 0b100_0011, 0]
     );
-    clocks.apply();
     let (half, all) = (1_500_000_000, 2_000_000_000);
+    assert_eq!(rt; plan.moment(5), half);
     assert_eq!(rt;
-        clocks.own(Slot(1)).opened(all),
-        [half, half, 0, 0, 0, 0, half]
+        after_all(alloc, plan, 2, Slot(1), all)?,
+        (0, [half, half, 0, 0, 0, 0, half])
     );
     assert_eq!(rt;
-        clocks.own(Slot(0)).opened(all),
-        [all, all, 0, 0, 0, 0, all]
+        after_all(alloc, plan, 2, Slot(0), all)?,
+        (0, [all, all, 0, 0, 0, 0, all])
     );
     Ok(())
 }
@@ -105,17 +133,18 @@ fn accounts_of_groups_in_groups(rt: HostRuntime) -> Result<(), Fail> {
     let plans = Plans::build(alloc, 1, 5000, &events)?;
     let plan = plans.plan(Cpu(0));
     assert_eq!(rt; (plans.lives().len(), plan.len()), (3, 9));
-    let mut clocks = PlainClocks::make(alloc, plan, 3)?;
-    'changes: while clocks.count() < plan.len() {
-        clocks.apply();
-    }
-    for (slot, irq, want) in [
-        (0, 100, [2000, 2000, 0, 0, 1000, 1000, 5000]),
-        (1, 0, [1000, 1000, 0, 0, 1000, 1000, 3000]),
-        (2, 100, [1000, 1000, 0, 0, 0, 0, 3000]),
-    ] {
-        assert_eq!(rt; clocks.own_irq(Slot(slot)), irq, "slot {slot}");
-        assert_eq!(rt; clocks.own(Slot(slot)).opened(5000), want, "slot {slot}");
-    }
+    assert_eq!(rt; plan.moment(9), 4500);
+    assert_eq!(rt;
+        after_all(alloc, plan, 3, Slot(0), 5000)?,
+        (100, [2000, 2000, 0, 0, 1000, 1000, 5000])
+    );
+    assert_eq!(rt;
+        after_all(alloc, plan, 3, Slot(1), 5000)?,
+        (0, [1000, 1000, 0, 0, 1000, 1000, 3000])
+    );
+    assert_eq!(rt;
+        after_all(alloc, plan, 3, Slot(2), 5000)?,
+        (100, [1000, 1000, 0, 0, 0, 0, 3000])
+    );
     Ok(())
 }
