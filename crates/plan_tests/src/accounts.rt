@@ -1,8 +1,6 @@
 //! Accounts of groups that are switched, by the plans of processors and their clocks.
 
-ghost use Rattle.std.specs.Prelude.{◌≡◌, ◌<◌, ◌≤◌, length};
-ghost use Rattle.psi_spec.specs.Trace.{last_moment};
-ghost use Rattle.plan_laws.specs.Plan.{last_change};
+ghost use Rattle.std.specs.Prelude.{◌≡◌, ◌<◌, length};
 
 use crate::events_of;
 use proc_plan::{IrqClocks, PlainClocks, Plan, Plans, ProcClocks};
@@ -34,19 +32,15 @@ fn gate(at: Ns, on: bool) -> Change {
     }
 }
 
-// What the clocks of a plan tell of a group after all changes: for how long (ns) interrupts took from it, and for how long it was in
-// each state up to a moment (ns).
+// What the clocks of a plan tell of a group after all changes: for how long (ns) interrupts took from it, and its clock as words.
 fn after_all(
     alloc: Global,
     plan: &Plan,
     slots: u32,
     slot: Slot,
-    at: Ns,
-) -> Result<(u64, [u64; 7]), NoMemory>
+) -> Result<(u64, [u64; 9]), NoMemory>
     requires slots { slots ≡ length plan.now.parents }
     requires slot { slot.0 < slots }
-    requires past { last_change plan.now (length plan.now.changes) ≤ at }
-    requires early { at ≤ last_moment }
 {
     let mut clocks = PlainClocks::make(alloc, plan, slots)?;
     let changes = plan.len();
@@ -54,7 +48,7 @@ fn after_all(
         clocks.apply();
     }
     let irq = clocks.own_irq(slot);
-    Ok((irq, clocks.own(slot).opened(at)))
+    Ok((irq, clocks.own(slot).to_words()))
 }
 
 // Both processors have the switches, and the second has nothing else.
@@ -96,15 +90,14 @@ fn clocks_of_a_group_off(rt: HostRuntime) -> Result<(), Fail> {
         clocks.own(Slot(0)).to_words(),
         [0, 0, 0, 0, 0, 0, 0, 0b100_0011, 0]
     );
-    let (half, all) = (1_500_000_000, 2_000_000_000);
-    assert_eq!(rt; plan.moment(5), half);
+    let half = 1_500_000_000;
     assert_eq!(rt;
-        after_all(alloc, plan, 2, Slot(1), all)?,
-        (0, [half, half, 0, 0, 0, 0, half])
+        after_all(alloc, plan, 2, Slot(1))?,
+        (0, [second, second, 0, 0, 0, 0, second, 0b100_0011, half])
     );
     assert_eq!(rt;
-        after_all(alloc, plan, 2, Slot(0), all)?,
-        (0, [all, all, 0, 0, 0, 0, all])
+        after_all(alloc, plan, 2, Slot(0))?,
+        (0, [0, 0, 0, 0, 0, 0, 0, 0b100_0011, 0])
     );
     Ok(())
 }
@@ -133,18 +126,17 @@ fn accounts_of_groups_in_groups(rt: HostRuntime) -> Result<(), Fail> {
     let plans = Plans::build(alloc, 1, 5000, &events)?;
     let plan = plans.plan(Cpu(0));
     assert_eq!(rt; (plans.lives().len(), plan.len()), (3, 9));
-    assert_eq!(rt; plan.moment(9), 4500);
     assert_eq!(rt;
-        after_all(alloc, plan, 3, Slot(0), 5000)?,
-        (100, [2000, 2000, 0, 0, 1000, 1000, 5000])
+        after_all(alloc, plan, 3, Slot(0))?,
+        (100, [2000, 2000, 0, 0, 0, 0, 4000, 0b111_0000, 4000])
     );
     assert_eq!(rt;
-        after_all(alloc, plan, 3, Slot(1), 5000)?,
-        (0, [1000, 1000, 0, 0, 1000, 1000, 3000])
+        after_all(alloc, plan, 3, Slot(1))?,
+        (0, [1000, 1000, 0, 0, 0, 0, 2000, 0b111_0000, 4000])
     );
     assert_eq!(rt;
-        after_all(alloc, plan, 3, Slot(2), 5000)?,
-        (100, [1000, 1000, 0, 0, 0, 0, 3000])
+        after_all(alloc, plan, 3, Slot(2))?,
+        (100, [1000, 1000, 0, 0, 0, 0, 3000, 0, 3000])
     );
     Ok(())
 }
