@@ -9,7 +9,7 @@ use Rattle.observe_core.proofs.TickLaws.{all_can_watch, passed_next, slot_found,
 use Rattle.observe_core.proofs.interval.tick.Goals as goal
 
 pub interval-requires-clause-watch : goal.interval-requires-clause-watch
-interval-requires-clause-watch g c =
+interval-requires-clause-watch g c κs within =
     let go = c.requires in
     let slot = c.in-Some.slot.0 in
     let replay = c.args.replay in
@@ -17,8 +17,8 @@ interval-requires-clause-watch g c =
     let mid = c.ready_all.new.observers in
     let ready : AreReady replay.plans slot (made_by replay.crew) old mid = subst (λ (observers : List ObserverView). AreReady replay.plans slot (made_by replay.crew) observers mid) c.deref_mut.ensures.value c.ready_all.ensures.ready in
     let back : take c.args.observers.len (mid ++ drop (length mid) old) ≡ mid = written_back old mid c.args.observers.len (omega (arith, c.deref_mut.ensures.len, c.ready_all.ensures.ready.many)) in
-    let can : All (CanWatch go.0.board slot) mid = all_can_watch go.0 go.1.0 slot replay old mid go.1.1.1.0 c.in-Some.ensures.made ready in
-    subst (λ (observers : List ObserverView). All (CanWatch c.args.board slot) observers) (sym back) (subst (λ (board : TableId). All (CanWatch board slot) mid) go.1.1.0 can)
+    let can : All (CanWatch go.0.board slot) mid = all_can_watch go.0 go.1 slot replay old mid go.3 c.in-Some.ensures.made ready in
+    subst (λ (observers : List ObserverView). All (CanWatch c.args.board.now slot) observers) (sym back) (subst (λ (board : TableId). All (CanWatch board slot) mid) go.2 can)
 
 pub returns-in-Some-clause-observed : goal.returns-in-Some-clause-observed
 returns-in-Some-clause-observed g c = λ set i board is left whole.

@@ -23,7 +23,7 @@ tick-next-requires-after_bounds g c κs within =
 pub passes-preserved : goal.passes-preserved
 passes-preserved g c =
     let i = c.passes.invariant in
-    let whole : AreWhole c.tick-next.result.1.items = search rules in
+    let whole : AreWhole c.tick-next.result.1.items = subst AreWhole c.deref.ensures.value (c.failure.ensures c.in_default.is) in
     record {
       board = c.publish.ensures.board ∙ i.board;
       many = c.tick-next.ensures.many ∙ i.many;
