@@ -80,7 +80,8 @@ pub(crate) fn time_in(head: &[u8]) -> Option<Ns>
 #[tactic(auto, unfolding(import_spec::specs::Tails::is_bracketed))]
 fn digits_in_brackets(bytes: &[u8]) -> Option<usize>
     requires { 0 < length bytes.now }
-    ensures digits { result ≡ (if is_bracketed bytes.now then Some (digit_count (drop 1 bytes.now)) else None) }
+    ensures digits { result ≡
+        (if is_bracketed bytes.now then Some (digit_count (drop 1 bytes.now)) else None) }
     ensures inside { IfSome result (λ count. count + 1 ≤ length bytes.now) }
 {
     if !bytes.starts_with(b"[") {

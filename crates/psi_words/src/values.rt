@@ -69,7 +69,8 @@ pub(crate) fn drop_in(
     rules_named: &Option<Text>,
     given: Option<&str>,
 ) -> Result<Option<Text>, Fault<BadWords>>
-    ensures exact { ReadsWord result (spec.drop_in_given rules_named.now (option_copied given.entry)) }
+    ensures exact { ReadsWord result
+        (spec.drop_in_given rules_named.now (option_copied given.entry)) }
     ensures text { IfOk result (λ name. IfSome name IsUtf8) }
 {
     if given.is_some() && rules_named.is_none() {

@@ -90,7 +90,8 @@ pub(crate) struct Keeper {
 impl Player for Keeper {
     ghost use Rattle.replay_core.specs.Reads.{HasKept};
 
-    ghost Played = { λ keeper limits events. HasKept keeper.cpus keeper.events.items keeper.table.limits keeper.table.world limits events };
+    ghost Played = { λ keeper limits events. HasKept
+        keeper.cpus keeper.events.items keeper.table.limits keeper.table.world limits events };
 
     fn start(alloc: Global, cpus: u32, latest: Ns) -> Result<Self, NoMemory> {
         Ok(Keeper {

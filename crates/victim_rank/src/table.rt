@@ -29,7 +29,8 @@ impl Model for MatchTable {
 impl MatchTable {
     /// The table of an action for groups with these lives, by slot.
     pub fn of(alloc: Global, action: &Action, lives: &[GroupLife]) -> Result<MatchTable, NoMemory>
-        ensures { IfOk result (λ table. table ≡ match_table lives.now (action_patterns action.now)) }
+        ensures { IfOk result (λ table.
+            table ≡ match_table lives.now (action_patterns action.now)) }
     {
         let patterns = patterns(action);
         let mut slots = Vec::with_capacity(alloc, lives.len())?;
