@@ -1,61 +1,139 @@
 #!/usr/bin/env python3
-"""Times psi_oomd on a made trace against `wc -lw` on the same file, in one run, and `gen` and `stress` of as many events.
+"""Times psi_oomd beside `wc -lw`, in turns, over a generated hour, counts its instructions a line, and times the largest machine.
 
-usage: bench/measure.py [--program PATH] [EVENTS [TASKS [CPUS [GROUPS [DEPTH]]]]]     (the built program, 1000000, 16, 1, 0, 1)
+usage: bench/measure.py [--program PATH] [--rounds N] [--events N]     (the built program, 10 rounds, 3600000 events)
 
-Prints the best of five runs of each, the ratio, and the peak memory of psi_oomd. A benchmark: nothing is asserted.
+Of each command it prints: instructions a line (by callgrind, where that is installed; they don't depend on the machine), the best
+and the median of its seconds by the clock as times of the best and of the median of `wc -lw` on the same file, its seconds of
+processor time so too (the median), and the most memory that was resident (MB). Below stand the seconds of an hour of the largest
+machine that a trace may have, with 1,024 actions at each evaluation. A benchmark: nothing is asserted; README has its last table.
 """
+from __future__ import annotations
+
+import dataclasses
 import os
+import shutil
+import statistics
 import subprocess
 import sys
 import tempfile
 import time
 
 from built import program_of
+from effort import instructions_of
+from hostile import greatest_lines, greatest_rules
 
-HERE = os.path.dirname(os.path.abspath(__file__))
+SHAPE = ("--seed", "1", "--cpus", "8", "--groups", "40")
+# Instructions a line are those of the longer of these traces less those of the shorter, in lines.
+SHORT, LONG = 20_000, 60_000
+COMMANDS: dict[str, tuple[str, ...]] = {
+    "check": ("check", "TRACE"),
+    "stall": ("stall", "TRACE"),
+    **{f"replay, {count} workers": ("replay", "TRACE", "--workers", str(count)) for count in (1, 4, 64)},
+    **{f"live, {count} workers": ("replay", "TRACE", "--live", "/", "--workers", str(count)) for count in (1, 4, 64)},
+    "live, ticks of 144 ms": ("replay", "TRACE", "--live", "/", "--tick-ms", "144", "--report-s", "0"),
+    "replay, ticks of 144 ms": ("replay", "TRACE", "--tick-ms", "144", "--report-s", "0"),
+}
+GREATEST_EVENTS = 1_000_000
 
 
-def once(words: list[str]) -> tuple[float, int]:
-    """Seconds and the peak memory (bytes) of one run."""
+@dataclasses.dataclass(frozen=True)
+class Taken:
+    """What one run took: seconds by the clock, seconds of processor time, and its peak memory (bytes)."""
+
+    clock: float
+    processor: float
+    memory: int
+
+
+def once(words: list[str]) -> Taken:
+    """One run, which must end well."""
     before = time.perf_counter()
     child = subprocess.Popen(words, stdout=subprocess.DEVNULL)
     _, status, usage = os.wait4(child.pid, 0)
-    seconds = time.perf_counter() - before
+    clock = time.perf_counter() - before
     if status != 0:
         sys.exit(f"{' '.join(words)}: status {os.waitstatus_to_exitcode(status)}")
-    return seconds, usage.ru_maxrss * 1024
+    return Taken(clock, usage.ru_utime + usage.ru_stime, usage.ru_maxrss * 1024)
 
 
-def best(words: list[str]) -> tuple[float, int]:
-    """The least seconds and the greatest peak memory (bytes) of five runs."""
-    runs = [once(words) for _ in range(5)]
-    return min(run[0] for run in runs), max(run[1] for run in runs)
+def write_trace(program: str, events: int, path: str) -> str:
+    """Writes a generated trace of so many events, and gives its path."""
+    with open(path, "wb") as file:
+        subprocess.run([program, "gen", *SHAPE, "--events", str(events)], stdout=file, check=True)
+    return path
+
+
+def with_trace(program: str, words: tuple[str, ...], trace: str) -> list[str]:
+    return [program, *(trace if word == "TRACE" else word for word in words)]
+
+
+def instructions(program: str, room: str) -> dict[str, float]:
+    """Instructions a line of each command, none where callgrind isn't installed."""
+    if shutil.which("valgrind") is None:
+        return {}
+    short, long = (write_trace(program, size, os.path.join(room, f"{size}.trace")) for size in (SHORT, LONG))
+    counted = {}
+    for name, words in COMMANDS.items():
+        less, more = (instructions_of(with_trace(program, words, trace), room) for trace in (short, long))
+        counted[name] = (more - less) / (LONG - SHORT)
+    return counted
+
+
+def in_turns(runs: dict[str, list[str]], rounds: int) -> dict[str, list[Taken]]:
+    """What each run took in each round, one after the other, so that a busy moment meets them all."""
+    taken: dict[str, list[Taken]] = {name: [] for name in runs}
+    for _ in range(rounds):
+        for name, words in runs.items():
+            taken[name].append(once(words))
+    return taken
+
+
+def row(name: str, counted: float | None, taken: list[Taken], count: list[Taken]) -> str:
+    """A line of the table: a command's figures beside those of `wc -lw`."""
+    best = min(it.clock for it in taken) / min(it.clock for it in count)
+    clock = statistics.median(it.clock for it in taken) / statistics.median(it.clock for it in count)
+    processor = statistics.median(it.processor for it in taken) / statistics.median(it.processor for it in count)
+    memory = max(it.memory for it in taken) / 1e6
+    return f"{name:<26}{'-' if counted is None else f'{counted:,.0f}':>12}{best:>8.2f}{clock:>8.2f}{processor:>11.2f}{memory:>6.0f}"
+
+
+def tell_hour(program: str, events: int, rounds: int, room: str) -> None:
+    """Prints the table of the generated hour."""
+    trace = write_trace(program, events, os.path.join(room, "hour.trace"))
+    counted = instructions(program, room)
+    runs = {"wc -lw": ["wc", "-lw", trace]} | {name: with_trace(program, words, trace) for name, words in COMMANDS.items()}
+    taken = in_turns(runs, rounds)
+    count = taken.pop("wc -lw")
+    print(f"{events} events, {os.path.getsize(trace)} bytes, {rounds} rounds; wc -lw {min(it.clock for it in count):.3f} s")
+    print(f"{'':<26}{'instructions':>12}{'best':>8}{'median':>8}{'processor':>11}{'MB':>6}")
+    for name, its in taken.items():
+        print(row(name, counted.get(name), its, count))
+    os.remove(trace)
+
+
+def tell_greatest(program: str, room: str) -> None:
+    """Prints what an hour of the largest machine takes, with rules and without."""
+    trace, rules = os.path.join(room, "greatest.trace"), os.path.join(room, "greatest.json")
+    with open(trace, "w", encoding="utf-8") as file:
+        file.writelines(f"{line}\n" for line in greatest_lines(GREATEST_EVENTS))
+    with open(rules, "w", encoding="utf-8") as file:
+        file.write(greatest_rules())
+    for name, words in {"with 1,024 actions": ["--rules", rules], "without rules": []}.items():
+        took = once([program, "replay", trace, *words])
+        print(f"the largest machine, {name}: {took.clock:.1f} s, {took.processor:.1f} of processor time, {took.memory / 1e6:.0f} MB")
 
 
 def main() -> None:
     program, given = program_of(sys.argv[1:])
-    numbers = given + ["1000000", "16", "1", "0", "1"][len(given) :]
-    with tempfile.NamedTemporaryFile(suffix=".trace") as trace:
-        subprocess.run([sys.executable, os.path.join(HERE, "make_trace.py"), *numbers], stdout=trace, check=True)
-        trace.flush()
-        size = os.path.getsize(trace.name)
-        events, tasks, cpus, groups, depth = numbers
-        print(f"trace: {events} events, {tasks} tasks, {cpus} processors, {groups} groups in chains of {depth}, {size} bytes")
-        count, _ = best(["wc", "-lw", trace.name])
-        print(f"{'wc -lw':<18} {count:.3f} s")
-        shape = ["--seed", "1", "--cpus", cpus, "--groups", groups, "--events", events]
-        for name, words in [
-            ("check", ["check", trace.name]),
-            ("stall", ["stall", trace.name]),
-            ("replay", ["replay", trace.name]),
-            ("replay, one worker", ["replay", trace.name, "--workers", "1"]),
-            ("replay, watched", ["replay", trace.name, "--live", "/"]),
-            ("gen", ["gen", *shape]),
-            ("stress", ["stress", *shape]),
-        ]:
-            seconds, memory = best([program, *words])
-            print(f"{name:<18} {seconds:.3f} s, {seconds / count:.2f} times wc -lw, {memory / 1e6:.0f} MB at most")
+    numbers = {"--rounds": 10, "--events": 3_600_000}
+    while len(given) > 1 and given[0] in numbers:
+        numbers[given[0]], given = int(given[1]), given[2:]
+    if given:
+        sys.exit(__doc__)
+    with tempfile.TemporaryDirectory() as room:
+        tell_hour(program, numbers["--events"], numbers["--rounds"], room)
+        tell_greatest(program, room)
 
 
 if __name__ == "__main__":
