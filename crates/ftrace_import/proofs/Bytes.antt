@@ -8,7 +8,8 @@ use Rattle.std.proofs.Math.ListN.{drop_of_length-le}
 use Rattle.std.proofs.lemmas.List.{drop-drop, drop_more, get_or-drop, length-drop}
 use Rattle.std.proofs.lemmas.Bool.Decides.{nat_tests}
 use Rattle.psi_base.specs.Number.{digits_after, digits_of, value_after}
-use Rattle.import_spec.specs.Places.{NonePasses, begins, first_place, last_place}
+use Rattle.import_spec.specs.Places.{begins, first_place, last_place}
+use Rattle.import_spec.specs.Laws.{NonePasses}
 use Rattle.import_spec.specs.Tails.{digit_count, is_bracketed}
 use Rattle.ftrace_import.specs.Bytes.{IsLastBracket}
 use Rattle.import_spec.proofs.PlaceLaws.{first_is, first_none, last_is, last_none}

@@ -7,7 +7,8 @@ use Rattle.psi_base.specs.declared.event.Pid.{Pid}
 use Rattle.psi_spec.specs.declared.machine.Task.{Task}
 use Rattle.psi_spec.specs.Fields.{IsAmong}
 use Rattle.psi_spec.specs.Grammar.{One, Version}
-use Rattle.psi_spec.specs.Trace.{IsCpuCount, IsTrace, accepts_with, text_of}
+use Rattle.psi_spec.specs.Trace.{IsCpuCount, accepts_with, text_of}
+use Rattle.psi_spec.specs.Laws.{IsTrace}
 use Rattle.psi_spec.specs.World.{Tasks, is_active, running_on, task_of, test_task}
 use Rattle.import_spec.specs.declared.cause.ImportCause.{ImportCause}
 use Rattle.import_spec.specs.declared.seen.Seen.TheVariants as seen

@@ -3,3 +3,4 @@ pub mod Tails
 pub mod Marked
 pub mod Events
 pub mod Import
+pub mod Laws

@@ -1,5 +1,5 @@
 -- Where something stands in bytes. Places are counted from 0, and a test is asked of all that stands from a place on.
-use Rattle.std.specs.Prelude.{◌≡◌, ◌↔◌, ℕ, ◌+◌, ◌≤◌, ◌<◌, List, [], ◌∷◌, length, drop, nat_eq, Bool, true, false, if◌then◌else◌, Option, None, Some, option_map}
+use Rattle.std.specs.Prelude.{ℕ, ◌+◌, List, [], ◌∷◌, length, drop, nat_eq, Bool, if◌then◌else◌, Option, None, Some, option_map}
 use Rattle.std.specs.List.{starts_with}
 
 -- a step of reading after another, unless that one found nothing
@@ -32,34 +32,3 @@ abbrev pub behind_last : List ℕ → List ℕ → Option (List ℕ)
 behind_last text bytes = do
   at ← last_place (begins text) bytes
   Some (drop (at + length text) bytes)
-
--- ---- laws
-
--- no place from this one on and before that one passes
-abbrev pub NonePasses : (List ℕ → Bool) → List ℕ → ℕ → ℕ → Type 0
-NonePasses test bytes low high = (k : ℕ) → low ≤ k → k < high → test (drop k bytes) ≡ false
-
--- a place passes, and none before it
-pub record IsFirstPlace (test : List ℕ → Bool) (bytes : List ℕ) (at : ℕ) : Type 0 where
-  pub inside : at < length bytes
-  pub passes : test (drop at bytes) ≡ true
-  pub none : NonePasses test bytes 0 at
-
--- a place passes, and none behind it
-pub record IsLastPlace (test : List ℕ → Bool) (bytes : List ℕ) (at : ℕ) : Type 0 where
-  pub inside : at < length bytes
-  pub passes : test (drop at bytes) ≡ true
-  pub none : NonePasses test bytes (at + 1) (length bytes)
-
--- The first place is found exactly where there is one.
-abbrev pub FindsFirst : Type 0
-FindsFirst = (test : List ℕ → Bool) (bytes : List ℕ) (at : ℕ) → (first_place test bytes ≡ Some at) ↔ IsFirstPlace test bytes at
-
--- So is the last.
-abbrev pub FindsLast : Type 0
-FindsLast = (test : List ℕ → Bool) (bytes : List ℕ) (at : ℕ) → (last_place test bytes ≡ Some at) ↔ IsLastPlace test bytes at
-
--- Neither is found exactly where no place passes.
-abbrev pub FindsNone : Type 0
-FindsNone = (test : List ℕ → Bool) (bytes : List ℕ) → ((first_place test bytes ≡ None) ↔ NonePasses test bytes 0 (length bytes))
-    × ((last_place test bytes ≡ None) ↔ NonePasses test bytes 0 (length bytes))

@@ -3,7 +3,7 @@
 //!
 //! In `specs/`, in the order of reading: `Places` (the first and the last place of something), `Tails` (numbers and fields),
 //! `Marked` (which lines are marked, and what each tells), `Events` (the events of a line, by the world that was written so far),
-//! `Import` (the events of a text, or the first line that is refused).
+//! `Import` (the events of a text, or the first line that is refused). What follows from these stands in `Laws`.
 #![tactic(auto)]
 
 mod cause;

@@ -5,7 +5,8 @@ use Rattle.std.specs.List.{join_with_byte, list_all}
 use Rattle.std.proofs.lemmas.Bool.{and_parts, and_from, or_cases, eq-eqb, ne_eqb, eqb-true}
 use Rattle.std.proofs.lemmas.Slice.Eq.{bytes_eq-Decides}
 use Rattle.psi_base.specs.Path.{parts_at, is_path, is_path_byte, is_component}
-use Rattle.path_match.specs.Match.{components, is_component_match, are_matches, begins, PathMatchesItself}
+use Rattle.path_match.specs.Match.{components, is_component_match, are_matches, begins}
+use Rattle.path_match.specs.Laws.{PathMatchesItself}
 use Rattle.path_match.proofs.MatchLaws.{components-root, pattern_tells}
 use Rattle.path_match.proofs.JoinedParts.{joined_by-parts}
 use Rattle.path_match.proofs.PatternLaws.{components-slash}

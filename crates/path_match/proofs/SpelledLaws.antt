@@ -5,8 +5,9 @@ use Rattle.std.specs.List.{join_with_byte, list_all, zip}
 use Rattle.std.proofs.lemmas.Bool.{and_parts, and_from, or_left, le-leb}
 use Rattle.std.proofs.lemmas.List.{length-map}
 use Rattle.psi_base.specs.Path.{parts_at}
-use Rattle.path_match.specs.declared.matches.PatternFault.TheVariants.{BadPattern, TooMany}
-use Rattle.path_match.specs.Match.{Pattern, components, is_pattern, is_pattern_byte, is_pattern_component, pattern_text, patterns_text, patterns_of, ArePatterns, SpellsPattern, SpellsEach, ReadsPatterns, ReadAgain}
+use Rattle.path_match.specs.declared.fault.PatternFault.TheVariants.{BadPattern, TooMany}
+use Rattle.path_match.specs.Match.{Pattern, components, is_pattern, is_pattern_byte, is_pattern_component, pattern_text, patterns_text, patterns_of, ArePatterns}
+use Rattle.path_match.specs.Laws.{SpellsPattern, SpellsEach, ReadsPatterns, ReadAgain}
 use Rattle.path_match.proofs.JoinedParts.{joined_by-parts, list_all-join, list_all-map, list_all-weaker, parts-joined_by}
 use Rattle.path_match.proofs.MatchLaws.{all_cons}
 use Rattle.path_match.proofs.PatternLaws.{formed_bytes, read_if, reads_patterns, spelled_components, spells_components}

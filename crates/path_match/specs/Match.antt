@@ -1,10 +1,10 @@
 -- Patterns of paths, as a rules file has them: components in which stars may stand.
-use Rattle.std.specs.Prelude.{◌≡◌, ◌↔◌, ◌≢◌, ◌⊎◌, ℕ, ◌≤◌, List, [], ◌∷◌, ◌++◌, length, map, nat_lt, nat_le, ◌==◌, ◌&&◌, ◌||◌, not, Bool, true, false, All, Any, MatchBool, if◌then◌else◌, codes, Result, Ok, Err}
+use Rattle.std.specs.Prelude.{◌≡◌, ℕ, ◌≤◌, List, [], ◌∷◌, ◌++◌, length, map, nat_lt, nat_le, ◌==◌, ◌&&◌, ◌||◌, not, Bool, true, false, All, Any, MatchBool, if◌then◌else◌, codes, Result, Ok, Err}
 use Rattle.std.specs.List.{join_with_byte, list_all, list_any, zip}
 use Rattle.std.specs.Str.{bytes_eq}
-use Rattle.psi_base.specs.Path.{parts_at, is_path, is_path_byte}
-use Rattle.path_match.specs.declared.matches.PatternFault.{PatternFault}
-use Rattle.path_match.specs.declared.matches.PatternFault.TheVariants.{BadPattern, TooMany}
+use Rattle.psi_base.specs.Path.{parts_at, is_path_byte}
+use Rattle.path_match.specs.declared.fault.PatternFault.{PatternFault}
+use Rattle.path_match.specs.declared.fault.PatternFault.TheVariants.{BadPattern, TooMany}
 
 -- a pattern, by its components
 abbrev pub Pattern : Type 0
@@ -83,7 +83,8 @@ are_matches [] (part ∷ parts) = false
 are_matches (component ∷ pattern) [] = false
 are_matches (component ∷ pattern) (part ∷ parts) = is_component_match component part && are_matches pattern parts
 
--- whether some pattern matches a path
+-- Whether some pattern matches a path, as a search. It is this one that decides: detectors and actions ask it. The law `TestTells`
+-- ties it to `Matches`: it is true exactly where `MatchesSome` holds.
 unfoldable pub is_match : List Pattern → List ℕ → Bool
 is_match patterns path = list_any (λ pattern. are_matches pattern (components path)) patterns
 
@@ -97,44 +98,3 @@ pattern_text (component ∷ pattern) = join_with_byte 47 (component ∷ pattern)
 -- the text of patterns, with a comma between them
 abbrev pub patterns_text : List Pattern → List ℕ
 patterns_text patterns = join_with_byte 44 (map pattern_text patterns)
-
--- a text spells a pattern: it is the pattern's own, or that behind a slash where the pattern isn't the root's
-abbrev pub SpellsPattern : List ℕ → Pattern → Type 0
-SpellsPattern text pattern = (text ≡ pattern_text pattern) ⊎ ((pattern ≢ []) × (text ≡ 47 ∷ pattern_text pattern))
-
--- a text spells patterns: it has as many parts between commas, each of which spells its pattern
-pub record SpellsEach (text : List ℕ) (patterns : List Pattern) : Type 0 where
-  pub parts : List (List ℕ)
-  pub joined : text ≡ join_with_byte 44 parts
-  pub as_many : length parts ≡ length patterns
-  pub each : All (λ pair. SpellsPattern pair.0 pair.1) (zip parts patterns)
-
--- ---- laws
-
--- The test says whether some pattern matches.
-abbrev pub TestTells : Type 0
-TestTells = (patterns : List Pattern) (path : List ℕ) → (is_match patterns path ≡ true) ↔ MatchesSome patterns path
-
--- The root's pattern matches the root alone.
-abbrev pub RootAlone : Type 0
-RootAlone = (path : List ℕ) → Matches [] path ↔ (path ≡ codes "/")
-
--- A path, read as a pattern, matches itself and no other path.
-abbrev pub PathMatchesItself : Type 0
-PathMatchesItself = (text path : List ℕ) → is_path text ≡ true → is_path path ≡ true → Matches (components text) path ↔ (path ≡ text)
-
--- A star alone matches any component.
-abbrev pub StarMatchesAny : Type 0
-StarMatchesAny = (bytes : List ℕ) → MatchesComponent (codes "*") bytes
-
--- Patterns are read from a text exactly where it spells them, and they are one to 16, each well formed.
-abbrev pub ReadsPatterns : Type 0
-ReadsPatterns = (text : List ℕ) (patterns : List Pattern) → (patterns_of text ≡ Ok patterns) ↔ (ArePatterns patterns × SpellsEach text patterns)
-
--- Patterns are read again from their text.
-abbrev pub ReadAgain : Type 0
-ReadAgain = (patterns : List Pattern) → ArePatterns patterns → patterns_of (patterns_text patterns) ≡ Ok patterns
-
--- A slash before the first component changes no pattern.
-abbrev pub SlashIsFree : Type 0
-SlashIsFree = (byte : ℕ) (bytes : List ℕ) → byte ≢ 47 → components (47 ∷ byte ∷ bytes) ≡ components (byte ∷ bytes)

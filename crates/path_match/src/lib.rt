@@ -3,10 +3,12 @@
 #![tactic(auto)]
 
 mod component;
+mod fault;
 mod form;
-mod matches;
+mod laws;
 mod patterns;
 mod text;
 
-pub use matches::{PatternFault, law_matching, law_reading_patterns};
+pub use fault::PatternFault;
+pub use laws::{law_matching, law_reading_patterns};
 pub use patterns::Patterns;

@@ -5,8 +5,8 @@ ghost use Rattle.path_match.specs.Match.{ArePatterns, MatchesSome, components, i
 ghost use Rattle.psi_base.specs.Gives.{Gives, lacks_memory};
 
 use crate::component::matches_pattern;
+use crate::fault::PatternFault;
 use crate::form::{are_few, are_patterns};
-use crate::matches::PatternFault;
 use crate::text::write_patterns;
 use psi_base::{Fault, NoMemory, Parts, Path, Text};
 use std::alloc::Global;

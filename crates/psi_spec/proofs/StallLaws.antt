@@ -8,7 +8,8 @@ use Rattle.std.proofs.lemmas.List.FromFn.{sum_by-map-range_with_len_more}
 use Rattle.psi_base.specs.declared.event.Event.{Event}
 use Rattle.psi_base.specs.declared.event.State.{State}
 use Rattle.psi_spec.specs.World.{after}
-use Rattle.psi_spec.specs.Stall.{holds, irq_by, irq_from, irq_time, stall, stall_after, moment_of, GrowsByEvent, GrowsWithTime, IrqByEvent}
+use Rattle.psi_spec.specs.Stall.{holds, irq_by, irq_from, irq_time, stall, stall_after, moment_of}
+use Rattle.psi_spec.specs.Laws.{GrowsByEvent, GrowsWithTime, IrqByEvent}
 
 -- functions that agree on n numbers have the same list of values there
 pub map_same : (f g : ℕ → ℕ) (from n : ℕ) → ((i : ℕ) → from ≤ i → i < from + n → f i ≡ g i) → map f (range_with_len from n) ≡ map g (range_with_len from n)

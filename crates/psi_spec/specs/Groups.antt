@@ -1,15 +1,13 @@
 -- What holds of the groups of each legal world, and how the groups above a group are told step by step.
-use Rattle.std.specs.Prelude.{◌≡◌, ℕ, ◌+◌, if◌then◌else◌, ◌<◌, ◌≤◌, List, [], ◌∷◌, ◌++◌, length, map, take, slice_get, slice_index_or, nat_le, not, ◌==◌, ◌&&◌, ◌||◌, Bool, true, false, Option, None, Some, IsSome, IsPermutation, IsSortedByKey}
+use Rattle.std.specs.Prelude.{◌≡◌, ℕ, ◌+◌, if◌then◌else◌, ◌<◌, ◌≤◌, List, [], ◌∷◌, length, map, take, slice_get, slice_index_or, nat_le, not, ◌&&◌, Bool, true, false, Option, None, Some, IsSome, IsPermutation, IsSortedByKey}
 use Rattle.std.specs.List.{range_with_len}
 use Rattle.std.specs.Ordering.{nat_cmp}
 use Rattle.std.specs.Cmp.Lexicographic.{slice_cmp}
 use Rattle.std.specs.FinMap as entries
 use Rattle.psi_base.specs.declared.event.Act.{Act}
-use Rattle.psi_base.specs.declared.event.Event.{Event}
 use Rattle.psi_spec.specs.declared.machine.GroupLife.{GroupLife}
 use Rattle.psi_spec.specs.Names.{names}
-use Rattle.psi_spec.specs.World.{World, Limits, root, is_live, slot_of, parent_path, after_event, most_groups}
-use Rattle.psi_spec.specs.Refusal.{cause_of}
+use Rattle.psi_spec.specs.World.{root, is_live, slot_of, parent_path, most_groups}
 use Rattle.psi_spec.specs.Stall.{parents_of, is_under}
 
 -- ---- groups of legal worlds
@@ -34,8 +32,8 @@ AreAbove groups = (slot parent : ℕ) → slice_index_or (parents_of groups) slo
 abbrev pub IsOneLive : List GroupLife → Type 0
 IsOneLive groups = (slot : ℕ) (group : GroupLife) → slice_get groups slot ≡ Some group → is_live group ≡ true → slot_of groups group.path ≡ Some slot
 
--- What holds of the groups of each legal world: they are few, the root is the first, parents are older and are what the
--- paths say, and no two live groups have one path.
+-- What holds of the groups of each legal world: they are few; the first is the root as it was made, live and with its account on;
+-- parents are older and are what the paths say; and no two live groups have one path.
 pub record AreGroups (groups : List GroupLife) : Type 0 where
   pub few : length groups ≤ most_groups
   pub rooted : take 1 groups ≡ root ∷ []
@@ -95,36 +93,6 @@ parent_of_new groups (Some path) = slot_of groups (parent_path path) ∷ []
 -- the parents that an act adds: that of a new group
 abbrev pub new_parents : List GroupLife → Act → List (Option ℕ)
 new_parents groups what = parent_of_new groups (names what).new_path
-
--- ---- laws
-
--- The root alone is such a list of groups.
-abbrev pub AreGroupsFirst : Type 0
-AreGroupsFirst = AreGroups (root ∷ [])
-
--- A legal event keeps them so.
-abbrev pub AreGroupsKept : Type 0
-AreGroupsKept = (limits : Limits) (w : World) (event : Event) → cause_of limits w event ≡ None → AreGroups w.groups → AreGroups (after_event w event).groups
-
--- Parents never change: an event only adds those of new groups behind them.
-abbrev pub ParentsKept : Type 0
-ParentsKept = (w : World) (event : Event) → parents_of (after_event w event).groups ≡ parents_of w.groups ++ new_parents w.groups event.act
-
--- Groups that are made later change nothing above the groups before them.
-abbrev pub ClimbsKept : Type 0
-ClimbsKept = (parents more : List (Option ℕ)) (low high : ℕ) → AreOlder parents → low < length parents → is_under (parents ++ more) low high ≡ is_under parents low high
-
--- A slot is another or has it among its ancestors where it is the other, or its parent is or has.
-abbrev pub UnderByStep : Type 0
-UnderByStep = (parents : List (Option ℕ)) (low high : ℕ) → AreOlder parents → is_under parents low high ≡ (low == high || leads_to parents (slice_index_or parents low None) high)
-
--- Ancestors are older.
-abbrev pub AncestorsAreOlder : Type 0
-AncestorsAreOlder = (parents : List (Option ℕ)) (low high : ℕ) → AreOlder parents → is_under parents low high ≡ true → high ≤ low
-
--- Each group is the root or has it among its ancestors.
-abbrev pub RootIsAbove : Type 0
-RootIsAbove = (groups : List GroupLife) (slot : ℕ) → AreGroups groups → slot < length groups → is_under (parents_of groups) slot 0 ≡ true
 
 -- ---- an order of all slots
 

@@ -8,3 +8,5 @@ pub mod Stall
 pub mod Changes
 pub mod Trace
 pub mod Told
+pub mod LineLaws
+pub mod Laws

@@ -1,5 +1,5 @@
 -- When a group is in a state on a processor, and for how long; and how long interrupts took from it there.
-use Rattle.std.specs.Prelude.{◌≡◌, ℕ, zero, suc, ◌+◌, ◌-◌, ◌≤◌, List, [], ◌∷◌, ◌++◌, length, sum, map, take, filter, slice_get, slice_index_or, ◌==◌, ◌&&◌, ◌||◌, not, Bool, false, if◌then◌else◌, Option, None, Some}
+use Rattle.std.specs.Prelude.{ℕ, zero, suc, ◌+◌, ◌-◌, List, [], ◌∷◌, length, sum, map, take, filter, slice_get, slice_index_or, ◌==◌, ◌&&◌, ◌||◌, not, Bool, false, if◌then◌else◌, Option, None, Some}
 use Rattle.std.specs.List.{list_any, list_all, range_with_len}
 use Rattle.std.specs.FinMap as tasks_by
 use Rattle.psi_base.specs.declared.event.Slot.{Slot}
@@ -132,21 +132,3 @@ irq_by cpu slot events i = irq_from cpu slot (after (take (i - 1) events)) (slic
 -- how long (ns) interrupts took from a group on a processor: the sum over the events
 unfoldable pub irq_time : ℕ → ℕ → List Event → ℕ
 irq_time cpu slot events = sum (map (irq_by cpu slot events) (range_with_len 1 (length events)))
-
--- ---- laws
-
--- Stall time grows by an event as a clock does: up to the event by what was before it, and from it on where the state
--- holds after it.
-abbrev pub GrowsByEvent : Type 0
-GrowsByEvent = (state : State) (cpu slot : ℕ) (events : List Event) (event : Event) (at : ℕ) →
-    stall state cpu slot (events ++ event ∷ []) at ≡ stall state cpu slot events event.at + (if holds state cpu slot (after (events ++ event ∷ [])) then at - event.at else 0)
-
--- Stall time grows with time alone where the state holds after the last event.
-abbrev pub GrowsWithTime : Type 0
-GrowsWithTime = (state : State) (cpu slot : ℕ) (events : List Event) (event : Event) (at later : ℕ) → event.at ≤ at → at ≤ later →
-    stall state cpu slot (events ++ event ∷ []) later ≡ stall state cpu slot (events ++ event ∷ []) at + (if holds state cpu slot (after (events ++ event ∷ [])) then later - at else 0)
-
--- Interrupt time grows by an event as that tells in the world before it.
-abbrev pub IrqByEvent : Type 0
-IrqByEvent = (cpu slot : ℕ) (events : List Event) (event : Event) →
-    irq_time cpu slot (events ++ event ∷ []) ≡ irq_time cpu slot events + irq_from cpu slot (after events) (Some event)

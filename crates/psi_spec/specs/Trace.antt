@@ -1,5 +1,5 @@
 -- The trace that bytes are, or the first line that is refused, with its cause.
-use Rattle.std.specs.Prelude.{◌≡◌, ◌↔◌, ◌⊎◌, ◌≢◌, ℕ, ◌+◌, ◌*◌, ◌<◌, ◌≤◌, List, [], ◌∷◌, ◌++◌, length, slice_index, nat_lt, if◌then◌else◌, Option, None, Some, Result, Ok, Err}
+use Rattle.std.specs.Prelude.{◌≡◌, ℕ, ◌+◌, ◌*◌, ◌≤◌, List, [], ◌∷◌, ◌++◌, length, nat_lt, if◌then◌else◌, Option, None, Some, Result, Ok, Err}
 use Rattle.std.specs.List.{flat_map}
 use Rattle.psi_base.specs.Path.{parts_at}
 use Rattle.psi_base.specs.declared.event.Act.TheVariants as act
@@ -7,9 +7,8 @@ use Rattle.psi_base.specs.declared.event.Event.{Event}
 use Rattle.psi_base.specs.declared.event.Cause.{Cause}
 use Rattle.psi_base.specs.declared.event.Cause.TheVariants as cause
 use Rattle.psi_base.specs.declared.event.Refusal.{Refusal}
-use Rattle.psi_spec.specs.Fields.{IsAmong}
 use Rattle.psi_spec.specs.Grammar.{Fits, Header, IsKnown, Verb, Version, event_of, header, header_of, spelling, verbs_of, version_number}
-use Rattle.psi_spec.specs.World.{World, Limits, first_world, after_event, after, most_cpus}
+use Rattle.psi_spec.specs.World.{World, Limits, first_world, after_event, most_cpus}
 use Rattle.psi_spec.specs.Refusal.{cause_of, AreLegal}
 
 -- an accepted trace: its version, how many processors it has, and its events
@@ -17,6 +16,10 @@ pub record Trace : Type 0 where
   pub version : Version
   pub cpus : ℕ
   pub events : List Event
+
+-- how many processors a trace may have
+abbrev pub IsCpuCount : ℕ → Type 0
+IsCpuCount cpus = (1 ≤ cpus) × (cpus ≤ most_cpus)
 
 -- the last moment (ns) that a trace may reach: a million of the longest ticks; no total is longer
 abbrev pub last_moment : ℕ
@@ -150,65 +153,3 @@ trace_of_parts accepts (line ∷ next ∷ parts) = headed accepts (first_line ac
 -- the trace that bytes are, by what is accepted, or the first refused line with its first cause
 unfoldable pub trace_of : Accepts → List ℕ → Result Trace Refusal
 trace_of accepts bytes = trace_of_parts accepts (parts_at 10 bytes)
-
--- ---- laws
-
--- how many processors a trace may have
-abbrev pub IsCpuCount : ℕ → Type 0
-IsCpuCount cpus = (1 ≤ cpus) × (cpus ≤ most_cpus)
-
--- what makes bytes a trace, with no reader in sight: they are its text, its version is accepted, and its events, each by a verb
--- that is accepted, make up a trace
-pub record IsTrace (accepts : Accepts) (bytes : List ℕ) (trace : Trace) : Type 0 where
-  pub text : bytes ≡ text_of trace
-  pub version : IsAmong trace.version accepts.versions
-  pub cpus : IsCpuCount trace.cpus
-  pub known : AreKnown (accepts.verbs trace.version) trace.events
-  pub accepted : IsAccepted (limits_of accepts.tick trace.cpus) trace.events
-
--- bytes are accepted as a trace exactly where they are one
-abbrev pub Accepted : Type 0
-Accepted = (accepts : Accepts) (bytes : List ℕ) (trace : Trace) → (trace_of accepts bytes ≡ Ok trace) ↔ IsTrace accepts bytes trace
-
--- no newline is among the bytes
-abbrev pub NoNewline : List ℕ → Type 0
-NoNewline bytes = (k : ℕ) → k < length bytes → slice_index bytes k ≢ 10
-
--- What stands in the input at the start of a line: the line with its newline, or a rest with none.
-abbrev pub IsFirstLine : List ℕ → List ℕ → Type 0
-IsFirstLine rest line = NoNewline line × ((behind : List ℕ) × (rest ≡ line ++ 10 ∷ behind))
-
-abbrev pub IsRest : List ℕ → Type 0
-IsRest rest = NoNewline rest
-
--- the cause against what stands at the start of a line in a world, as the line or as the rest of the input
-abbrev pub IsLineCause : List Verb → Limits → World → List ℕ → Cause → Type 0
-IsLineCause verbs limits w rest why = ((line : List ℕ) × IsFirstLine rest line × (line_event verbs limits w line ≡ Err why)) ⊎ (IsRest rest × (rest_cause w rest ≡ Some why))
-
--- the same of the first line
-abbrev pub IsFirstLineCause : List Version → List ℕ → Cause → Type 0
-IsFirstLineCause versions rest why = ((line : List ℕ) × IsFirstLine rest line × (first_line versions line ≡ Err why)) ⊎ (IsRest rest × (first_rest rest ≡ why))
-
--- the first refused line is one behind the header: the lines before it are a header and legal events, and in the world
--- after these the cause is that of what stands there
-pub record IsRefusedLater (accepts : Accepts) (bytes : List ℕ) (line : ℕ) (why : Cause) : Type 0 where
-  pub version : Version
-  pub cpus : ℕ
-  pub front : List Event
-  pub rest : List ℕ
-  pub bytes_are : bytes ≡ text_of (record { version = version; cpus = cpus; events = front }) ++ rest
-  pub version_is : IsAmong version accepts.versions
-  pub counted : IsCpuCount cpus
-  pub fit : AllFit front
-  pub known : AreKnown (accepts.verbs version) front
-  pub legal : AreLegal (limits_of accepts.tick cpus) first_world front
-  pub line_is : line ≡ length front + 2
-  pub has : IsLineCause (accepts.verbs version) (limits_of accepts.tick cpus) (after front) rest why
-
--- where bytes are refused, at the first line against which a cause stands
-abbrev pub IsRefused : Accepts → List ℕ → ℕ → Cause → Type 0
-IsRefused accepts bytes line why = ((line ≡ 1) × IsFirstLineCause accepts.versions bytes why) ⊎ IsRefusedLater accepts bytes line why
-
--- bytes are refused at a line with a cause exactly where that is the first refused line and its first cause
-abbrev pub FirstRefused : Type 0
-FirstRefused = (accepts : Accepts) (bytes : List ℕ) (line : ℕ) (why : Cause) → (trace_of accepts bytes ≡ Err (refused line why)) ↔ IsRefused accepts bytes line why

@@ -1,8 +1,8 @@
 //! Laws of groups and of the groups above them. Each function has an empty body: its contract is the law.
-ghost use Rattle.psi_spec.specs.Groups.{AncestorsAreOlder, AreGroupsFirst, AreGroupsKept, ClimbsKept, ParentsKept, RootIsAbove, UnderByStep};
+ghost use Rattle.psi_spec.specs.Laws.{AncestorsAreOlder, AreGroupsFirst, AreGroupsKept, ClimbsKept, ParentsKept, RootIsAbove, UnderByStep};
 
-/// At first and after each legal event there are at most 1,024 groups, the root is the first, parents are older and
-/// are what the paths say, and no two live groups have one path.
+/// At first and after each legal event there are at most 1,024 groups, the root is the first, with its account on, parents
+/// are older and are what the paths say, and no two live groups have one path.
 pub fn law_legal_groups()
     ensures first { AreGroupsFirst }
     ensures kept { AreGroupsKept }

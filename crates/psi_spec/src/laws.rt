@@ -1,6 +1,6 @@
 //! Laws of the definitions. Each function has an empty body: its contract is the law.
 
-ghost use Rattle.psi_spec.specs.Stall.{GrowsByEvent, GrowsWithTime, IrqByEvent};
+ghost use Rattle.psi_spec.specs.Laws.{GrowsByEvent, GrowsWithTime, IrqByEvent};
 
 /// Stall time grows event by event, and moment by moment, as a clock does.
 pub fn law_stall_time()

@@ -4,7 +4,8 @@
 //! In `specs/`, in the order of reading: `Fields` and `Grammar` (which bytes spell an event), `Names` (what an act names),
 //! `World` (tasks and groups, and what an event does to them), `Refusal` (which events are legal, and the first cause against
 //! others), `Groups`, `Stall` (when a group is in a state, and for how long; how long interrupts took from it), `Changes` (which
-//! events change a processor), `Told` (the triggers that a trace sets), `Trace` (which bytes are a trace).
+//! events change a processor), `Told` (the triggers that a trace sets), `Trace` (which bytes are a trace). What follows from
+//! these stands in `LineLaws` (of the grammar) and `Laws` (of groups, times and traces).
 #![tactic(auto)]
 
 mod groups;

@@ -6,7 +6,8 @@ use Rattle.psi_base.specs.declared.event.Cause.{Cause}
 use Rattle.psi_base.specs.declared.event.Event.{Event}
 use Rattle.psi_base.specs.declared.event.Fault.{Fault}
 use Rattle.psi_base.specs.declared.event.Fault.TheVariants.{Refused, NoMemory}
-use Rattle.psi_spec.specs.Grammar.{Fits, IsCause, IsKnown, Verb, event_of, spelling}
+use Rattle.psi_spec.specs.Grammar.{Fits, IsKnown, Verb, event_of, spelling}
+use Rattle.psi_spec.specs.LineLaws.{IsCause}
 use Rattle.trace_laws.proofs.GrammarReads.{reads_spelled}
 use Rattle.trace_laws.proofs.GrammarCauses.{finds_causes}
 use Rattle.psi_base.specs.Gives.{Gives}

@@ -2,8 +2,8 @@
 use Rattle.std.specs.Prelude.{ℕ, List, [], ◌∷◌, Bool, true, false, codes, decimal, Option, None, Some, option_and_then, Result, Ok, Err}
 use Rattle.psi_base.specs.declared.event.Res.{Res}
 use Rattle.path_match.specs.Match.{patterns_of}
-use Rattle.path_match.specs.declared.matches.PatternFault.{PatternFault}
-use Rattle.path_match.specs.declared.matches.PatternFault.TheVariants as pattern
+use Rattle.path_match.specs.declared.fault.PatternFault.{PatternFault}
+use Rattle.path_match.specs.declared.fault.PatternFault.TheVariants as pattern
 use Rattle.serde_json.specs.Data.{Num, unsigned, Data, boolean, number as numeric, string}
 use Rattle.serde_json.specs.Find.{get}
 use Rattle.ruleset_json.specs.declared.types.Size.{Size}

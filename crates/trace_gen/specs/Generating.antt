@@ -4,7 +4,8 @@ use Rattle.std.specs.List.{range_with_len}
 use Rattle.psi_base.specs.declared.event.Event.{Event}
 use Rattle.std.specs.Prelude.{false, IfSome, IsSome}
 use Rattle.psi_spec.specs.Grammar.{One}
-use Rattle.psi_spec.specs.Trace.{IsTrace, accepts_with, limits_of}
+use Rattle.psi_spec.specs.Trace.{accepts_with, limits_of}
+use Rattle.psi_spec.specs.Laws.{IsTrace}
 use Rattle.psi_spec.specs.World.{Limits, Tasks, World, task_of}
 use Rattle.run_spec.specs.declared.command.Shape.{Shape}
 use Rattle.run_spec.specs.Generated.{at_start, gen_text, generated, made_group, task_count}

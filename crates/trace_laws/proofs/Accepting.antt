@@ -13,7 +13,8 @@ use Rattle.psi_spec.specs.Fields.{IsAmong}
 use Rattle.psi_spec.specs.Grammar.{Header, One, Two, Verb, Version, header_line, header_of, version_number}
 use Rattle.psi_spec.specs.World.{World, Limits, first_world, after_from, after}
 use Rattle.psi_spec.specs.Refusal.{AreLegal}
-use Rattle.psi_spec.specs.Trace.{Accepts, AreKnown, Trace, limits_of, lines_of, text_of, AllFit, EndsLast, IsCpuCount, first_line, or_bad_header, first_rest, refused, with_events, followed, headed, trace_of_parts, trace_of, IsTrace, Accepted, IsFirstLineCause, IsRefusedLater, IsRefused, FirstRefused}
+use Rattle.psi_spec.specs.Trace.{Accepts, AreKnown, Trace, limits_of, lines_of, text_of, AllFit, EndsLast, IsCpuCount, first_line, or_bad_header, first_rest, refused, with_events, followed, headed, trace_of_parts, trace_of}
+use Rattle.psi_spec.specs.Laws.{IsTrace, Accepted, IsFirstLineCause, IsRefusedLater, IsRefused, FirstRefused}
 use Rattle.psi_spec.proofs.Following.{after_from-append, last_end}
 use Rattle.trace_laws.proofs.Splitting.{Cut, cut}
 use Rattle.trace_laws.proofs.Reading.{Events, rest_from, reads_all, refuses_all, rest_from-lines, rest_from-cause, nothing_left, same_refusal}

@@ -6,7 +6,8 @@ use Rattle.std.proofs.lemmas.Bool.Decides.{eqb_tells, nat_tests}
 use Rattle.std.proofs.lemmas.Fmt.{decimal_digit, decimal_injective}
 use Rattle.psi_base.proofs.PartLaws.{HasNone}
 use Rattle.psi_spec.specs.Fields.{IsAmong, named}
-use Rattle.psi_spec.specs.Grammar.{Header, HeadedByLine, HeadersSpelled, One, Two, Version, header, header_line, header_of, headers_of, joined, version_number}
+use Rattle.psi_spec.specs.Grammar.{Header, One, Two, Version, header, header_line, header_of, headers_of, joined, version_number}
+use Rattle.psi_spec.specs.LineLaws.{HeadedByLine, HeadersSpelled}
 use Rattle.trace_laws.proofs.GrammarFields.{named_again, named_among, named_spells}
 use Rattle.trace_laws.proofs.GrammarParts.{AreWords, joined-no_newline}
 use Rattle.trace_laws.proofs.GrammarWords.{decimal_printed, decimal_short}

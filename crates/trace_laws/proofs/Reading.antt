@@ -10,7 +10,8 @@ use Rattle.psi_base.proofs.PartLaws.{HasNone, HasFirst, first_part, parts_at-all
 use Rattle.psi_spec.specs.Grammar.{Fits, IsKnown, Two, Verb, event_of, spelling, verbs_of}
 use Rattle.psi_spec.specs.World.{World, Limits, after_event, after_from}
 use Rattle.psi_spec.specs.Refusal.{cause_of, AreLegal}
-use Rattle.psi_spec.specs.Trace.{lines_of, AllFit, AreKnown, if_legal, then_legal, line_event, rest_cause, refused, at_end, followed, or_refused, events_from, IsLineCause}
+use Rattle.psi_spec.specs.Trace.{lines_of, AllFit, AreKnown, if_legal, then_legal, line_event, rest_cause, refused, at_end, followed, or_refused, events_from}
+use Rattle.psi_spec.specs.Laws.{IsLineCause}
 use Rattle.trace_laws.proofs.Splitting.{Cut, cut, cut_shorter}
 use Rattle.trace_laws.proofs.GrammarReads.{event_known, reads_spelled, spelling-no_newline, length-spelling-le}
 use Rattle.psi_spec.proofs.Following.{open_of_legal}

@@ -1,5 +1,5 @@
 //! Laws of the grammar of traces: what the definitions of `Grammar` amount to.
-ghost use Rattle.psi_spec.specs.Grammar.{FindsCauses, HeadedByLine, HeadersSpelled, ReadsSpelled, SpelledApart, SpelledInLine};
+ghost use Rattle.psi_spec.specs.LineLaws.{FindsCauses, HeadedByLine, HeadersSpelled, ReadsSpelled, SpelledApart, SpelledInLine};
 
 /// Event lines: a line is read exactly where it is the one spelling of an event in range, and is refused exactly for
 /// what is wrong first from the left.

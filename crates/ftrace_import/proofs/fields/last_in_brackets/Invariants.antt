@@ -1,5 +1,5 @@
 use Rattle.std.proofs.Common.{◌≤◌, length}
-use Rattle.import_spec.specs.Places.{NonePasses}
+use Rattle.import_spec.specs.Laws.{NonePasses}
 use Rattle.import_spec.specs.Tails.{is_bracketed}
 use Rattle.ftrace_import.proofs.fields.last_in_brackets.Given as goal
 

@@ -1,5 +1,5 @@
 use Rattle.std.proofs.Common.{◌-◌, ◌≤◌, length}
-use Rattle.import_spec.specs.Places.{NonePasses}
+use Rattle.import_spec.specs.Laws.{NonePasses}
 use Rattle.import_spec.specs.Marked.{begins_marked}
 use Rattle.ftrace_import.proofs.marked.first_mark.Given as goal
 

@@ -1,5 +1,6 @@
 use Rattle.std.proofs.Common.{◌≤◌, length}
-use Rattle.import_spec.specs.Places.{NonePasses, begins}
+use Rattle.import_spec.specs.Places.{begins}
+use Rattle.import_spec.specs.Laws.{NonePasses}
 use Rattle.ftrace_import.proofs.places.last_text.Given as goal
 
 abbrev pub invariant-places : goal.invariant-places

@@ -1,14 +1,5 @@
-//! Patterns of paths: why a text has none, and laws of `Match`.
-ghost use Rattle.path_match.specs.Match.{PathMatchesItself, ReadAgain, ReadsPatterns, RootAlone, SlashIsFree, StarMatchesAny, TestTells};
-
-/// Why a text is no list of patterns.
-#[derive(Clone, Copy, Debug, PartialEq, Eq)]
-pub enum PatternFault {
-    /// Some part between commas is no pattern.
-    BadPattern,
-    /// There are more than 16 patterns.
-    TooMany,
-}
+//! Laws of patterns. Each function has an empty body: its contract is the law.
+ghost use Rattle.path_match.specs.Laws.{PathMatchesItself, ReadAgain, ReadsPatterns, RootAlone, SlashIsFree, StarMatchesAny, TestTells};
 
 /// Laws of matching: the test says what the relation says, the root's pattern matches the root alone, a path matches
 /// itself alone, and a star matches any component.

@@ -1,0 +1,86 @@
+-- What follows from the grammar of lines: what is read is what is spelled, and a line is refused for what is wrong first.
+use Rattle.std.specs.Prelude.{◌≡◌, ◌≢◌, ◌↔◌, ℕ, ◌+◌, ◌≤◌, ◌<◌, ◌^◌, List, drop, length, slice_get, slice_index, EachIndex, Option, None, Some, Ok, Err}
+use Rattle.psi_base.specs.Path.{parts_at}
+use Rattle.psi_base.specs.declared.event.Cause.{Cause}
+use Rattle.psi_base.specs.declared.event.Cause.TheVariants as cause
+use Rattle.psi_base.specs.declared.event.Event.{Event}
+use Rattle.psi_spec.specs.Fields.{Kind, Value, InRange, word, IsAmong}
+use Rattle.psi_spec.specs.Fields as kind
+use Rattle.psi_spec.specs.Grammar.{Header, Verb, Version, Fits, IsKnown, event_of, header, header_line, header_of, kinds_of, spelling, verb_word}
+
+-- a word spells a value of a kind
+abbrev pub Spells : Kind → List ℕ → Type 0
+Spells k text = (value : Value k) × (InRange k value × (text ≡ word k value))
+
+-- a part stands where one is due, and spells a value of its kind
+abbrev pub IsGood : Option Kind → Option (List ℕ) → Type 0
+IsGood (Some k) (Some text) = Spells k text
+IsGood (Some k) None = ⊥
+IsGood None part = ⊥
+
+-- a part is missing, or spells no value of its kind, or is one too many
+abbrev pub IsBad : Option Kind → Option (List ℕ) → Type 0
+IsBad (Some k) (Some text) = Spells k text → ⊥
+IsBad (Some k) None = Unit {0}
+IsBad None (Some text) = Unit {0}
+IsBad None None = ⊥
+
+-- the leftmost bad part is the one at this place
+pub record IsFirstBad (ks : List Kind) (parts : List (List ℕ)) (at : ℕ) : Type 0 where
+  pub before : (i : ℕ) → i < at → IsGood (slice_get ks i) (slice_get parts i)
+  pub here : IsBad (slice_get ks at) (slice_get parts at)
+
+-- the first part of a line is a time, below 2^64 ns
+abbrev pub HasTime : List (List ℕ) → Type 0
+HasTime parts = IsGood (Some kind.number) (slice_get parts 0)
+
+-- the second part of a line is this verb, and it is one of these
+abbrev pub HasVerb : List Verb → List (List ℕ) → Verb → Type 0
+HasVerb verbs parts verb = IsAmong verb verbs × (slice_get parts 1 ≡ Some (verb_word verb))
+
+-- the parts behind the verb are bad first at the field with this number, counted from 1
+pub record HasBadField (verbs : List Verb) (parts : List (List ℕ)) (number : ℕ) : Type 0 where
+  pub time : HasTime parts
+  pub verb : Verb
+  pub has_verb : HasVerb verbs parts verb
+  pub at : ℕ
+  pub is_number : number ≡ at + 1
+  pub first : IsFirstBad (kinds_of verb) (drop 2 parts) at
+
+-- The cause against the parts of a line, for what they spell alone: a first part that is no time; else a second part
+-- that is missing or no verb of these; else the leftmost field that is missing, wrong or one too many. There is no other.
+abbrev pub IsCause : List Verb → List (List ℕ) → Cause → Type 0
+IsCause verbs parts cause.BadTime = HasTime parts → ⊥
+IsCause verbs parts cause.BadVerb = HasTime parts × ((verb : Verb) → HasVerb verbs parts verb → ⊥)
+IsCause verbs parts (cause.BadField number) = HasBadField verbs parts number
+IsCause verbs parts _ = ⊥
+
+-- A line is read as an event exactly where it is the spelling of one that a trace may speak of, by one of the verbs.
+abbrev pub ReadsSpelled : Type 0
+ReadsSpelled = (verbs : List Verb) (line : List ℕ) (event : Event) → (event_of verbs line ≡ Ok event) ↔ (Fits event × IsKnown verbs event × (line ≡ spelling event))
+
+-- A line is refused exactly for what is wrong first from the left.
+abbrev pub FindsCauses : Type 0
+FindsCauses = (verbs : List Verb) (line : List ℕ) (why : Cause) → (event_of verbs line ≡ Err why) ↔ IsCause verbs (parts_at 32 line) why
+
+-- A line is read as a header exactly where it is the header of one of the versions and of 1 to 64 processors.
+abbrev pub HeadersSpelled : Type 0
+HeadersSpelled = (versions : List Version) (line : List ℕ) (head : Header) →
+    (header_of versions line ≡ Some head) ↔ (IsAmong head.version versions × (1 ≤ head.cpus) × (head.cpus ≤ 64) × (line ≡ header_line head))
+
+-- bytes that may stand in a line: none is a newline, and there are at most 512
+pub record IsLine (bytes : List ℕ) : Type 0 where
+  pub one : EachIndex bytes (λ k. slice_index bytes k ≢ 10)
+  pub short : length bytes ≤ 512
+
+-- The spelling of an event is a line.
+abbrev pub SpelledInLine : Type 0
+SpelledInLine = (event : Event) → Fits event → IsLine (spelling event)
+
+-- A header is a line.
+abbrev pub HeadedByLine : Type 0
+HeadedByLine = (version cpus : ℕ) → version < 2 ^ 64 → cpus < 2 ^ 64 → IsLine (header version cpus)
+
+-- Two events that are spelled alike are the same.
+abbrev pub SpelledApart : Type 0
+SpelledApart = (first second : Event) → Fits first → Fits second → spelling first ≡ spelling second → first ≡ second
