@@ -49,10 +49,10 @@ pub record Header : Type 0 where
 unfoldable pub header : ℕ → ℕ → List ℕ
 header version cpus = codes "psitrace " ++ decimal version ++ codes " cpus=" ++ decimal cpus
 
--- one value of each kind
-abbrev pub Values : List Kind → Type 0
-Values [] = Unit {0}
-Values (k ∷ ks) = Value k × Values ks
+-- what makes an act of fields: a function of a value of each of their kinds, in their order
+abbrev pub Maker : List Kind → Type 0
+Maker [] = Act
+Maker (k ∷ ks) = Value k → Maker ks
 
 -- the verbs of event lines, each called as the act that it tells of
 pub data Verb : Type 0 where
@@ -77,30 +77,30 @@ pub data Verb : Type 0 where
 pub record Form : Type 0 where
   pub word : List ℕ
   pub kinds : List Kind
-  pub act : Values kinds → Act
+  pub act : Maker kinds
 
 -- the form of these parts
-abbrev pub form : (text : List ℕ) (kinds : List Kind) → (Values kinds → Act) → Form
+abbrev pub form : (text : List ℕ) (kinds : List Kind) → Maker kinds → Form
 form text kinds act = record { word = text; kinds = kinds; act = act }
 
 -- the table of verbs
 abbrev pub form_of : Verb → Form
-form_of Group = form (codes "group") (kind.path ∷ []) (λ v. act.Group v.0)
-form_of Remove = form (codes "rmgroup") (kind.path ∷ []) (λ v. act.Remove v.0)
-form_of Prefer = form (codes "prefer") (kind.path ∷ kind.preference ∷ []) (λ v. act.Prefer v.0 v.1.0)
-form_of Fork = form (codes "fork") (kind.pid ∷ kind.path ∷ kind.cpu ∷ []) (λ v. act.Fork v.0 v.1.0 v.1.1.0)
-form_of Wake = form (codes "wake") (kind.pid ∷ kind.cpu ∷ []) (λ v. act.Wake v.0 v.1.0)
-form_of Switch = form (codes "switch") (kind.cpu ∷ kind.next ∷ kind.how ∷ []) (λ v. act.Switch v.0 v.1.0 v.1.1.0)
-form_of Stall = form (codes "stall") (kind.pid ∷ []) (λ v. act.Stall v.0)
-form_of Unstall = form (codes "unstall") (kind.pid ∷ []) (λ v. act.Unstall v.0)
-form_of Migrate = form (codes "migrate") (kind.pid ∷ kind.cpu ∷ []) (λ v. act.Migrate v.0 v.1.0)
-form_of Move = form (codes "move") (kind.pid ∷ kind.path ∷ []) (λ v. act.Move v.0 v.1.0)
-form_of Mem = form (codes "mem") (kind.path ∷ kind.amount ∷ kind.amount ∷ kind.amount ∷ []) (λ v. act.Mem v.0 v.1.0 v.1.1.0 v.1.1.1.0)
-form_of Host = form (codes "host") (kind.amount ∷ kind.amount ∷ kind.amount ∷ []) (λ v. act.Host v.0 v.1.0 v.1.1.0)
-form_of Trigger = form (codes "trigger") (kind.path ∷ kind.resource ∷ kind.level ∷ kind.number ∷ kind.number ∷ []) (λ v. act.Trigger v.0 v.1.0 v.1.1.0 v.1.1.1.0 v.1.1.1.1.0)
-form_of Irq = form (codes "irq") (kind.cpu ∷ kind.number ∷ []) (λ v. act.Irq v.0 v.1.0)
-form_of Pressure = form (codes "pressure") (kind.path ∷ kind.account ∷ []) (λ v. act.Pressure v.0 v.1.0)
-form_of End = form (codes "end") [] (λ v. act.End)
+form_of Group = form (codes "group") (kind.path ∷ []) act.Group
+form_of Remove = form (codes "rmgroup") (kind.path ∷ []) act.Remove
+form_of Prefer = form (codes "prefer") (kind.path ∷ kind.preference ∷ []) act.Prefer
+form_of Fork = form (codes "fork") (kind.pid ∷ kind.path ∷ kind.cpu ∷ []) act.Fork
+form_of Wake = form (codes "wake") (kind.pid ∷ kind.cpu ∷ []) act.Wake
+form_of Switch = form (codes "switch") (kind.cpu ∷ kind.next ∷ kind.how ∷ []) act.Switch
+form_of Stall = form (codes "stall") (kind.pid ∷ []) act.Stall
+form_of Unstall = form (codes "unstall") (kind.pid ∷ []) act.Unstall
+form_of Migrate = form (codes "migrate") (kind.pid ∷ kind.cpu ∷ []) act.Migrate
+form_of Move = form (codes "move") (kind.pid ∷ kind.path ∷ []) act.Move
+form_of Mem = form (codes "mem") (kind.path ∷ kind.amount ∷ kind.amount ∷ kind.amount ∷ []) act.Mem
+form_of Host = form (codes "host") (kind.amount ∷ kind.amount ∷ kind.amount ∷ []) act.Host
+form_of Trigger = form (codes "trigger") (kind.path ∷ kind.resource ∷ kind.level ∷ kind.number ∷ kind.number ∷ []) act.Trigger
+form_of Irq = form (codes "irq") (kind.cpu ∷ kind.number ∷ []) act.Irq
+form_of Pressure = form (codes "pressure") (kind.path ∷ kind.account ∷ []) act.Pressure
+form_of End = form (codes "end") [] act.End
 
 -- how a verb is written
 abbrev pub verb_word : Verb → List ℕ
@@ -122,6 +122,11 @@ more_verbs Two = Irq ∷ Pressure ∷ []
 -- the verbs of a version; no two are written alike
 abbrev pub verbs_of : Version → List Verb
 verbs_of version = first_verbs ++ more_verbs version
+
+-- one value of each kind
+abbrev pub Values : List Kind → Type 0
+Values [] = Unit {0}
+Values (k ∷ ks) = Value k × Values ks
 
 -- a verb with the values of its fields
 pub record Phrase : Type 0 where
@@ -202,20 +207,17 @@ abbrev pub field : ℕ → (k : Kind) → List (List ℕ) → Result (Value k ×
 field i k [] = Err (cause.BadField i)
 field i k (text ∷ words) = or_bad i (value_of k text) words
 
--- the values of words, of which the first is the field with this number, or the leftmost bad field
-abbrev pub values_from : ℕ → (ks : List Kind) → List (List ℕ) → Result (Values ks) Cause
-values_from i [] [] = Ok tt
-values_from i [] (text ∷ words) = Err (cause.BadField i)
-values_from i (k ∷ ks) words = do
+-- the act that the values of words make, of which the first is the field with this number, or the leftmost bad field
+abbrev pub made_from : ℕ → (ks : List Kind) → Maker ks → List (List ℕ) → Result Act Cause
+made_from i [] made [] = Ok made
+made_from i [] made (text ∷ words) = Err (cause.BadField i)
+made_from i (k ∷ ks) make words = do
   first ← field i k words
-  rest ← values_from (i + 1) ks first.1
-  Ok (first.0, rest)
+  made_from (i + 1) ks (make first.0) first.1
 
 -- the act that the fields of a verb make
 unfoldable pub act_from : Verb → List (List ℕ) → Result Act Cause
-act_from verb words = do
-  values ← values_from 1 (kinds_of verb) words
-  Ok ((form_of verb).act values)
+act_from verb words = made_from 1 (kinds_of verb) (form_of verb).act words
 
 -- the verb that a word is, of these
 unfoldable pub verb_of : List Verb → List ℕ → Option Verb

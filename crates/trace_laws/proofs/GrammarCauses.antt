@@ -5,12 +5,13 @@ use Rattle.std.specs.List.{slice_get}
 use Rattle.psi_base.specs.Number.{number_of}
 use Rattle.psi_base.specs.Path.{parts_at}
 use Rattle.psi_base.proofs.NumberLaws.{number_of-decimal, decimal-number_of}
+use Rattle.psi_base.specs.declared.event.Act.{Act}
 use Rattle.psi_base.specs.declared.event.Event.{Event}
 use Rattle.psi_base.specs.declared.event.Cause.{Cause}
 use Rattle.psi_base.specs.declared.event.Cause.TheVariants as cause
 use Rattle.psi_spec.specs.Fields.{IsAmong, Kind, Value, InRange, word, value_of}
 use Rattle.psi_spec.specs.Fields as kind
-use Rattle.psi_spec.specs.Grammar.{Verb, form_of, verb_word, kinds_of, ◌>>=◌, or_bad, field, values_from, act_from, verb_of, act_in, act_at, event_in, event_at, event_of}
+use Rattle.psi_spec.specs.Grammar.{Maker, Verb, form_of, verb_word, kinds_of, ◌>>=◌, or_bad, field, made_from, act_from, verb_of, act_in, act_at, event_in, event_at, event_of}
 use Rattle.psi_spec.specs.LineLaws.{Spells, IsGood, IsBad, IsFirstBad, HasTime, HasVerb, HasBadField, IsCause, FindsCauses}
 use Rattle.trace_laws.proofs.GrammarFields.{value_spells, value_again}
 use Rattle.trace_laws.proofs.GrammarReads.{field_ok, verb_again, verb_spells}
@@ -54,14 +55,14 @@ record IsRefused (i : ℕ) (ks : List Kind) (words : List (List ℕ)) (why : Cau
   pub is : why ≡ cause.BadField (i + at)
   pub first : IsFirstBad ks words at
 
-values_err : (i : ℕ) (ks : List Kind) (words : List (List ℕ)) (why : Cause) → values_from i ks words ≡ Err why → IsRefused i ks words why
-values_err i [] [] why is = absurd cc
-values_err i [] (text ∷ words) why is = record {
+made_err : (i : ℕ) (ks : List Kind) (make : Maker ks) (words : List (List ℕ)) (why : Cause) → made_from i ks make words ≡ Err why → IsRefused i ks words why
+made_err i [] make [] why is = absurd cc
+made_err i [] make (text ∷ words) why is = record {
   at = 0;
   is = sym (err_same (cause.BadField i) why is) ∙ ap (λ n. cause.BadField n) (omega arith);
   first = record { before = λ j below. absurd (omega arith); here = tt };
 }
-values_err i (k ∷ ks) words why is =
+made_err i (k ∷ ks) make words why is =
     elim (bind_err (field i k words) _ why is) [
       | inl bad ↦
           let here = field_err i k words why bad in
@@ -72,19 +73,15 @@ values_err i (k ∷ ks) words why is =
           }
       | inr good ↦
           let first = field_ok i k words good.0 good.1.0 in
-          elim (bind_err (values_from (i + 1) ks good.0.1) _ why good.1.1) [
-            | inl later ↦
-                let rest = values_err (i + 1) ks good.0.1 why later in
-                record {
-                  at = suc rest.at;
-                  is = rest.is ∙ ap (λ n. cause.BadField n) (omega arith);
-                  first = rw first.0 record {
-                    before = good_then k good.0.0 ks good.0.1 rest.at first.1 rest.first;
-                    here = rest.first.here;
-                  };
-                }
-            | inr none ↦ absurd cc (none.1.1)
-          ]
+          let rest = made_err (i + 1) ks (make good.0.0) good.0.1 why good.1.1 in
+          record {
+            at = suc rest.at;
+            is = rest.is ∙ ap (λ n. cause.BadField n) (omega arith);
+            first = rw first.0 record {
+              before = good_then k good.0.0 ks good.0.1 rest.at first.1 rest.first;
+              here = rest.first.here;
+            };
+          }
     ]
 
 bad_field : (i : ℕ) (k : Kind) (words : List (List ℕ)) → IsBad (Some k) (slice_get words 0) → field i k words ≡ Err (cause.BadField i)
@@ -98,27 +95,23 @@ same_number : (i j : ℕ) (A : Type 0) → i ≡ j → (let r : Result A Cause =
 same_number i j A is = ap (λ n. let r : Result A Cause = Err (cause.BadField n) in r) is
 
 -- the leftmost bad field is refused by its number
-bad_values : (i : ℕ) (ks : List Kind) (words : List (List ℕ)) (at : ℕ) → IsFirstBad ks words at → values_from i ks words ≡ Err (cause.BadField (i + at))
-bad_values i [] [] at first = absurd first.here
-bad_values i [] (text ∷ words) zero first = same_number i (i + 0) _ (omega arith)
-bad_values i [] (text ∷ words) (suc at) first = absurd (first.before 0 (omega arith))
-bad_values i (k ∷ ks) words zero first =
-    ap (λ r. r >>= λ taken. values_from (i + 1) ks taken.1 >>= λ rest. Ok (taken.0, rest)) (bad_field i k words first.here) ∙ same_number i (i + 0) _ (omega arith)
-bad_values i (k ∷ ks) [] (suc at) first = absurd (first.before 0 (omega arith))
-bad_values i (k ∷ ks) (text ∷ words) (suc at) first =
+bad_made : (i : ℕ) (ks : List Kind) (make : Maker ks) (words : List (List ℕ)) (at : ℕ) → IsFirstBad ks words at → made_from i ks make words ≡ Err (cause.BadField (i + at))
+bad_made i [] make [] at first = absurd first.here
+bad_made i [] make (text ∷ words) zero first = same_number i (i + 0) Act (omega arith)
+bad_made i [] make (text ∷ words) (suc at) first = absurd (first.before 0 (omega arith))
+bad_made i (k ∷ ks) make words zero first =
+    ap (λ r. r >>= λ taken. made_from (i + 1) ks (make taken.0) taken.1) (bad_field i k words first.here) ∙ same_number i (i + 0) Act (omega arith)
+bad_made i (k ∷ ks) make [] (suc at) first = absurd (first.before 0 (omega arith))
+bad_made i (k ∷ ks) make (text ∷ words) (suc at) first =
     let spells : Spells k text = first.before 0 (omega arith) in
     let later : IsFirstBad ks words at = record { before = λ j below. first.before (suc j) (omega arith); here = first.here } in
-    ap (λ r. r >>= λ taken. values_from (i + 1) ks taken.1 >>= λ rest. Ok (taken.0, rest)) (good_field i k text words spells)
-    ∙ ap (λ r. r >>= λ rest. Ok (spells.0, rest)) (bad_values (i + 1) ks words at later)
-    ∙ same_number (i + 1 + at) (i + suc at) _ (omega arith)
+    ap (λ r. r >>= λ taken. made_from (i + 1) ks (make taken.0) taken.1) (good_field i k text words spells)
+    ∙ bad_made (i + 1) ks (make spells.0) words at later
+    ∙ same_number (i + 1 + at) (i + suc at) Act (omega arith)
 
 act_from_err : (verb : Verb) (words : List (List ℕ)) (why : Cause) → act_from verb words ≡ Err why → IsRefused 1 (kinds_of verb) words why
 unfolding act_from
-act_from_err verb words why is =
-    elim (bind_err (values_from 1 (kinds_of verb) words) _ why is) [
-      | inl bad ↦ values_err 1 (kinds_of verb) words why bad
-      | inr none ↦ absurd cc (none.1.1)
-    ]
+act_from_err verb words why is = made_err 1 (kinds_of verb) (form_of verb).act words why is
 
 unknown : (verbs : List Verb) (text : List ℕ) → verb_of verbs text ≡ None → (verb : Verb) → IsAmong verb verbs → text ≡ verb_word verb → ⊥
 unknown verbs text none verb among is = let some = ap (verb_of verbs) is ∙ verb_again verbs verb among in cc
@@ -199,7 +192,7 @@ fieldless_act : (verbs : List Verb) (verb : Verb) (text : List ℕ) (words : Lis
 unfolding act_at act_from
 fieldless_act verbs verb text words at among is first =
     ap (λ v. act_in v words) (ap (verb_of verbs) is ∙ verb_again verbs verb among)
-    ∙ ap (λ r. r >>= λ values. Ok ((form_of verb).act values)) (bad_values 1 (kinds_of verb) words at first)
+    ∙ bad_made 1 (kinds_of verb) (form_of verb).act words at first
 
 bad_event : (verbs : List Verb) (parts : List (List ℕ)) (number : ℕ) → HasBadField verbs parts number → event_at verbs parts ≡ Err (cause.BadField number)
 bad_event verbs [] number bad = absurd bad.time

@@ -10,24 +10,33 @@ use Rattle.psi_base.specs.declared.event.Act.TheVariants as act
 use Rattle.psi_base.specs.declared.event.Event.{Event}
 use Rattle.psi_base.specs.declared.event.Cause.{Cause}
 use Rattle.psi_spec.specs.Fields.{Kind, Value, InRange, IsAmong, named, word, value_of}
-use Rattle.psi_spec.specs.Grammar.{joined, act_words, spelling, ActFits, AreInRange, Fits, Values, Verb, phrase_of, field_words, Group, form_of, verb_word, kinds_of, One, Two, Version, first_verbs, verbs_of, IsKnown, ◌>>=◌, or_bad, field, values_from, act_from, verb_of, act_in, act_at, event_in, event_at, event_of}
+use Rattle.psi_spec.specs.Grammar.{joined, act_words, spelling, ActFits, AreInRange, Fits, Maker, Values, Verb, phrase_of, field_words, Group, form_of, verb_word, kinds_of, One, Two, Version, first_verbs, verbs_of, IsKnown, ◌>>=◌, or_bad, field, made_from, act_from, verb_of, act_in, act_at, event_in, event_at, event_of}
 use Rattle.psi_spec.specs.LineLaws.{ReadsSpelled, SpelledInLine}
 use Rattle.trace_laws.proofs.GrammarFields.{named_again, named_among, named_spells, value_spells, value_again}
 use Rattle.trace_laws.proofs.GrammarParts.{joined-parts, parts-joined, AreWords, IsPrinted, joined-no_newline, behind, length-joined}
 use Rattle.trace_laws.proofs.GrammarWords.{decimal_printed, decimal_short, word_printed, word_short, longest}
 
+-- the act that is made of values, all at once
+abbrev pub made : (ks : List Kind) → Maker ks → Values ks → Act
+made [] what values = what
+made (k ∷ ks) make values = made ks (make values.0) values.1
+
+-- the act of a verb and its values
+abbrev pub act_of : (verb : Verb) → Values (kinds_of verb) → Act
+act_of verb values = made (kinds_of verb) (form_of verb).act values
+
 -- the act of a verb and its values is spelled by the verb and their words
-pub form_words : (verb : Verb) (values : Values (kinds_of verb)) → act_words ((form_of verb).act values) ≡ verb_word verb ∷ field_words (kinds_of verb) values
+pub form_words : (verb : Verb) (values : Values (kinds_of verb)) → act_words (act_of verb values) ≡ verb_word verb ∷ field_words (kinds_of verb) values
 form_words Group values = refl
 form_words _ values = refl
 
 -- and fits where they are in range
-form_fits : (verb : Verb) (values : Values (kinds_of verb)) → AreInRange (kinds_of verb) values → ActFits ((form_of verb).act values)
+form_fits : (verb : Verb) (values : Values (kinds_of verb)) → AreInRange (kinds_of verb) values → ActFits (act_of verb values)
 form_fits Group values are = are
 form_fits _ values are = are
 
 -- an act is made of its verb and the values of its fields
-pub formed : (what : Act) → (form_of (phrase_of what).verb).act (phrase_of what).values ≡ what
+pub formed : (what : Act) → act_of (phrase_of what).verb (phrase_of what).values ≡ what
 formed (act.Group path) = refl
 formed _ = refl
 
@@ -80,34 +89,42 @@ field_ok i k (text ∷ words) taken is =
     let spells = value_spells k text taken.0 read.0 in
     (ap (λ w. w ∷ words) spells.1 ∙ ap (λ ws. word k taken.0 ∷ ws) read.1, spells.0)
 
-pub values_ok : (i : ℕ) (ks : List Kind) (words : List (List ℕ)) (values : Values ks) → values_from i ks words ≡ Ok values → (words ≡ field_words ks values) × AreInRange ks values
-values_ok i [] [] values is = (refl, tt)
-values_ok i [] (text ∷ words) values is = absurd cc
-values_ok i (k ∷ ks) words values is =
-    let first = bind_ok (field i k words) _ values is in
-    let rest = bind_ok (values_from (i + 1) ks first.0.1) _ values first.2 in
-    let made : (let p : Values (k ∷ ks) = (first.0.0, rest.0) in p) ≡ values = ok_same _ values rest.2 in
+-- what an act was made from: words of values in range
+record IsMade (ks : List Kind) (make : Maker ks) (words : List (List ℕ)) (what : Act) : Type 0 where
+  values : Values ks
+  makes : made ks make values ≡ what
+  words_are : words ≡ field_words ks values
+  in_range : AreInRange ks values
+
+made_ok : (i : ℕ) (ks : List Kind) (make : Maker ks) (words : List (List ℕ)) (what : Act) → made_from i ks make words ≡ Ok what → IsMade ks make words what
+made_ok i [] make [] what is = record { values = tt; makes = ok_same make what is; words_are = refl; in_range = tt }
+made_ok i [] make (text ∷ words) what is = absurd cc
+made_ok i (k ∷ ks) make words what is =
+    let first = bind_ok (field i k words) _ what is in
     let here = field_ok i k words first.0 first.1 in
-    let later = values_ok (i + 1) ks first.0.1 rest.0 rest.1 in
-    rw (← made) (here.0 ∙ ap (λ ws. word k first.0.0 ∷ ws) later.0, (here.1, later.1))
+    let later = made_ok (i + 1) ks (make first.0.0) first.0.1 what first.2 in
+    record {
+      values = (first.0.0, later.values);
+      makes = later.makes;
+      words_are = here.0 ∙ ap (λ ws. word k first.0.0 ∷ ws) later.words_are;
+      in_range = (here.1, later.in_range);
+    }
 
 pub field_again : (i : ℕ) (k : Kind) (value : Value k) (words : List (List ℕ)) → InRange k value → field i k (word k value ∷ words) ≡ Ok (value, words)
 field_again i k value words fits = ap (λ read. or_bad i read words) (value_again k value fits)
 
-pub values_again : (i : ℕ) (ks : List Kind) (values : Values ks) → AreInRange ks values → values_from i ks (field_words ks values) ≡ Ok values
-values_again i [] values are = refl
-values_again i (k ∷ ks) values are =
-    ap (λ r. r >>= λ first. values_from (i + 1) ks first.1 >>= λ rest. Ok (first.0, rest)) (field_again i k values.0 (field_words ks values.1) are.0)
-    ∙ ap (λ r. r >>= λ rest. Ok (values.0, rest)) (values_again (i + 1) ks values.1 are.1)
+made_again : (i : ℕ) (ks : List Kind) (make : Maker ks) (values : Values ks) → AreInRange ks values → made_from i ks make (field_words ks values) ≡ Ok (made ks make values)
+made_again i [] make values are = refl
+made_again i (k ∷ ks) make values are =
+    ap (λ r. r >>= λ first. made_from (i + 1) ks (make first.0) first.1) (field_again i k values.0 (field_words ks values.1) are.0)
+    ∙ made_again (i + 1) ks (make values.0) values.1 are.1
 
 -- an act that was read is spelled so
 act_from_ok : (verb : Verb) (words : List (List ℕ)) (what : Act) → act_from verb words ≡ Ok what → (verb_word verb ∷ words ≡ act_words what) × ActFits what
 unfolding act_from
 act_from_ok verb words what is =
-    let read = bind_ok (values_from 1 (kinds_of verb) words) _ what is in
-    let made : (form_of verb).act read.0 ≡ what = ok_same _ what read.2 in
-    let spells = values_ok 1 (kinds_of verb) words read.0 read.1 in
-    rw (← made) (ap (λ ws. verb_word verb ∷ ws) spells.0 ∙ sym (form_words verb read.0), form_fits verb read.0 spells.1)
+    let read = made_ok 1 (kinds_of verb) (form_of verb).act words what is in
+    rw (← read.makes) (ap (λ ws. verb_word verb ∷ ws) read.words_are ∙ sym (form_words verb read.values), form_fits verb read.values read.in_range)
 
 -- what an act was read from: its words, by a verb of these
 record IsSpelled (verbs : List Verb) (words : List (List ℕ)) (what : Act) : Type 0 where
@@ -115,7 +132,7 @@ record IsSpelled (verbs : List Verb) (words : List (List ℕ)) (what : Act) : Ty
   fits : ActFits what
   known : IsAmong (phrase_of what).verb verbs
 
-verb_told : (verb : Verb) (values : Values (kinds_of verb)) → (phrase_of ((form_of verb).act values)).verb ≡ verb
+verb_told : (verb : Verb) (values : Values (kinds_of verb)) → (phrase_of (act_of verb values)).verb ≡ verb
 verb_told Group values = refl
 verb_told _ values = refl
 
@@ -123,9 +140,8 @@ verb_told _ values = refl
 act_from_verb : (verb : Verb) (words : List (List ℕ)) (what : Act) → act_from verb words ≡ Ok what → (phrase_of what).verb ≡ verb
 unfolding act_from
 act_from_verb verb words what is =
-    let read = bind_ok (values_from 1 (kinds_of verb) words) _ what is in
-    let made : (form_of verb).act read.0 ≡ what = ok_same _ what read.2 in
-    ap (λ a. (phrase_of a).verb) (sym made) ∙ verb_told verb read.0
+    let read = made_ok 1 (kinds_of verb) (form_of verb).act words what is in
+    ap (λ a. (phrase_of a).verb) (sym read.makes) ∙ verb_told verb read.values
 
 act_in_ok : (verbs : List Verb) (text : List ℕ) (read : Option Verb) (words : List (List ℕ)) (what : Act) → verb_of verbs text ≡ read → act_in read words ≡ Ok what → IsSpelled verbs (text ∷ words) what
 act_in_ok verbs text None words what found is = absurd cc
@@ -164,11 +180,11 @@ event_spelled verbs line event is =
     let spells = event_at_ok verbs (parts_at 32 line) event is in
     (spells.1, spells.2, sym (joined-parts line) ∙ ap joined spells.0)
 
-act_from_again : (verb : Verb) (values : Values (kinds_of verb)) → AreInRange (kinds_of verb) values → act_from verb (field_words (kinds_of verb) values) ≡ Ok ((form_of verb).act values)
+act_from_again : (verb : Verb) (values : Values (kinds_of verb)) → AreInRange (kinds_of verb) values → act_from verb (field_words (kinds_of verb) values) ≡ Ok (act_of verb values)
 unfolding act_from
-act_from_again verb values are = ap (λ r. r >>= λ vs. Ok ((form_of verb).act vs)) (values_again 1 (kinds_of verb) values are)
+act_from_again verb values are = made_again 1 (kinds_of verb) (form_of verb).act values are
 
-act_at_again : (verbs : List Verb) (verb : Verb) (values : Values (kinds_of verb)) → IsAmong verb verbs → AreInRange (kinds_of verb) values → act_at verbs (verb_word verb ∷ field_words (kinds_of verb) values) ≡ Ok ((form_of verb).act values)
+act_at_again : (verbs : List Verb) (verb : Verb) (values : Values (kinds_of verb)) → IsAmong verb verbs → AreInRange (kinds_of verb) values → act_at verbs (verb_word verb ∷ field_words (kinds_of verb) values) ≡ Ok (act_of verb values)
 unfolding act_at
 act_at_again verbs verb values known are =
     ap (λ v. act_in v (field_words (kinds_of verb) values)) (verb_again verbs verb known) ∙ act_from_again verb values are
