@@ -7,7 +7,8 @@ use Rattle.psi_spec.specs.World.{most_events}
 use Rattle.psi_spec.specs.Trace.{Trace}
 use Rattle.ruleset_json.specs.declared.types.Rule.{Rule}
 use Rattle.run_spec.specs.Replay.{Pace}
-use Rattle.run_spec.specs.Whatif.{LastOutgrown, LastWithoutKill, OutgrownAtRound, after_rounds, all_kills, bounded_trace, most_rounds, round, then_round, without_kill}
+use Rattle.run_spec.specs.Whatif.{after_rounds, all_kills, bounded_trace, most_rounds, round, then_round, without_kill}
+use Rattle.run_spec.specs.Laws.{LastOutgrown, LastWithoutKill, OutgrownAtRound}
 
 -- ---- no kill with a number
 

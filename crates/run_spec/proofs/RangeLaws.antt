@@ -16,7 +16,8 @@ use Rattle.run_spec.specs.Words.{◌>>=◌, Given, parted, value_given, is_name,
 use Rattle.run_spec.specs.Words.{needed, trace_given, rules_given, drop_in_given, live_given, tick_given, workers_given}
 use Rattle.run_spec.specs.Words.{options_of, shape_of, stall_of, check_of, replay_of, gen_of}
 use Rattle.run_spec.specs.Words.{stress_of, import_of, rules_command_of, whatif_of, IsOptionName, CommandForm, forms, command_of, IsWithin, AreOptions, IsShape}
-use Rattle.run_spec.specs.Words.{IsCommand, SpelledInRange}
+use Rattle.run_spec.specs.Words.{IsCommand}
+use Rattle.run_spec.specs.Laws.{SpelledInRange}
 
 -- a step that found something had something before it
 pub bind_some : {A B : Type 0} (r : Option A) (f : A → Option B) (y : B) → r >>= f ≡ Some y

@@ -12,8 +12,9 @@ use Rattle.run_spec.specs.Words.{◌>>=◌, Word, assigned, opened, end, plain, 
 use Rattle.run_spec.specs.Words.{is_among, is_equals, option_of, word_of, Given, value_given}
 use Rattle.run_spec.specs.Words.{with_option, with_positional, positionals, then_word, parted}
 use Rattle.run_spec.specs.Words.{options_of, shape_of, stall_of, check_of, replay_of, gen_of}
-use Rattle.run_spec.specs.Words.{stress_of, import_of, rules_command_of, whatif_of, CommandForm, forms, command_of, assigned_word}
-use Rattle.run_spec.specs.Words.{HasNoEquals, OrderIsFree, ValueMayFollow}
+use Rattle.run_spec.specs.Words.{stress_of, import_of, rules_command_of, whatif_of, CommandForm, forms, command_of}
+use Rattle.run_spec.specs.Laws.{assigned_word}
+use Rattle.run_spec.specs.Laws.{HasNoEquals, OrderIsFree, ValueMayFollow}
 use Rattle.run_spec.proofs.RangeLaws.{OfEach, each_found}
 
 -- ---- texts

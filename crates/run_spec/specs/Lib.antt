@@ -9,3 +9,4 @@ pub mod Outputs
 pub mod MostRead
 pub mod Status
 pub mod Run
+pub mod Laws

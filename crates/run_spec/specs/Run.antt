@@ -1,7 +1,6 @@
 -- What a run of a command promises: what each status says of the files and of the output, and which counts of failures rose.
-use Rattle.std.specs.Prelude.{◌≡◌, ◌⊎◌, ℕ, List, [], Option, None, Some, IsSome, MatchOption, option_map, Ok, Err, ⊤}
+use Rattle.std.specs.Prelude.{◌≡◌, ℕ, List, [], Option, None, Some, IsSome, MatchOption, option_map, Ok, Err, ⊤}
 use Rattle.std.specs.Io.KnownBytes.{Appends, Keeps}
-use Rattle.psi_base.specs.Gives.{no_memory}
 use Rattle.psi_base.specs.Outside.{Files, told, Lacks, Rose, AppendsFront, ShelfCounts, counts_of}
 use Rattle.psi_spec.specs.Fields.{IsAmong}
 use Rattle.psi_spec.specs.Trace.{AreKnown, IsAccepted, IsCpuCount, Trace, limits_of}
@@ -11,13 +10,11 @@ use Rattle.run_spec.specs.declared.status.Status.{Status}
 use Rattle.run_spec.specs.declared.status.Status.TheVariants as status
 use Rattle.run_spec.specs.declared.status.Which.{Which}
 use Rattle.run_spec.specs.declared.status.Which.TheVariants.{DropInFile, ImportFile, RulesFile, TraceFile}
-use Rattle.ruleset_json.specs.declared.fault.RulesFault.{RulesFault}
 use Rattle.ruleset_json.specs.declared.types.Rule.{Rule}
 use Rattle.ruleset_json.specs.declared.types.Rules.{Rules}
 use Rattle.ruleset_json.specs.RuleRanges.{FitsRules}
 use Rattle.ruleset_json.specs.Rules.{rules_of}
-use Rattle.dropin_rules.specs.declared.fault.DropFault.{DropFault}
-use Rattle.run_spec.specs.Outputs.{IsOutput, accepts_of, drop_in_name, file_of, outcome_of, rules_from, rules_name, source_name, source_of, taken_of}
+use Rattle.run_spec.specs.Outputs.{IsOutput, accepts_of, drop_in_name, file_of, outcome_of, rules_from, rules_name, source_of, taken_of}
 
 -- ---- counts
 
@@ -166,27 +163,3 @@ Ends command files old new status.Usage = ⊥
 pub record Runs (command : Command) (files : Option Files) (before now : RunCounts) (old new : Option (List ℕ)) (result : Status) : Type 0 where
   pub ends : Ends command files old new result
   pub counts : FailuresAreCounted before now result
-
--- ---- laws
-
--- where the rules file of a command is told to be missing, a run says that it is, or tells of a failure
-abbrev pub MissingRulesTell : Type 0
-MissingRulesTell = (command : Command) (files : Option Files) (old new : Option (List ℕ)) (result : Status) (name : List ℕ)
-    → Ends command files old new result → rules_name command ≡ Some name → Lacks files name
-    → (result ≡ status.NoFile RulesFile) ⊎ (result ≡ status.ReadFault) ⊎ (result ≡ status.NoMemory no_memory)
-
--- where the drop-in file over it is, a run says that one of the two is, or tells of a failure, or of a fault of the rules file,
--- which comes first
-abbrev pub MissingDropInTells : Type 0
-MissingDropInTells = (command : Command) (files : Option Files) (old new : Option (List ℕ)) (result : Status) (name : List ℕ)
-    → Ends command files old new result → drop_in_name command ≡ Some name → Lacks files name
-    → (result ≡ status.NoFile RulesFile) ⊎ (result ≡ status.NoFile DropInFile) ⊎ (result ≡ status.ReadFault)
-    ⊎ (result ≡ status.NoMemory no_memory) ⊎ ((fault : RulesFault) × (result ≡ status.Rules fault))
-
--- where the file is that it takes its trace from, a run says that a file is, or tells of a failure, or of a fault of the rules or of
--- the drop-in file over them, which come first
-abbrev pub MissingSourceTells : Type 0
-MissingSourceTells = (command : Command) (files : Option Files) (old new : Option (List ℕ)) (result : Status) (name : List ℕ)
-    → Ends command files old new result → source_name command ≡ Some name → Lacks files name
-    → IsNoFile result ⊎ (result ≡ status.ReadFault) ⊎ (result ≡ status.NoMemory no_memory)
-    ⊎ ((fault : RulesFault) × (result ≡ status.Rules fault)) ⊎ ((fault : DropFault) × (result ≡ status.DropIn fault))

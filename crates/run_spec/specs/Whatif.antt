@@ -1,5 +1,5 @@
 -- What is left of a trace where the victims of its kills are taken out of it, one kill after the other.
-use Rattle.std.specs.Prelude.{◌≡◌, ◌<◌, ◌≤◌, ℕ, zero, suc, List, length, nat_lt, if◌then◌else◌, Option, None, Some, Result, Ok, Err, slice_get}
+use Rattle.std.specs.Prelude.{ℕ, zero, suc, List, length, nat_lt, if◌then◌else◌, Option, None, Some, Result, Ok, Err, slice_get}
 use Rattle.std.specs.List.{flat_map, range_with_len}
 use Rattle.psi_spec.specs.World.{most_events}
 use Rattle.psi_spec.specs.Trace.{Trace}
@@ -47,23 +47,3 @@ after_rounds trace pace rules (suc count) = then_round pace rules count (after_r
 -- the trace that is left when all kills were taken, 64 at most, or how many events a round left that left too many
 abbrev pub last_trace : Trace → Pace → List Rule → Result Trace ℕ
 last_trace trace pace rules = after_rounds trace pace rules most_rounds
-
--- ---- laws
-
--- Where a round finds no kill with its number, no later one does: what is left then is the last trace.
-abbrev pub LastWithoutKill : Type 0
-LastWithoutKill = (trace left : Trace) (pace : Pace) (rules : List Rule) (count : ℕ) → count ≤ most_rounds
-    → length left.events ≤ most_events
-    → after_rounds trace pace rules count ≡ Ok left → slice_get (all_kills left pace rules) count ≡ None
-    → last_trace trace pace rules ≡ Ok left
-
--- Where a round leaves too much, that is how many events the last trace would have.
-abbrev pub LastOutgrown : Type 0
-LastOutgrown = (trace : Trace) (pace : Pace) (rules : List Rule) (count events : ℕ) → count ≤ most_rounds
-    → after_rounds trace pace rules count ≡ Err events → last_trace trace pace rules ≡ Err events
-
--- So it is exactly where some round leaves more events than a trace may have.
-abbrev pub OutgrownAtRound : Type 0
-OutgrownAtRound = (trace : Trace) (pace : Pace) (rules : List Rule) (events : ℕ) → last_trace trace pace rules ≡ Err events
-    → (number : ℕ) × (left : Trace) × (number < most_rounds) × (after_rounds trace pace rules number ≡ Ok left)
-    × (length (without_kill left (slice_get (all_kills left pace rules) number)).events ≡ events) × (most_events < events)

@@ -1,6 +1,6 @@
 -- The command that words spell: the words are parted into options and a positional, and then each
 -- command has one table.
-use Rattle.std.specs.Prelude.{◌≡◌, ◌≢◌, ℕ, ◌-◌, ◌^◌, ◌≤◌, ◌<◌, List, [], ◌∷◌, ◌++◌, length, drop}
+use Rattle.std.specs.Prelude.{◌≡◌, ◌≢◌, ℕ, ◌-◌, ◌^◌, ◌≤◌, ◌<◌, List, [], ◌∷◌, length, drop}
 use Rattle.std.specs.Prelude.{find, nat_eq, nat_lt, nat_le, ◌==◌, ◌&&◌, not, Bool}
 use Rattle.std.specs.Prelude.{true, false, if◌then◌else◌, codes, Option, None, Some, IfSome, IsSome}
 use Rattle.std.specs.Prelude.{option_map, is_some}
@@ -373,33 +373,3 @@ IsCommand (Stress shape workers) = IsShape shape × IsWithin 1 64 workers
 IsCommand (Import file cpus) = (file ≢ []) × IsWithin 1 64 cpus
 IsCommand (Rules file drop_in) = (file ≢ []) × IsOptionName drop_in
 IsCommand (Whatif trace options) = (trace ≢ []) × AreOptions options × IsSome options.rules × (options.live ≡ None)
-
--- ---- laws
-
--- the command that words spell is in range
-abbrev pub SpelledInRange : Type 0
-SpelledInRange = (words : List (List ℕ)) (command : Command)
-    → command_of words ≡ Some command → IsCommand command
-
--- `--name=value`
-abbrev pub assigned_word : List ℕ → List ℕ → List ℕ
-assigned_word name value = codes "--" ++ name ++ 61 ∷ value
-
--- a text has no `=`
-abbrev pub HasNoEquals : List ℕ → Type 0
-HasNoEquals text = list_any is_equals text ≡ false
-
--- two options of different names may change places
-abbrev pub OrderIsFree : Type 0
-OrderIsFree = (before after : List (List ℕ)) (name value other another : List ℕ)
-    → HasNoEquals name → HasNoEquals other → name ≢ other
-    → command_of (before ++ assigned_word name value ∷ assigned_word other another ∷ after)
-    ≡ command_of (before ++ assigned_word other another ∷ assigned_word name value ∷ after)
-
--- where no `--` came before, an option's value may be a word of its own, if it isn't taken for an
--- option
-abbrev pub ValueMayFollow : Type 0
-ValueMayFollow = (before after : List (List ℕ)) (name value : List ℕ)
-    → HasNoEquals name → name ≢ [] → is_dashed value ≡ false → is_among (codes "--") before ≡ false
-    → command_of (before ++ assigned_word name value ∷ after)
-    ≡ command_of (before ++ (codes "--" ++ name) ∷ value ∷ after)

@@ -1,5 +1,5 @@
 //! What the command line asks for.
-ghost use Rattle.run_spec.specs.Words.{OrderIsFree, SpelledInRange, ValueMayFollow};
+ghost use Rattle.run_spec.specs.Laws.{OrderIsFree, SpelledInRange, ValueMayFollow};
 
 use psi_base::{Path, Text};
 

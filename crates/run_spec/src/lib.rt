@@ -2,7 +2,7 @@
 //!
 //! In `specs/`, in the order of reading: `Words` (which words are a command), `Lines`, `Text`, `Generated`, `Live` and `Replay`
 //! (what is printed), `Whatif` (what is left of a trace without the victims of its kills), `Outputs` (which files a command reads, and its whole output), `MostRead` (how many bytes are read),
-//! `Status` (exit status and note), `Run` (what a run promises).
+//! `Status` (exit status and note), `Run` (what a run promises); and `Laws`, what follows.
 #![tactic(auto)]
 
 mod command;

@@ -1,5 +1,5 @@
 //! Laws of rounds that take kills out of a trace. Each function has an empty body: its contract is the law.
-ghost use Rattle.run_spec.specs.Whatif.{LastOutgrown, LastWithoutKill, OutgrownAtRound};
+ghost use Rattle.run_spec.specs.Laws.{LastOutgrown, LastWithoutKill, OutgrownAtRound};
 
 /// Which trace is the last: where a round finds no kill with its number, what is left then; where a round leaves too many
 /// events, none, and then only.

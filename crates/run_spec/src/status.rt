@@ -1,6 +1,6 @@
 //! How a run ends.
 ghost use Rattle.std.specs.Prelude.{◌≡◌};
-ghost use Rattle.run_spec.specs.Run.{MissingDropInTells, MissingRulesTell, MissingSourceTells};
+ghost use Rattle.run_spec.specs.Laws.{MissingDropInTells, MissingRulesTell, MissingSourceTells};
 ghost use Rattle.run_spec.specs.Status.{code_of};
 
 use dropin_rules::DropFault;
