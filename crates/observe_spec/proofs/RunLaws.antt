@@ -7,7 +7,8 @@ use Rattle.run_spec.specs.declared.command.Command.TheVariants.{Replay}
 use Rattle.run_spec.specs.Words.{command_of, is_name, options_of, replay_of}
 use Rattle.observe_spec.specs.declared.status.ObserveStatus.{ObserveStatus}
 use Rattle.observe_spec.specs.declared.status.ObserveStatus.TheVariants as status
-use Rattle.observe_spec.specs.Run.{Ends, MissingTraceTells, ReplayHasThese, TracesAreThoseOfReplay, options_on}
+use Rattle.observe_spec.specs.Run.{Ends, options_on}
+use Rattle.observe_spec.specs.Laws.{MissingTraceTells, ReplayHasThese, TracesAreThoseOfReplay}
 
 pub missing_trace_tells : MissingTraceTells
 missing_trace_tells request files old new status.Done ends lacks = absurd (ends.2 lacks)

@@ -2,7 +2,8 @@
 use Rattle.std.proofs.Common.{◌≡◌, ℕ, zero, suc, ◌≤◌, Bool, true, false, List, [], ◌∷◌, length, map, refl, ap, ◌∙◌, subst, arith, rules, Some}
 use Rattle.std.specs.Prelude.{cond, filter, slice_get}
 use Rattle.psi_spec.specs.Changes.{RiseWithin}
-use Rattle.observe_spec.specs.Samples.{AreDone, CountsAreOfChanges, Due, EachTakesItsShare, Look, is_of}
+use Rattle.observe_spec.specs.Samples.{AreDone, Due, Look, is_of}
+use Rattle.observe_spec.specs.Laws.{CountsAreOfChanges, EachTakesItsShare}
 
 -- numbers that rise within bounds leave these in order
 rise_bounds : (low : ℕ) (numbers : List ℕ) (high : ℕ) → RiseWithin low numbers high → low ≤ high

@@ -3,3 +3,4 @@ pub mod Observed
 pub mod Words
 pub mod Status
 pub mod Run
+pub mod Laws

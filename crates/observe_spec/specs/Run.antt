@@ -1,20 +1,17 @@
 -- What a run of psi_observe promises: what each status says of the trace and of the output, and which counts of failures rose.
-use Rattle.std.specs.Prelude.{◌≡◌, ◌⊎◌, ℕ, ◌*◌, ◌<◌, ◌≤◌, List, [], ◌∷◌, codes, Option, None, Some, Ok, Err, true}
+use Rattle.std.specs.Prelude.{◌≡◌, ℕ, ◌*◌, ◌<◌, ◌≤◌, List, Option, None, Some, Ok, Err}
 use Rattle.std.specs.Io.KnownBytes.{Appends, Keeps}
-use Rattle.psi_base.specs.Gives.{no_memory}
 use Rattle.psi_base.specs.Outside.{AppendsFront, Files, Lacks, told}
 use Rattle.psi_spec.specs.Grammar.{verbs_of, versions}
 use Rattle.psi_spec.specs.Trace.{Accepts, AreKnown, IsAccepted, IsCpuCount, Trace, accepts_with, limits_of, trace_of}
-use Rattle.run_spec.specs.declared.command.Command.TheVariants.{Replay}
 use Rattle.run_spec.specs.declared.command.Options.{Options}
-use Rattle.run_spec.specs.Outputs.{or_refused, pace_of, taken_of}
+use Rattle.run_spec.specs.Outputs.{pace_of}
 use Rattle.run_spec.specs.Replay.{Pace, tick_count}
 use Rattle.run_spec.specs.Run.{RisesWhere, RunCounts}
-use Rattle.run_spec.specs.Words.{command_of}
 use Rattle.observe_spec.specs.declared.status.ObserveStatus.{ObserveStatus}
 use Rattle.observe_spec.specs.declared.status.ObserveStatus.TheVariants as status
 use Rattle.observe_spec.specs.Observed.{IsObservedText}
-use Rattle.observe_spec.specs.Words.{Request, is_trace_name}
+use Rattle.observe_spec.specs.Words.{Request}
 
 -- ---- how a trace is replayed
 
@@ -101,20 +98,3 @@ pub record FailuresAreCounted (before now : RunCounts) (result : ObserveStatus) 
 pub record Runs (request : Request) (files : Option Files) (before now : RunCounts) (old new : Option (List ℕ)) (result : ObserveStatus) : Type 0 where
   pub ends : Ends request files old new result
   pub counts : FailuresAreCounted before now result
-
--- ---- laws
-
--- `replay` with the name of a trace and no option has these options, with no path.
-abbrev pub ReplayHasThese : Type 0
-ReplayHasThese = (name : List ℕ) → is_trace_name name ≡ true →
-    command_of (codes "replay" ∷ name ∷ []) ≡ Some (Replay name (options_on None))
-
--- The trace is the one that `replay` takes with no option, and refused where and as it is there.
-abbrev pub TracesAreThoseOfReplay : Type 0
-TracesAreThoseOfReplay = (name bytes : List ℕ) → or_refused (trace_of accepts bytes) ≡ taken_of (Replay name (options_on None)) bytes
-
--- Where the trace's file is told to be missing, a run says that it is, or tells of a failure.
-abbrev pub MissingTraceTells : Type 0
-MissingTraceTells = (request : Request) (files : Option Files) (old new : Option (List ℕ)) (result : ObserveStatus) →
-    Ends request files old new result → Lacks files request.trace →
-    (result ≡ status.NoFile) ⊎ (result ≡ status.ReadFault) ⊎ (result ≡ status.NoMemory no_memory)

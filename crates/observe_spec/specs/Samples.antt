@@ -1,5 +1,5 @@
 -- The samples that observers of one group take of a trace: who takes them, when they are due, and after how many changes.
-use Rattle.std.specs.Prelude.{◌≡◌, ℕ, ◌-◌, ◌<◌, ◌≤◌, Bool, ◌&&◌, ◌==◌, List, [], ◌∷◌, length, map, filter, slice_get, Option, None, Some}
+use Rattle.std.specs.Prelude.{◌≡◌, ℕ, ◌-◌, ◌<◌, ◌≤◌, Bool, ◌&&◌, ◌==◌, List, [], ◌∷◌, length, map, filter, Option, None, Some}
 use Rattle.std.specs.List.{flat_map, range_with_len}
 use Rattle.psi_spec.specs.Changes.{RiseWithin, changes_of}
 use Rattle.psi_spec.specs.Trace.{Trace}
@@ -62,17 +62,3 @@ pub record AreObserved (trace : Trace) (pace : Pace) (path : List ℕ) (observer
   pub done : (observer : ℕ) → observer < observers → AreDone (all_due trace pace path) (looks_by observer looks)
   pub none : (observer : ℕ) → observers ≤ observer → looks_by observer looks ≡ []
   pub rise : (observer cpu : ℕ) → RiseWithin 0 (counts_by observer cpu looks) (length (changes_of cpu trace.events))
-
--- ---- laws
-
--- So each sample is after so many changes as its processor has, or fewer.
-abbrev pub CountsAreOfChanges : Type 0
-CountsAreOfChanges = (trace : Trace) (pace : Pace) (path : List ℕ) (observers : ℕ) (looks : List Look) →
-    AreObserved trace pace path observers looks → (k : ℕ) (look : Look) → slice_get looks k ≡ Some look →
-    look.count ≤ length (changes_of look.cpu trace.events)
-
--- And each observer took as many as were due.
-abbrev pub EachTakesItsShare : Type 0
-EachTakesItsShare = (trace : Trace) (pace : Pace) (path : List ℕ) (observers : ℕ) (looks : List Look) →
-    AreObserved trace pace path observers looks → (observer : ℕ) → observer < observers →
-    length (looks_by observer looks) ≡ length (all_due trace pace path)

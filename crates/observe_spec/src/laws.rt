@@ -1,6 +1,5 @@
 //! Laws of the definitions. Each function has an empty body: its contract is the law.
-ghost use Rattle.observe_spec.specs.Run.{MissingTraceTells, ReplayHasThese, TracesAreThoseOfReplay};
-ghost use Rattle.observe_spec.specs.Samples.{CountsAreOfChanges, EachTakesItsShare};
+ghost use Rattle.observe_spec.specs.Laws.{MissingTraceTells, ReplayHasThese, TracesAreThoseOfReplay, CountsAreOfChanges, EachTakesItsShare};
 
 /// A sample is after so many changes as there are, and each observer takes all that are due of it.
 pub fn law_observed()

@@ -3,7 +3,7 @@
 //!
 //! In `specs/`, in the order of reading: `Samples` (which samples are due of an observer, and which may have been taken),
 //! `Observed` (their lines, the last look at the board, and the whole text), `Words` (which words ask for what), `Status` (exit
-//! status and note), `Run` (what a run promises).
+//! status and note), `Run` (what a run promises); and `Laws`, what follows.
 #![tactic(auto)]
 
 mod laws;
