@@ -8,7 +8,7 @@ use Rattle.std.specs.List.{list_all, list_any, before_first}
 use Rattle.clap.specs.Lexer.{long_of, name_and_value}
 use Rattle.run_spec.specs.Words.{◌>>=◌, Word, assigned, opened, unknown, is_among, is_dashed}
 use Rattle.run_spec.specs.Words.{is_equals, option_of, word_of, Given, nothing, value_given}
-use Rattle.run_spec.specs.Words.{with_option, with_positional, positionals, then_word, parted}
+use Rattle.run_spec.specs.Words.{with_option, with_positional, at_word, at_value, behind, by_word, said}
 use Rattle.psi_words.specs.Clap.{positional_id}
 use Rattle.psi_words.proofs.Parts.{Part, given, plain, id_of, then_part, then_long, parts, has_part}
 use Rattle.psi_words.proofs.Parts.{fits, judged}
@@ -82,8 +82,9 @@ abbrev pub are_apart : List Part → Bool
 are_apart [] = true
 are_apart (p ∷ ps) = not (has_part (id_of p) ps) && are_apart ps
 
-abbrev pub said : List Part → Option Given
-said ps = if are_apart ps then Some (given_of ps) else None
+-- the same, and nothing where two have one id
+abbrev pub parts_say : List Part → Option Given
+parts_say ps = if are_apart ps then Some (given_of ps) else None
 
 -- the options among the parts have these names
 abbrev pub AreKnown : List (List ℕ) → List Part → Type 0
@@ -131,29 +132,29 @@ has_plain names (given name value ∷ ps) free known =
     ∙ has_plain names ps free known.1
 has_plain names (plain word ∷ ps) free known = refl
 
-said_option : (names : List (List ℕ)) (name value : List ℕ) (ps : List Part)
+say_option : (names : List (List ℕ)) (name value : List ℕ) (ps : List Part)
     → is_among positional_id names ≡ false → is_among name names ≡ true
-    → said (given name value ∷ ps) ≡ said ps >>= with_option name value
-said_option names name value ps free known =
+    → parts_say (given name value ∷ ps) ≡ parts_say ps >>= with_option name value
+say_option names name value ps free known =
     go (has_part name ps) (are_apart ps) refl refl (sym (has_option names name ps free known))
   where
     go : (b d : Bool) → has_part name ps ≡ b → are_apart ps ≡ d
         → is_some (value_given name (given_of ps)) ≡ has_part name ps
-        → said (given name value ∷ ps) ≡ said ps >>= with_option name value
+        → parts_say (given name value ∷ ps) ≡ parts_say ps >>= with_option name value
     go true true has apart same = rw (has, apart, same, has) refl
     go true false has apart same = rw (has, apart) refl
     go false true has apart same = rw (has, apart, same, has) refl
     go false false has apart same = rw (has, apart) refl
 
-said_plain : (names : List (List ℕ)) (word : List ℕ) (ps : List Part)
+say_plain : (names : List (List ℕ)) (word : List ℕ) (ps : List Part)
     → is_among positional_id names ≡ false → AreKnown names ps
-    → said (plain word ∷ ps) ≡ said ps >>= with_positional word
-said_plain names word ps free known =
+    → parts_say (plain word ∷ ps) ≡ parts_say ps >>= with_positional word
+say_plain names word ps free known =
     go (has_part positional_id ps) (are_apart ps) refl refl (sym (has_plain names ps free known))
   where
     go : (b d : Bool) → has_part positional_id ps ≡ b → are_apart ps ≡ d
         → is_some (given_of ps).positional ≡ has_part positional_id ps
-        → said (plain word ∷ ps) ≡ said ps >>= with_positional word
+        → parts_say (plain word ∷ ps) ≡ parts_say ps >>= with_positional word
     go true true has apart same = rw (has, apart, same, has) refl
     go true false has apart same = rw (has, apart) refl
     go false true has apart same = rw (has, apart, same, has) refl
@@ -164,7 +165,7 @@ said_plain names word ps free known =
 -- the parts say this, and their options have these names
 abbrev pub Agrees : List (List ℕ) → Option (List Part) → Option Given → Type 0
 Agrees names None g = g ≡ None
-Agrees names (Some ps) g = AreKnown names ps × (g ≡ said ps)
+Agrees names (Some ps) g = AreKnown names ps × (g ≡ parts_say ps)
 
 agrees_option : (names : List (List ℕ)) (name value : List ℕ) (r : Option (List Part))
     (g : Option Given) → is_among positional_id names ≡ false → is_among name names ≡ true
@@ -174,7 +175,7 @@ agrees_option names name value None g free known same = ap (λ x. x >>= with_opt
 agrees_option names name value (Some ps) g free known same = (
   (known, same.0),
   ap (λ x. x >>= with_option name value) same.1
-      ∙ sym (said_option names name value ps free known),
+      ∙ sym (say_option names name value ps free known),
 )
 
 agrees_plain : (names : List (List ℕ)) (word : List ℕ) (r : Option (List Part)) (g : Option Given)
@@ -184,60 +185,57 @@ agrees_plain names word None g free same = ap (λ x. x >>= with_positional word)
 agrees_plain names word (Some ps) g free same = (
   same.0,
   ap (λ x. x >>= with_positional word) same.1
-      ∙ sym (said_plain names word ps free same.0),
+      ∙ sym (say_plain names word ps free same.0),
 )
 
 agrees_plainly : (names words : List (List ℕ)) → is_among positional_id names ≡ false
-    → Agrees names (Some (map plain words)) (positionals words)
+    → Agrees names (Some (map plain words)) (said names behind words)
 agrees_plainly names [] free = (tt, refl)
 agrees_plainly names (word ∷ words) free =
-    agrees_plain names word (Some (map plain words)) (positionals words) free
+    agrees_plain names word (Some (map plain words)) (said names behind words) free
     (agrees_plainly names words free)
 
 -- the words agree, where an option may wait that has one of the names
 abbrev AllAgree : List (List ℕ) → List (List ℕ) → Type 0
-AllAgree names words = Agrees names (parts names None words) (parted names None words)
+AllAgree names words = Agrees names (parts names None words) (said names at_word words)
     × ((name : List ℕ) → is_among name names ≡ true
-    → Agrees names (parts names (Some name) words) (parted names (Some name) words))
+    → Agrees names (parts names (Some name) words) (said names (at_value name) words))
 
 long_agrees : (names : List (List ℕ)) (word : List ℕ) (rest : List (List ℕ))
     (l : Option (List ℕ × Option (List ℕ))) → is_among positional_id names ≡ false
     → AllAgree names rest
     → Agrees names (then_long names l (λ waiting. parts names waiting rest))
-    (then_word (word_by names l) word rest (parted names None rest)
-    (λ name. parted names (Some name) rest))
+    (by_word (word_by names l) word (λ stand. said names stand rest))
 long_agrees names word rest None free more = refl
 long_agrees names word rest (Some (name, None)) free more = go (is_among name names) refl
   where
     go : (b : Bool) → is_among name names ≡ b
         → Agrees names (if b then parts names (Some name) rest else None)
-        (then_word (if b then opened name else unknown) word rest (parted names None rest)
-        (λ name. parted names (Some name) rest))
+        (by_word (if b then opened name else unknown) word (λ stand. said names stand rest))
     go true known = more.1 name known
     go false known = refl
 long_agrees names word rest (Some (name, Some value)) free more = go (is_among name names) refl
   where
     go : (b : Bool) → is_among name names ≡ b
         → Agrees names (if b then then_part (given name value) (parts names None rest) else None)
-        (then_word (if b then assigned name value else unknown) word rest (parted names None rest)
-        (λ name. parted names (Some name) rest))
+        (by_word (if b then assigned name value else unknown) word (λ stand. said names stand rest))
     go true known =
-        agrees_option names name value (parts names None rest) (parted names None rest) free known
+        agrees_option names name value (parts names None rest) (said names at_word rest) free known
         more.0
     go false known = refl
 
 word_parts : (names : List (List ℕ)) (word : List ℕ) (rest : List (List ℕ)) (dashed ends : Bool)
     → is_dashed word ≡ dashed → bytes_eq word (codes "--") ≡ ends
     → is_among positional_id names ≡ false → AllAgree names rest
-    → Agrees names (parts names None (word ∷ rest)) (parted names None (word ∷ rest))
+    → Agrees names (parts names None (word ∷ rest)) (said names at_word (word ∷ rest))
 word_parts names word rest false ends is_dashed is_end free more =
-    rw is_dashed (agrees_plain names word (parts names None rest) (parted names None rest) free
+    rw is_dashed (agrees_plain names word (parts names None rest) (said names at_word rest) free
     more.0)
 word_parts names word rest true true is_dashed is_end free more =
     rw (is_dashed, is_end) (agrees_plainly names rest free)
 word_parts names word rest true false is_dashed is_end free more =
     subst (λ w. Agrees names (parts names None (word ∷ rest))
-    (then_word w word rest (parted names None rest) (λ name. parted names (Some name) rest)))
+    (by_word w word (λ stand. said names stand rest)))
     (sym (word_agrees names word is_dashed is_end))
     (rw (is_dashed, is_end) (long_agrees names word rest (long_of word) free more))
 
@@ -245,10 +243,10 @@ value_parts : (names : List (List ℕ)) (word : List ℕ) (rest : List (List ℕ
     → is_dashed word ≡ dashed → is_among positional_id names ≡ false → AllAgree names rest
     → (name : List ℕ) → is_among name names ≡ true
     → Agrees names (parts names (Some name) (word ∷ rest))
-    (parted names (Some name) (word ∷ rest))
+    (said names (at_value name) (word ∷ rest))
 value_parts names word rest true is_dashed free more name known = rw is_dashed refl
 value_parts names word rest false is_dashed free more name known =
-    rw is_dashed (agrees_option names name word (parts names None rest) (parted names None rest)
+    rw is_dashed (agrees_option names name word (parts names None rest) (said names at_word rest)
     free known more.0)
 
 pub all_agree : (names words : List (List ℕ)) → is_among positional_id names ≡ false
@@ -320,12 +318,12 @@ apart_if ps b is = ap (λ d. d && are_apart ps) (sym (all_new ps)) ∙ (sym (fit
 
 -- where the parts don't fit, the words say nothing
 pub refused_words : (names words : List (List ℕ)) → is_among positional_id names ≡ false
-    → judged [] (parts names None words) ≡ false → parted names None words ≡ None
+    → judged [] (parts names None words) ≡ false → said names at_word words ≡ None
 refused_words names words free unfit =
     go (parts names None words) (all_agree names words free).0 unfit
   where
-    go : (r : Option (List Part)) → Agrees names r (parted names None words) → judged [] r ≡ false
-        → parted names None words ≡ None
+    go : (r : Option (List Part)) → Agrees names r (said names at_word words) → judged [] r ≡ false
+        → said names at_word words ≡ None
     go None same unfit = same
     go (Some ps) same unfit =
         same.1 ∙ ap (λ b. if b then Some (given_of ps) else None) (apart_if ps false unfit)
@@ -334,9 +332,9 @@ refused_words names words free unfit =
 pub accepted_words : (names words : List (List ℕ)) (ps : List Part)
     → is_among positional_id names ≡ false → parts names None words ≡ Some ps
     → judged [] (parts names None words) ≡ true
-    → AreKnown names ps × (parted names None words ≡ Some (given_of ps))
+    → AreKnown names ps × (said names at_word words ≡ Some (given_of ps))
 accepted_words names words ps free are fit =
-    let same : Agrees names (Some ps) (parted names None words) =
-    subst (λ r. Agrees names r (parted names None words)) are (all_agree names words free).0 in
+    let same : Agrees names (Some ps) (said names at_word words) =
+    subst (λ r. Agrees names r (said names at_word words)) are (all_agree names words free).0 in
     let fits_now : fits [] ps ≡ true = sym (ap (judged []) are) ∙ fit in
     (same.0, same.1 ∙ ap (λ b. if b then Some (given_of ps) else None) (apart_if ps true fits_now))

@@ -12,7 +12,7 @@ use Rattle.clap.proofs.FaultLemmas.{leaf_fault}
 use Rattle.clap.specs.Walk.{nothing_held, is_early_multiple}
 use Rattle.clap.specs.Simple.{App, built, is_simple, is_buildable, is_ready, is_ready_leaf}
 use Rattle.clap.specs.Faults.{fault_of, built_fault, is_free_app, is_simple_and_free}
-use Rattle.run_spec.specs.Words.{is_among, parted, value_given}
+use Rattle.run_spec.specs.Words.{at_word, is_among, said, value_given}
 use Rattle.psi_words.specs.Clap.{plain_app, plain_shape, option_rule, positional_rule}
 use Rattle.psi_words.specs.Clap.{positional_id, is_option_row, option_in, given_in, AreValued}
 use Rattle.psi_words.proofs.Parts.{parts, judged, AreTexts, Part, given, plain, gathered}
@@ -153,12 +153,12 @@ rows_found app names words m is free fit has =
 pub found_said : (app : App) (names words : List (List ℕ)) (m : ArgMatches) → app ≡ plain_app names
     → is_among positional_id names ≡ false → judged [] (parts names None words) ≡ true
     → HasMatchesOf app words m
-    → (parted names None words ≡ Some (given_in (rows_of (found_of m))))
+    → (said names at_word words ≡ Some (given_in (rows_of (found_of m))))
     × AreValued (rows_of (found_of m))
 found_said app names words m is free fit has = go (parts names None words) refl
   where
     go : (r : Option (List Part)) → parts names None words ≡ r
-        → (parted names None words ≡ Some (given_in (rows_of (found_of m))))
+        → (said names at_word words ≡ Some (given_in (rows_of (found_of m))))
         × AreValued (rows_of (found_of m))
     go None none = absurd (true≢false (sym fit ∙ ap (judged []) none))
     go (Some ps) are =
@@ -173,7 +173,7 @@ pub refused_said : (app : App) (names words : List (List ℕ)) (e : Error) → a
     → is_among positional_id names ≡ false → AreTexts words
     → (is_simple_and_free app ≡ true → HasKind (fault_of app words) e)
     → kind_of e ≢ kind.OutOfMemory
-    → parted names None words ≡ None
+    → said names at_word words ≡ None
 refused_said app names words e is free texts fails other =
     refused_words names words free (refused_by app names words e is free texts fails other)
 

@@ -1,11 +1,11 @@
 //! What words say, as `clap` reads them: options of one value, and a positional.
-ghost use Rattle.std.specs.Prelude.{◌≡◌, None, IfOk, map, false, [], string_bytes, option_copied};
+ghost use Rattle.std.specs.Prelude.{◌≡◌, IfOk, map, false, [], string_bytes, option_copied};
 ghost use Rattle.std.specs.Str.{bytes_eq};
 ghost use Rattle.clap.specs.Words.{app_of, rule_of};
 ghost use Rattle.psi_words.specs.Clap.{option_rule, positional_rule, plain_app, plain_shape};
 ghost use Rattle.psi_words.specs.Clap.{positional_id};
 ghost use Rattle.psi_words.specs.Reads.{names_in, ReadsWord};
-ghost use Rattle.run_spec.specs.Words.{is_among, parted, value_given};
+ghost use Rattle.run_spec.specs.Words.{at_word, is_among, said, value_given};
 
 use crate::words::BadWords;
 use clap::error::ErrorKind;
@@ -80,7 +80,7 @@ impl<'a> Parsed<'a> {
     ) -> Result<Parsed<'a>, Fault<BadWords>>
         requires { is_among positional_id (names_in names.now) ≡ false }
         ensures { let texts = map string_bytes words.entry.now in
-            ReadsWord result (parted (names_in names.now) None texts) }
+            ReadsWord result (said (names_in names.now) at_word texts) }
     {
         let command = command(alloc, names)?;
         match command.try_get_matches_from(words) {

@@ -12,7 +12,7 @@ use Rattle.run_spec.specs.declared.command.Options.{Options}
 use Rattle.run_spec.specs.declared.command.Shape.{Shape}
 use Rattle.run_spec.specs.declared.command.Command.TheVariants.{Stall, Check, Replay, Gen, Stress, Import, Rules, Whatif}
 use Rattle.std.proofs.Common.{lit≤}
-use Rattle.run_spec.specs.Words.{◌>>=◌, Given, parted, value_given, is_name, number_within, number_or}
+use Rattle.run_spec.specs.Words.{◌>>=◌, Given, at_word, said, value_given, is_name, number_within, number_or}
 use Rattle.run_spec.specs.Words.{needed, trace_given, rules_given, drop_in_given, live_given, tick_given, workers_given}
 use Rattle.run_spec.specs.Words.{options_of, shape_of, stall_of, check_of, replay_of, gen_of}
 use Rattle.run_spec.specs.Words.{stress_of, import_of, rules_command_of, whatif_of, IsOptionName, CommandForm, forms, command_of, IsWithin, AreOptions, IsShape}
@@ -295,5 +295,5 @@ unfolding command_of
 command_ranges [] command is = absurd (true≢false (sym (ap is_some is)))
 command_ranges (first ∷ words) command is =
     let form = bind_some (find (λ (form : CommandForm). bytes_eq first form.word) forms) _ command is in
-    let given = bind_some (parted form.0.options None words) _ command form.2 in
+    let given = bind_some (said form.0.options at_word words) _ command form.2 in
     each_found GivesCommands first forms form.0 all_ranges form.1 given.0 command given.2

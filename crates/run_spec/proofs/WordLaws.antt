@@ -10,7 +10,7 @@ use Rattle.std.proofs.lemmas.Slice.Eq.{bytes_eq-Decides}
 use Rattle.run_spec.specs.declared.command.Command.{Command}
 use Rattle.run_spec.specs.Words.{◌>>=◌, Word, assigned, opened, end, plain, unknown, is_dashed}
 use Rattle.run_spec.specs.Words.{is_among, is_equals, option_of, word_of, Given, value_given}
-use Rattle.run_spec.specs.Words.{with_option, with_positional, positionals, then_word, parted}
+use Rattle.run_spec.specs.Words.{with_option, with_positional, Stand, at_word, at_value, behind, by_word, said}
 use Rattle.run_spec.specs.Words.{options_of, shape_of, stall_of, check_of, replay_of, gen_of}
 use Rattle.run_spec.specs.Words.{stress_of, import_of, rules_command_of, whatif_of, CommandForm, forms, command_of}
 use Rattle.run_spec.specs.Laws.{assigned_word}
@@ -214,20 +214,16 @@ two_positionals one other (Some given) = go (is_some given.positional) refl
     go true is = rw is refl
     go false is = rw is refl
 
-both_positional : (before after : List (List ℕ)) (one other : List ℕ)
-    → positionals (before ++ one ∷ other ∷ after) ≡ positionals (before ++ other ∷ one ∷ after)
-both_positional [] after one other =
-    two_positionals one other (positionals after)
-    ∙ sym (two_positionals other one (positionals after))
-both_positional (word ∷ before) after one other =
-    ap (λ r. r >>= with_positional word) (both_positional before after one other)
+both_positional : (one other : List ℕ) (r : Option Given)
+    → (r >>= with_positional other) >>= with_positional one
+    ≡ (r >>= with_positional one) >>= with_positional other
+both_positional one other r = two_positionals one other r ∙ sym (two_positionals other one r)
 
-abbrev SameEither : List (List ℕ) → List (List ℕ) → List (List ℕ) → Type 0
-SameEither names one other =
-    (waiting : Option (List ℕ)) → Same (parted names waiting one) (parted names waiting other)
+abbrev SameFrom : List (List ℕ) → List (List ℕ) → List (List ℕ) → Type 0
+SameFrom names one other = (stand : Stand) → Same (said names stand one) (said names stand other)
 
 none_waits : (names : List (List ℕ)) (name word : List ℕ) (rest : List (List ℕ))
-    → is_dashed word ≡ true → parted names (Some name) (word ∷ rest) ≡ None
+    → is_dashed word ≡ true → said names (at_value name) (word ∷ rest) ≡ None
 none_waits names name word rest dashed = rw dashed refl
 
 -- at two words that are options, known or not
@@ -235,53 +231,63 @@ options_either : (names after : List (List ℕ)) (name value other another : Lis
     → name ≢ other
     → word_of names (assigned_word name value) ≡ assigned_among b name value
     → word_of names (assigned_word other another) ≡ assigned_among d other another
-    → Same (parted names None (assigned_word name value ∷ assigned_word other another ∷ after))
-    (parted names None (assigned_word other another ∷ assigned_word name value ∷ after))
+    → Same (said names at_word (assigned_word name value ∷ assigned_word other another ∷ after))
+    (said names at_word (assigned_word other another ∷ assigned_word name value ∷ after))
 options_either names after name value other another true true differ is is_other =
-    rw (is, is_other) (swapped name value other another differ (parted names None after))
+    rw (is, is_other, is) (swapped name value other another differ (said names at_word after))
 options_either names after name value other another true false differ is is_other =
     rw (is, is_other) tt
 options_either names after name value other another false true differ is is_other =
-    rw (is, is_other) tt
+    rw (is_other, is) tt
 options_either names after name value other another false false differ is is_other =
     rw (is, is_other) tt
 
 -- behind a word, what says the same goes on so
 word_either : (names : List (List ℕ)) (word : List ℕ) (one other : List (List ℕ))
-    → SameEither names one other → positionals one ≡ positionals other
-    → SameEither names (word ∷ one) (word ∷ other)
-word_either names word one other same plainly (Some name) = go (is_dashed word)
+    → SameFrom names one other → SameFrom names (word ∷ one) (word ∷ other)
+word_either names word one other same (at_value name) = go (is_dashed word)
   where
-    go : (b : Bool) → Same (if b then None else parted names None one >>= with_option name word)
-        (if b then None else parted names None other >>= with_option name word)
+    go : (b : Bool) → Same (if b then None else said names at_word one >>= with_option name word)
+        (if b then None else said names at_word other >>= with_option name word)
     go true = tt
     go false =
-        with_option_same name word (parted names None one) (parted names None other) (same None)
-word_either names word one other same plainly None = go (word_of names word)
+        with_option_same name word (said names at_word one) (said names at_word other)
+        (same at_word)
+word_either names word one other same behind =
+    with_positional_same word (said names behind one) (said names behind other) (same behind)
+word_either names word one other same at_word = go (word_of names word)
   where
-    go : (w : Word) → Same (then_word w word one (parted names None one)
-        (λ name. parted names (Some name) one))
-        (then_word w word other (parted names None other) (λ name. parted names (Some name) other))
+    go : (w : Word) → Same (by_word w word (λ stand. said names stand one))
+        (by_word w word (λ stand. said names stand other))
     go (assigned name value) =
-        with_option_same name value (parted names None one) (parted names None other) (same None)
-    go (opened name) = same (Some name)
-    go end = same_if _ _ plainly
+        with_option_same name value (said names at_word one) (said names at_word other)
+        (same at_word)
+    go (opened name) = same (at_value name)
+    go end = same behind
     go plain =
-        with_positional_same word (parted names None one) (parted names None other) (same None)
+        with_positional_same word (said names at_word one) (said names at_word other)
+        (same at_word)
     go unknown = tt
 
 all_either : (names before after : List (List ℕ)) (name value other another : List ℕ)
     → HasNoEquals name → HasNoEquals other → name ≢ other
-    → SameEither names (before ++ assigned_word name value ∷ assigned_word other another ∷ after)
+    → SameFrom names (before ++ assigned_word name value ∷ assigned_word other another ∷ after)
     (before ++ assigned_word other another ∷ assigned_word name value ∷ after)
-all_either names [] after name value other another none none_other differ None =
+all_either names [] after name value other another none none_other differ at_word =
     options_either names after name value other another (is_among name names) (is_among other names)
     differ (assigned_is names name value none) (assigned_is names other another none_other)
-all_either names [] after name value other another none none_other differ (Some waiting) = tt
-all_either names (word ∷ before) after name value other another none none_other differ waiting =
-    word_either names word _ _ (all_either names before after name value other another none
-    none_other differ) (both_positional before after (assigned_word name value)
-    (assigned_word other another)) waiting
+all_either names [] after name value other another none none_other differ (at_value waiting) = tt
+all_either names [] after name value other another none none_other differ behind =
+    let one = assigned_word name value in
+    let two = assigned_word other another in
+    let rest = said names behind after in
+    same_if ((rest >>= with_positional two) >>= with_positional one)
+    ((rest >>= with_positional one) >>= with_positional two) (both_positional one two rest)
+all_either names (word ∷ before) after name value other another none none_other differ stand =
+    word_either names word
+    (before ++ assigned_word name value ∷ assigned_word other another ∷ after)
+    (before ++ assigned_word other another ∷ assigned_word name value ∷ after)
+    (all_either names before after name value other another none none_other differ) stand
 
 -- ---- the tables look at what is said alone
 
@@ -367,18 +373,18 @@ same_read read (Some one) (Some other) respects same = respects one other same
 
 -- what is behind the command's word decides by what it says
 same_command : (first : List ℕ) (one other : List (List ℕ))
-    → ((names : List (List ℕ)) → Same (parted names None one) (parted names None other))
+    → ((names : List (List ℕ)) → Same (said names at_word one) (said names at_word other))
     → command_of (first ∷ one) ≡ command_of (first ∷ other)
 unfolding command_of
 same_command first one other same =
     go (find (λ (form : CommandForm). bytes_eq first form.word) forms) refl
   where
     go : (r : Option CommandForm) → find (λ (form : CommandForm). bytes_eq first form.word) forms ≡ r
-        → (r >>= λ form. parted form.options None one >>= λ given. form.command given)
-        ≡ (r >>= λ form. parted form.options None other >>= λ given. form.command given)
+        → (r >>= λ form. said form.options at_word one >>= λ given. form.command given)
+        ≡ (r >>= λ form. said form.options at_word other >>= λ given. form.command given)
     go None is = refl
     go (Some form) is =
-        same_read form.command (parted form.options None one) (parted form.options None other)
+        same_read form.command (said form.options at_word one) (said form.options at_word other)
         (each_found Respects first forms form all_respect is)
         (same form.options)
 
@@ -388,7 +394,7 @@ order_is_free [] after name value other another none none_other differ = refl
 order_is_free (first ∷ before) after name value other another none none_other differ =
     same_command first (before ++ assigned_word name value ∷ assigned_word other another ∷ after)
     (before ++ assigned_word other another ∷ assigned_word name value ∷ after)
-    (λ names. all_either names before after name value other another none none_other differ None)
+    (λ names. all_either names before after name value other another none none_other differ at_word)
 
 -- ---- a value in a word of its own
 
@@ -425,34 +431,35 @@ not_end names word other =
     go true true true true name value text = refl
     go true true true false name value text = refl
 
-abbrev Equal : List (List ℕ) → List (List ℕ) → List (List ℕ) → Type 0
-Equal names one other =
-    (waiting : Option (List ℕ)) → parted names waiting one ≡ parted names waiting other
+-- texts say the same at a word and at a value
+record IsEqual (names one other : List (List ℕ)) : Type 0 where
+  word : said names at_word one ≡ said names at_word other
+  value : (name : List ℕ) → said names (at_value name) one ≡ said names (at_value name) other
 
 -- behind a word that isn't `--`, what says the same goes on so
 word_equal : (names : List (List ℕ)) (word : List ℕ) (one other : List (List ℕ))
-    → bytes_eq word (codes "--") ≡ false → Equal names one other
-    → Equal names (word ∷ one) (word ∷ other)
-word_equal names word one other differs same (Some name) =
-    ap (λ r. if is_dashed word then None else r >>= with_option name word) (same None)
-word_equal names word one other differs same None =
-    go (word_of names word) (not_end names word differs)
+    → bytes_eq word (codes "--") ≡ false → IsEqual names one other
+    → IsEqual names (word ∷ one) (word ∷ other)
+word_equal names word one other differs same = record {
+  word = go (word_of names word) (not_end names word differs);
+  value = λ name. ap (λ r. if is_dashed word then None else r >>= with_option name word) same.word;
+}
   where
     go : (w : Word) → is_end w ≡ false
-        → then_word w word one (parted names None one) (λ name. parted names (Some name) one)
-        ≡ then_word w word other (parted names None other) (λ name. parted names (Some name) other)
-    go (assigned name value) is = ap (λ r. r >>= with_option name value) (same None)
-    go (opened name) is = same (Some name)
+        → by_word w word (λ stand. said names stand one)
+        ≡ by_word w word (λ stand. said names stand other)
+    go (assigned name value) is = ap (λ r. r >>= with_option name value) same.word
+    go (opened name) is = same.value name
     go end is = absurd (true≢false is)
-    go plain is = ap (λ r. r >>= with_positional word) (same None)
+    go plain is = ap (λ r. r >>= with_positional word) same.word
     go unknown is = refl
 
 value_here : (names after : List (List ℕ)) (name value : List ℕ) (b : Bool)
     → is_dashed value ≡ false
     → word_of names (assigned_word name value) ≡ assigned_among b name value
     → word_of names (codes "--" ++ name) ≡ (if b then opened name else unknown)
-    → parted names None (assigned_word name value ∷ after)
-    ≡ parted names None ((codes "--" ++ name) ∷ value ∷ after)
+    → said names at_word (assigned_word name value ∷ after)
+    ≡ said names at_word ((codes "--" ++ name) ∷ value ∷ after)
 value_here names after name value true bare is is_opened = rw (is, is_opened, bare) refl
 value_here names after name value false bare is is_opened = rw (is, is_opened) refl
 
@@ -461,16 +468,17 @@ dashed_name name = refl
 
 value_after_all : (names before after : List (List ℕ)) (name value : List ℕ) → HasNoEquals name
     → name ≢ [] → is_dashed value ≡ false → is_among (codes "--") before ≡ false
-    → Equal names (before ++ assigned_word name value ∷ after)
+    → IsEqual names (before ++ assigned_word name value ∷ after)
     (before ++ (codes "--" ++ name) ∷ value ∷ after)
-value_after_all names [] after name value none some bare free None =
-    value_here names after name value (is_among name names) bare (assigned_is names name value none)
-    (opened_is names name none some)
-value_after_all names [] after name value none some bare free (Some waiting) = refl
-value_after_all names (word ∷ before) after name value none some bare free waiting =
+value_after_all names [] after name value none some bare free = record {
+  word = value_here names after name value (is_among name names) bare
+      (assigned_is names name value none) (opened_is names name none some);
+  value = λ waiting. refl;
+}
+value_after_all names (word ∷ before) after name value none some bare free =
     let both = or_false (bytes_eq word (codes "--")) (is_among (codes "--") before) free in
     word_equal names word _ _ both.0
-    (value_after_all names before after name value none some bare both.1) waiting
+    (value_after_all names before after name value none some bare both.1)
 
 pub value_may_follow : ValueMayFollow
 unfolding command_of
@@ -479,5 +487,4 @@ value_may_follow (first ∷ before) after name value none some bare free =
     let both = or_false (bytes_eq first (codes "--")) (is_among (codes "--") before) free in
     same_command first (before ++ assigned_word name value ∷ after)
     (before ++ (codes "--" ++ name) ∷ value ∷ after)
-    (λ names. same_if _ _ (value_after_all names before after name value none some bare both.1
-    None))
+    (λ names. same_if _ _ (value_after_all names before after name value none some bare both.1).word)

@@ -1,5 +1,5 @@
--- The command that words spell: the words are parted into options and a positional, and then each
--- command has one table.
+-- The command that words spell: they say options and a positional, read from left to right, and then
+-- each command has one table.
 use Rattle.std.specs.Prelude.{◌≡◌, ◌≢◌, ℕ, ◌-◌, ◌^◌, ◌≤◌, ◌<◌, List, [], ◌∷◌, length, drop}
 use Rattle.std.specs.Prelude.{find, nat_eq, nat_lt, nat_le, ◌==◌, ◌&&◌, not, Bool}
 use Rattle.std.specs.Prelude.{true, false, if◌then◌else◌, codes, Option, None, Some, IfSome, IsSome}
@@ -91,31 +91,30 @@ abbrev pub with_positional : List ℕ → Given → Option Given
 with_positional word given =
     if is_some given.positional then None else Some (record given { positional = Some word })
 
--- what words say of which none is an option
-abbrev pub positionals : List (List ℕ) → Option Given
-positionals [] = Some nothing
-positionals (word ∷ words) = positionals words >>= with_positional word
+-- where the reading of words stands: at a word, at the value of an option, or behind `--`
+pub data Stand : Type 0 where
+  at_word : Stand
+  at_value : List ℕ → Stand
+  behind : Stand
 
--- what a word and those behind it say: `rest` is what those say by themselves, and `rest_from` what
--- they say where the first of them is the value of an option
-abbrev pub then_word : Word → List ℕ → List (List ℕ) → Option Given → (List ℕ → Option Given)
-    → Option Given
-then_word (assigned name value) word words rest rest_from = rest >>= with_option name value
-then_word (opened name) word words rest rest_from = rest_from name
-then_word end word words rest rest_from = positionals words
-then_word plain word words rest rest_from = rest >>= with_positional word
-then_word unknown word words rest rest_from = None
+-- what a word says, and those behind it, which are read from a stand on
+abbrev pub by_word : Word → List ℕ → (Stand → Option Given) → Option Given
+by_word (assigned name value) word rest = rest at_word >>= with_option name value
+by_word (opened name) word rest = rest (at_value name)
+by_word end word rest = rest behind
+by_word plain word rest = rest at_word >>= with_positional word
+by_word unknown word rest = None
 
--- what words say, where options have these names, and one of them may wait for its value, which is
--- then the first word
-abbrev pub parted : List (List ℕ) → Option (List ℕ) → List (List ℕ) → Option Given
-parted names None [] = Some nothing
-parted names (Some name) [] = None
-parted names (Some name) (word ∷ words) =
-    if is_dashed word then None else parted names None words >>= with_option name word
-parted names None (word ∷ words) =
-    then_word (word_of names word) word words (parted names None words)
-    (λ name. parted names (Some name) words)
+-- what words say from a stand on, where options have these names
+abbrev pub said : List (List ℕ) → Stand → List (List ℕ) → Option Given
+said names at_word [] = Some nothing
+said names (at_value name) [] = None
+said names behind [] = Some nothing
+said names at_word (word ∷ words) =
+    by_word (word_of names word) word (λ stand. said names stand words)
+said names (at_value name) (word ∷ words) =
+    if is_dashed word then None else said names at_word words >>= with_option name word
+said names behind (word ∷ words) = said names behind words >>= with_positional word
 
 -- ---- values
 
@@ -324,7 +323,7 @@ forms =
 -- the command of this form that the words behind its own spell
 abbrev pub spelled : CommandForm → List (List ℕ) → Option Command
 spelled form words = do
-  given ← parted form.options None words
+  given ← said form.options at_word words
   form.command given
 
 -- the command that words spell, or none: the first word is the command's own
