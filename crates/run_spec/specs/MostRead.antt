@@ -7,22 +7,26 @@ use Rattle.run_spec.specs.Outputs.{drop_in_name, import_name, rules_name, trace_
 abbrev pub most_lines : ℕ
 most_lines = 4000001
 
--- the most bytes of a line, its newline among them
+-- the most bytes of a line, without its newline
 abbrev pub longest_line : ℕ
-longest_line = 513
+longest_line = 512
 
--- the most bytes that are held behind the lines that were taken: as many as the reader has room for
+-- how many bytes are read ahead behind a line that is begun, however long that is: 64 KiB
+abbrev pub read_ahead : ℕ
+read_ahead = 65536
+
+-- the most bytes that are held behind the lines that were taken: a line that is begun, and what is read ahead
 abbrev pub most_held : ℕ
-most_held = 66048
+most_held = longest_line + read_ahead
 
 -- the most bytes that are read of a trace: no further than what is held behind the most lines that it can have
 abbrev pub most_of_trace : ℕ
-most_of_trace = most_lines * longest_line + most_held
+most_of_trace = most_lines * (longest_line + 1) + most_held
 
 -- the most bytes that are read of a text of ftrace: no further than what is held behind the most lines that it can have, and one
 -- more, which is refused
 abbrev pub most_of_import : ℕ
-most_of_import = 16000001 * longest_line + most_held
+most_of_import = 16000001 * (longest_line + 1) + most_held
 
 -- the most bytes that are read of a rules file or of a drop-in file: one more than it may have, so that a longer one is refused
 abbrev pub most_of_rules : ℕ
