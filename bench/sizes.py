@@ -4,9 +4,9 @@
 usage: bench/sizes.py
 
 A line counts where it isn't blank and no comment; of definitions and proofs what takes names from elsewhere (`use`) isn't
-counted either. The files that have to be believed are those that docs/ARCHITECTURE.md lists; of these the sections of laws
-are counted with the other definitions, since nobody has to believe what is proved. A contract is a clause of a function or a loop
-(`requires`, `ensures`, `invariant`), an `assert`, or a `ghost` item, up to the line where its brackets are closed.
+counted either. The files that have to be believed are those that docs/ARCHITECTURE.md lists; laws, which are proved, stand in
+others. A contract is a clause of a function or a loop (`requires`, `ensures`, `invariant`), an `assert`, or a `ghost` item, up to
+the line where its brackets are closed.
 """
 import pathlib
 import re
@@ -16,7 +16,6 @@ from collections.abc import Iterable, Iterator
 TOP = pathlib.Path(__file__).resolve().parent.parent
 CRATES = TOP / "crates"
 CONTRACT = re.compile(r"(requires|ensures|invariant|measure|assert|ghost)\b")
-LAWS = re.compile(r"-- -+ laws")
 BELIEVED_TITLE = "## The files that have to be believed"
 
 
@@ -27,16 +26,10 @@ def counted(lines: Iterable[str], comment: str) -> Iterator[str]:
             yield line
 
 
-def definition_lines(path: pathlib.Path) -> tuple[int, int]:
-    """How many lines of an .antt file define something, and how many of them stand in its sections of laws."""
-    every = laws = 0
-    is_law = False
-    for line in map(str.strip, path.read_text(encoding="utf-8").splitlines()):
-        if line.startswith("-- ----"):
-            is_law = bool(LAWS.match(line))
-        if line and not line.startswith(("--", "use ", "pub use ")):
-            every, laws = every + 1, laws + is_law
-    return every, laws
+def definition_lines(path: pathlib.Path) -> int:
+    """How many lines of an .antt file define something."""
+    lines = path.read_text(encoding="utf-8").splitlines()
+    return sum(1 for line in counted(lines, "--") if not line.startswith(("use ", "pub use ")))
 
 
 def rust_lines(path: pathlib.Path) -> tuple[int, int]:
@@ -81,15 +74,13 @@ def sizes() -> Iterator[tuple[str, int]]:
     specs, proofs = (sorted(CRATES.glob(f"*/{kind}/**/*.antt")) for kind in ("specs", "proofs"))
     rust = sorted(CRATES.glob("*/src/**/*.rt"))
     tests = [path for path in rust if path.relative_to(CRATES).parts[0].endswith("_tests")]
-    believed, believed_laws = sum_of(map(definition_lines, definitions))
-    others, _ = sum_of(definition_lines(path) for path in specs if path not in definitions)
     code, contracts = sum_of(rust_lines(path) for path in rust if path not in tests)
-    yield "lines of definitions to believe", believed - believed_laws
+    yield "lines of definitions to believe", sum(map(definition_lines, definitions))
     yield "lines of types to believe (code, counted again below)", sum_of(map(rust_lines, types))[0]
-    yield "lines of other definitions and laws", others + believed_laws
+    yield "lines of other definitions and laws", sum(definition_lines(path) for path in specs if path not in definitions)
     yield "lines of code", code
     yield "lines of contracts in the code", contracts
-    yield "lines of proofs", sum_of(map(definition_lines, proofs))[0]
+    yield "lines of proofs", sum(map(definition_lines, proofs))
     yield "lines of tests in crates", sum(sum_of(map(rust_lines, tests)))
     yield "cases of the built program (`tests/cases`)", sum(1 for _ in cases())
     yield "must-fail edits", len([*CRATES.glob("*/must-fail/*.edit"), *TOP.glob("bench/edits/**/*.edit")])
