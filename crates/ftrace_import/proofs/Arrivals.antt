@@ -7,11 +7,12 @@ use Rattle.psi_base.specs.declared.event.Act.TheVariants as act
 use Rattle.psi_base.specs.declared.event.Cpu.{Cpu}
 use Rattle.psi_base.specs.declared.event.How.TheVariants.{Preempt}
 use Rattle.psi_base.specs.declared.event.Pid.{Pid}
+use Rattle.psi_base.specs.Missing.{is_some_and}
 use Rattle.psi_spec.specs.declared.machine.Mode.{Mode}
 use Rattle.psi_spec.specs.declared.machine.Mode.TheVariants.{Blocked, Ready, Running, Waiting}
 use Rattle.psi_spec.specs.declared.machine.Task.{Task}
 use Rattle.psi_spec.specs.Fields.{IsPid}
-use Rattle.psi_spec.specs.World.{Tasks, World, after_event, after_from, change, change_to, is_active, is_ready, is_ready_on, is_running, is_running_on, leave, new_task, put, readied, running_on, task_of, test_task, events_at}
+use Rattle.psi_spec.specs.World.{Tasks, World, after_event, after_from, change, change_to, is_active, is_ready, is_ready_on, is_running, is_running_on, leave, new_task, put, readied, running_on, task_of, events_at}
 use Rattle.psi_spec.proofs.TaskLaws.{get_put, itself}
 use Rattle.psi_counts.specs.Touch.{RunsOnce}
 use Rattle.psi_counts.proofs.TouchCounts.{running_found}
@@ -29,7 +30,7 @@ less_room cpus at have room w so few = let all = so.few in stands_later cpus at 
 pub record Comes (cpus at room : ℕ) (cpu : Cpu) (pid : Pid) (w : World) (acts : List Act) : Type 0 where
   pub goes : Goes cpus at room w acts
   pub same : RunsAsBefore cpu.0 w.tasks (after_from w (events_at at acts)).tasks
-  pub ready : test_task (task_of (after_from w (events_at at acts)).tasks pid.0) (is_ready_on cpu.0) ≡ true
+  pub ready : is_some_and (task_of (after_from w (events_at at acts)).tasks pid.0) (is_ready_on cpu.0) ≡ true
 
 -- a task that was put in its place is found there
 put_there : (tasks : Tasks) (k : ℕ) (t : Task) → task_of (put tasks k t) k ≡ Some t
@@ -39,22 +40,22 @@ pub changed_is : (tasks : Tasks) (k : ℕ) (f : Task → Task) (t : Task) → ta
 changed_is tasks k f t is = ap (change_to tasks k f) is
 
 -- a task that is ready on a processor
-ready_there : (tasks : Tasks) (k cpu : ℕ) (t : Task) → t.cpu.0 ≡ cpu → is_ready t.mode ≡ true → test_task (task_of (put tasks k t) k) (is_ready_on cpu) ≡ true
+ready_there : (tasks : Tasks) (k cpu : ℕ) (t : Task) → t.cpu.0 ≡ cpu → is_ready t.mode ≡ true → is_some_and (task_of (put tasks k t) k) (is_ready_on cpu) ≡ true
 ready_there tasks k cpu t there ready = rw (put_there tasks k t, there, itself cpu, ready) refl
 
 -- one act that puts the task, ready, on the processor
 comes_by : (cpus at room : ℕ) (cpu : Cpu) (pid : Pid) (w : World) (what : Act) (t : Task) → Step cpus at room w what → (after_event w (event_at at what)).tasks ≡ put w.tasks pid.0 t
-    → test_task (task_of w.tasks pid.0) (is_running_on cpu.0) ≡ false → t.cpu.0 ≡ cpu.0 → t.mode ≡ Ready → Comes cpus at room cpu pid w (what ∷ [])
+    → is_some_and (task_of w.tasks pid.0) (is_running_on cpu.0) ≡ false → t.cpu.0 ≡ cpu.0 → t.mode ≡ Ready → Comes cpus at room cpu pid w (what ∷ [])
 comes_by cpus at room cpu pid w what t step is off there mode = record {
   goes = goes_one cpus at room w what step;
   same = subst (λ (tasks : Tasks). RunsAsBefore cpu.0 w.tasks tasks) (sym is) (runs_put cpu.0 w.tasks pid.0 t off (rests cpu.0 t (ap is_running mode)));
-  ready = subst (λ (tasks : Tasks). test_task (task_of tasks pid.0) (is_ready_on cpu.0) ≡ true) (sym is) (ready_there w.tasks pid.0 cpu.0 t there (ap is_ready mode));
+  ready = subst (λ (tasks : Tasks). is_some_and (task_of tasks pid.0) (is_ready_on cpu.0) ≡ true) (sym is) (ready_there w.tasks pid.0 cpu.0 t there (ap is_ready mode));
 }
 
-off_none : (o : Option Task) (cpu : ℕ) → o ≡ None → test_task o (is_running_on cpu) ≡ false
+off_none : (o : Option Task) (cpu : ℕ) → o ≡ None → is_some_and o (is_running_on cpu) ≡ false
 off_none o cpu is = rw is refl
 
-off_some : (o : Option Task) (t : Task) (cpu : ℕ) → o ≡ Some t → is_running t.mode ≡ false → test_task o (is_running_on cpu) ≡ false
+off_some : (o : Option Task) (t : Task) (cpu : ℕ) → o ≡ Some t → is_running t.mode ≡ false → is_some_and o (is_running_on cpu) ≡ false
 off_some o t cpu is off = rw is (rests cpu t off)
 
 asleep_off : (m : Mode) → is_active m ≡ false → is_running m ≡ false
@@ -115,7 +116,7 @@ runs_at_home t mode = rw (itself t.cpu.0, mode) refl
 not_wrong : (o : Option (ℕ × Task)) → is_some o ≡ true → not (is_some o) ≡ false
 not_wrong o some = rw some refl
 
-comes_pulled : (cpus at room : ℕ) (cpu : Cpu) (pid : Pid) (w : World) (task : Task) → Stands cpus at (room + 1 + 1) w → IsPid pid → cpu.0 < cpus → task_of w.tasks pid.0 ≡ Some task → task.mode ≡ Running → test_task (task_of w.tasks pid.0) (is_running_on cpu.0) ≡ false
+comes_pulled : (cpus at room : ℕ) (cpu : Cpu) (pid : Pid) (w : World) (task : Task) → Stands cpus at (room + 1 + 1) w → IsPid pid → cpu.0 < cpus → task_of w.tasks pid.0 ≡ Some task → task.mode ≡ Running → is_some_and (task_of w.tasks pid.0) (is_running_on cpu.0) ≡ false
     → Comes cpus at room cpu pid w (act.Switch task.cpu None Preempt ∷ act.Migrate pid cpu ∷ [])
 comes_pulled cpus at room cpu pid w task so is there live mode off =
     let home = runs_at_home task mode in
@@ -134,7 +135,7 @@ comes_pulled cpus at room cpu pid w task so is there live mode off =
 
 -- ---- all of them
 
-comes_live : (cpus at have room : ℕ) (cpu : Cpu) (pid : Pid) (w : World) (task : Task) (mode : Mode) → Stands cpus at have w → length (coming_acts pid cpu task.cpu mode) + room ≤ have → IsPid pid → cpu.0 < cpus → task_of w.tasks pid.0 ≡ Some task → task.mode ≡ mode → test_task (task_of w.tasks pid.0) (is_running_on cpu.0) ≡ false
+comes_live : (cpus at have room : ℕ) (cpu : Cpu) (pid : Pid) (w : World) (task : Task) (mode : Mode) → Stands cpus at have w → length (coming_acts pid cpu task.cpu mode) + room ≤ have → IsPid pid → cpu.0 < cpus → task_of w.tasks pid.0 ≡ Some task → task.mode ≡ mode → is_some_and (task_of w.tasks pid.0) (is_running_on cpu.0) ≡ false
     → Comes cpus at room cpu pid w (coming_acts pid cpu task.cpu mode)
 comes_live cpus at have room cpu pid w task Blocked so few is there live mode off = comes_woken cpus at room cpu pid w task (less_room cpus at have (room + 1) w so (omega (arith, few))) is there live (ap is_active mode)
 comes_live cpus at have room cpu pid w task Waiting so few is there live mode off = comes_woken cpus at room cpu pid w task (less_room cpus at have (room + 1) w so (omega (arith, few))) is there live (ap is_active mode)
@@ -145,7 +146,7 @@ comes_live cpus at have room cpu pid w task Ready so few is there live mode off 
     ] refl few
 comes_live cpus at have room cpu pid w task Running so few is there live mode off = comes_pulled cpus at room cpu pid w task (less_room cpus at have (room + 1 + 1) w so (omega (arith, few))) is there live mode off
 
-pub comes : (cpus at have room : ℕ) (cpu : Cpu) (pid : Pid) (w : World) (o : Option Task) → Stands cpus at have w → length (arrival_acts pid cpu o) + room ≤ have → IsPid pid → cpu.0 < cpus → task_of w.tasks pid.0 ≡ o → (o ≡ None → tasks_by.len w.tasks < 65536) → test_task (task_of w.tasks pid.0) (is_running_on cpu.0) ≡ false
+pub comes : (cpus at have room : ℕ) (cpu : Cpu) (pid : Pid) (w : World) (o : Option Task) → Stands cpus at have w → length (arrival_acts pid cpu o) + room ≤ have → IsPid pid → cpu.0 < cpus → task_of w.tasks pid.0 ≡ o → (o ≡ None → tasks_by.len w.tasks < 65536) → is_some_and (task_of w.tasks pid.0) (is_running_on cpu.0) ≡ false
     → Comes cpus at room cpu pid w (arrival_acts pid cpu o)
 comes cpus at have room cpu pid w None so few is there live space off = comes_made cpus at room cpu pid w (less_room cpus at have (room + 1) w so (omega (arith, few))) is there live (space refl)
 comes cpus at have room cpu pid w (Some task) so few is there live space off = comes_live cpus at have room cpu pid w task task.mode so few is there live refl off

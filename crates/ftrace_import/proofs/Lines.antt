@@ -8,12 +8,13 @@ use Rattle.psi_base.specs.declared.event.Act.TheVariants as act
 use Rattle.psi_base.specs.declared.event.Cpu.{Cpu}
 use Rattle.psi_base.specs.declared.event.How.{How}
 use Rattle.psi_base.specs.declared.event.Pid.{Pid}
+use Rattle.psi_base.specs.Missing.{is_some_and}
 use Rattle.psi_spec.specs.declared.machine.Task.{Task}
 use Rattle.psi_spec.specs.Fields.{IsPid}
 use Rattle.psi_spec.specs.Grammar.{One, verbs_of}
 use Rattle.psi_spec.specs.Refusal.{AreLegal}
 use Rattle.psi_spec.specs.Trace.{AllFit, AreKnown}
-use Rattle.psi_spec.specs.World.{World, after_from, is_active, is_ready, is_ready_on, task_of, test_task, events_at}
+use Rattle.psi_spec.specs.World.{World, after_from, is_active, is_ready, is_ready_on, task_of, events_at}
 use Rattle.psi_spec.proofs.RefusalLaws.{first_true, second_true}
 use Rattle.import_spec.specs.declared.cause.ImportCause.{ImportCause}
 use Rattle.import_spec.specs.declared.cause.ImportCause.TheVariants as cause
@@ -71,9 +72,9 @@ ok_same x y is = cc is
 -- acts go, and then the task doesn't sleep
 pub record Wakes (cpus at : ℕ) (pid : Pid) (w : World) (acts : List Act) : Type 0 where
   pub goes : Goes cpus at 0 w acts
-  pub awake : test_task (task_of (after_from w (events_at at acts)).tasks pid.0) (λ task. is_active task.mode) ≡ true
+  pub awake : is_some_and (task_of (after_from w (events_at at acts)).tasks pid.0) (λ task. is_active task.mode) ≡ true
 
-ready_awake : (o : Option Task) (cpu : ℕ) → test_task o (is_ready_on cpu) ≡ true → test_task o (λ task. is_active task.mode) ≡ true
+ready_awake : (o : Option Task) (cpu : ℕ) → is_some_and o (is_ready_on cpu) ≡ true → is_some_and o (λ task. is_active task.mode) ≡ true
 ready_awake None cpu ready = absurd (cc ready)
 ready_awake (Some task) cpu ready = let up : is_ready task.mode ≡ true = second_true (task.cpu.0 == cpu) (is_ready task.mode) ready in rw up refl
 
@@ -169,15 +170,15 @@ switch_runs cpus reached at cpu previous next how given so is found = switch_or 
 -- after a wakeup its task doesn't sleep
 wakeup_or : (cpus : ℕ) (reached : Reached) (at : ℕ) (pid : Pid) (cpu : Cpu) (given : Given) → IsUnderWay cpus reached → IsPid pid → (o : Option ImportCause)
     → acts_cause cpus reached.world (moment_of reached at) cpu (wakeup_acts pid cpu (task_of reached.world.tasks pid.0)) ≡ o → given_or reached at (moment_of reached at) (wakeup_acts pid cpu (task_of reached.world.tasks pid.0)) o ≡ Ok given
-    → test_task (task_of given.reached.world.tasks pid.0) (λ task. is_active task.mode) ≡ true
+    → is_some_and (task_of given.reached.world.tasks pid.0) (λ task. is_active task.mode) ≡ true
 wakeup_or cpus reached at pid cpu given so is (Some why) none found = absurd (cc found)
 wakeup_or cpus reached at pid cpu given so is None none found =
     let acts = wakeup_acts pid cpu (task_of reached.world.tasks pid.0) in
     let passes = pass cpus reached.world (moment_of reached at) cpu acts none in
     let woken = wakes cpus (moment_of reached at) (length acts) cpu pid reached.world (task_of reached.world.tasks pid.0) (stands_at cpus reached at cpu acts so passes) (omega arith) is passes.there refl passes.space in
-    subst (λ (g : Given). test_task (task_of g.reached.world.tasks pid.0) (λ task. is_active task.mode) ≡ true) (ok_same _ given found) woken.awake
+    subst (λ (g : Given). is_some_and (task_of g.reached.world.tasks pid.0) (λ task. is_active task.mode) ≡ true) (ok_same _ given found) woken.awake
 
-pub wakeup_wakes : (cpus : ℕ) (reached : Reached) (at : ℕ) (pid : Pid) (cpu : Cpu) (given : Given) → IsUnderWay cpus reached → IsPid pid → given_at cpus reached at (seen.Wakeup pid cpu) ≡ Ok given → test_task (task_of given.reached.world.tasks pid.0) (λ task. is_active task.mode) ≡ true
+pub wakeup_wakes : (cpus : ℕ) (reached : Reached) (at : ℕ) (pid : Pid) (cpu : Cpu) (given : Given) → IsUnderWay cpus reached → IsPid pid → given_at cpus reached at (seen.Wakeup pid cpu) ≡ Ok given → is_some_and (task_of given.reached.world.tasks pid.0) (λ task. is_active task.mode) ≡ true
 unfolding given_at
 wakeup_wakes cpus reached at pid cpu given so is found = wakeup_or cpus reached at pid cpu given so is _ refl found
 

@@ -5,10 +5,11 @@ use Rattle.std.proofs.lemmas.Bool.Decides.{nat_tests}
 use Rattle.psi_base.specs.declared.event.How.{How}
 use Rattle.psi_base.specs.declared.event.How.TheVariants.{Exit, Idle, IoWait, Preempt, Sleep}
 use Rattle.psi_base.specs.declared.event.Pid.{Pid}
+use Rattle.psi_base.specs.Missing.{is_some_and}
 use Rattle.psi_spec.specs.declared.machine.Mode.TheVariants.{Blocked, Ready, Running, Waiting}
 use Rattle.psi_spec.specs.declared.machine.Task.{Task}
 use Rattle.psi_spec.specs.Refusal.{is_wrong}
-use Rattle.psi_spec.specs.World.{Tasks, change_to, is_running, is_running_on, leave, left_by, placed, put, running_on, start, task_of, task_part, test_task}
+use Rattle.psi_spec.specs.World.{Tasks, change_to, is_running, is_running_on, leave, left_by, placed, put, running_on, start, task_of, task_part}
 use Rattle.psi_spec.proofs.TaskLaws.{get_put, task_placed}
 use Rattle.psi_counts.specs.Touch.{RunsOnce}
 use Rattle.psi_counts.proofs.TouchCounts.{running_found}
@@ -18,8 +19,8 @@ use Rattle.task_table.proofs.Runners.{only_runs, runs_there}
 
 -- ---- no task is in a stall
 
-pub calm_placed : (tasks : Tasks) → IsCalm tasks → (k : ℕ) (x : Option Task) → test_task x (λ t. t.stalled) ≡ false → IsCalm (placed tasks k x)
-calm_placed tasks calm k x is q = rw (task_placed tasks k x q) (elim (q == k) as (λ b. test_task (cond b x (task_of tasks q)) (λ t. t.stalled) ≡ false) [ true ↦ is | false ↦ calm q ])
+pub calm_placed : (tasks : Tasks) → IsCalm tasks → (k : ℕ) (x : Option Task) → is_some_and x (λ t. t.stalled) ≡ false → IsCalm (placed tasks k x)
+calm_placed tasks calm k x is q = rw (task_placed tasks k x q) (elim (q == k) as (λ b. is_some_and (cond b x (task_of tasks q)) (λ t. t.stalled) ≡ false) [ true ↦ is | false ↦ calm q ])
 
 pub calm_put : (tasks : Tasks) → IsCalm tasks → (k : ℕ) (t : Task) → t.stalled ≡ false → IsCalm (put tasks k t)
 calm_put tasks calm k t is = calm_placed tasks calm k (Some t) is
@@ -32,7 +33,7 @@ pub calm_change : (tasks : Tasks) → IsCalm tasks → (k : ℕ) (f : Task → T
 calm_change tasks calm k f keeps None is = calm
 calm_change tasks calm k f keeps (Some t) is = calm_put tasks calm k (f t) (keeps t ∙ calm_task tasks calm k t is)
 
-calm_left : (how : How) (t : Task) → t.stalled ≡ false → test_task (left_by how t) (λ t. t.stalled) ≡ false
+calm_left : (how : How) (t : Task) → t.stalled ≡ false → is_some_and (left_by how t) (λ t. t.stalled) ≡ false
 calm_left Preempt t is = is
 calm_left Sleep t is = is
 calm_left IoWait t is = is
@@ -51,7 +52,7 @@ pub calm_switch : (tasks : Tasks) → IsCalm tasks → (cpu : ℕ) (next : Optio
 calm_switch tasks calm cpu next how = calm_start (leave how tasks (running_on tasks cpu)) (calm_leave tasks calm cpu how (running_on tasks cpu) refl) next
 
 -- so the running one isn't
-pub calm_running : (tasks : Tasks) → IsCalm tasks → (cpu : ℕ) (o : Option (ℕ × Task)) → running_on tasks cpu ≡ o → test_task (task_part o) (λ t. t.stalled) ≡ false
+pub calm_running : (tasks : Tasks) → IsCalm tasks → (cpu : ℕ) (o : Option (ℕ × Task)) → running_on tasks cpu ≡ o → is_some_and (task_part o) (λ t. t.stalled) ≡ false
 calm_running tasks calm cpu None is = refl
 calm_running tasks calm cpu (Some e) is = calm_task tasks calm e.0 e.1 (running_found tasks cpu e is).0
 
@@ -59,19 +60,19 @@ calm_running tasks calm cpu (Some e) is = calm_task tasks calm e.0 e.1 (running_
 
 -- the same tasks run on a processor
 abbrev pub RunsAsBefore : ℕ → Tasks → Tasks → Type 0
-RunsAsBefore cpu before now = (q : ℕ) → test_task (task_of now q) (is_running_on cpu) ≡ test_task (task_of before q) (is_running_on cpu)
+RunsAsBefore cpu before now = (q : ℕ) → is_some_and (task_of now q) (is_running_on cpu) ≡ is_some_and (task_of before q) (is_running_on cpu)
 
-pub runs_put : (cpu : ℕ) (tasks : Tasks) (k : ℕ) (t : Task) → test_task (task_of tasks k) (is_running_on cpu) ≡ false → is_running_on cpu t ≡ false → RunsAsBefore cpu tasks (put tasks k t)
+pub runs_put : (cpu : ℕ) (tasks : Tasks) (k : ℕ) (t : Task) → is_some_and (task_of tasks k) (is_running_on cpu) ≡ false → is_running_on cpu t ≡ false → RunsAsBefore cpu tasks (put tasks k t)
 runs_put cpu tasks k t off rests q =
-    rw (get_put tasks k t q) (elim (q == k) as (λ b. (q == k) ≡ b → test_task (cond b (Some t) (task_of tasks q)) (is_running_on cpu) ≡ test_task (task_of tasks q) (is_running_on cpu)) [
+    rw (get_put tasks k t q) (elim (q == k) as (λ b. (q == k) ≡ b → is_some_and (cond b (Some t) (task_of tasks q)) (is_running_on cpu) ≡ is_some_and (task_of tasks q) (is_running_on cpu)) [
       | true ↦ λ number. let same : q ≡ k = grind (arith, nat_tests) in rests ∙ sym (rw same off)
       | false ↦ λ _. refl
     ] refl)
 
 -- some task runs where one is known to
-runs_if : (tasks : Tasks) (cpu q : ℕ) → test_task (task_of tasks q) (is_running_on cpu) ≡ true → is_some (running_on tasks cpu) ≡ true
+runs_if : (tasks : Tasks) (cpu q : ℕ) → is_some_and (task_of tasks q) (is_running_on cpu) ≡ true → is_some (running_on tasks cpu) ≡ true
 runs_if tasks cpu q runs =
-    elim (task_of tasks q) as (λ o. task_of tasks q ≡ o → test_task o (is_running_on cpu) ≡ true → is_some (running_on tasks cpu) ≡ true) [
+    elim (task_of tasks q) as (λ o. task_of tasks q ≡ o → is_some_and o (is_running_on cpu) ≡ true → is_some (running_on tasks cpu) ≡ true) [
       | None ↦ λ is r. absurd (cc r)
       | Some t ↦ λ is r. runs_there tasks q t cpu is r
     ] refl runs
@@ -81,7 +82,7 @@ runs_on : (cpu : ℕ) (before now : Tasks) → RunsAsBefore cpu before now → (
 runs_on cpu before now same None is some = absurd (cc some)
 runs_on cpu before now same (Some e) is some =
     let there = running_found before cpu e is in
-    runs_if now cpu e.0 (same e.0 ∙ ap (λ o. test_task o (is_running_on cpu)) there.0 ∙ there.1)
+    runs_if now cpu e.0 (same e.0 ∙ ap (λ o. is_some_and o (is_running_on cpu)) there.0 ∙ there.1)
 
 either_way : (a b : Bool) → (a ≡ true → b ≡ true) → (b ≡ true → a ≡ true) → b ≡ a
 either_way true b one other = one refl
@@ -100,9 +101,9 @@ runner_in : (tasks : Tasks) → RunsOnce tasks → (cpu : ℕ) (pid : Pid) (task
 runner_in tasks once cpu pid task is runs None found = let some = runs_there tasks pid.0 task cpu is runs in absurd (cc (some, ap is_some found))
 runner_in tasks once cpu pid task is runs (Some e) found = ap (λ n. let o : Option Pid = Some (record { 0 = n }) in o) (only_runs tasks once cpu pid.0 task e is runs found)
 
-pub runner_is : (tasks : Tasks) → RunsOnce tasks → (cpu : ℕ) (pid : Pid) → test_task (task_of tasks pid.0) (is_running_on cpu) ≡ true → runner tasks cpu ≡ Some pid
+pub runner_is : (tasks : Tasks) → RunsOnce tasks → (cpu : ℕ) (pid : Pid) → is_some_and (task_of tasks pid.0) (is_running_on cpu) ≡ true → runner tasks cpu ≡ Some pid
 runner_is tasks once cpu pid runs =
-    elim (task_of tasks pid.0) as (λ o. task_of tasks pid.0 ≡ o → test_task o (is_running_on cpu) ≡ true → runner tasks cpu ≡ Some pid) [
+    elim (task_of tasks pid.0) as (λ o. task_of tasks pid.0 ≡ o → is_some_and o (is_running_on cpu) ≡ true → runner tasks cpu ≡ Some pid) [
       | None ↦ λ is r. absurd (cc r)
       | Some t ↦ λ is r. runner_in tasks once cpu pid t is r (running_on tasks cpu) refl
     ] refl runs
@@ -118,7 +119,7 @@ pub rests : (cpu : ℕ) (t : Task) → is_running t.mode ≡ false → is_runnin
 rests cpu t off = elim (t.cpu.0 == cpu) as (λ b. (b && is_running t.mode) ≡ false) [ true ↦ off | false ↦ refl ]
 
 -- a task that made way doesn't run
-left_rests : (cpu : ℕ) (how : How) (e : ℕ × Task) → is_wrong how (Some e) ≡ false → test_task (left_by how e.1) (is_running_on cpu) ≡ false
+left_rests : (cpu : ℕ) (how : How) (e : ℕ × Task) → is_wrong how (Some e) ≡ false → is_some_and (left_by how e.1) (is_running_on cpu) ≡ false
 left_rests cpu Preempt e right = rests cpu (record e.1 { mode = Ready }) refl
 left_rests cpu Sleep e right = rests cpu (record e.1 { mode = Blocked }) refl
 left_rests cpu IoWait e right = rests cpu (record e.1 { mode = Waiting }) refl
@@ -126,12 +127,12 @@ left_rests cpu Exit e right = refl
 left_rests cpu Idle e right = absurd (cc right)
 
 -- then no task runs there
-none_after : (tasks : Tasks) → RunsOnce tasks → (cpu : ℕ) (how : How) (e : ℕ × Task) → running_on tasks cpu ≡ Some e → is_wrong how (Some e) ≡ false → (q : ℕ) → test_task (task_of (placed tasks e.0 (left_by how e.1)) q) (is_running_on cpu) ≡ false
+none_after : (tasks : Tasks) → RunsOnce tasks → (cpu : ℕ) (how : How) (e : ℕ × Task) → running_on tasks cpu ≡ Some e → is_wrong how (Some e) ≡ false → (q : ℕ) → is_some_and (task_of (placed tasks e.0 (left_by how e.1)) q) (is_running_on cpu) ≡ false
 none_after tasks once cpu how e found right q =
-    rw (task_placed tasks e.0 (left_by how e.1) q) (elim (q == e.0) as (λ b. (q == e.0) ≡ b → test_task (cond b (left_by how e.1) (task_of tasks q)) (is_running_on cpu) ≡ false) [
+    rw (task_placed tasks e.0 (left_by how e.1) q) (elim (q == e.0) as (λ b. (q == e.0) ≡ b → is_some_and (cond b (left_by how e.1) (task_of tasks q)) (is_running_on cpu) ≡ false) [
       | true ↦ λ _. left_rests cpu how e right
       | false ↦ λ other.
-          elim (task_of tasks q) as (λ o. task_of tasks q ≡ o → test_task o (is_running_on cpu) ≡ false) [
+          elim (task_of tasks q) as (λ o. task_of tasks q ≡ o → is_some_and o (is_running_on cpu) ≡ false) [
             | None ↦ λ _. refl
             | Some t ↦ λ is.
                 elim (is_running_on cpu t) as (λ b. is_running_on cpu t ≡ b → b ≡ false) [
@@ -141,9 +142,9 @@ none_after tasks once cpu how e found right q =
           ] refl
     ] refl)
 
-off_if : (tasks : Tasks) (cpu : ℕ) → ((q : ℕ) → test_task (task_of tasks q) (is_running_on cpu) ≡ false) → (o : Option (ℕ × Task)) → running_on tasks cpu ≡ o → is_some o ≡ false
+off_if : (tasks : Tasks) (cpu : ℕ) → ((q : ℕ) → is_some_and (task_of tasks q) (is_running_on cpu) ≡ false) → (o : Option (ℕ × Task)) → running_on tasks cpu ≡ o → is_some o ≡ false
 off_if tasks cpu none None is = refl
-off_if tasks cpu none (Some e) is = let there = running_found tasks cpu e is in absurd (cc (none e.0, ap (λ o. test_task o (is_running_on cpu)) there.0, there.1))
+off_if tasks cpu none (Some e) is = let there = running_found tasks cpu e is in absurd (cc (none e.0, ap (λ o. is_some_and o (is_running_on cpu)) there.0, there.1))
 
 pub none_runs : (tasks : Tasks) → RunsOnce tasks → (cpu : ℕ) (how : How) (e : ℕ × Task) → running_on tasks cpu ≡ Some e → is_wrong how (Some e) ≡ false → runner (leave how tasks (running_on tasks cpu)) cpu ≡ None
 none_runs tasks once cpu how e found right =

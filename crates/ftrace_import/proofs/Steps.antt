@@ -12,12 +12,13 @@ use Rattle.psi_base.specs.declared.event.Cpu.{Cpu}
 use Rattle.psi_base.specs.declared.event.Event.{Event}
 use Rattle.psi_base.specs.declared.event.How.{How}
 use Rattle.psi_base.specs.declared.event.Pid.{Pid}
+use Rattle.psi_base.specs.Missing.{is_some_and}
 use Rattle.psi_spec.specs.declared.machine.Task.{Task}
 use Rattle.psi_spec.specs.Fields.{IsAmong, IsPid}
 use Rattle.psi_spec.specs.Grammar.{ActFits, Fits, IsKnown, One, phrase_of, verbs_of}
 use Rattle.psi_spec.specs.Refusal.{AreLegal, cause_of, is_exit, is_wrong}
 use Rattle.psi_spec.specs.Trace.{AllFit, AreKnown, IsCpuCount}
-use Rattle.psi_spec.specs.World.{Tasks, World, after_event, after_from, ends, first_world, groups_after, is_active, is_ready, is_ready_on, readied, running_on, task_of, tasks_after, test_task, events_at}
+use Rattle.psi_spec.specs.World.{Tasks, World, after_event, after_from, ends, first_world, groups_after, is_active, is_ready, is_ready_on, readied, running_on, task_of, tasks_after, events_at}
 use Rattle.psi_counts.proofs.LegalLaws.{legal_first, legal_kept}
 use Rattle.task_table.specs.Causes.{act_cause}
 use Rattle.task_table.proofs.CauseLaws.{first_of_act}
@@ -171,9 +172,9 @@ step_migrate cpus at room w pid cpu task so is there live ready =
 
 -- a task that runs next, if there is one, is ready on the processor
 abbrev pub IsNext : Tasks → ℕ → Option Pid → Type 0
-IsNext tasks cpu next = IfSome next (λ pid. IsPid pid × (test_task (task_of tasks pid.0) (is_ready_on cpu) ≡ true))
+IsNext tasks cpu next = IfSome next (λ pid. IsPid pid × (is_some_and (task_of tasks pid.0) (is_ready_on cpu) ≡ true))
 
-some_ready : (o : Option Task) (cpu : ℕ) → test_task o (is_ready_on cpu) ≡ true → is_some o ≡ true
+some_ready : (o : Option Task) (cpu : ℕ) → is_some_and o (is_ready_on cpu) ≡ true → is_some o ≡ true
 some_ready None cpu ready = absurd (cc ready)
 some_ready (Some t) cpu ready = refl
 

@@ -9,11 +9,12 @@ use Rattle.psi_base.specs.declared.event.Cpu.{Cpu}
 use Rattle.psi_base.specs.declared.event.How.{How}
 use Rattle.psi_base.specs.declared.event.How.TheVariants.{Idle, Preempt}
 use Rattle.psi_base.specs.declared.event.Pid.{Pid}
+use Rattle.psi_base.specs.Missing.{is_some_and}
 use Rattle.psi_spec.specs.declared.machine.Mode.TheVariants.{Running}
 use Rattle.psi_spec.specs.declared.machine.Task.{Task}
 use Rattle.psi_spec.specs.Fields.{IsPid}
 use Rattle.psi_spec.specs.Refusal.{is_wrong}
-use Rattle.psi_spec.specs.World.{Tasks, World, after_event, after_from, change, is_ready, is_ready_on, is_running_on, leave, put, running_on, start, task_of, test_task, events_at}
+use Rattle.psi_spec.specs.World.{Tasks, World, after_event, after_from, change, is_ready, is_ready_on, is_running_on, leave, put, running_on, start, task_of, events_at}
 use Rattle.psi_spec.proofs.Following.{after_from-append}
 use Rattle.psi_spec.proofs.RefusalLaws.{first_true}
 use Rattle.psi_spec.proofs.TaskLaws.{get_put, itself}
@@ -36,16 +37,16 @@ put_there : (tasks : Tasks) (k : ℕ) (t : Task) → task_of (put tasks k t) k �
 put_there tasks k t = get_put tasks k t k ∙ ap (λ b. cond b (Some t) (task_of tasks k)) (itself k)
 
 -- a task that was ready on a processor runs there once it was started
-started_from : (tasks : Tasks) (cpu : ℕ) (how : How) (k : ℕ) (o : Option Task) → task_of tasks k ≡ o → test_task o (is_ready_on cpu) ≡ true → test_task (task_of (start (Some (record { 0 = k })) (leave how tasks (running_on tasks cpu))) k) (is_running_on cpu) ≡ true
+started_from : (tasks : Tasks) (cpu : ℕ) (how : How) (k : ℕ) (o : Option Task) → task_of tasks k ≡ o → is_some_and o (is_ready_on cpu) ≡ true → is_some_and (task_of (start (Some (record { 0 = k })) (leave how tasks (running_on tasks cpu))) k) (is_running_on cpu) ≡ true
 started_from tasks cpu how k None is ready = absurd (cc ready)
 started_from tasks cpu how k (Some t) is ready =
     let left = leave how tasks (running_on tasks cpu) in
-    let still : task_of left k ≡ Some t = ready_left tasks cpu how k (ap (λ o. test_task o (is_ready_on cpu)) is ∙ ready) (running_on tasks cpu) refl ∙ is in
+    let still : task_of left k ≡ Some t = ready_left tasks cpu how k (ap (λ o. is_some_and o (is_ready_on cpu)) is ∙ ready) (running_on tasks cpu) refl ∙ is in
     let there : (t.cpu.0 == cpu) ≡ true = first_true (t.cpu.0 == cpu) (is_ready t.mode) ready in
     let now : change left k (λ task. record task { mode = Running }) ≡ put left k (record t { mode = Running }) = changed_is left k (λ task. record task { mode = Running }) t still in
-    ap (λ (tasks : Tasks). test_task (task_of tasks k) (is_running_on cpu)) now ∙ rw (put_there left k (record t { mode = Running }), there) refl
+    ap (λ (tasks : Tasks). is_some_and (task_of tasks k) (is_running_on cpu)) now ∙ rw (put_there left k (record t { mode = Running }), there) refl
 
-started : (tasks : Tasks) (cpu : ℕ) (how : How) (pid : Pid) → test_task (task_of tasks pid.0) (is_ready_on cpu) ≡ true → test_task (task_of (start (Some pid) (leave how tasks (running_on tasks cpu))) pid.0) (is_running_on cpu) ≡ true
+started : (tasks : Tasks) (cpu : ℕ) (how : How) (pid : Pid) → is_some_and (task_of tasks pid.0) (is_ready_on cpu) ≡ true → is_some_and (task_of (start (Some pid) (leave how tasks (running_on tasks cpu))) pid.0) (is_running_on cpu) ≡ true
 started tasks cpu how pid ready = started_from tasks cpu how pid.0 (task_of tasks pid.0) refl ready
 
 -- one switch, after which its next task runs

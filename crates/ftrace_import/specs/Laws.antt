@@ -4,12 +4,13 @@ use Rattle.psi_base.specs.declared.event.Cpu.{Cpu}
 use Rattle.psi_base.specs.declared.event.Event.{Event}
 use Rattle.psi_base.specs.declared.event.How.{How}
 use Rattle.psi_base.specs.declared.event.Pid.{Pid}
+use Rattle.psi_base.specs.Missing.{is_some_and}
 use Rattle.psi_spec.specs.declared.machine.Task.{Task}
 use Rattle.psi_spec.specs.Fields.{IsAmong}
 use Rattle.psi_spec.specs.Grammar.{One, Version}
 use Rattle.psi_spec.specs.Trace.{IsCpuCount, accepts_with, text_of}
 use Rattle.psi_spec.specs.Laws.{IsTrace}
-use Rattle.psi_spec.specs.World.{Tasks, is_active, running_on, task_of, test_task}
+use Rattle.psi_spec.specs.World.{Tasks, is_active, running_on, task_of}
 use Rattle.import_spec.specs.declared.cause.ImportCause.{ImportCause}
 use Rattle.import_spec.specs.declared.seen.Seen.TheVariants as seen
 use Rattle.import_spec.specs.declared.seen.Sighting.{Sighting}
@@ -52,4 +53,4 @@ SwitchRunsNext = (cpus : ℕ) (lines : List (List ℕ)) (line : List ℕ) (at : 
 -- After a line of a wakeup its task is live, and doesn't sleep.
 abbrev pub WakeupWakes : Type 0
 WakeupWakes = (cpus : ℕ) (lines : List (List ℕ)) (line : List ℕ) (at : ℕ) (pid : Pid) (cpu : Cpu) (given : Given)
-    → GivesBehind cpus lines line (record { at = at; seen = seen.Wakeup pid cpu }) given → test_task (task_of given.reached.world.tasks pid.0) (λ task. is_active task.mode) ≡ true
+    → GivesBehind cpus lines line (record { at = at; seen = seen.Wakeup pid cpu }) given → is_some_and (task_of given.reached.world.tasks pid.0) (λ task. is_active task.mode) ≡ true

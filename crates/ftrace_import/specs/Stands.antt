@@ -2,12 +2,13 @@
 use Rattle.std.specs.Prelude.{◌≡◌, ℕ, ◌+◌, ◌≤◌, List, [], ◌∷◌, true, false, Option, IfSome, is_some}
 use Rattle.psi_base.specs.declared.event.Event.{Event}
 use Rattle.psi_base.specs.declared.event.How.{How}
+use Rattle.psi_base.specs.Missing.{is_some_and}
 use Rattle.psi_spec.specs.declared.machine.Task.{Task}
 use Rattle.psi_spec.specs.Fields.{IsPid}
 use Rattle.psi_spec.specs.Grammar.{One, verbs_of}
 use Rattle.psi_spec.specs.Refusal.{AreLegal, is_wrong}
 use Rattle.psi_spec.specs.Trace.{AllFit, AreKnown, EndsLast, IsCpuCount, limits_of}
-use Rattle.psi_spec.specs.World.{Limits, Tasks, World, root, task_of, test_task}
+use Rattle.psi_spec.specs.World.{Limits, Tasks, World, root, task_of}
 use Rattle.psi_counts.specs.Legal.{IsLegalWorld}
 use Rattle.import_spec.specs.declared.seen.Seen.{Seen}
 use Rattle.import_spec.specs.declared.seen.Seen.TheVariants as seen
@@ -19,7 +20,7 @@ limits cpus = limits_of default_tick cpus
 
 -- no task is in a stall
 abbrev pub IsCalm : Tasks → Type 0
-IsCalm tasks = (q : ℕ) → test_task (task_of tasks q) (λ t. t.stalled) ≡ false
+IsCalm tasks = (q : ℕ) → is_some_and (task_of tasks q) (λ t. t.stalled) ≡ false
 
 -- The world of an import, in which so many events may still be written at a moment (ns): it is legal, no task is in a stall, the
 -- root is the only group, and the trace goes on.

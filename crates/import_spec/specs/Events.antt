@@ -9,11 +9,12 @@ use Rattle.psi_base.specs.declared.event.How.TheVariants.{Idle, Preempt}
 use Rattle.psi_base.specs.declared.event.Act.{Act}
 use Rattle.psi_base.specs.declared.event.Act.TheVariants as act
 use Rattle.psi_base.specs.declared.event.Event.{Event}
+use Rattle.psi_base.specs.Missing.{is_some_and}
 use Rattle.psi_spec.specs.declared.machine.Mode.{Mode}
 use Rattle.psi_spec.specs.declared.machine.Mode.TheVariants.{Blocked, Ready, Running, Waiting}
 use Rattle.psi_spec.specs.declared.machine.Task.{Task}
 use Rattle.psi_spec.specs.Names.{names}
-use Rattle.psi_spec.specs.World.{Tasks, World, after_from, events_at, first_world, is_active, is_ready, is_running_on, most_tasks, running_on, task_of, test_task}
+use Rattle.psi_spec.specs.World.{Tasks, World, after_from, events_at, first_world, is_active, is_ready, is_running_on, most_tasks, running_on, task_of}
 use Rattle.import_spec.specs.declared.cause.ImportCause.{ImportCause}
 use Rattle.import_spec.specs.declared.cause.ImportCause.TheVariants as cause
 use Rattle.import_spec.specs.declared.seen.Seen.{Seen}
@@ -59,7 +60,7 @@ next_acts tasks cpu (Some pid) = arrival_acts pid cpu (task_of tasks pid.0)
 -- a task, if one is named, runs on a processor
 abbrev pub runs_there : Tasks → Cpu → Option Pid → Bool
 runs_there tasks cpu None = false
-runs_there tasks cpu (Some pid) = test_task (task_of tasks pid.0) (is_running_on cpu.0)
+runs_there tasks cpu (Some pid) = is_some_and (task_of tasks pid.0) (is_running_on cpu.0)
 
 -- how the task that runs on a processor makes way: as the line says, where the line names it, and else it is preempted
 abbrev pub leaving : Tasks → Cpu → Option Pid → How → How

@@ -1,6 +1,7 @@
 -- Which groups are killed at an evaluation: chains of actions, and rulesets that rest after a kill.
 use Rattle.std.specs.Prelude.{ℕ, ◌+◌, List, [], ◌∷◌, ◌++◌, find, nat_lt, ◌&&◌, not}
 use Rattle.std.specs.Prelude.{Bool, false, if◌then◌else◌, slice_get, Option, None, Some}
+use Rattle.psi_base.specs.Missing.{is_some_and}
 use Rattle.psi_spec.specs.declared.machine.GroupLife.{GroupLife}
 use Rattle.ruleset_json.specs.declared.types.Action.{Action}
 use Rattle.ruleset_json.specs.declared.types.Rule.{Rule}
@@ -38,14 +39,9 @@ chain lives rule act (first ∷ rest) now past =
 
 -- ---- rests
 
--- a test of an action that may be missing: a missing one passes none
-abbrev pub test_action : Option Action → (Action → Bool) → Bool
-test_action None test = false
-test_action (Some act) test = test act
-
 -- a kill by one of these actions ended its chain: the action doesn't always continue
 abbrev pub ends_chain : List Action → Kill → Bool
-ends_chain actions kill = test_action (slice_get actions kill.action) (λ act. not (after_of act).always_continue)
+ends_chain actions kill = is_some_and (slice_get actions kill.action) (λ act. not (after_of act).always_continue)
 
 -- the last kill that ended a chain, of the kills at each reading, the newest first
 abbrev pub last_ending : List Action → List (List Kill) → Option Kill

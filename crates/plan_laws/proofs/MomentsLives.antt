@@ -13,11 +13,12 @@ use Rattle.std.proofs.Math.Seq.{take-append_seam}
 use Rattle.psi_base.specs.declared.event.Act.{Act}
 use Rattle.psi_base.specs.declared.event.Act.TheVariants as act
 use Rattle.psi_base.specs.declared.event.Event.{Event}
+use Rattle.psi_base.specs.Missing.{is_some_and}
 use Rattle.psi_spec.specs.declared.machine.GroupLife.{GroupLife}
 use Rattle.psi_spec.specs.World.{World, Limits, root, is_live, new_group, marked_removed, marked_switched, groups_after, after, after_event, after_from, first_world, up_to}
 use Rattle.psi_spec.specs.Refusal.{AreLegal}
 use Rattle.psi_spec.specs.Stall.{number_of_slot}
-use Rattle.psi_spec.specs.Groups.{is_gone_by, is_live_at, is_live_in, test_life}
+use Rattle.psi_spec.specs.Groups.{is_gone_by, is_live_at, is_live_in}
 use Rattle.psi_spec.proofs.Following.{after_from-append}
 use Rattle.psi_spec.proofs.RefusalLaws.{first_true}
 use Rattle.psi_spec.proofs.SwitchLaws.{all_left, switched_leaves}
@@ -221,12 +222,12 @@ live_now last at low life is = gone_now life.made last at low life.gone is.gone 
 each_got : (P : GroupLife → Type 0) (groups : List GroupLife) → All P groups → (slot : ℕ) (life : GroupLife) → slice_get groups slot ≡ Some life → P life
 each_got P groups each slot life is = subst P (sym (unwrap_or-slice_get groups slot life) ∙ ap (λ o. unwrap_or o life) is) (each slot life (slice_get_within groups slot life is))
 
-live_in_now : (last at : ℕ) → last ≤ at → (groups : List GroupLife) → All (IsLife last) groups → (slot : ℕ) (o : Option GroupLife) → slice_get groups slot ≡ o → test_life o is_live ≡ test_life o (λ life. is_live_at life at)
+live_in_now : (last at : ℕ) → last ≤ at → (groups : List GroupLife) → All (IsLife last) groups → (slot : ℕ) (o : Option GroupLife) → slice_get groups slot ≡ o → is_some_and o is_live ≡ is_some_and o (λ life. is_live_at life at)
 live_in_now last at low groups each slot None is = refl
 live_in_now last at low groups each slot (Some life) is = live_now last at low life (each_got (IsLife last) groups each slot life is)
 
 -- a group that is made later isn't live yet
-behind_not_yet : (at : ℕ) (groups : List GroupLife) (life : GroupLife) (slot : ℕ) → is_live_at life at ≡ false → test_life (slice_get (groups ++ life ∷ []) slot) (λ l. is_live_at l at) ≡ test_life (slice_get groups slot) (λ l. is_live_at l at)
+behind_not_yet : (at : ℕ) (groups : List GroupLife) (life : GroupLife) (slot : ℕ) → is_live_at life at ≡ false → is_some_and (slice_get (groups ++ life ∷ []) slot) (λ l. is_live_at l at) ≡ is_some_and (slice_get groups slot) (λ l. is_live_at l at)
 behind_not_yet at [] life zero off = off
 behind_not_yet at [] life (suc slot) off = refl
 behind_not_yet at (first ∷ groups) life zero off = refl
@@ -244,25 +245,25 @@ removed_not_yet at moment past path life =
       | false ↦ λ _. refl
     ] refl
 
-removed_or_none : (at moment : ℕ) → at < moment → (path : List ℕ) (o : Option GroupLife) → test_life (option_map (marked_removed path moment) o) (λ l. is_live_at l at) ≡ test_life o (λ l. is_live_at l at)
+removed_or_none : (at moment : ℕ) → at < moment → (path : List ℕ) (o : Option GroupLife) → is_some_and (option_map (marked_removed path moment) o) (λ l. is_live_at l at) ≡ is_some_and o (λ l. is_live_at l at)
 removed_or_none at moment past path None = refl
 removed_or_none at moment past path (Some life) = removed_not_yet at moment past path life
 
 -- switching an account leaves which groups are live
-switched_or_none : (at : ℕ) (path : List ℕ) (on : Bool) (o : Option GroupLife) → test_life (option_map (marked_switched path on) o) (λ l. is_live_at l at) ≡ test_life o (λ l. is_live_at l at)
+switched_or_none : (at : ℕ) (path : List ℕ) (on : Bool) (o : Option GroupLife) → is_some_and (option_map (marked_switched path on) o) (λ l. is_live_at l at) ≡ is_some_and o (λ l. is_live_at l at)
 switched_or_none at path on None = refl
 switched_or_none at path on (Some life) = switched_leaves (λ l. is_live_at l at) (λ _ _. refl) path on life
 
 -- an act changes nothing of what was live before it
-live_before : (at moment : ℕ) → at < moment → (groups : List GroupLife) (slot : ℕ) (a : Act) → test_life (slice_get (groups_after moment groups a) slot) (λ l. is_live_at l at) ≡ test_life (slice_get groups slot) (λ l. is_live_at l at)
+live_before : (at moment : ℕ) → at < moment → (groups : List GroupLife) (slot : ℕ) (a : Act) → is_some_and (slice_get (groups_after moment groups a) slot) (λ l. is_live_at l at) ≡ is_some_and (slice_get groups slot) (λ l. is_live_at l at)
 live_before at moment past groups slot (act.Group path) = behind_not_yet at groups (new_group groups path moment) slot (ap (λ b. b && not (is_gone_by None at)) (to_come at moment past))
-live_before at moment past groups slot (act.Remove path) = ap (λ o. test_life o (λ l. is_live_at l at)) (slice_get-map (marked_removed path moment) groups slot) ∙ removed_or_none at moment past path (slice_get groups slot)
-live_before at moment past groups slot (act.Pressure path on) = ap (λ o. test_life o (λ l. is_live_at l at)) (slice_get-map (marked_switched path on) groups slot) ∙ switched_or_none at path on (slice_get groups slot)
+live_before at moment past groups slot (act.Remove path) = ap (λ o. is_some_and o (λ l. is_live_at l at)) (slice_get-map (marked_removed path moment) groups slot) ∙ removed_or_none at moment past path (slice_get groups slot)
+live_before at moment past groups slot (act.Pressure path on) = ap (λ o. is_some_and o (λ l. is_live_at l at)) (slice_get-map (marked_switched path on) groups slot) ∙ switched_or_none at path on (slice_get groups slot)
 live_before at moment past groups slot _ = refl
 
 -- the groups of a trace tell which are live in a slot at a moment
 abbrev TellsLive : List Event → Type 0
-TellsLive events = (at slot : ℕ) → is_live_in (after (up_to events at)).groups slot ≡ test_life (slice_get (after events).groups slot) (λ life. is_live_at life at)
+TellsLive events = (at slot : ℕ) → is_live_in (after (up_to events at)).groups slot ≡ is_some_and (slice_get (after events).groups slot) (λ life. is_live_at life at)
 
 tells-push : (limits : Limits) (events : List Event) (event : Event) → AreLegal limits first_world (events ++ event ∷ []) → TellsLive events → TellsLive (events ++ event ∷ [])
 tells-push limits events event legal before at slot =
@@ -276,7 +277,7 @@ tells-push limits events event legal before at slot =
     ap (λ es. is_live_in (after es).groups slot) not.others
     ∙ before at slot
     ∙ sym (live_before at event.at not.late (after events).groups slot event.act)
-    ∙ ap (λ (w : World). test_life (slice_get w.groups slot) (λ life. is_live_at life at)) (sym (after-push events event)))
+    ∙ ap (λ (w : World). is_some_and (slice_get w.groups slot) (λ life. is_live_at life at)) (sym (after-push events event)))
     (come_or_not limits events event legal at)
 
 pub lives_tell_live : LivesTellLive

@@ -20,10 +20,11 @@ use Rattle.std.proofs.lemmas.Map.Keys.{IsDistinct-IsPermutation}
 use Rattle.std.proofs.lemmas.Map.Made.{AllPairs-from_IsDistinct, IsDistinct-from_AllPairs}
 use Rattle.std.proofs.lemmas.Option.{slice_get_within, unwrap_or-slice_get}
 use Rattle.psi_base.specs.declared.event.Event.{Event}
+use Rattle.psi_base.specs.Missing.{is_some_and}
 use Rattle.psi_spec.specs.declared.machine.GroupLife.{GroupLife}
 use Rattle.psi_spec.specs.World.{Limits, root, is_live, slot_from, slot_of, after, first_world, up_to}
 use Rattle.psi_spec.specs.Refusal.{AreLegal}
-use Rattle.psi_spec.specs.Groups.{IsPathOrder, in_order, is_live_at, is_live_in, live_from, path_at, test_life}
+use Rattle.psi_spec.specs.Groups.{IsPathOrder, in_order, is_live_at, is_live_in, live_from, path_at}
 use Rattle.psi_spec.proofs.GroupLaws.{bytes_itself, found_below, found_group, same_bytes}
 use Rattle.psi_spec.proofs.RefusalLaws.{first_true, second_true}
 use Rattle.psi_counts.specs.Legal.{IsLegalWorld}
@@ -193,7 +194,7 @@ path_got groups slot life is =
     ∙ ap (λ (l : GroupLife). l.path) (sym (unwrap_or-slice_get groups slot life) ∙ ap (λ o. unwrap_or o life) is)
 
 -- a test of a group that passes
-passing : (o : Option GroupLife) → test_life o is_live ≡ true → (life : GroupLife) × (o ≡ Some life) × (is_live life ≡ true)
+passing : (o : Option GroupLife) → is_some_and o is_live ≡ true → (life : GroupLife) × (o ≡ Some life) × (is_live life ≡ true)
 passing None on = absurd (cc on)
 passing (Some life) on = (life, refl, on)
 
@@ -215,7 +216,7 @@ tells_of limits events legal at = record {
       let room : slot < length all = omega (arith, within, kept.few) in
       let got = got_there now slot within in
       let it = found_group 0 now path slot slot (slice_index_or now slot root) is (omega arith) got in
-      let live : is_live_in now slot ≡ true = ap (λ o. test_life o is_live) got ∙ first_true _ _ it in
+      let live : is_live_in now slot ≡ true = ap (λ o. is_some_and o is_live) got ∙ first_true _ _ it in
       (room, sym (same_live slot room) ∙ live, same_path slot within ∙ path_got now slot (slice_index_or now slot root) got ∙ same_bytes _ _ (second_true _ _ it));
 }
   where
@@ -234,7 +235,7 @@ tells_of limits events legal at = record {
     kept = groups_keep_slots limits events legal at
 
     same_live : (slot : ℕ) → slot < length all → is_live_in now slot ≡ is_live_slot all at slot
-    same_live slot room = lives_tell_live limits events legal at slot ∙ ap (λ o. test_life o (λ life. is_live_at life at)) (got_there all slot room)
+    same_live slot room = lives_tell_live limits events legal at slot ∙ ap (λ o. is_some_and o (λ life. is_live_at life at)) (got_there all slot room)
 
     same_path : (slot : ℕ) → slot < length now → path_at all slot ≡ path_at now slot
     same_path slot within = sym (ap (λ paths. slice_index_or paths slot []) kept.paths ∙ get_or-take (length now) (map (λ (l : GroupLife). l.path) all) slot [] within)

@@ -5,11 +5,12 @@ use Rattle.std.specs.List.Sorted.{IsNonDecreasingBy}
 use Rattle.psi_base.specs.declared.event.State.{State}
 use Rattle.psi_base.specs.declared.event.Event.{Event}
 use Rattle.psi_base.specs.declared.event.TriggerSpec.{TriggerSpec}
+use Rattle.psi_base.specs.Missing.{is_some_and}
 use Rattle.psi_spec.specs.declared.machine.GroupLife.{GroupLife}
 use Rattle.psi_spec.specs.World.{Limits, root, first_world, after, up_to, most_cpus, longest_irq}
 use Rattle.psi_spec.specs.Refusal.{AreLegal}
 use Rattle.psi_spec.specs.Stall.{parents_of, stall, irq_time}
-use Rattle.psi_spec.specs.Groups.{IsPathOrder, is_live_at, is_live_in, live_groups, path_at, test_life}
+use Rattle.psi_spec.specs.Groups.{IsPathOrder, is_live_at, is_live_in, live_groups, path_at}
 use Rattle.psi_spec.specs.Told.{AreTriggersWithin, triggers_of}
 
 -- ---- stall time
@@ -74,7 +75,7 @@ LivesAreInOrder = (limits : Limits) (events : List Event) → AreLegal limits fi
 abbrev pub LivesTellLive : Type 0
 LivesTellLive = (limits : Limits) (events : List Event) → AreLegal limits first_world events → (at slot : ℕ) →
     is_live_in (after (up_to events at)).groups slot
-    ≡ test_life (slice_get (after events).groups slot) (λ life. is_live_at life at)
+    ≡ is_some_and (slice_get (after events).groups slot) (λ life. is_live_at life at)
 
 -- Groups keep their slots, their paths, their parents and the moments (ns) at which they were made: some groups are the first of
 -- all in these.

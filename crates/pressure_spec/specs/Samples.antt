@@ -9,6 +9,7 @@ use Rattle.psi_base.specs.declared.event.Res.TheVariants.{Io, Memory, Cpu}
 use Rattle.psi_base.specs.declared.event.Level.{Level}
 use Rattle.psi_base.specs.declared.event.Level.TheVariants.{SomeStalled, FullStalled}
 use Rattle.psi_base.specs.declared.event.TriggerSpec.{TriggerSpec}
+use Rattle.psi_base.specs.Missing.{is_some_and}
 use Rattle.psi_spec.specs.declared.machine.GroupLife.{GroupLife}
 use Rattle.psi_spec.specs.World.{root}
 use Rattle.psi_spec.specs.Groups.{is_live_at}
@@ -98,14 +99,9 @@ has_fired cpus lives ticks tick trigger =
     is_live_at (life_of lives trigger.slot.0) tick.at && nat_le trigger.at tick.at
     && fires (trigger_over trigger (history_of cpus lives ticks trigger.slot.0)) tick.at (at_state (totals_after cpus lives (ticks ++ tick ∷ []) trigger.slot.0) (watched_state trigger))
 
--- a test of a trigger that may be missing: a missing one passes none
-abbrev pub passes : Option TriggerSpec → (TriggerSpec → Bool) → Bool
-passes None test = false
-passes (Some trigger) test = test trigger
-
 -- the trigger with a number from 0 signals
 abbrev pub fires_by_number : ℕ → List GroupLife → List TriggerSpec → List Tick → Tick → ℕ → Bool
-fires_by_number cpus lives triggers ticks tick i = passes (slice_get triggers i) (has_fired cpus lives ticks tick)
+fires_by_number cpus lives triggers ticks tick i = is_some_and (slice_get triggers i) (has_fired cpus lives ticks tick)
 
 -- the numbers of the triggers that signal at a tick that comes after others, ascending
 unfoldable pub fired_at : ℕ → List GroupLife → List TriggerSpec → List Tick → Tick → List ℕ

@@ -11,9 +11,10 @@ use Rattle.psi_base.specs.declared.event.Slot.{Slot}
 use Rattle.psi_base.specs.declared.event.Act.{Act}
 use Rattle.psi_base.specs.declared.event.Act.TheVariants as act
 use Rattle.psi_base.specs.declared.event.Event.{Event}
+use Rattle.psi_base.specs.Missing.{is_some_and}
 use Rattle.psi_spec.specs.declared.machine.Task.{Task}
 use Rattle.psi_spec.specs.declared.machine.GroupLife.{GroupLife}
-use Rattle.psi_spec.specs.World.{World, Limits, after, after_event, first_world, no_tasks, tasks_after, test_task}
+use Rattle.psi_spec.specs.World.{World, Limits, after, after_event, first_world, no_tasks, tasks_after}
 use Rattle.psi_spec.specs.Refusal.{AreLegal, cause_of}
 use Rattle.psi_spec.proofs.TaskLaws.{no_entries}
 use Rattle.psi_spec.proofs.RefusalLaws.{none_stands}
@@ -71,7 +72,7 @@ passage_tells at slot (Some old) (Some new) =
     ] refl
 
 -- a task is in a group
-member_group : (slot : ℕ) (o : Option Task) → test_task o (is_of slot) ≡ is_group slot (group_of o)
+member_group : (slot : ℕ) (o : Option Task) → is_some_and o (is_of slot) ≡ is_group slot (group_of o)
 member_group slot None = refl
 member_group slot (Some task) = refl
 

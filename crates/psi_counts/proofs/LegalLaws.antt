@@ -12,11 +12,12 @@ use Rattle.psi_base.specs.declared.event.Act.{Act}
 use Rattle.psi_base.specs.declared.event.Act.TheVariants as act
 use Rattle.psi_base.specs.declared.event.Event.{Event}
 use Rattle.psi_base.specs.declared.event.Cause.TheVariants as cause
+use Rattle.psi_base.specs.Missing.{is_some_and}
 use Rattle.psi_spec.specs.declared.machine.Task.{Task}
 use Rattle.psi_counts.specs.declared.changes.Change.{Change}
 use Rattle.psi_counts.specs.declared.changes.Counts.{Counts}
 use Rattle.psi_spec.specs.declared.machine.GroupLife.{GroupLife}
-use Rattle.psi_spec.specs.World.{World, Limits, Tasks, after, after_from, first_world, task_of, test_task, task_part, running_on, is_trigger, is_pressure, tasks_after, after_event}
+use Rattle.psi_spec.specs.World.{World, Limits, Tasks, after, after_from, first_world, task_of, task_part, running_on, is_trigger, is_pressure, tasks_after, after_event}
 use Rattle.psi_spec.specs.Refusal.{cause_of, applies, cause_order, AreLegal}
 use Rattle.psi_spec.specs.Stall.{is_under, is_in, parents_of, number_of_slot, tasks_in}
 use Rattle.psi_counts.specs.Counts.{counts_among, how_many}
@@ -47,12 +48,12 @@ counted_all : (tasks : Tasks) → counted always tasks ≡ fin.len tasks
 counted_all tasks = tally_all (fin.values tasks) ∙ length-map (fin.entries tasks) (λ e. e.1) ∙ sym (fin.len-entries tasks)
 
 -- a change makes no task
-changed_not_more : (f : Task → Task) (o : Option Task) → one (test_task (changed f o) always) ≤ one (test_task o always)
+changed_not_more : (f : Task → Task) (o : Option Task) → one (is_some_and (changed f o) always) ≤ one (is_some_and o always)
 changed_not_more f None = omega arith
 changed_not_more f (Some t) = omega arith
 
 -- nor does one that leaves
-left_not_more : (how : How) (o : Option Task) → one (test_task (left_if how o) always) ≤ one (test_task o always)
+left_not_more : (how : How) (o : Option Task) → one (is_some_and (left_if how o) always) ≤ one (is_some_and o always)
 left_not_more how None = omega arith
 left_not_more Preempt (Some t) = omega arith
 left_not_more Sleep (Some t) = omega arith

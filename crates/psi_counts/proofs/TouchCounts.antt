@@ -9,8 +9,9 @@ use Rattle.std.specs.FinMap as fin
 use Rattle.std.specs.List.{AllByRecursion}
 use Rattle.std.proofs.lemmas.Bool.Decides.{nat_tests, eqb_tells}
 use Rattle.psi_base.specs.declared.event.How.{How}
+use Rattle.psi_base.specs.Missing.{is_some_and}
 use Rattle.psi_spec.specs.declared.machine.Task.{Task}
-use Rattle.psi_spec.specs.World.{Tasks, task_of, put, remove, test_task, task_part, placed, leave, left_by, running_on, is_running_on, change_to}
+use Rattle.psi_spec.specs.World.{Tasks, task_of, put, remove, task_part, placed, leave, left_by, running_on, is_running_on, change_to}
 use Rattle.psi_counts.specs.Counts.{how_many}
 use Rattle.psi_counts.specs.Touch.{changed, left_if}
 use Rattle.psi_counts.proofs.CountLaws.{one, how_many-cons}
@@ -66,22 +67,22 @@ abbrev count : (Task → Bool) → List (ℕ × Task) → ℕ
 count p es = tally p (map (λ e. e.1) es)
 
 -- an entry more, or another in the place of one, counts by itself
-count_put : (p : Task → Bool) (k : ℕ) (v : Task) (es : List (ℕ × Task)) → T (fin.is_sorted nat_cmp es) → count p (fin.put nat_cmp k v es) + one (test_task (fin.find nat_cmp k es) p) ≡ count p es + one (p v)
+count_put : (p : Task → Bool) (k : ℕ) (v : Task) (es : List (ℕ × Task)) → T (fin.is_sorted nat_cmp es) → count p (fin.put nat_cmp k v es) + one (is_some_and (fin.find nat_cmp k es) p) ≡ count p es + one (p v)
 count_put p k v [] s =
     let goal : (one (p v) + 0) + 0 ≡ 0 + one (p v) = omega arith in goal
 count_put p k v (e ∷ es) s =
-    elim (nat_cmp k e.0) as (λ r. nat_cmp k e.0 ≡ r → count p (ordered r ((k, v) ∷ e ∷ es) ((e.0, v) ∷ es) (e ∷ fin.put nat_cmp k v es)) + one (test_task (cond (is_eq r) (Some e.1) (fin.find nat_cmp k es)) p) ≡ count p (e ∷ es) + one (p v)) [
+    elim (nat_cmp k e.0) as (λ r. nat_cmp k e.0 ≡ r → count p (ordered r ((k, v) ∷ e ∷ es) ((e.0, v) ∷ es) (e ∷ fin.put nat_cmp k v es)) + one (is_some_and (cond (is_eq r) (Some e.1) (fin.find nat_cmp k es)) p) ≡ count p (e ∷ es) + one (p v)) [
       | Less ↦ λ h. rw (none_above k e.0 es h (firstT (lower e.0 es) (fin.is_sorted nat_cmp es) s)) (let goal : (one (p v) + (one (p e.1) + count p es)) + 0 ≡ (one (p e.1) + count p es) + one (p v) = omega arith in goal)
       | Equal ↦ λ h. let goal : (one (p v) + count p es) + one (p e.1) ≡ (one (p e.1) + count p es) + one (p v) = omega arith in goal
       | Greater ↦ λ h.
           let rest = count_put p k v es (secondT (lower e.0 es) (fin.is_sorted nat_cmp es) s) in
-          let goal : (one (p e.1) + count p (fin.put nat_cmp k v es)) + one (test_task (fin.find nat_cmp k es) p) ≡ (one (p e.1) + count p es) + one (p v) = omega (arith, rest) in goal
+          let goal : (one (p e.1) + count p (fin.put nat_cmp k v es)) + one (is_some_and (fin.find nat_cmp k es) p) ≡ (one (p e.1) + count p es) + one (p v) = omega (arith, rest) in goal
     ] refl
 
 -- ---- one task more, less or another
 
 -- one more task, or another for the one with this number
-pub counted_put : (p : Task → Bool) (tasks : Tasks) (k : ℕ) (t : Task) → counted p (put tasks k t) + one (test_task (task_of tasks k) p) ≡ counted p tasks + one (p t)
+pub counted_put : (p : Task → Bool) (tasks : Tasks) (k : ℕ) (t : Task) → counted p (put tasks k t) + one (is_some_and (task_of tasks k) p) ≡ counted p tasks + one (p t)
 counted_put p tasks k t =
     rw (fin.entries-insert nat_cmp_total tasks k t, fin.get-entries tasks k) (count_put p k t (fin.entries tasks) (fin.entries_sorted tasks))
 
@@ -97,9 +98,9 @@ same_without tasks k is q =
     get_remove tasks k q ∙ ⊎_elim (λ same. rw (same.0) (sym (ap (task_of tasks) same.1 ∙ is))) (λ other. rw (other.0) refl) (eqb_tells q k)
 
 -- one task less
-pub counted_remove : (p : Task → Bool) (tasks : Tasks) (k : ℕ) → counted p (remove tasks k) + one (test_task (task_of tasks k) p) ≡ counted p tasks
+pub counted_remove : (p : Task → Bool) (tasks : Tasks) (k : ℕ) → counted p (remove tasks k) + one (is_some_and (task_of tasks k) p) ≡ counted p tasks
 counted_remove p tasks k =
-    elim (task_of tasks k) as (λ o. task_of tasks k ≡ o → counted p (remove tasks k) + one (test_task o p) ≡ counted p tasks) [
+    elim (task_of tasks k) as (λ o. task_of tasks k ≡ o → counted p (remove tasks k) + one (is_some_and o p) ≡ counted p tasks) [
       | None ↦ λ is. let same = ap (counted p) (same_tasks (remove tasks k) tasks (same_without tasks k is)) in omega (arith, same)
       | Some t ↦ λ is.
           let whole = ap (counted p) (same_tasks (put (remove tasks k) k t) tasks (put_back tasks k t is)) in
@@ -109,12 +110,12 @@ counted_remove p tasks k =
     ] refl
 
 -- another in its place, or none
-pub counted_placed : (p : Task → Bool) (tasks : Tasks) (k : ℕ) (x : Option Task) → counted p (placed tasks k x) + one (test_task (task_of tasks k) p) ≡ counted p tasks + one (test_task x p)
+pub counted_placed : (p : Task → Bool) (tasks : Tasks) (k : ℕ) (x : Option Task) → counted p (placed tasks k x) + one (is_some_and (task_of tasks k) p) ≡ counted p tasks + one (is_some_and x p)
 counted_placed p tasks k None = let less = counted_remove p tasks k in omega (arith, less)
 counted_placed p tasks k (Some t) = counted_put p tasks k t
 
 -- the task with a number changes, if there is one
-pub counted_changed : (p : Task → Bool) (tasks : Tasks) (pid : ℕ) (f : Task → Task) (o : Option Task) → task_of tasks pid ≡ o → counted p (change_to tasks pid f o) + one (test_task o p) ≡ counted p tasks + one (test_task (changed f o) p)
+pub counted_changed : (p : Task → Bool) (tasks : Tasks) (pid : ℕ) (f : Task → Task) (o : Option Task) → task_of tasks pid ≡ o → counted p (change_to tasks pid f o) + one (is_some_and o p) ≡ counted p tasks + one (is_some_and (changed f o) p)
 counted_changed p tasks pid f None is = refl
 counted_changed p tasks pid f (Some t) is = rw is at (counted_put p tasks pid (f t))
 
@@ -134,6 +135,6 @@ pub running_found : (tasks : Tasks) (cpu : ℕ) (e : ℕ × Task) → running_on
 running_found tasks cpu e is = find_has (λ e. task_of tasks e.0 ≡ Some e.1) (λ e. is_running_on cpu e.1) (fin.entries tasks) e (found tasks) is
 
 -- the running task leaves, if there is one
-pub counted_leave : (p : Task → Bool) (tasks : Tasks) (cpu : ℕ) (how : How) (o : Option (ℕ × Task)) → running_on tasks cpu ≡ o → counted p (leave how tasks o) + one (test_task (task_part o) p) ≡ counted p tasks + one (test_task (left_if how (task_part o)) p)
+pub counted_leave : (p : Task → Bool) (tasks : Tasks) (cpu : ℕ) (how : How) (o : Option (ℕ × Task)) → running_on tasks cpu ≡ o → counted p (leave how tasks o) + one (is_some_and (task_part o) p) ≡ counted p tasks + one (is_some_and (left_if how (task_part o)) p)
 counted_leave p tasks cpu how None is = refl
 counted_leave p tasks cpu how (Some e) is = rw ((running_found tasks cpu e is).0) at (counted_placed p tasks e.0 (left_by how e.1))

@@ -10,12 +10,13 @@ use Rattle.psi_base.specs.declared.event.Pid.{Pid}
 use Rattle.psi_base.specs.declared.event.Act.{Act}
 use Rattle.psi_base.specs.declared.event.Act.TheVariants as act
 use Rattle.psi_base.specs.declared.event.Event.{Event}
+use Rattle.psi_base.specs.Missing.{is_some_and}
 use Rattle.psi_spec.specs.declared.machine.Task.{Task}
 use Rattle.psi_counts.specs.declared.changes.Change.{Change}
 use Rattle.psi_counts.specs.declared.changes.Counts.{Counts}
 use Rattle.psi_spec.specs.declared.machine.Mode.{Mode}
 use Rattle.psi_spec.specs.declared.machine.Mode.TheVariants.{Blocked, Waiting, Ready, Running}
-use Rattle.psi_spec.specs.World.{World, Limits, Tasks, task_of, test_task, task_part, change_to, leave, left_by, start, running_on, is_running_on, is_ready_on, is_running, is_ready, is_waiting, is_active, tasks_after, after_event, new_task, readied}
+use Rattle.psi_spec.specs.World.{World, Limits, Tasks, task_of, task_part, change_to, leave, left_by, start, running_on, is_running_on, is_ready_on, is_running, is_ready, is_waiting, is_active, tasks_after, after_event, new_task, readied}
 use Rattle.psi_spec.specs.Refusal.{cause_of, is_wrong, isnt_ready}
 use Rattle.psi_spec.specs.Stall.{is_under, is_in, tasks_in, waits, stalls, is_up, runs}
 use Rattle.psi_counts.specs.Counts.{how_many, counts_among, is_up_stalled, runs_stalled}
@@ -43,17 +44,17 @@ ready_off Blocked r s = cc r
 ready_off Waiting r s = cc r
 
 -- no task is both ready and running on a processor
-not_both : (o : Option Task) (cpu : ℕ) → test_task o (is_ready_on cpu) ≡ true → test_task o (is_running_on cpu) ≡ true → ⊥
+not_both : (o : Option Task) (cpu : ℕ) → is_some_and o (is_ready_on cpu) ≡ true → is_some_and o (is_running_on cpu) ≡ true → ⊥
 not_both None cpu r s = cc r
 not_both (Some t) cpu r s = ready_off t.mode (second_true (t.cpu.0 == cpu) (is_ready t.mode) r) (second_true (t.cpu.0 == cpu) (is_running t.mode) s)
 
 -- a ready task stays as it is when the running one leaves
-pub ready_left : (tasks : Tasks) (cpu : ℕ) (how : How) (q : ℕ) → test_task (task_of tasks q) (is_ready_on cpu) ≡ true → (o : Option (ℕ × Task)) → running_on tasks cpu ≡ o → task_of (leave how tasks o) q ≡ task_of tasks q
+pub ready_left : (tasks : Tasks) (cpu : ℕ) (how : How) (q : ℕ) → is_some_and (task_of tasks q) (is_ready_on cpu) ≡ true → (o : Option (ℕ × Task)) → running_on tasks cpu ≡ o → task_of (leave how tasks o) q ≡ task_of tasks q
 ready_left tasks cpu how q ready None is = refl
 ready_left tasks cpu how q ready (Some e) is =
     let f = running_found tasks cpu e is in
     task_placed tasks e.0 (left_by how e.1) q ∙ ⊎_elim
-    (λ same. absurd (not_both (task_of tasks q) cpu ready (ap (λ o. test_task o (is_running_on cpu)) (ap (task_of tasks) same.1 ∙ f.0) ∙ f.1)))
+    (λ same. absurd (not_both (task_of tasks q) cpu ready (ap (λ o. is_some_and o (is_running_on cpu)) (ap (task_of tasks) same.1 ∙ f.0) ∙ f.1)))
     (λ other. ap (λ b. cond b (left_by how e.1) (task_of tasks q)) other.0)
     (eqb_tells q e.0)
 
@@ -64,12 +65,12 @@ abbrev pub Blind : (Task → Bool) → Type 0
 Blind p = (t : Task) → is_ready t.mode ≡ true → p (record t { mode = Running }) ≡ p t
 
 -- a task that is ready on a processor is ready
-ready_somewhere : (o : Option Task) (cpu : ℕ) → test_task o (is_ready_on cpu) ≡ true → test_task o (λ t. is_ready t.mode) ≡ true
+ready_somewhere : (o : Option Task) (cpu : ℕ) → is_some_and o (is_ready_on cpu) ≡ true → is_some_and o (λ t. is_ready t.mode) ≡ true
 ready_somewhere None cpu h = h
 ready_somewhere (Some t) cpu h = second_true (t.cpu.0 == cpu) (is_ready t.mode) h
 
 -- a ready task that starts counts as before
-counted_started : (p : Task → Bool) → Blind p → (tasks : Tasks) (pid : ℕ) (o : Option Task) → task_of tasks pid ≡ o → test_task o (λ t. is_ready t.mode) ≡ true → counted p (change_to tasks pid (λ task. record task { mode = Running }) o) ≡ counted p tasks
+counted_started : (p : Task → Bool) → Blind p → (tasks : Tasks) (pid : ℕ) (o : Option Task) → task_of tasks pid ≡ o → is_some_and o (λ t. is_ready t.mode) ≡ true → counted p (change_to tasks pid (λ task. record task { mode = Running }) o) ≡ counted p tasks
 counted_started p blind tasks pid None is ready = refl
 counted_started p blind tasks pid (Some t) is ready =
     let same = ap one (blind t ready) in
@@ -80,13 +81,13 @@ counted_started p blind tasks pid (Some t) is ready =
 counted_start : (p : Task → Bool) → Blind p → (tasks : Tasks) (cpu : ℕ) (how : How) (next : Option Pid) → isnt_ready tasks cpu next ≡ false → counted p (start next (leave how tasks (running_on tasks cpu))) ≡ counted p (leave how tasks (running_on tasks cpu))
 counted_start p blind tasks cpu how None h = refl
 counted_start p blind tasks cpu how (Some pid) h =
-    let ready = not_false (test_task (task_of tasks pid.0) (is_ready_on cpu)) h in
+    let ready = not_false (is_some_and (task_of tasks pid.0) (is_ready_on cpu)) h in
     let still = ready_left tasks cpu how pid.0 ready (running_on tasks cpu) refl in
     counted_started p blind (leave how tasks (running_on tasks cpu)) pid.0 _ refl (rw still (ready_somewhere (task_of tasks pid.0) cpu ready))
 
 -- an act changes a count by the one task that it changes
 abbrev pub CountsOne : (Task → Bool) → World → Act → Type 0
-CountsOne p w a = counted p (tasks_after w.groups w.tasks a) + one (test_task (before w.tasks a) p) ≡ counted p w.tasks + one (test_task (task_after w.groups w.tasks a) p)
+CountsOne p w a = counted p (tasks_after w.groups w.tasks a) + one (is_some_and (before w.tasks a) p) ≡ counted p w.tasks + one (is_some_and (task_after w.groups w.tasks a) p)
 
 -- each legal act counts so
 pub counted_act : (p : Task → Bool) → Blind p → (limits : Limits) (w : World) (at : ℕ) (a : Act) → cause_of limits w (record { at = at; act = a }) ≡ None → CountsOne p w a
@@ -111,7 +112,7 @@ how_many_one : (kind : Task → Bool) (t : Task) → how_many kind (t ∷ []) �
 how_many_one kind t = how_many-cons kind t [] ∙ (let goal : one (kind t) + 0 ≡ one (kind t) = omega arith in goal)
 
 -- a field of a task's part on a chain is whether the task counts there
-chain_field : (f : Counts → ℕ) → f no_counts ≡ 0 → (kind : Task → Bool) → ((t : Task) → f (counts_among (t ∷ [])) ≡ one (kind t)) → (parents : List (Option ℕ)) (cpu slot : ℕ) (o : Option Task) → one (test_task o (λ t. is_in parents cpu slot t && kind t)) ≡ f (on_chain parents slot (part cpu o))
+chain_field : (f : Counts → ℕ) → f no_counts ≡ 0 → (kind : Task → Bool) → ((t : Task) → f (counts_among (t ∷ [])) ≡ one (kind t)) → (parents : List (Option ℕ)) (cpu slot : ℕ) (o : Option Task) → one (is_some_and o (λ t. is_in parents cpu slot t && kind t)) ≡ f (on_chain parents slot (part cpu o))
 chain_field f none kind same parents cpu slot None = sym none
 chain_field f none kind same parents cpu slot (Some t) =
     elim (t.cpu.0 == cpu) as (λ a. one ((a && is_under parents t.slot.0 slot) && kind t) ≡ f (on_chain parents slot (if a then Some (t.slot, counts_among (t ∷ [])) else None))) [
@@ -174,7 +175,7 @@ off : (c : ℕ) (g : Task → Bool) (t : Task) → is_at c t ≡ false → one (
 off c g t h = ap (λ b. one (b && g t)) h
 
 -- nor does it after it left
-left_other : (how : How) (c : ℕ) (g : Task → Bool) (t : Task) → is_at c t ≡ false → one (test_task (left_by how t) (at_cpu c g)) ≡ 0
+left_other : (how : How) (c : ℕ) (g : Task → Bool) (t : Task) → is_at c t ≡ false → one (is_some_and (left_by how t) (at_cpu c g)) ≡ 0
 left_other Preempt c g t h = off c g (record t { mode = Ready }) h
 left_other Sleep c g t h = off c g (record t { mode = Blocked }) h
 left_other IoWait c g t h = off c g (record t { mode = Waiting }) h
@@ -196,7 +197,7 @@ quiet_leave g tasks cpu c how h (Some e) is =
     omega (arith, left, was, gone)
 
 -- a task that is elsewhere before and after a change changes no count
-quiet_changed : (g : Task → Bool) (tasks : Tasks) (pid c : ℕ) (f : Task → Task) (o : Option Task) → task_of tasks pid ≡ o → test_task o (is_at c) ≡ false → test_task (changed f o) (is_at c) ≡ false → counted (at_cpu c g) (change_to tasks pid f o) ≡ counted (at_cpu c g) tasks
+quiet_changed : (g : Task → Bool) (tasks : Tasks) (pid c : ℕ) (f : Task → Task) (o : Option Task) → task_of tasks pid ≡ o → is_some_and o (is_at c) ≡ false → is_some_and (changed f o) (is_at c) ≡ false → counted (at_cpu c g) (change_to tasks pid f o) ≡ counted (at_cpu c g) tasks
 quiet_changed g tasks pid c f None is h k = refl
 quiet_changed g tasks pid c f (Some t) is h k =
     let more = rw is at (counted_put (at_cpu c g) tasks pid (f t)) in
@@ -205,17 +206,17 @@ quiet_changed g tasks pid c f (Some t) is h k =
     omega (arith, more, was, now)
 
 -- a task that is ready on a processor is on no other
-ready_elsewhere : (o : Option Task) (cpu c : ℕ) → test_task o (is_ready_on cpu) ≡ true → (cpu == c) ≡ false → test_task o (is_at c) ≡ false
+ready_elsewhere : (o : Option Task) (cpu c : ℕ) → is_some_and o (is_ready_on cpu) ≡ true → (cpu == c) ≡ false → is_some_and o (is_at c) ≡ false
 ready_elsewhere None cpu c r h = refl
 ready_elsewhere (Some t) cpu c r h = elsewhere t.cpu.0 cpu c (first_true (t.cpu.0 == cpu) (is_ready t.mode) r) h
 
 -- a change that leaves a task on its processor
-same_cpu : (f : Task → Task) → ((t : Task) → (f t).cpu ≡ t.cpu) → (o : Option Task) (c : ℕ) → test_task o (is_at c) ≡ false → test_task (changed f o) (is_at c) ≡ false
+same_cpu : (f : Task → Task) → ((t : Task) → (f t).cpu ≡ t.cpu) → (o : Option Task) (c : ℕ) → is_some_and o (is_at c) ≡ false → is_some_and (changed f o) (is_at c) ≡ false
 same_cpu f same None c h = refl
 same_cpu f same (Some t) c h = rw (same t) h
 
 -- a task that comes to a processor is on no other
-readied_cpu : (o : Option Task) (cpu c : ℕ) → (cpu == c) ≡ false → test_task (changed (readied cpu) o) (is_at c) ≡ false
+readied_cpu : (o : Option Task) (cpu c : ℕ) → (cpu == c) ≡ false → is_some_and (changed (readied cpu) o) (is_at c) ≡ false
 readied_cpu None cpu c h = refl
 readied_cpu (Some t) cpu c h = h
 
@@ -223,20 +224,20 @@ readied_cpu (Some t) cpu c h = h
 quiet_start : (g : Task → Bool) (tasks : Tasks) (cpu c : ℕ) (how : How) (next : Option Pid) → (cpu == c) ≡ false → isnt_ready tasks cpu next ≡ false → counted (at_cpu c g) (start next (leave how tasks (running_on tasks cpu))) ≡ counted (at_cpu c g) (leave how tasks (running_on tasks cpu))
 quiet_start g tasks cpu c how None h k = refl
 quiet_start g tasks cpu c how (Some pid) h k =
-    let ready = not_false (test_task (task_of tasks pid.0) (is_ready_on cpu)) k in
+    let ready = not_false (is_some_and (task_of tasks pid.0) (is_ready_on cpu)) k in
     let still = ready_left tasks cpu how pid.0 ready (running_on tasks cpu) refl in
-    let other : test_task (task_of (leave how tasks (running_on tasks cpu)) pid.0) (is_at c) ≡ false = rw still (ready_elsewhere (task_of tasks pid.0) cpu c ready h) in
+    let other : is_some_and (task_of (leave how tasks (running_on tasks cpu)) pid.0) (is_at c) ≡ false = rw still (ready_elsewhere (task_of tasks pid.0) cpu c ready h) in
     quiet_changed g (leave how tasks (running_on tasks cpu)) pid.0 c (λ task. record task { mode = Running }) (task_of (leave how tasks (running_on tasks cpu)) pid.0) refl other
     (same_cpu (λ task. record task { mode = Running }) (λ _. refl) (task_of (leave how tasks (running_on tasks cpu)) pid.0) c other)
 
 -- a task that comes to another processor
-quiet_readied : (g : Task → Bool) (tasks : Tasks) (pid cpu c : ℕ) → (cpu == c || test_task (task_of tasks pid) (is_at c)) ≡ false → counted (at_cpu c g) (change_to tasks pid (readied cpu) (task_of tasks pid)) ≡ counted (at_cpu c g) tasks
+quiet_readied : (g : Task → Bool) (tasks : Tasks) (pid cpu c : ℕ) → (cpu == c || is_some_and (task_of tasks pid) (is_at c)) ≡ false → counted (at_cpu c g) (change_to tasks pid (readied cpu) (task_of tasks pid)) ≡ counted (at_cpu c g) tasks
 quiet_readied g tasks pid cpu c h =
-    let both = or_false (cpu == c) (test_task (task_of tasks pid) (is_at c)) h in
+    let both = or_false (cpu == c) (is_some_and (task_of tasks pid) (is_at c)) h in
     quiet_changed g tasks pid c (readied cpu) (task_of tasks pid) refl both.1 (readied_cpu (task_of tasks pid) cpu c both.0)
 
 -- a task on another processor changes there
-quiet_there : (g : Task → Bool) (tasks : Tasks) (pid c : ℕ) (f : Task → Task) → ((t : Task) → (f t).cpu ≡ t.cpu) → test_task (task_of tasks pid) (is_at c) ≡ false → counted (at_cpu c g) (change_to tasks pid f (task_of tasks pid)) ≡ counted (at_cpu c g) tasks
+quiet_there : (g : Task → Bool) (tasks : Tasks) (pid c : ℕ) (f : Task → Task) → ((t : Task) → (f t).cpu ≡ t.cpu) → is_some_and (task_of tasks pid) (is_at c) ≡ false → counted (at_cpu c g) (change_to tasks pid f (task_of tasks pid)) ≡ counted (at_cpu c g) tasks
 quiet_there g tasks pid c f same h = quiet_changed g tasks pid c f (task_of tasks pid) refl h (same_cpu f same (task_of tasks pid) c h)
 
 -- each count of tasks on a processor stays where an act doesn't touch it
@@ -338,7 +339,7 @@ not_running : (c : ℕ) (t : Task) → is_running t.mode ≡ false → one (is_r
 not_running c t h = rw h (elim (t.cpu.0 == c) as (λ b. one (b && false) ≡ 0) [ true ↦ refl | false ↦ refl ])
 
 -- a task that left doesn't run
-left_off : (how : How) (e : ℕ × Task) (cpu : ℕ) → is_wrong how (Some e) ≡ false → one (test_task (left_by how e.1) (is_running_on cpu)) ≡ 0
+left_off : (how : How) (e : ℕ × Task) (cpu : ℕ) → is_wrong how (Some e) ≡ false → one (is_some_and (left_by how e.1) (is_running_on cpu)) ≡ 0
 left_off Preempt e cpu h = not_running cpu (record e.1 { mode = Ready }) refl
 left_off Sleep e cpu h = not_running cpu (record e.1 { mode = Blocked }) refl
 left_off IoWait e cpu h = not_running cpu (record e.1 { mode = Waiting }) refl
@@ -364,23 +365,23 @@ start_le : (c : ℕ) (tasks : Tasks) (next : Option Pid) → counted (is_running
 start_le c tasks None = omega arith
 start_le c tasks (Some pid) =
     let more = counted_changed (is_running_on c) tasks pid.0 (λ task. record task { mode = Running }) (task_of tasks pid.0) refl in
-    let small = one_le (test_task (changed (λ task. record task { mode = Running }) (task_of tasks pid.0)) (is_running_on c)) in
+    let small = one_le (is_some_and (changed (λ task. record task { mode = Running }) (task_of tasks pid.0)) (is_running_on c)) in
     omega (arith, more, small)
 
 -- a change that starts no task lets no more run
-once_changed : (c : ℕ) (tasks : Tasks) (pid : ℕ) (f : Task → Task) → ((o : Option Task) → one (test_task (changed f o) (is_running_on c)) ≤ one (test_task o (is_running_on c))) → Once tasks c → Once (change_to tasks pid f (task_of tasks pid)) c
+once_changed : (c : ℕ) (tasks : Tasks) (pid : ℕ) (f : Task → Task) → ((o : Option Task) → one (is_some_and (changed f o) (is_running_on c)) ≤ one (is_some_and o (is_running_on c))) → Once tasks c → Once (change_to tasks pid f (task_of tasks pid)) c
 once_changed c tasks pid f fewer once =
     let more = counted_changed (is_running_on c) tasks pid f (task_of tasks pid) refl in
     let less = fewer (task_of tasks pid) in
     omega (arith, more, less, once)
 
 -- a task that becomes ready no longer runs
-readied_fewer : (c cpu : ℕ) (o : Option Task) → one (test_task (changed (readied cpu) o) (is_running_on c)) ≤ one (test_task o (is_running_on c))
+readied_fewer : (c cpu : ℕ) (o : Option Task) → one (is_some_and (changed (readied cpu) o) (is_running_on c)) ≤ one (is_some_and o (is_running_on c))
 readied_fewer c cpu None = omega arith
 readied_fewer c cpu (Some t) = let none = not_running c (readied cpu t) refl in omega (arith, none)
 
 -- a change that leaves whether it runs
-kept_fewer : (c : ℕ) (f : Task → Task) → ((t : Task) → is_running_on c (f t) ≡ is_running_on c t) → (o : Option Task) → one (test_task (changed f o) (is_running_on c)) ≤ one (test_task o (is_running_on c))
+kept_fewer : (c : ℕ) (f : Task → Task) → ((t : Task) → is_running_on c (f t) ≡ is_running_on c t) → (o : Option Task) → one (is_some_and (changed f o) (is_running_on c)) ≤ one (is_some_and o (is_running_on c))
 kept_fewer c f same None = omega arith
 kept_fewer c f same (Some t) = let here = ap one (same t) in omega (arith, here)
 
@@ -427,12 +428,12 @@ tally_fewer p q (t ∷ tasks) =
     ]
 
 -- of the only one that passes a test, a search finds it and tells whether it passes another
-only_one : (p f : Task → Bool) (es : List (ℕ × Task)) → tally p (map (λ e. e.1) es) ≤ 1 → tally (λ t. p t && f t) (map (λ e. e.1) es) ≡ one (test_task (task_part (find (λ e. p e.1) es)) f)
+only_one : (p f : Task → Bool) (es : List (ℕ × Task)) → tally p (map (λ e. e.1) es) ≤ 1 → tally (λ t. p t && f t) (map (λ e. e.1) es) ≡ one (is_some_and (task_part (find (λ e. p e.1) es)) f)
 only_one p f [] few = refl
 only_one p f (e ∷ es) few =
-    elim (p e.1) as (λ b. one b + tally p (map (λ e. e.1) es) ≤ 1 → one (b && f e.1) + tally (λ t. p t && f t) (map (λ e. e.1) es) ≡ one (test_task (task_part (cond b (Some e) (find (λ e. p e.1) es))) f)) [
+    elim (p e.1) as (λ b. one b + tally p (map (λ e. e.1) es) ≤ 1 → one (b && f e.1) + tally (λ t. p t && f t) (map (λ e. e.1) es) ≡ one (is_some_and (task_part (cond b (Some e) (find (λ e. p e.1) es))) f)) [
       | true ↦ λ few. let less = tally_fewer p f (map (λ e. e.1) es) in let rest : 1 + tally p (map (λ e. e.1) es) ≤ 1 = few in let goal : one (f e.1) + tally (λ t. p t && f t) (map (λ e. e.1) es) ≡ one (f e.1) = omega (arith, less, rest) in goal
-      | false ↦ λ few. let small : 0 + tally p (map (λ e. e.1) es) ≤ 1 = few in let rest = only_one p f es (omega (arith, small)) in let goal : 0 + tally (λ t. p t && f t) (map (λ e. e.1) es) ≡ one (test_task (task_part (find (λ e. p e.1) es)) f) = omega (arith, rest) in goal
+      | false ↦ λ few. let small : 0 + tally p (map (λ e. e.1) es) ≤ 1 = few in let rest = only_one p f es (omega (arith, small)) in let goal : 0 + tally (λ t. p t && f t) (map (λ e. e.1) es) ≡ one (is_some_and (task_part (find (λ e. p e.1) es)) f) = omega (arith, rest) in goal
     ] few
 
 -- a number of at most one, tested
@@ -449,7 +450,7 @@ swapped true false false s = refl
 swapped false u r s = refl
 
 -- of the running tasks of a processor, how many are in a group and pass a test: whether the one does
-many_running : (tasks : Tasks) → RunsOnce tasks → (parents : List (Option ℕ)) (cpu slot : ℕ) (test : Task → Bool) → how_many (λ t. runs t && test t) (tasks_in parents cpu slot tasks) ≡ one (test_task (task_part (running_on tasks cpu)) (λ t. is_under parents t.slot.0 slot && test t))
+many_running : (tasks : Tasks) → RunsOnce tasks → (parents : List (Option ℕ)) (cpu slot : ℕ) (test : Task → Bool) → how_many (λ t. runs t && test t) (tasks_in parents cpu slot tasks) ≡ one (is_some_and (task_part (running_on tasks cpu)) (λ t. is_under parents t.slot.0 slot && test t))
 many_running tasks once parents cpu slot test =
     tallied_both (is_in parents cpu slot) (λ t. runs t && test t) (fin.values tasks)
     ∙ tally_same (λ t. is_in parents cpu slot t && (runs t && test t)) (λ t. is_running_on cpu t && (is_under parents t.slot.0 slot && test t)) (λ t. swapped (t.cpu.0 == cpu) (is_under parents t.slot.0 slot) (is_running t.mode) (test t)) (fin.values tasks)
@@ -461,11 +462,11 @@ and_true true = refl
 and_true false = refl
 
 -- any test of the running tasks
-any_running : (tasks : Tasks) → RunsOnce tasks → (parents : List (Option ℕ)) (cpu slot : ℕ) (test : Task → Bool) → list_any (λ t. runs t && test t) (tasks_in parents cpu slot tasks) ≡ test_task (task_part (running_on tasks cpu)) (λ t. is_under parents t.slot.0 slot && test t)
+any_running : (tasks : Tasks) → RunsOnce tasks → (parents : List (Option ℕ)) (cpu slot : ℕ) (test : Task → Bool) → list_any (λ t. runs t && test t) (tasks_in parents cpu slot tasks) ≡ is_some_and (task_part (running_on tasks cpu)) (λ t. is_under parents t.slot.0 slot && test t)
 any_running tasks once parents cpu slot test =
     any_counted (λ t. runs t && test t) (tasks_in parents cpu slot tasks)
     ∙ ap (nat_lt 0) (many_running tasks once parents cpu slot test)
-    ∙ some_of_one (test_task (task_part (running_on tasks cpu)) (λ t. is_under parents t.slot.0 slot && test t))
+    ∙ some_of_one (is_some_and (task_part (running_on tasks cpu)) (λ t. is_under parents t.slot.0 slot && test t))
 
 -- tests that agree on each task find alike
 any_alike : (p q : Task → Bool) → ((t : Task) → p t ≡ q t) → (tasks : List Task) → list_any p tasks ≡ list_any q tasks
@@ -473,12 +474,12 @@ any_alike p q same [] = refl
 any_alike p q same (t ∷ tasks) = rw (same t, any_alike p q same tasks) refl
 
 -- the running task is in a group, by what is shown
-current_in : (parents : List (Option ℕ)) (slot : ℕ) (o : Option (ℕ × Task)) → is_current_in parents slot (shown o) ≡ test_task (task_part o) (λ t. is_under parents t.slot.0 slot && true)
+current_in : (parents : List (Option ℕ)) (slot : ℕ) (o : Option (ℕ × Task)) → is_current_in parents slot (shown o) ≡ is_some_and (task_part o) (λ t. is_under parents t.slot.0 slot && true)
 current_in parents slot None = refl
 current_in parents slot (Some e) = sym (and_true (is_under parents e.1.slot.0 slot))
 
 -- it is in a stall besides, by what is shown
-current_stalled : (parents : List (Option ℕ)) (slot : ℕ) (o : Option (ℕ × Task)) → (is_current_in parents slot (shown o) && is_current_stalled (shown o)) ≡ test_task (task_part o) (λ t. is_under parents t.slot.0 slot && stalls t)
+current_stalled : (parents : List (Option ℕ)) (slot : ℕ) (o : Option (ℕ × Task)) → (is_current_in parents slot (shown o) && is_current_stalled (shown o)) ≡ is_some_and (task_part o) (λ t. is_under parents t.slot.0 slot && stalls t)
 current_stalled parents slot None = refl
 current_stalled parents slot (Some e) = refl
 
@@ -493,7 +494,7 @@ current_tells tasks once parents cpu slot =
     let plain : (t : Task) → runs t ≡ (runs t && true) = λ t. sym (and_true (runs t)) in
     let many = tally_alike runs (λ t. runs t && true) plain list ∙ many_running tasks once parents cpu slot (λ _. true) in
     record {
-      at_most_one = rw many (one_le (test_task (task_part (running_on tasks cpu)) (λ t. is_under parents t.slot.0 slot && true)));
+      at_most_one = rw many (one_le (is_some_and (task_part (running_on tasks cpu)) (λ t. is_under parents t.slot.0 slot && true)));
       one_runs = current_in parents slot (running_on tasks cpu) ∙ sym (any_alike runs (λ t. runs t && true) plain list ∙ any_running tasks once parents cpu slot (λ _. true));
       it_is_stalled = current_stalled parents slot (running_on tasks cpu) ∙ sym (any_running tasks once parents cpu slot stalls);
     }

@@ -13,13 +13,14 @@ use Rattle.psi_base.specs.declared.event.Slot.{Slot}
 use Rattle.psi_base.specs.declared.event.Act.{Act}
 use Rattle.psi_base.specs.declared.event.Act.TheVariants as act
 use Rattle.psi_base.specs.declared.event.Event.{Event}
+use Rattle.psi_base.specs.Missing.{is_some_and}
 use Rattle.psi_spec.specs.declared.machine.Task.{Task}
 use Rattle.psi_counts.specs.declared.changes.Change.{Change}
 use Rattle.psi_counts.specs.declared.changes.Touch.{Touch}
 use Rattle.psi_counts.specs.declared.changes.Counts.{Counts}
 use Rattle.psi_spec.specs.declared.machine.Mode.TheVariants.{Running}
 use Rattle.psi_spec.specs.declared.machine.GroupLife.{GroupLife}
-use Rattle.psi_spec.specs.World.{World, Limits, Tasks, task_of, test_task, task_part, placed, change_to, leave, left_by, start, running_on, is_running_on, is_running, tasks_after, after_event, new_task, readied, slot_of}
+use Rattle.psi_spec.specs.World.{World, Limits, Tasks, task_of, task_part, placed, change_to, leave, left_by, start, running_on, is_running_on, is_running, tasks_after, after_event, new_task, readied, slot_of}
 use Rattle.psi_spec.specs.Names.{names}
 use Rattle.psi_spec.specs.Refusal.{cause_of}
 use Rattle.psi_spec.specs.Stall.{irq_told, tasks_in, runs, waits, stalls, is_up}
@@ -157,14 +158,14 @@ same_cpu : (named cpu cpus : ℕ) → (named == cpu) ≡ true → named < cpus �
 same_cpu named cpu cpus same room = let equal : named ≡ cpu = grind (arith, nat_tests) in omega (arith, equal, room)
 
 -- the processor of a task
-task_cpu : (cpus slots cpu : ℕ) (o : Option Task) → Fits cpus slots o → test_task o (is_at cpu) ≡ true → cpu < cpus
+task_cpu : (cpus slots cpu : ℕ) (o : Option Task) → Fits cpus slots o → is_some_and o (is_at cpu) ≡ true → cpu < cpus
 task_cpu cpus slots cpu None fits at = cc at
 task_cpu cpus slots cpu (Some t) fits at = same_cpu t.cpu.0 cpu cpus at fits.0
 
 -- the processor that a task comes to, or the one that it was on
-either_cpu : (cpus slots named cpu : ℕ) (o : Option Task) → Fits cpus slots o → named < cpus → (named == cpu || test_task o (is_at cpu)) ≡ true → cpu < cpus
+either_cpu : (cpus slots named cpu : ℕ) (o : Option Task) → Fits cpus slots o → named < cpus → (named == cpu || is_some_and o (is_at cpu)) ≡ true → cpu < cpus
 either_cpu cpus slots named cpu o fits room either =
-    elim (named == cpu) as (λ b. (named == cpu) ≡ b → (b || test_task o (is_at cpu)) ≡ true → cpu < cpus) [
+    elim (named == cpu) as (λ b. (named == cpu) ≡ b → (b || is_some_and o (is_at cpu)) ≡ true → cpu < cpus) [
       | true ↦ λ same _. same_cpu named cpu cpus same room
       | false ↦ λ _ at. task_cpu cpus slots cpu o fits at
     ] refl either
@@ -312,9 +313,9 @@ or_second false b is = is
 -- the processor that an act names
 touches_named : (w : World) (a : Act) (cpu : ℕ) → (names a).cpu ≡ Some cpu → touched a (before w.tasks a) cpu ≡ true
 touches_named w (act.Fork pid path named) cpu is = same_test named.0 cpu is
-touches_named w (act.Wake pid named) cpu is = or_first (named.0 == cpu) (test_task (task_of w.tasks pid.0) (is_at cpu)) (same_test named.0 cpu is)
+touches_named w (act.Wake pid named) cpu is = or_first (named.0 == cpu) (is_some_and (task_of w.tasks pid.0) (is_at cpu)) (same_test named.0 cpu is)
 touches_named w (act.Switch named next how) cpu is = same_test named.0 cpu is
-touches_named w (act.Migrate pid named) cpu is = or_first (named.0 == cpu) (test_task (task_of w.tasks pid.0) (is_at cpu)) (same_test named.0 cpu is)
+touches_named w (act.Migrate pid named) cpu is = or_first (named.0 == cpu) (is_some_and (task_of w.tasks pid.0) (is_at cpu)) (same_test named.0 cpu is)
 touches_named w (act.Irq named ns) cpu is = same_test named.0 cpu is
 touches_named w _ cpu is = cc is
 
@@ -325,32 +326,32 @@ running_there named cpu t runs at =
     grind (arith, nat_tests)
 
 -- the task that leaves a processor is on it
-leaver_there : (tasks : Tasks) (named cpu : ℕ) (o : Option (ℕ × Task)) → running_on tasks named ≡ o → test_task (task_part o) (is_at cpu) ≡ true → (named == cpu) ≡ true
+leaver_there : (tasks : Tasks) (named cpu : ℕ) (o : Option (ℕ × Task)) → running_on tasks named ≡ o → is_some_and (task_part o) (is_at cpu) ≡ true → (named == cpu) ≡ true
 leaver_there tasks named cpu None is at = cc at
 leaver_there tasks named cpu (Some e) is at = running_there named cpu e.1 ((running_found tasks named e is).1) at
 
 -- the processor of the task before
-touches_before : (w : World) (a : Act) (cpu : ℕ) → test_task (before w.tasks a) (is_at cpu) ≡ true → touched a (before w.tasks a) cpu ≡ true
+touches_before : (w : World) (a : Act) (cpu : ℕ) → is_some_and (before w.tasks a) (is_at cpu) ≡ true → touched a (before w.tasks a) cpu ≡ true
 touches_before w (act.Fork pid path named) cpu at = cc at
-touches_before w (act.Wake pid named) cpu at = or_second (named.0 == cpu) (test_task (task_of w.tasks pid.0) (is_at cpu)) at
+touches_before w (act.Wake pid named) cpu at = or_second (named.0 == cpu) (is_some_and (task_of w.tasks pid.0) (is_at cpu)) at
 touches_before w (act.Switch named next how) cpu at = leaver_there w.tasks named.0 cpu (running_on w.tasks named.0) refl at
-touches_before w (act.Migrate pid named) cpu at = or_second (named.0 == cpu) (test_task (task_of w.tasks pid.0) (is_at cpu)) at
+touches_before w (act.Migrate pid named) cpu at = or_second (named.0 == cpu) (is_some_and (task_of w.tasks pid.0) (is_at cpu)) at
 touches_before w (act.Irq named ns) cpu at = cc at
 touches_before w (act.Pressure path on) cpu at = refl
 touches_before w _ cpu at = at
 
 -- a task that comes to a processor, one that stays where it was, and one that leaves
-came_there : (named cpu : ℕ) (o : Option Task) → test_task (changed (readied named) o) (is_at cpu) ≡ true → (named == cpu) ≡ true
+came_there : (named cpu : ℕ) (o : Option Task) → is_some_and (changed (readied named) o) (is_at cpu) ≡ true → (named == cpu) ≡ true
 came_there named cpu None at = cc at
 came_there named cpu (Some t) at = at
 
 -- a change that leaves a task on its processor
-stayed_there : (cpu : ℕ) (f : Task → Task) → ((t : Task) → (f t).cpu ≡ t.cpu) → (o : Option Task) → test_task (changed f o) (is_at cpu) ≡ true → test_task o (is_at cpu) ≡ true
+stayed_there : (cpu : ℕ) (f : Task → Task) → ((t : Task) → (f t).cpu ≡ t.cpu) → (o : Option Task) → is_some_and (changed f o) (is_at cpu) ≡ true → is_some_and o (is_at cpu) ≡ true
 stayed_there cpu f same None at = at
 stayed_there cpu f same (Some t) at = rw (← same t) at
 
 -- so does leaving it
-left_there : (cpu : ℕ) (how : How) (o : Option Task) → test_task (left_if how o) (is_at cpu) ≡ true → test_task o (is_at cpu) ≡ true
+left_there : (cpu : ℕ) (how : How) (o : Option Task) → is_some_and (left_if how o) (is_at cpu) ≡ true → is_some_and o (is_at cpu) ≡ true
 left_there cpu how None at = at
 left_there cpu Preempt (Some t) at = at
 left_there cpu Sleep (Some t) at = at
@@ -359,12 +360,12 @@ left_there cpu Exit (Some t) at = cc at
 left_there cpu Idle (Some t) at = at
 
 -- the processor of the task after
-touches_after : (w : World) (a : Act) (cpu : ℕ) → test_task (task_after w.groups w.tasks a) (is_at cpu) ≡ true → touched a (before w.tasks a) cpu ≡ true
-touches_after w (act.Wake pid named) cpu at = or_first (named.0 == cpu) (test_task (task_of w.tasks pid.0) (is_at cpu)) (came_there named.0 cpu (task_of w.tasks pid.0) at)
+touches_after : (w : World) (a : Act) (cpu : ℕ) → is_some_and (task_after w.groups w.tasks a) (is_at cpu) ≡ true → touched a (before w.tasks a) cpu ≡ true
+touches_after w (act.Wake pid named) cpu at = or_first (named.0 == cpu) (is_some_and (task_of w.tasks pid.0) (is_at cpu)) (came_there named.0 cpu (task_of w.tasks pid.0) at)
 touches_after w (act.Switch named next how) cpu at = leaver_there w.tasks named.0 cpu (running_on w.tasks named.0) refl (left_there cpu how (task_part (running_on w.tasks named.0)) at)
 touches_after w (act.Stall pid) cpu at = stayed_there cpu (λ task. record task { stalled = true }) (λ _. refl) (task_of w.tasks pid.0) at
 touches_after w (act.Unstall pid) cpu at = stayed_there cpu (λ task. record task { stalled = false }) (λ _. refl) (task_of w.tasks pid.0) at
-touches_after w (act.Migrate pid named) cpu at = or_first (named.0 == cpu) (test_task (task_of w.tasks pid.0) (is_at cpu)) (came_there named.0 cpu (task_of w.tasks pid.0) at)
+touches_after w (act.Migrate pid named) cpu at = or_first (named.0 == cpu) (is_some_and (task_of w.tasks pid.0) (is_at cpu)) (came_there named.0 cpu (task_of w.tasks pid.0) at)
 touches_after w (act.Move pid path) cpu at = stayed_there cpu (λ task. record task { slot = record { 0 = unwrap_or (slot_of w.groups path) 0 } }) (λ _. refl) (task_of w.tasks pid.0) at
 touches_after w (act.Irq named ns) cpu at = cc at
 touches_after w (act.Pressure path on) cpu at = refl

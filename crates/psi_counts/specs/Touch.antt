@@ -7,6 +7,7 @@ use Rattle.psi_base.specs.declared.event.Slot.{Slot}
 use Rattle.psi_base.specs.declared.event.How.{How}
 use Rattle.psi_base.specs.declared.event.Act.{Act}
 use Rattle.psi_base.specs.declared.event.Event.{Event}
+use Rattle.psi_base.specs.Missing.{is_some_and}
 use Rattle.psi_spec.specs.declared.machine.Task.{Task}
 use Rattle.psi_counts.specs.declared.changes.Counts.{Counts}
 use Rattle.psi_counts.specs.declared.changes.Change.{Change}
@@ -14,7 +15,7 @@ use Rattle.psi_counts.specs.declared.changes.Touch.{Touch}
 use Rattle.psi_spec.specs.declared.machine.GroupLife.{GroupLife}
 use Rattle.psi_spec.specs.Names.{names}
 use Rattle.psi_spec.specs.World.{Effect, forks, gates, interrupts, moves, none, readies, stalls, switches, effect_of}
-use Rattle.psi_spec.specs.World.{World, Limits, Tasks, no_tasks, task_of, test_task, task_part, running_on, is_running_on, new_task, readied, left_by, slot_of, is_on, tasks_after, after_event, longest_irq}
+use Rattle.psi_spec.specs.World.{World, Limits, Tasks, no_tasks, task_of, task_part, running_on, is_running_on, new_task, readied, left_by, slot_of, is_on, tasks_after, after_event, longest_irq}
 use Rattle.psi_spec.specs.Refusal.{cause_of}
 use Rattle.psi_spec.specs.Stall.{irq_told, is_under, runs, tasks_in}
 use Rattle.psi_spec.specs.Changes.{before, is_at, touched}
@@ -241,8 +242,8 @@ ChangeTells =
 abbrev pub TouchesItsOwn : Type 0
 TouchesItsOwn = (w : World) (event : Event) (cpu : ℕ) →
     ((names event.act).cpu ≡ Some cpu → touched event.act (before w.tasks event.act) cpu ≡ true)
-    × (test_task (before w.tasks event.act) (is_at cpu) ≡ true → touched event.act (before w.tasks event.act) cpu ≡ true)
-    × (test_task (task_after w.groups w.tasks event.act) (is_at cpu) ≡ true → touched event.act (before w.tasks event.act) cpu ≡ true)
+    × (is_some_and (before w.tasks event.act) (is_at cpu) ≡ true → touched event.act (before w.tasks event.act) cpu ≡ true)
+    × (is_some_and (task_after w.groups w.tasks event.act) (is_at cpu) ≡ true → touched event.act (before w.tasks event.act) cpu ≡ true)
 
 -- A legal event leaves the counts of each group on a processor that it doesn't touch, and which task runs there; and it tells of
 -- no interrupts there, and switches no account.

@@ -3,9 +3,10 @@ use Rattle.std.specs.Prelude.{ℕ, ◌-◌, ◌≤◌, List, [], ◌∷◌, leng
 use Rattle.std.specs.List.{range_with_len}
 use Rattle.psi_base.specs.declared.event.Act.{Act}
 use Rattle.psi_base.specs.declared.event.Event.{Event}
+use Rattle.psi_base.specs.Missing.{is_some_and}
 use Rattle.psi_spec.specs.declared.machine.Task.{Task}
 use Rattle.psi_spec.specs.World.{Effect, forks, gates, interrupts, moves, none, readies, stalls, switches, effect_of}
-use Rattle.psi_spec.specs.World.{World, Tasks, task_of, test_task, task_part, running_on, after, up_to}
+use Rattle.psi_spec.specs.World.{World, Tasks, task_of, task_part, running_on, after, up_to}
 use Rattle.psi_spec.specs.Stall.{stall, states}
 
 -- ---- the processors that an act touches
@@ -36,9 +37,9 @@ is_at cpu task = task.cpu.0 == cpu
 abbrev pub touched_by : Effect → Option Task → ℕ → Bool
 touched_by none old cpu = false
 touched_by (forks pid path named) old cpu = named.0 == cpu
-touched_by (readies pid named) old cpu = named.0 == cpu || test_task old (is_at cpu)
-touched_by (stalls pid stalled) old cpu = test_task old (is_at cpu)
-touched_by (moves pid path) old cpu = test_task old (is_at cpu)
+touched_by (readies pid named) old cpu = named.0 == cpu || is_some_and old (is_at cpu)
+touched_by (stalls pid stalled) old cpu = is_some_and old (is_at cpu)
+touched_by (moves pid path) old cpu = is_some_and old (is_at cpu)
 touched_by (switches named next how) old cpu = named.0 == cpu
 touched_by (interrupts named) old cpu = named.0 == cpu
 touched_by gates old cpu = true

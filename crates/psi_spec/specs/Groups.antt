@@ -5,6 +5,7 @@ use Rattle.std.specs.Ordering.{nat_cmp}
 use Rattle.std.specs.Cmp.Lexicographic.{slice_cmp}
 use Rattle.std.specs.FinMap as entries
 use Rattle.psi_base.specs.declared.event.Act.{Act}
+use Rattle.psi_base.specs.Missing.{is_some_and}
 use Rattle.psi_spec.specs.declared.machine.GroupLife.{GroupLife}
 use Rattle.psi_spec.specs.Names.{names}
 use Rattle.psi_spec.specs.World.{root, is_live, slot_of, parent_path, most_groups}
@@ -53,14 +54,9 @@ is_gone_by (Some gone) at = nat_le gone at
 abbrev pub is_live_at : GroupLife → ℕ → Bool
 is_live_at life at = nat_le life.made at && not (is_gone_by life.gone at)
 
--- a test of a group that may be missing: a missing one passes none
-abbrev pub test_life : Option GroupLife → (GroupLife → Bool) → Bool
-test_life None test = false
-test_life (Some life) test = test life
-
 -- the group in a slot is live, if there is one
 abbrev pub is_live_in : List GroupLife → ℕ → Bool
-is_live_in groups slot = test_life (slice_get groups slot) is_live
+is_live_in groups slot = is_some_and (slice_get groups slot) is_live
 
 -- ---- live groups in the order in which they are printed
 

@@ -11,10 +11,11 @@ use Rattle.psi_base.specs.declared.event.Act.TheVariants as act
 use Rattle.psi_base.specs.declared.event.Event.{Event}
 use Rattle.psi_base.specs.declared.event.Cause.{Cause}
 use Rattle.psi_base.specs.declared.event.Cause.TheVariants as cause
+use Rattle.psi_base.specs.Missing.{is_some_and}
 use Rattle.psi_spec.specs.declared.machine.Task.{Task}
 use Rattle.psi_spec.specs.declared.machine.GroupLife.{GroupLife}
 use Rattle.psi_spec.specs.Names.{names}
-use Rattle.psi_spec.specs.World.{World, Limits, Tasks, task_of, test_task, running_on, task_part, is_running, is_ready, is_active, is_ready_on, is_live, is_trigger, is_pressure, slot_of, parent_path, is_root, after_event, most_groups, most_tasks, most_events, most_pressures, longest_irq}
+use Rattle.psi_spec.specs.World.{World, Limits, Tasks, task_of, running_on, task_part, is_running, is_ready, is_active, is_ready_on, is_live, is_trigger, is_pressure, slot_of, parent_path, is_root, after_event, most_groups, most_tasks, most_events, most_pressures, longest_irq}
 
 -- ---- single tests
 
@@ -87,7 +88,7 @@ is_exit _ = false
 -- the next task isn't ready on the processor
 abbrev pub isnt_ready : Tasks → ℕ → Option Pid → Bool
 isnt_ready tasks cpu None = false
-isnt_ready tasks cpu (Some pid) = not (test_task (task_of tasks pid.0) (is_ready_on cpu))
+isnt_ready tasks cpu (Some pid) = not (is_some_and (task_of tasks pid.0) (is_ready_on cpu))
 
 -- a window (us) from half a second to ten, and a threshold (us) from one up to the window
 abbrev pub is_window : ℕ → ℕ → Bool
@@ -95,19 +96,19 @@ is_window threshold window = nat_le 500000 window && nat_le window 10000000 && n
 
 -- a stall starts or ends, and its task doesn't run
 abbrev pub not_running : Tasks → Act → Bool
-not_running tasks (act.Stall pid) = test_task (task_of tasks pid.0) (λ task. not (is_running task.mode))
-not_running tasks (act.Unstall pid) = test_task (task_of tasks pid.0) (λ task. not (is_running task.mode))
+not_running tasks (act.Stall pid) = is_some_and (task_of tasks pid.0) (λ task. not (is_running task.mode))
+not_running tasks (act.Unstall pid) = is_some_and (task_of tasks pid.0) (λ task. not (is_running task.mode))
 not_running tasks _ = false
 
 -- the task that is to run next isn't ready on that processor, or the one that migrates isn't ready
 abbrev pub not_ready : Tasks → Act → Bool
 not_ready tasks (act.Switch cpu next how) = isnt_ready tasks cpu.0 next
-not_ready tasks (act.Migrate pid cpu) = test_task (task_of tasks pid.0) (λ task. not (is_ready task.mode))
+not_ready tasks (act.Migrate pid cpu) = is_some_and (task_of tasks pid.0) (λ task. not (is_ready task.mode))
 not_ready tasks _ = false
 
 -- the task that is woken is ready or runs
 abbrev pub not_blocked : Tasks → Act → Bool
-not_blocked tasks (act.Wake pid cpu) = test_task (task_of tasks pid.0) (λ task. is_active task.mode)
+not_blocked tasks (act.Wake pid cpu) = is_some_and (task_of tasks pid.0) (λ task. is_active task.mode)
 not_blocked tasks _ = false
 
 -- a switch says that a processor idles where a task runs, or how one leaves where none runs
@@ -117,13 +118,13 @@ wrong_how tasks _ = false
 
 -- a stall starts where there is one, or a task exits in one
 abbrev pub in_stall : Tasks → Act → Bool
-in_stall tasks (act.Stall pid) = test_task (task_of tasks pid.0) (λ task. task.stalled)
-in_stall tasks (act.Switch cpu next how) = is_exit how && test_task (task_part (running_on tasks cpu.0)) (λ task. task.stalled)
+in_stall tasks (act.Stall pid) = is_some_and (task_of tasks pid.0) (λ task. task.stalled)
+in_stall tasks (act.Switch cpu next how) = is_exit how && is_some_and (task_part (running_on tasks cpu.0)) (λ task. task.stalled)
 in_stall tasks _ = false
 
 -- a stall ends where there is none
 abbrev pub not_in_stall : Tasks → Act → Bool
-not_in_stall tasks (act.Unstall pid) = test_task (task_of tasks pid.0) (λ task. not task.stalled)
+not_in_stall tasks (act.Unstall pid) = is_some_and (task_of tasks pid.0) (λ task. not task.stalled)
 not_in_stall tasks _ = false
 
 -- a trigger's window or threshold isn't in its range

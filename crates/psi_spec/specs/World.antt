@@ -65,11 +65,6 @@ put tasks pid task = tasks_by.insert tasks pid task
 abbrev pub remove : Tasks → ℕ → Tasks
 remove tasks pid = tasks_by.remove tasks pid
 
--- a test of a task that may be missing: a missing one passes none
-abbrev pub test_task : Option Task → (Task → Bool) → Bool
-test_task None test = false
-test_task (Some task) test = test task
-
 -- the task runs on a processor
 abbrev pub is_running_on : ℕ → Task → Bool
 is_running_on cpu task = task.cpu.0 == cpu && is_running task.mode

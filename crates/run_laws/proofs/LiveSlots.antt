@@ -2,15 +2,16 @@
 use Rattle.std.proofs.Common.{◌≡◌, ℕ, suc, ◌+◌, List, [], ◌∷◌, refl, ap, ◌∙◌, Bool, cond, Option, None, Some, length, map, take}
 use Rattle.std.specs.Prelude.{◌&&◌, slice_get}
 use Rattle.std.specs.Str.{bytes_eq}
+use Rattle.psi_base.specs.Missing.{is_some_and}
 use Rattle.psi_spec.specs.declared.machine.GroupLife.{GroupLife}
 use Rattle.psi_spec.specs.World.{after, is_live, slot_from, up_to}
-use Rattle.psi_spec.specs.Groups.{is_live_at, test_life}
+use Rattle.psi_spec.specs.Groups.{is_live_at}
 use Rattle.plan_laws.proofs.MomentsLives.{groups_keep_slots, lives_tell_live}
 use Rattle.run_laws.specs.Live.{SlotByLives, live_slot}
 
 -- which groups are live in the slots of some is told by the lives of all at a moment
 abbrev TellsLives : List GroupLife → List GroupLife → ℕ → Type 0
-TellsLives some all at = (slot : ℕ) → test_life (slice_get some slot) is_live ≡ test_life (slice_get all slot) (λ life. is_live_at life at)
+TellsLives some all at = (slot : ℕ) → is_some_and (slice_get some slot) is_live ≡ is_some_and (slice_get all slot) (λ life. is_live_at life at)
 
 -- the paths of some groups are the first of those of all
 abbrev HasPaths : List GroupLife → List GroupLife → Type 0

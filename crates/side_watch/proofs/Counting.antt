@@ -9,9 +9,10 @@ use Rattle.psi_base.specs.declared.event.Slot.{Slot}
 use Rattle.psi_base.specs.declared.event.Act.{Act}
 use Rattle.psi_base.specs.declared.event.Act.TheVariants as act
 use Rattle.psi_base.specs.declared.event.Event.{Event}
+use Rattle.psi_base.specs.Missing.{is_some_and}
 use Rattle.psi_spec.specs.declared.machine.Task.{Task}
 use Rattle.psi_spec.specs.declared.machine.GroupLife.{GroupLife}
-use Rattle.psi_spec.specs.World.{World, Limits, Tasks, after, first_world, no_tasks, task_of, tasks_after, running_on, task_part, test_task}
+use Rattle.psi_spec.specs.World.{World, Limits, Tasks, after, first_world, no_tasks, task_of, tasks_after, running_on, task_part}
 use Rattle.psi_spec.specs.Refusal.{AreLegal}
 use Rattle.psi_spec.specs.Stall.{is_under, number_of_slot, parents_of}
 use Rattle.psi_spec.specs.Groups.{leads_to}
@@ -60,7 +61,7 @@ is_below parents slot task = is_under parents task.slot.0 slot
 abbrev leads : List (Option ℕ) → ℕ → Option Slot → Bool
 leads parents slot o = leads_to parents (number_of_slot o) slot
 
-leads_by_task : (parents : List (Option ℕ)) (slot : ℕ) (o : Option Task) → test_task o (is_below parents slot) ≡ leads parents slot (group_of o)
+leads_by_task : (parents : List (Option ℕ)) (slot : ℕ) (o : Option Task) → is_some_and o (is_below parents slot) ≡ leads parents slot (group_of o)
 leads_by_task parents slot None = refl
 leads_by_task parents slot (Some task) = refl
 
@@ -107,15 +108,15 @@ passage_counts parents slot at cell new_count (Some old) (Some new) is there few
 
 -- ---- the task that an act changes
 
-counted_there : (p : Task → Bool) (tasks : Tasks) (pid : ℕ) → one (test_task (task_of tasks pid) p) ≤ counted p tasks
+counted_there : (p : Task → Bool) (tasks : Tasks) (pid : ℕ) → one (is_some_and (task_of tasks pid) p) ≤ counted p tasks
 counted_there p tasks pid = let less = counted_remove p tasks pid in omega (arith, less)
 
-running_there : (p : Task → Bool) (tasks : Tasks) (cpu : ℕ) (o : Option (ℕ × Task)) → running_on tasks cpu ≡ o → one (test_task (task_part o) p) ≤ counted p tasks
+running_there : (p : Task → Bool) (tasks : Tasks) (cpu : ℕ) (o : Option (ℕ × Task)) → running_on tasks cpu ≡ o → one (is_some_and (task_part o) p) ≤ counted p tasks
 running_there p tasks cpu None is = omega arith
-running_there p tasks cpu (Some e) is = subst (λ o. one (test_task o p) ≤ counted p tasks) (running_found tasks cpu e is).0 (counted_there p tasks e.0)
+running_there p tasks cpu (Some e) is = subst (λ o. one (is_some_and o p) ≤ counted p tasks) (running_found tasks cpu e is).0 (counted_there p tasks e.0)
 
 -- it is among the tasks before
-before_there : (p : Task → Bool) (tasks : Tasks) (a : Act) → one (test_task (before tasks a) p) ≤ counted p tasks
+before_there : (p : Task → Bool) (tasks : Tasks) (a : Act) → one (is_some_and (before tasks a) p) ≤ counted p tasks
 before_there p tasks (act.Wake pid cpu) = counted_there p tasks pid.0
 before_there p tasks (act.Switch cpu next how) = running_there p tasks cpu.0 (running_on tasks cpu.0) refl
 before_there p tasks (act.Stall pid) = counted_there p tasks pid.0

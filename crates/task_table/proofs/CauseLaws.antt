@@ -9,9 +9,10 @@ use Rattle.psi_base.specs.declared.event.Act.TheVariants as act
 use Rattle.psi_base.specs.declared.event.Event.{Event}
 use Rattle.psi_base.specs.declared.event.Cause.{Cause}
 use Rattle.psi_base.specs.declared.event.Cause.TheVariants as cause
+use Rattle.psi_base.specs.Missing.{is_some_and}
 use Rattle.psi_spec.specs.declared.machine.GroupLife.{GroupLife}
 use Rattle.psi_spec.specs.declared.machine.Task.{Task}
-use Rattle.psi_spec.specs.World.{World, Limits, Tasks, task_of, test_task, running_on, task_part, slot_of, is_active, is_ready, is_ready_on, is_root}
+use Rattle.psi_spec.specs.World.{World, Limits, Tasks, task_of, running_on, task_part, slot_of, is_active, is_ready, is_ready_on, is_root}
 use Rattle.psi_spec.specs.Refusal.{cause_of, has_child, has_member, is_wrong, is_exit, isnt_ready, lacks_group, lacks_task}
 use Rattle.psi_spec.proofs.RefusalLaws.{not_false}
 use Rattle.group_tree.specs.Tree.{pressure_cause, remove_cause}
@@ -34,7 +35,7 @@ either false false false rest = refl
 
 switch_parts : (cpus : ℕ) (tasks : Tasks) (cpu : ℕ) (next : Option Pid) (rest : Option Cause) → (if lacks_task tasks next then Some cause.UnknownTask else if nat_le cpus cpu then Some cause.BadCpu else if isnt_ready tasks cpu next then Some cause.NotReady else rest) ≡ or_cause (next_cause cpus cpu next (next_task tasks next)) rest
 switch_parts cpus tasks cpu None rest = either false (nat_le cpus cpu) false rest
-switch_parts cpus tasks cpu (Some pid) rest = either (not (is_some (task_of tasks pid.0))) (nat_le cpus cpu) (not (test_task (task_of tasks pid.0) (is_ready_on cpu))) rest
+switch_parts cpus tasks cpu (Some pid) rest = either (not (is_some (task_of tasks pid.0))) (nat_le cpus cpu) (not (is_some_and (task_of tasks pid.0) (is_ready_on cpu))) rest
 
 -- the causes of any line, before those of an act
 before_act : (a b c d : Bool) (rest other : Option Cause) → rest ≡ other → (if a then Some cause.AfterEnd else if b then Some cause.TimeBack else if c then Some cause.TimeTooLate else if d then Some cause.TooManyEvents else rest) ≡ (if a then Some cause.AfterEnd else if b then Some cause.TimeBack else if c then Some cause.TimeTooLate else if d then Some cause.TooManyEvents else other)
@@ -95,16 +96,16 @@ groups_through cpus groups tasks irqs triggers pressures at _ h = refl
 -- what the absence of a switch's causes says
 pub record MaySwitch (cpus cpu : ℕ) (next : Option Pid) (task : Option Task) (how : How) (running : Option (ℕ × Task)) : Type 0 where
   pub room : nat_le cpus cpu ≡ false
-  pub ready : IfSome next (λ _. test_task task (is_ready_on cpu) ≡ true)
+  pub ready : IfSome next (λ _. is_some_and task (is_ready_on cpu) ≡ true)
   pub leaves : is_wrong how running ≡ false
 
 -- a next task that may run
-may_run : (cpus cpu : ℕ) (next : Option Pid) (task : Option Task) → next_cause cpus cpu next task ≡ None → (nat_le cpus cpu ≡ false) × IfSome next (λ _. test_task task (is_ready_on cpu) ≡ true)
+may_run : (cpus cpu : ℕ) (next : Option Pid) (task : Option Task) → next_cause cpus cpu next task ≡ None → (nat_le cpus cpu ≡ false) × IfSome next (λ _. is_some_and task (is_ready_on cpu) ≡ true)
 may_run cpus cpu None task h = ((past (nat_le cpus cpu) cause.BadCpu None h).0, tt)
 may_run cpus cpu (Some pid) task h =
-    let one = past (not (is_some task)) cause.UnknownTask (if nat_le cpus cpu then Some cause.BadCpu else if not (test_task task (is_ready_on cpu)) then Some cause.NotReady else None) h in
-    let two = past (nat_le cpus cpu) cause.BadCpu (if not (test_task task (is_ready_on cpu)) then Some cause.NotReady else None) one.1 in
-    (two.0, not_false (test_task task (is_ready_on cpu)) (past (not (test_task task (is_ready_on cpu))) cause.NotReady None two.1).0)
+    let one = past (not (is_some task)) cause.UnknownTask (if nat_le cpus cpu then Some cause.BadCpu else if not (is_some_and task (is_ready_on cpu)) then Some cause.NotReady else None) h in
+    let two = past (nat_le cpus cpu) cause.BadCpu (if not (is_some_and task (is_ready_on cpu)) then Some cause.NotReady else None) one.1 in
+    (two.0, not_false (is_some_and task (is_ready_on cpu)) (past (not (is_some_and task (is_ready_on cpu))) cause.NotReady None two.1).0)
 
 -- a legal switch
 pub may_switch : (cpus cpu : ℕ) (next : Option Pid) (task : Option Task) (how : How) (running : Option (ℕ × Task)) → switch_cause cpus cpu next task how running ≡ None → MaySwitch cpus cpu next task how running
@@ -114,7 +115,7 @@ may_switch cpus cpu next task how running h =
     record {
       room = run.0;
       ready = run.1;
-      leaves = (past (is_wrong how running) cause.WrongHow (if is_exit how && test_task (task_part running) (λ task. task.stalled) then Some cause.InStall else None) parts.1).0;
+      leaves = (past (is_wrong how running) cause.WrongHow (if is_exit how && is_some_and (task_part running) (λ task. task.stalled) then Some cause.InStall else None) parts.1).0;
     }
 
 -- a legal fork's group is there
@@ -128,11 +129,11 @@ pub move_group : (groups : List GroupLife) (task : Option Task) (path : List ℕ
 move_group groups task path h = (past (lacks_group groups (Some path)) cause.UnknownGroup (if not (is_some task) then Some cause.UnknownTask else None) h).0
 
 -- a legal wake is of a task that sleeps
-pub wake_off : (cpus : ℕ) (task : Option Task) (cpu : ℕ) → wake_cause cpus task cpu ≡ None → test_task task (λ task. is_active task.mode) ≡ false
+pub wake_off : (cpus : ℕ) (task : Option Task) (cpu : ℕ) → wake_cause cpus task cpu ≡ None → is_some_and task (λ task. is_active task.mode) ≡ false
 wake_off cpus task cpu h =
-    (third (not (is_some task)) (nat_le cpus cpu) (test_task task (λ task. is_active task.mode)) cause.UnknownTask cause.BadCpu cause.NotBlocked None h).0
+    (third (not (is_some task)) (nat_le cpus cpu) (is_some_and task (λ task. is_active task.mode)) cause.UnknownTask cause.BadCpu cause.NotBlocked None h).0
 
 -- a legal migration is of a task that is ready
-pub migrate_off : (cpus : ℕ) (task : Option Task) (cpu : ℕ) → migrate_cause cpus task cpu ≡ None → test_task task (λ task. not (is_ready task.mode)) ≡ false
+pub migrate_off : (cpus : ℕ) (task : Option Task) (cpu : ℕ) → migrate_cause cpus task cpu ≡ None → is_some_and task (λ task. not (is_ready task.mode)) ≡ false
 migrate_off cpus task cpu h =
-    (third (not (is_some task)) (nat_le cpus cpu) (test_task task (λ task. not (is_ready task.mode))) cause.UnknownTask cause.BadCpu cause.NotReady None h).0
+    (third (not (is_some task)) (nat_le cpus cpu) (is_some_and task (λ task. not (is_ready task.mode))) cause.UnknownTask cause.BadCpu cause.NotReady None h).0

@@ -7,7 +7,7 @@ use Rattle.std.specs.FinMap as map
 use Rattle.std.specs.List.{AllByRecursion}
 use Rattle.std.proofs.lemmas.List.{get_or-set_same, get_or-set_other, get_or_past}
 use Rattle.std.proofs.lemmas.Bool.Decides.{nat_tests, eqb_tells}
-use Rattle.psi_spec.specs.World.{Tasks, no_tasks, placed, task_of, put, running_on, is_ready_on, is_running_on, test_task, is_running, is_ready, leave}
+use Rattle.psi_spec.specs.World.{Tasks, no_tasks, placed, task_of, put, running_on, is_ready_on, is_running_on, is_running, is_ready, leave}
 use Rattle.psi_spec.specs.Refusal.{is_wrong}
 use Rattle.psi_base.specs.declared.event.Pid.{Pid}
 use Rattle.psi_spec.specs.declared.machine.Task.{Task}
@@ -15,6 +15,7 @@ use Rattle.psi_spec.specs.declared.machine.Mode.{Mode}
 use Rattle.psi_spec.specs.declared.machine.Mode.TheVariants.{Blocked, Waiting, Ready, Running}
 use Rattle.psi_base.specs.declared.event.How.{How}
 use Rattle.psi_base.specs.declared.event.How.TheVariants.{Idle}
+use Rattle.psi_base.specs.Missing.{is_some_and}
 use Rattle.psi_spec.proofs.TaskLaws.{found, itself, task_placed}
 use Rattle.psi_counts.proofs.TouchLaws.{ready_left}
 use Rattle.task_table.specs.Named.{next_task}
@@ -290,16 +291,16 @@ ready_still Blocked h = refl
 ready_still Waiting h = refl
 
 -- what a task that is ready on a processor is
-ready_there : (o : Option Task) (cpu : ℕ) → test_task o (is_ready_on cpu) ≡ true → IfSome o (λ t. (t.cpu.0 ≡ cpu) × (is_ready t.mode ≡ true))
+ready_there : (o : Option Task) (cpu : ℕ) → is_some_and o (is_ready_on cpu) ≡ true → IfSome o (λ t. (t.cpu.0 ≡ cpu) × (is_ready t.mode ≡ true))
 ready_there None cpu h = tt
 ready_there (Some t) cpu h = (grind (arith, nat_tests), grind (arith, nat_tests))
 
 -- a next task that was ready is ready when the running one left
-pub next_ready : (cpu : ℕ) (next : Option Pid) (tasks : Tasks) → IfSome next (λ _. test_task (next_task tasks next) (is_ready_on cpu) ≡ true) → IfSome (next_task tasks next) (λ t. (t.cpu.0 ≡ cpu) × (is_ready t.mode ≡ true))
+pub next_ready : (cpu : ℕ) (next : Option Pid) (tasks : Tasks) → IfSome next (λ _. is_some_and (next_task tasks next) (is_ready_on cpu) ≡ true) → IfSome (next_task tasks next) (λ t. (t.cpu.0 ≡ cpu) × (is_ready t.mode ≡ true))
 next_ready cpu None tasks h = tt
 next_ready cpu (Some pid) tasks h = ready_there (task_of tasks pid.0) cpu h
 
 -- and is the same task
-pub next_stays : (cpu : ℕ) (next : Option Pid) (tasks : Tasks) (how : How) → IfSome next (λ _. test_task (next_task tasks next) (is_ready_on cpu) ≡ true) → next_task (leave how tasks (running_on tasks cpu)) next ≡ next_task tasks next
+pub next_stays : (cpu : ℕ) (next : Option Pid) (tasks : Tasks) (how : How) → IfSome next (λ _. is_some_and (next_task tasks next) (is_ready_on cpu) ≡ true) → next_task (leave how tasks (running_on tasks cpu)) next ≡ next_task tasks next
 next_stays cpu None tasks how h = refl
 next_stays cpu (Some pid) tasks how h = ready_left tasks cpu how pid.0 h (running_on tasks cpu) refl

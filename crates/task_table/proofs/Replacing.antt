@@ -2,10 +2,11 @@
 use Rattle.std.proofs.Common.{◌≡◌, ℕ, ◌<◌, refl, ◌∙◌, sym, Bool, false, Option, None, Some, length, List, ◌==◌}
 use Rattle.std.specs.Prelude.{IfSome, not}
 use Rattle.psi_base.specs.declared.event.Slot.{Slot}
+use Rattle.psi_base.specs.Missing.{is_some_and}
 use Rattle.psi_spec.specs.declared.machine.Mode.{Mode}
 use Rattle.psi_spec.specs.declared.machine.Mode.TheVariants.{Blocked, Waiting, Ready, Running}
 use Rattle.psi_spec.specs.declared.machine.Task.{Task}
-use Rattle.psi_spec.specs.World.{Tasks, is_active, is_ready, is_running, readied, task_of, test_task}
+use Rattle.psi_spec.specs.World.{Tasks, is_active, is_ready, is_running, readied, task_of}
 use Rattle.psi_counts.specs.Touch.{changed}
 use Rattle.psi_spec.proofs.RefusalLaws.{not_false}
 use Rattle.task_table.proofs.Index.{and_false, ready_still}
@@ -26,12 +27,12 @@ inactive Blocked h = refl
 inactive Waiting h = refl
 
 -- a task that sleeps doesn't run
-pub blocked_off : (o : Option Task) → test_task o (λ t. is_active t.mode) ≡ false → IfSome o (λ t. is_running t.mode ≡ false)
+pub blocked_off : (o : Option Task) → is_some_and o (λ t. is_active t.mode) ≡ false → IfSome o (λ t. is_running t.mode ≡ false)
 blocked_off None h = tt
 blocked_off (Some t) h = inactive t.mode h
 
 -- nor does one that is ready
-pub not_running : (o : Option Task) → test_task o (λ t. not (is_ready t.mode)) ≡ false → IfSome o (λ t. is_running t.mode ≡ false)
+pub not_running : (o : Option Task) → is_some_and o (λ t. not (is_ready t.mode)) ≡ false → IfSome o (λ t. is_running t.mode ≡ false)
 not_running None h = tt
 not_running (Some t) h = ready_still t.mode (not_false (is_ready t.mode) h)
 

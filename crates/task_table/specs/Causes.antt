@@ -11,9 +11,10 @@ use Rattle.psi_base.specs.declared.event.Cause.{Cause}
 use Rattle.psi_base.specs.declared.event.Cause.TheVariants as cause
 use Rattle.psi_base.specs.declared.event.Fault.{Fault}
 use Rattle.psi_base.specs.declared.event.Fault.TheVariants as fault
+use Rattle.psi_base.specs.Missing.{is_some_and}
 use Rattle.psi_spec.specs.declared.machine.Task.{Task}
 use Rattle.psi_spec.specs.declared.machine.GroupLife.{GroupLife}
-use Rattle.psi_spec.specs.World.{World, Limits, Tasks, task_of, test_task, running_on, task_part, is_active, is_ready, is_ready_on, is_running, slot_of, most_tasks, most_events, most_pressures}
+use Rattle.psi_spec.specs.World.{World, Limits, Tasks, task_of, running_on, task_part, is_active, is_ready, is_ready_on, is_running, slot_of, most_tasks, most_events, most_pressures}
 use Rattle.psi_spec.specs.Refusal.{has_member, irq_too_long, is_window, is_wrong, is_exit, lacks_group}
 use Rattle.group_tree.specs.Tree.{add_cause, pressure_cause, remove_cause}
 use Rattle.task_table.specs.Named.{next_task}
@@ -44,13 +45,13 @@ abbrev pub wake_cause : ℕ → Option Task → ℕ → Option Cause
 wake_cause cpus task cpu =
     if not (is_some task) then Some cause.UnknownTask else
     if nat_le cpus cpu then Some cause.BadCpu else
-    if test_task task (λ task. is_active task.mode) then Some cause.NotBlocked else None
+    if is_some_and task (λ task. is_active task.mode) then Some cause.NotBlocked else None
 
 -- the running task can't leave so: none may run where a processor idles and one must elsewhere, and none exits in a stall
 abbrev pub how_cause : How → Option (ℕ × Task) → Option Cause
 how_cause how running =
     if is_wrong how running then Some cause.WrongHow else
-    if is_exit how && test_task (task_part running) (λ task. task.stalled) then Some cause.InStall else None
+    if is_exit how && is_some_and (task_part running) (λ task. task.stalled) then Some cause.InStall else None
 
 -- a next task can't run: no such task, a processor that isn't there, a task that isn't ready there
 abbrev pub next_cause : ℕ → ℕ → Option Pid → Option Task → Option Cause
@@ -58,7 +59,7 @@ next_cause cpus cpu None task = if nat_le cpus cpu then Some cause.BadCpu else N
 next_cause cpus cpu (Some pid) task =
     if not (is_some task) then Some cause.UnknownTask else
     if nat_le cpus cpu then Some cause.BadCpu else
-    if not (test_task task (is_ready_on cpu)) then Some cause.NotReady else None
+    if not (is_some_and task (is_ready_on cpu)) then Some cause.NotReady else None
 
 -- a switch is refused: by its next task, or by how the running one leaves
 abbrev pub switch_cause : ℕ → ℕ → Option Pid → Option Task → How → Option (ℕ × Task) → Option Cause
@@ -68,22 +69,22 @@ switch_cause cpus cpu next task how running = or_cause (next_cause cpus cpu next
 abbrev pub stall_cause : Option Task → Option Cause
 stall_cause task =
     if not (is_some task) then Some cause.UnknownTask else
-    if test_task task (λ task. not (is_running task.mode)) then Some cause.NotRunning else
-    if test_task task (λ task. task.stalled) then Some cause.InStall else None
+    if is_some_and task (λ task. not (is_running task.mode)) then Some cause.NotRunning else
+    if is_some_and task (λ task. task.stalled) then Some cause.InStall else None
 
 -- the end of a stall is refused: no such task, a task that doesn't run, one that is in none
 abbrev pub unstall_cause : Option Task → Option Cause
 unstall_cause task =
     if not (is_some task) then Some cause.UnknownTask else
-    if test_task task (λ task. not (is_running task.mode)) then Some cause.NotRunning else
-    if test_task task (λ task. not task.stalled) then Some cause.NotInStall else None
+    if is_some_and task (λ task. not (is_running task.mode)) then Some cause.NotRunning else
+    if is_some_and task (λ task. not task.stalled) then Some cause.NotInStall else None
 
 -- a migration is refused: no such task, a processor that isn't there, a task that isn't ready
 abbrev pub migrate_cause : ℕ → Option Task → ℕ → Option Cause
 migrate_cause cpus task cpu =
     if not (is_some task) then Some cause.UnknownTask else
     if nat_le cpus cpu then Some cause.BadCpu else
-    if test_task task (λ task. not (is_ready task.mode)) then Some cause.NotReady else None
+    if is_some_and task (λ task. not (is_ready task.mode)) then Some cause.NotReady else None
 
 -- a move is refused: no such group, no such task
 abbrev pub move_cause : List GroupLife → Option Task → List ℕ → Option Cause

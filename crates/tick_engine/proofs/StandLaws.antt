@@ -7,11 +7,12 @@ use Rattle.std.proofs.lemmas.List.Folds.{Any-from_list_any, list_any-append, lis
 use Rattle.std.proofs.lemmas.List.Elements.{All-cons, All-map, All-nil, filter_agree}
 use Rattle.std.proofs.lemmas.Bool.{false≢true}
 use Rattle.psi_base.specs.declared.event.TriggerSpec.{TriggerSpec}
+use Rattle.psi_base.specs.Missing.{is_some_and}
 use Rattle.psi_spec.specs.declared.machine.GroupLife.{GroupLife}
 use Rattle.psi_spec.specs.Groups.{is_live_at}
 use Rattle.pressure_spec.specs.Ticks.{Tick, AreNextTicks, IsNextTick, last_tick, no_row, no_tick}
 use Rattle.pressure_spec.specs.Share.{at_state, no_totals, plus, shares}
-use Rattle.pressure_spec.specs.Samples.{last_totals, fired_at, growths, has_fired, history_of, life_of, passes, row_at, totals_after, trigger_over, watched_state}
+use Rattle.pressure_spec.specs.Samples.{last_totals, fired_at, growths, has_fired, history_of, life_of, row_at, totals_after, trigger_over, watched_state}
 use Rattle.pressure_spec.specs.Signal.{TriggerState, fires, new_trigger, trigger_step}
 use Rattle.pressure_spec.proofs.SampleLaws as samples
 use Rattle.tick_engine.specs.declared.group.Group.{Group}
@@ -195,7 +196,7 @@ signals_not groups now = grind arith
 
 -- tests of watches, by the numbers of their triggers
 signals_by_number : (groups : List Group) (now : ℕ) (watch : TriggerSpec → TriggerWatch) (test : TriggerSpec → Bool) (triggers : List TriggerSpec) → All (λ spec. watch_signals groups now (watch spec) ≡ test spec) triggers →
-    (i : ℕ) → watch_signals groups now (watch_in (map watch triggers) i) ≡ passes (slice_get triggers i) test
+    (i : ℕ) → watch_signals groups now (watch_in (map watch triggers) i) ≡ is_some_and (slice_get triggers i) test
 signals_by_number groups now watch test [] all i = signals_not groups now
 signals_by_number groups now watch test (spec ∷ triggers) all zero = all 0 spec (omega arith)
 signals_by_number groups now watch test (spec ∷ triggers) all (suc i) = signals_by_number groups now watch test triggers (λ k d below. all (suc k) d (omega arith)) i

@@ -7,11 +7,12 @@ use Rattle.psi_base.specs.declared.event.Act.{Act}
 use Rattle.psi_base.specs.declared.event.Act.TheVariants as act
 use Rattle.psi_base.specs.declared.event.How.TheVariants.{Exit}
 use Rattle.psi_base.specs.declared.event.Pid.{Pid}
+use Rattle.psi_base.specs.Missing.{is_some_and}
 use Rattle.psi_spec.specs.declared.machine.Mode.{Mode}
 use Rattle.psi_spec.specs.declared.machine.Mode.TheVariants.{Blocked, Waiting, Ready, Running}
 use Rattle.psi_spec.specs.declared.machine.Task.{Task}
 use Rattle.psi_spec.specs.Refusal.{AreLegal}
-use Rattle.psi_spec.specs.World.{Limits, Tasks, World, after_event, after_from, change_to, is_active, is_ready_on, is_running, is_running_on, put, readied, running_on, task_of, test_task, events_at}
+use Rattle.psi_spec.specs.World.{Limits, Tasks, World, after_event, after_from, change_to, is_active, is_ready_on, is_running, is_running_on, put, readied, running_on, task_of, events_at}
 use Rattle.psi_spec.proofs.Following.{after_from-append}
 use Rattle.psi_spec.proofs.RefusalLaws.{first_true, second_true}
 use Rattle.psi_spec.proofs.TaskLaws.{get_put, itself}
@@ -68,14 +69,14 @@ apart_too : (a b : ℕ) → (a == b) ≡ false → (b == a) ≡ false
 apart_too a b off = grind (arith, nat_tests)
 
 -- who made room is ready there
-ready_next : (v u : Tasks) (cpu pid : ℕ) (task : Task) (o : Option (ℕ × Task)) → running_on v cpu ≡ o → test_task (task_of v pid) (is_ready_on cpu) ≡ true
+ready_next : (v u : Tasks) (cpu pid : ℕ) (task : Task) (o : Option (ℕ × Task)) → running_on v cpu ≡ o → is_some_and (task_of v pid) (is_ready_on cpu) ≡ true
     → ((k : ℕ) → task_of u k ≡ cond (k == pid) (Some task) (put_aside o k (task_of v k))) → IsNext u cpu (pid_part o)
 ready_next v u cpu pid task None runs ready are = tt
 ready_next v u cpu pid task (Some e) runs ready are =
     let there = running_found v cpu e runs in
     let other = apart_too pid e.0 (next_apart v cpu pid e ready runs) in
     let found : task_of u e.0 ≡ Some (preempted e.1) = are e.0 ∙ ap (λ b. cond b (Some task) (put_aside (Some e) e.0 (task_of v e.0))) other ∙ ap (λ b. cond b (Some (preempted e.1)) (task_of v e.0)) (itself e.0) in
-    ap (λ o. test_task o (is_ready_on cpu)) found ∙ rw (first_true (e.1.cpu.0 == cpu) (is_running e.1.mode) there.1) refl
+    ap (λ o. is_some_and o (is_ready_on cpu)) found ∙ rw (first_true (e.1.cpu.0 == cpu) (is_running e.1.mode) there.1) refl
 
 abbrev last_acts : Pid → Task → Option Pid → List Act
 last_acts pid task next = acts_if task.stalled (act.Unstall pid ∷ []) ++ act.Switch task.cpu next Exit ∷ []
@@ -91,7 +92,7 @@ from_ready limits at room v pid task o ready there is can runs =
     let switch = act.Switch task.cpu (Some pid) (making_room (pid_part o)) in
     let behind = after_event v (event_at at switch) in
     let found : task_of behind.tasks pid.0 ≡ Some (running task) = come.tasks pid.0 ∙ ap (λ b. cond b (Some (running task)) (put_aside o pid.0 (task_of v.tasks pid.0))) (itself pid.0) in
-    let turn = ap (λ t. test_task t (is_ready_on task.cpu.0)) is ∙ can in
+    let turn = ap (λ t. is_some_and t (is_ready_on task.cpu.0)) is ∙ can in
     let next = ready_next v.tasks behind.tasks task.cpu.0 pid.0 (running task) o runs turn come.tasks in
     let last = leaves limits at room behind pid (running task) (pid_part o) come.does.ready there found (rw (itself task.cpu.0) refl) next in
     record {

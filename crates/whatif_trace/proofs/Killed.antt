@@ -15,9 +15,10 @@ use Rattle.psi_base.specs.declared.event.Act.TheVariants as act
 use Rattle.psi_base.specs.declared.event.Event.{Event}
 use Rattle.psi_base.specs.declared.event.How.{How}
 use Rattle.psi_base.specs.declared.event.Pid.{Pid}
+use Rattle.psi_base.specs.Missing.{is_some_and}
 use Rattle.psi_spec.specs.declared.machine.Task.{Task}
 use Rattle.psi_spec.specs.Stall.{is_under, parents_of}
-use Rattle.psi_spec.specs.World.{Tasks, World, after_event, after_from, change_to, first_world, leave, left_by, no_tasks, running_on, start, task_of, tasks_after, test_task}
+use Rattle.psi_spec.specs.World.{Tasks, World, after_event, after_from, change_to, first_world, leave, left_by, no_tasks, running_on, start, task_of, tasks_after}
 use Rattle.psi_spec.proofs.TaskLaws.{firstT, found, get_put, lower, secondT, task_placed}
 use Rattle.psi_counts.specs.Touch.{changed}
 use Rattle.psi_counts.proofs.TouchCounts.{running_found}
@@ -147,23 +148,23 @@ sorted_entries test (e ∷ es) sorted =
     ]
 
 -- who is among the numbers of the entries that pass passes
-passes_if : (tasks : Tasks) (test : Task → Bool) (es : List (ℕ × Task)) → AllByRecursion (λ e. task_of tasks e.0 ≡ Some e.1) es → (pid : ℕ) → is_among (map (λ e. e.0) (filter (λ e. test e.1) es)) pid ≡ true → test_task (task_of tasks pid) test ≡ true
+passes_if : (tasks : Tasks) (test : Task → Bool) (es : List (ℕ × Task)) → AllByRecursion (λ e. task_of tasks e.0 ≡ Some e.1) es → (pid : ℕ) → is_among (map (λ e. e.0) (filter (λ e. test e.1) es)) pid ≡ true → is_some_and (task_of tasks pid) test ≡ true
 passes_if tasks test [] each pid is = absurd (let no : ⊥ = cc is in no)
 passes_if tasks test (e ∷ es) each pid is =
-    elim (test e.1) as (λ b. test e.1 ≡ b → is_among (map (λ e. e.0) (cond b (e ∷ filter (λ e. test e.1) es) (filter (λ e. test e.1) es))) pid ≡ true → test_task (task_of tasks pid) test ≡ true) [
+    elim (test e.1) as (λ b. test e.1 ≡ b → is_among (map (λ e. e.0) (cond b (e ∷ filter (λ e. test e.1) es) (filter (λ e. test e.1) es))) pid ≡ true → is_some_and (task_of tasks pid) test ≡ true) [
       | true ↦ λ on among.
-          elim (pid == e.0) as (λ b. (pid == e.0) ≡ b → (b || is_among (map (λ e. e.0) (filter (λ e. test e.1) es)) pid) ≡ true → test_task (task_of tasks pid) test ≡ true) [
-            | true ↦ λ same _. ap (λ o. test_task o test) (ap (task_of tasks) (equal_is pid e.0 same) ∙ each.0) ∙ on
+          elim (pid == e.0) as (λ b. (pid == e.0) ≡ b → (b || is_among (map (λ e. e.0) (filter (λ e. test e.1) es)) pid) ≡ true → is_some_and (task_of tasks pid) test ≡ true) [
+            | true ↦ λ same _. ap (λ o. is_some_and o test) (ap (task_of tasks) (equal_is pid e.0 same) ∙ each.0) ∙ on
             | false ↦ λ _ rest. passes_if tasks test es each.1 pid rest
           ] refl among
       | false ↦ λ _ among. passes_if tasks test es each.1 pid among
     ] refl is
 
 -- and who passes is among them
-among_if : (test : Task → Bool) (es : List (ℕ × Task)) (pid : ℕ) → test_task (tasks_by.find nat_cmp pid es) test ≡ true → is_among (map (λ e. e.0) (filter (λ e. test e.1) es)) pid ≡ true
+among_if : (test : Task → Bool) (es : List (ℕ × Task)) (pid : ℕ) → is_some_and (tasks_by.find nat_cmp pid es) test ≡ true → is_among (map (λ e. e.0) (filter (λ e. test e.1) es)) pid ≡ true
 among_if test [] pid is = absurd (let no : ⊥ = cc is in no)
 among_if test (e ∷ es) pid is =
-    elim (pid == e.0) as (λ b. (pid == e.0) ≡ b → test_task (cond b (Some e.1) (tasks_by.find nat_cmp pid es)) test ≡ true → is_among (map (λ e. e.0) (cond (test e.1) (e ∷ filter (λ e. test e.1) es) (filter (λ e. test e.1) es))) pid ≡ true) [
+    elim (pid == e.0) as (λ b. (pid == e.0) ≡ b → is_some_and (cond b (Some e.1) (tasks_by.find nat_cmp pid es)) test ≡ true → is_among (map (λ e. e.0) (cond (test e.1) (e ∷ filter (λ e. test e.1) es) (filter (λ e. test e.1) es))) pid ≡ true) [
       | true ↦ λ same on. rw (on, same) refl
       | false ↦ λ other i.
           let rest = among_if test es pid i in
@@ -171,19 +172,19 @@ among_if test (e ∷ es) pid is =
             | true ↦ rw other rest
             | false ↦ rest
           ]
-    ] refl (ap (λ b. test_task (cond b (Some e.1) (tasks_by.find nat_cmp pid es)) test) (sym (unsigned_tied pid e.0)) ∙ is)
+    ] refl (ap (λ b. is_some_and (cond b (Some e.1) (tasks_by.find nat_cmp pid es)) test) (sym (unsigned_tied pid e.0)) ∙ is)
 
 member_is : (w : World) (slot pid : ℕ) → is_among (members w slot) pid ≡ is_member w slot pid
 member_is w slot pid =
     let test : Task → Bool = λ task. is_under (parents_of w.groups) task.slot.0 slot in
     both_ways (is_among (members w slot) pid) (is_member w slot pid)
     (passes_if w.tasks test (tasks_by.entries w.tasks) (found w.tasks) pid)
-    (λ is. among_if test (tasks_by.entries w.tasks) pid (ap (λ o. test_task o test) (sym (tasks_by.get-entries w.tasks pid)) ∙ is))
+    (λ is. among_if test (tasks_by.entries w.tasks) pid (ap (λ o. is_some_and o test) (sym (tasks_by.get-entries w.tasks pid)) ∙ is))
 
 pub members_sorted : (w : World) (slot : ℕ) → IsStrictlySortedBy nat_cmp (members w slot)
 members_sorted w slot = sorted_entries (λ e. is_under (parents_of w.groups) e.1.slot.0 slot) (tasks_by.entries w.tasks) (tasks_by.entries_sorted w.tasks)
 
-if_passed : (o : Option Task) (test : Task → Bool) → test_task o test ≡ true → is_some o ≡ true
+if_passed : (o : Option Task) (test : Task → Bool) → is_some_and o test ≡ true → is_some o ≡ true
 if_passed None test is = absurd (let no : ⊥ = cc is in no)
 if_passed (Some task) test is = refl
 

@@ -7,9 +7,10 @@ use Rattle.psi_base.specs.declared.event.Act.TheVariants as act
 use Rattle.psi_base.specs.declared.event.Cause.TheVariants as cause
 use Rattle.psi_base.specs.declared.event.How.TheVariants.{Exit}
 use Rattle.psi_base.specs.declared.event.Pid.{Pid}
+use Rattle.psi_base.specs.Missing.{is_some_and}
 use Rattle.psi_spec.specs.declared.machine.Mode.TheVariants.{Ready, Running}
 use Rattle.psi_spec.specs.declared.machine.Task.{Task}
-use Rattle.psi_spec.specs.World.{Limits, Tasks, World, after_event, after_from, change_to, is_ready_on, is_running, is_running_on, leave, put, remove, running_on, start, task_of, test_task, events_at}
+use Rattle.psi_spec.specs.World.{Limits, Tasks, World, after_event, after_from, change_to, is_ready_on, is_running, is_running_on, leave, put, remove, running_on, start, task_of, events_at}
 use Rattle.psi_spec.proofs.TaskLaws.{get_put, get_remove, itself, task_placed}
 use Rattle.psi_counts.specs.Touch.{RunsOnce, changed}
 use Rattle.psi_counts.proofs.TouchCounts.{running_found}
@@ -91,7 +92,7 @@ pub comes_in : (limits : Limits) (at room : ℕ) (v : World) (pid : Pid) (task :
     → Comes limits at room v pid task o
 comes_in limits at room v pid task o ready there is can runs =
     let how = making_room (pid_part o) in
-    let turn : test_task (task_of v.tasks pid.0) (is_ready_on task.cpu.0) ≡ true = ap (λ t. test_task t (is_ready_on task.cpu.0)) is ∙ can in
+    let turn : is_some_and (task_of v.tasks pid.0) (is_ready_on task.cpu.0) ≡ true = ap (λ t. is_some_and t (is_ready_on task.cpu.0)) is ∙ can in
     let left = leave how v.tasks o in
     let still : task_of left pid.0 ≡ Some task = ready_left v.tasks task.cpu.0 how pid.0 turn o runs ∙ is in
     record {
@@ -108,7 +109,7 @@ comes_in limits at room v pid task o ready there is can runs =
 
 -- the exit of a running task that is in no stall, where the next task, if there is one, is ready
 abbrev pub IsNext : Tasks → ℕ → Option Pid → Type 0
-IsNext tasks cpu next = IfSome next (λ _. test_task (next_task tasks next) (is_ready_on cpu) ≡ true)
+IsNext tasks cpu next = IfSome next (λ _. is_some_and (next_task tasks next) (is_ready_on cpu) ≡ true)
 
 pub record Leaves (limits : Limits) (at room : ℕ) (v : World) (pid : Pid) (next : Option Pid) (acts : List Act) : Type 0 where
   pub does : Does limits at room v acts
@@ -134,7 +135,7 @@ exits limits at room v pid task next ready there is runs free turn =
 next_still : (tasks : Tasks) (cpu : ℕ) (pid : ℕ) (task other : Task) (next : Option Pid) → running_on tasks cpu ≡ Some (pid, task) → IsNext tasks cpu next → IsNext (put tasks pid other) cpu next
 next_still tasks cpu pid task other None runs turn = tt
 next_still tasks cpu pid task other (Some next) runs turn =
-    ap (λ o. test_task o (is_ready_on cpu)) (get_put tasks pid other next.0 ∙ ap (λ b. cond b (Some other) (task_of tasks next.0)) (next_apart tasks cpu next.0 (pid, task) turn runs)) ∙ turn
+    ap (λ o. is_some_and o (is_ready_on cpu)) (get_put tasks pid other next.0 ∙ ap (λ b. cond b (Some other) (task_of tasks next.0)) (next_apart tasks cpu next.0 (pid, task) turn runs)) ∙ turn
 
 abbrev freed : Task → Task
 freed task = record task { stalled = false }

@@ -7,9 +7,10 @@ use Rattle.psi_base.specs.declared.event.Cpu.{Cpu}
 use Rattle.psi_base.specs.declared.event.How.{How}
 use Rattle.psi_base.specs.declared.event.How.TheVariants.{Preempt, Sleep, IoWait, Exit, Idle}
 use Rattle.psi_base.specs.declared.event.Pid.{Pid}
+use Rattle.psi_base.specs.Missing.{is_some_and}
 use Rattle.psi_spec.specs.declared.machine.Task.{Task}
 use Rattle.psi_spec.specs.Refusal.{is_wrong}
-use Rattle.psi_spec.specs.World.{Limits, Tasks, World, is_ready_on, leave, left_by, running_on, start, task_of, test_task}
+use Rattle.psi_spec.specs.World.{Limits, Tasks, World, is_ready_on, leave, left_by, running_on, start, task_of}
 use Rattle.psi_counts.specs.Touch.{RunsOnce}
 use Rattle.psi_counts.proofs.TouchLaws.{ready_left}
 use Rattle.psi_spec.proofs.TaskLaws.{get_remove}
@@ -29,23 +30,23 @@ not_true : (b : Bool) → not b ≡ true → b ≡ false
 not_true true h = absurd (let no : ⊥ = cc h in no)
 not_true false h = refl
 
-ready_some : (o : Option Task) (cpu : ℕ) → test_task o (is_ready_on cpu) ≡ true → is_some o ≡ true
+ready_some : (o : Option Task) (cpu : ℕ) → is_some_and o (is_ready_on cpu) ≡ true → is_some o ≡ true
 ready_some None cpu ready = absurd (let no : ⊥ = cc ready in no)
 ready_some (Some task) cpu ready = refl
 
 -- a task that is ready on a processor that there is may run next, and so may none
-pub next_may : (cpus cpu : ℕ) (next : Option Pid) (task : Option Task) → nat_le cpus cpu ≡ false → IfSome next (λ _. test_task task (is_ready_on cpu) ≡ true) → next_cause cpus cpu next task ≡ None
+pub next_may : (cpus cpu : ℕ) (next : Option Pid) (task : Option Task) → nat_le cpus cpu ≡ false → IfSome next (λ _. is_some_and task (is_ready_on cpu) ≡ true) → next_cause cpus cpu next task ≡ None
 next_may cpus cpu None task there ready = rw there refl
 next_may cpus cpu (Some pid) task there ready = rw (ready_some task cpu ready, there, ready) refl
 
 -- the next task without the dead ones is ready as it is in the trace
-ready_kept : (dead : List ℕ) (tasks fewer : Tasks) (cpu : ℕ) (next : Option Pid) → AreWithout dead tasks fewer → is_alive dead next ≡ true → IfSome next (λ _. test_task (next_task tasks next) (is_ready_on cpu) ≡ true) → IfSome next (λ _. test_task (next_task fewer next) (is_ready_on cpu) ≡ true)
+ready_kept : (dead : List ℕ) (tasks fewer : Tasks) (cpu : ℕ) (next : Option Pid) → AreWithout dead tasks fewer → is_alive dead next ≡ true → IfSome next (λ _. is_some_and (next_task tasks next) (is_ready_on cpu) ≡ true) → IfSome next (λ _. is_some_and (next_task fewer next) (is_ready_on cpu) ≡ true)
 ready_kept dead tasks fewer cpu None are alive ready = tt
-ready_kept dead tasks fewer cpu (Some pid) are alive ready = ap (λ o. test_task o (is_ready_on cpu)) (found_kept dead tasks fewer are pid.0 (not_true (is_among dead pid.0) alive)) ∙ ready
+ready_kept dead tasks fewer cpu (Some pid) are alive ready = ap (λ o. is_some_and o (is_ready_on cpu)) (found_kept dead tasks fewer are pid.0 (not_true (is_among dead pid.0) alive)) ∙ ready
 
-ready_if : (dead : List ℕ) (tasks fewer : Tasks) (cpu : ℕ) (next : Option Pid) → AreWithout dead tasks fewer → IfSome next (λ _. test_task (next_task tasks next) (is_ready_on cpu) ≡ true) → IfSome (if_alive dead next) (λ _. test_task (next_task fewer (if_alive dead next)) (is_ready_on cpu) ≡ true)
+ready_if : (dead : List ℕ) (tasks fewer : Tasks) (cpu : ℕ) (next : Option Pid) → AreWithout dead tasks fewer → IfSome next (λ _. is_some_and (next_task tasks next) (is_ready_on cpu) ≡ true) → IfSome (if_alive dead next) (λ _. is_some_and (next_task fewer (if_alive dead next)) (is_ready_on cpu) ≡ true)
 ready_if dead tasks fewer cpu next are ready =
-    elim (is_alive dead next) as (λ b. is_alive dead next ≡ b → IfSome (cond b next None) (λ _. test_task (next_task fewer (cond b next None)) (is_ready_on cpu) ≡ true)) [
+    elim (is_alive dead next) as (λ b. is_alive dead next ≡ b → IfSome (cond b next None) (λ _. is_some_and (next_task fewer (cond b next None)) (is_ready_on cpu) ≡ true)) [
       | true ↦ λ alive. ready_kept dead tasks fewer cpu next are alive ready
       | false ↦ λ gone. tt
     ] refl
@@ -63,7 +64,7 @@ record IsSwitch (limits : Limits) (dead : List ℕ) (w v : World) (at : ℕ) (cp
   is : IsWithout dead w v
   room : HasRoom limits v at
   there : nat_le limits.cpus cpu.0 ≡ false
-  ready : IfSome next (λ _. test_task (next_task w.tasks next) (is_ready_on cpu.0) ≡ true)
+  ready : IfSome next (λ _. is_some_and (next_task w.tasks next) (is_ready_on cpu.0) ≡ true)
   leaves : how_cause how running ≡ None
   right : is_wrong how running ≡ false
   runs : running_on w.tasks cpu.0 ≡ running
@@ -152,20 +153,20 @@ true_and : (b c : Bool) → c ≡ false → (b && not c) ≡ b
 true_and true c off = rw off refl
 true_and false c off = refl
 
-pub next_apart : (tasks : Tasks) (cpu pid : ℕ) (e : ℕ × Task) → test_task (task_of tasks pid) (is_ready_on cpu) ≡ true → running_on tasks cpu ≡ Some e → (pid == e.0) ≡ false
+pub next_apart : (tasks : Tasks) (cpu pid : ℕ) (e : ℕ × Task) → is_some_and (task_of tasks pid) (is_ready_on cpu) ≡ true → running_on tasks cpu ≡ Some e → (pid == e.0) ≡ false
 next_apart tasks cpu pid e ready runs =
     let still = ready_left tasks cpu Exit pid ready (Some e) runs in
     let gone = get_remove tasks e.0 pid in
     ⊎_elim
-    (λ same. let none : task_of tasks pid ≡ None = sym still ∙ gone ∙ ap (λ b. cond b None (task_of tasks pid)) same.0 in absurd (let no : ⊥ = cc (ready, ap (λ o. test_task o (is_ready_on cpu)) none) in no))
+    (λ same. let none : task_of tasks pid ≡ None = sym still ∙ gone ∙ ap (λ b. cond b None (task_of tasks pid)) same.0 in absurd (let no : ⊥ = cc (ready, ap (λ o. is_some_and o (is_ready_on cpu)) none) in no))
     (λ other. other.0) (eqb_tells pid e.0)
 
-same_alive : (dead : List ℕ) (tasks : Tasks) (cpu : ℕ) (next : Option Pid) (e : ℕ × Task) → IfSome next (λ _. test_task (next_task tasks next) (is_ready_on cpu) ≡ true) → running_on tasks cpu ≡ Some e
+same_alive : (dead : List ℕ) (tasks : Tasks) (cpu : ℕ) (next : Option Pid) (e : ℕ × Task) → IfSome next (λ _. is_some_and (next_task tasks next) (is_ready_on cpu) ≡ true) → running_on tasks cpu ≡ Some e
     → is_alive (filter (λ other. not (other == e.0)) dead) next ≡ is_alive dead next
 same_alive dead tasks cpu None e ready runs = refl
 same_alive dead tasks cpu (Some pid) e ready runs = ap not (among_less dead e.0 pid.0 ∙ true_and (is_among dead pid.0) (pid.0 == e.0) (next_apart tasks cpu pid.0 e ready runs))
 
-alive_by : (dead : List ℕ) (tasks : Tasks) (cpu : ℕ) (next : Option Pid) (how : How) (e : ℕ × Task) → IfSome next (λ _. test_task (next_task tasks next) (is_ready_on cpu) ≡ true) → running_on tasks cpu ≡ Some e
+alive_by : (dead : List ℕ) (tasks : Tasks) (cpu : ℕ) (next : Option Pid) (how : How) (e : ℕ × Task) → IfSome next (λ _. is_some_and (next_task tasks next) (is_ready_on cpu) ≡ true) → running_on tasks cpu ≡ Some e
     → is_alive (dead_by how dead (Some e)) next ≡ is_alive dead next
 alive_by dead tasks cpu next Exit e ready runs = same_alive dead tasks cpu next e ready runs
 alive_by dead tasks cpu next Preempt e ready runs = refl

@@ -5,9 +5,10 @@ use Rattle.psi_base.specs.declared.event.How.TheVariants.{Exit}
 use Rattle.psi_base.specs.declared.event.Act.{Act}
 use Rattle.psi_base.specs.declared.event.Act.TheVariants as act
 use Rattle.psi_base.specs.declared.event.Event.{Event}
+use Rattle.psi_base.specs.Missing.{is_some_and}
 use Rattle.psi_spec.specs.declared.machine.Task.{Task}
 use Rattle.psi_spec.specs.Stall.{is_under, parents_of}
-use Rattle.psi_spec.specs.World.{Tasks, World, is_running, is_running_on, task_of, test_task, events_at}
+use Rattle.psi_spec.specs.World.{Tasks, World, is_running, is_running_on, task_of, events_at}
 use Rattle.whatif_spec.specs.Without.{act_of, exit_acts, switch_without, without_pid}
 
 -- these events were added to what is kept, unless memory ran out
@@ -49,13 +50,13 @@ is_pid q (Some pid) = q == pid.0
 -- a list has for each of so many processors the number of the task that runs on it
 pub record AreRunners (cpus : ℕ) (runners : List (Option Pid)) (tasks : Tasks) : Type 0 where
   pub long : length runners ≡ cpus
-  pub each : (q cpu : ℕ) → cpu < cpus → test_task (task_of tasks q) (is_running_on cpu) ≡ is_pid q (slice_index_or runners cpu None)
+  pub each : (q cpu : ℕ) → cpu < cpus → is_some_and (task_of tasks q) (is_running_on cpu) ≡ is_pid q (slice_index_or runners cpu None)
 
 -- ---- the members
 
 -- a task with this number is live, in a group or below it
 abbrev pub is_member : World → ℕ → ℕ → Bool
-is_member w slot pid = test_task (task_of w.tasks pid) (λ task. is_under (parents_of w.groups) task.slot.0 slot)
+is_member w slot pid = is_some_and (task_of w.tasks pid) (λ task. is_under (parents_of w.groups) task.slot.0 slot)
 
 -- an act makes the task with this number
 abbrev pub makes : ℕ → Act → Bool
