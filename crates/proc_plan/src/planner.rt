@@ -14,7 +14,7 @@ ghost use Rattle.proc_plan.specs.Room.{changes_in};
 use crate::changes::Changes;
 use crate::plan::Plan;
 use crate::plans::Plans;
-use crate::room::{add_changes, add_side, add_trigger, lacking, make_room};
+use crate::room::{add_changes, add_side, add_trigger, make_room};
 use crate::side::Side;
 use crate::sides::told_by;
 use group_tree::Tree;
@@ -114,27 +114,24 @@ impl Planner {
         self.table.is_ended()
     }
 
-    /// Takes one event more. `Refused` with the first cause against it, where it isn't legal, and `NoMemory` only where it is.
-    /// Nothing changes then.
+    /// Takes one event more: it is judged, then room is made for what it adds, and then it is done. `Refused` with the first
+    /// cause against it, where it isn't legal, and `NoMemory` only where it is. Nothing changes then.
     pub fn take(&mut self, event: &Event) -> Result<(), Fault<Cause>>
         requires { Fits event.now }
         ensures takes { PlannerTakes self.old self.new event.now result }
         ensures same { OnErr result (self.new ≡ self.old) }
     {
-        let task = self.table.task_before(&event.act);
-        let told = told_by(&self.table, event, task);
-        match make_room(
+        let finding = self.table.judge(event)?;
+        let told = told_by(&self.table, event, finding.before);
+        make_room(
             &mut self.changes,
             &mut self.triggers,
             &mut self.sides,
             &event.act,
-            task,
+            finding.before,
             &told,
-        ) {
-            Ok(()) => {}
-            Err(none) => return Err(lacking(&self.table, event, none)),
-        }
-        let touch = self.table.step(event)?;
+        )?;
+        let touch = self.table.perform(event, finding)?;
         add_changes(&mut self.changes, event.at, &touch, &self.table);
         add_trigger(&mut self.triggers, told.trigger);
         add_side(&mut self.sides, told.first);

@@ -3,11 +3,9 @@
 ghost use Rattle.std.specs.Prelude.{◌≡◌, ◌++◌, ◌+◌, ◌<◌, ◌≤◌, ℕ, [], ◌∷◌, length, IfSome, IsSome, None, OnOk, vec_capacity, vec_len};
 ghost use Rattle.psi_counts.specs.Legal.{with_change};
 ghost use Rattle.psi_spec.specs.Names.{names};
-ghost use Rattle.psi_spec.specs.Refusal.{cause_of};
 ghost use Rattle.psi_spec.specs.Told.{listed};
 ghost use Rattle.psi_spec.specs.World.{is_pressure, running_on};
 ghost use Rattle.psi_counts.specs.Touch.{AllTouched, IsBeside, IsOfOne, change_told, gate_change, shown, told_first, told_of};
-ghost use Rattle.group_tree.specs.Tree.{IsGroupFault};
 ghost use Rattle.proc_plan.specs.Plans.{AreSmall};
 ghost use Rattle.proc_plan.specs.Room.{AddsTold, HasRoom, HasRoomFor, HasRoomWithin, changes_in, lists_of};
 ghost use Rattle.proc_plan.specs.Sides.{IsSmall};
@@ -15,7 +13,7 @@ ghost use Rattle.proc_plan.specs.Sides.{IsSmall};
 use crate::changes::Changes;
 use crate::side::Side;
 use crate::sides::Told;
-use psi_base::{Act, Cause, Cpu, Event, Fault, NoMemory, Ns, Slot, TriggerSpec};
+use psi_base::{Act, Cpu, NoMemory, Ns, Slot, TriggerSpec};
 use psi_counts::{Change, Touch};
 use psi_spec::Task;
 use task_table::Table;
@@ -119,16 +117,6 @@ pub(crate) fn make_room(
     triggers.reserve(usize::from(told.trigger.is_some()))?;
     sides.reserve(usize::from(told.first.is_some()) + usize::from(told.second.is_some()))?;
     Ok(())
-}
-
-/// Why an event isn't taken where memory is wanting. A cause against it comes first.
-pub(crate) fn lacking(table: &Table, event: &Event, none: NoMemory) -> Fault<Cause>
-    ensures { IsGroupFault (cause_of table.now.limits table.now.world event.now) result }
-{
-    match table.check(event) {
-        Some(cause) => Fault::Refused(cause),
-        None => Fault::NoMemory(none),
-    }
 }
 
 // The change of a processor at a moment (ns) by a gate, where this task runs.

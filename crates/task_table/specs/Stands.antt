@@ -1,5 +1,5 @@
 -- What a table stands for: its limits and a world, and what its indexes say.
-use Rattle.std.specs.Prelude.{◌≡◌, ℕ, ◌≤◌, ◌==◌, List, length, slice_index_or, Option, None, Some, Bool, if◌then◌else◌, refl, Result, Ok, Err}
+use Rattle.std.specs.Prelude.{◌≡◌, ℕ, ◌<◌, ◌≤◌, ◌==◌, true, List, length, slice_index_or, Option, None, Some, Bool, if◌then◌else◌, refl, Result, Ok, Err}
 use Rattle.std.specs.FinMap as tasks_by
 use Rattle.std.specs.Coded.{Coded, code_by, coded×, coded_ℕ, coded_bool, coded_list}
 use Rattle.psi_spec.specs.declared.machine.GroupLife.{GroupLife}
@@ -9,11 +9,15 @@ use Rattle.psi_spec.specs.contracts.machine.Task as task_row
 use Rattle.psi_base.specs.declared.event.Event.{Event}
 use Rattle.psi_base.specs.declared.event.Cause.{Cause}
 use Rattle.psi_base.specs.declared.event.Fault.{Fault}
+use Rattle.psi_base.specs.declared.text.NoMemory.{NoMemory}
 use Rattle.psi_spec.specs.World.{World, Limits, Tasks, after_event, task_of, is_running_on, most_events}
 use Rattle.psi_spec.specs.Refusal.{cause_of}
+use Rattle.psi_spec.specs.Changes.{before}
 use Rattle.psi_counts.specs.Counts.{how_many}
 use Rattle.psi_counts.specs.Legal.{IsLegalWorld}
-use Rattle.task_table.specs.Causes.{IsFault}
+use Rattle.task_table.specs.Causes.{IsFault, takes_memory}
+use Rattle.task_table.specs.Named.{named_task}
+use Rattle.task_table.specs.declared.finding.Finding.{Finding}
 
 -- the value of a table
 pub record TableView : Type 0 where
@@ -76,6 +80,25 @@ pub record HasRefused (old : TableView) (event : Event) (new : TableView) (why :
 abbrev pub PlaysEvent : {T : Type 0} → TableView → Event → TableView → Result T (Fault Cause) → Type 0
 PlaysEvent old event new (Ok x) = HasPlayed old event new
 PlaysEvent old event new (Err why) = HasRefused old event new why
+
+-- An event is legal in a table, and these are its tasks: the one with the number that its act names, and the one that it changes.
+pub record IsFinding (table : TableView) (event : Event) (finding : Finding) : Type 0 where
+  pub legal : cause_of table.limits table.world event ≡ None
+  pub room : table.world.lines < most_events
+  pub forward : table.world.last ≤ event.at
+  pub early : event.at ≤ table.limits.latest
+  pub named_is : finding.named ≡ named_task table.world.tasks event.act
+  pub before_is : finding.before ≡ before table.world.tasks event.act
+
+-- what judging an event gives: its tasks, or the first cause against it
+abbrev pub Judges : TableView → Event → Result Finding Cause → Type 0
+Judges table event (Ok finding) = IsFinding table event finding
+Judges table event (Err why) = cause_of table.limits table.world event ≡ Some why
+
+-- the table plays a legal event, or memory is wanting for the task or the group that it makes, and nothing has changed
+abbrev pub PlaysLegal : {T : Type 0} → TableView → Event → TableView → Result T NoMemory → Type 0
+PlaysLegal old event new (Ok x) = HasPlayed old event new
+PlaysLegal old event new (Err none) = (new ≡ old) × (takes_memory event.act ≡ true)
 
 -- the value of a table with these fields
 abbrev pub table_of : ℕ → ℕ → Tasks → List GroupLife → List ℕ → ℕ → ℕ → ℕ → ℕ → Bool → TableView

@@ -4,6 +4,7 @@
 mod causes;
 mod context_switch;
 mod effects;
+mod finding;
 mod members;
 mod running;
 mod table;
@@ -11,4 +12,5 @@ mod task_map;
 mod task_update;
 mod touch;
 
+pub use finding::Finding;
 pub use table::Table;

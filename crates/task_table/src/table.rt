@@ -6,13 +6,14 @@ ghost use Rattle.psi_counts.specs.Touch.{AllTouched, HasSlotsBelow, IsOfOne, IsT
 ghost use Rattle.psi_spec.specs.Changes.{before};
 ghost use Rattle.psi_spec.specs.Refusal.{cause_of};
 ghost use Rattle.task_table.specs.Named.{IsChanged, named_task};
-ghost use Rattle.task_table.specs.Stands.{PlaysEvent};
+ghost use Rattle.task_table.specs.Stands.{IsFinding, Judges, PlaysEvent, PlaysLegal};
 
 use crate::causes::{act_refused, is_full};
 use crate::effects::{
     MOST_CPUS, change_groups, change_tasks, has_ended, named_task, note_irq, pressures_with,
     triggers_with,
 };
+use crate::finding::Finding;
 use crate::members::Members;
 use crate::running::{Running, running_at};
 use crate::task_map::TaskMap;
@@ -172,31 +173,6 @@ impl Table {
         current_on(&self.running, cpu)
     }
 
-    /// The one task whose counts an act changes, as it is before the act.
-    #[tactic(auto, using(crate::proofs::Index::running_told))]
-    pub fn task_before(&self, act: &Act) -> Option<Task>
-        ensures { result ≡ before self.now.world.tasks act.now }
-    {
-        match act {
-            Act::Switch { cpu, .. } => match running_at(&self.running, cpu.0) {
-                Some((_, task)) => Some(task),
-                None => None,
-            },
-            Act::Fork { .. } => None,
-            _ => named_task(&self.tasks, act),
-        }
-    }
-
-    /// The first cause against the event, in this profile's order of causes, or none where it is legal.
-    pub fn check(&self, event: &Event) -> Option<Cause>
-        ensures cause { result ≡ cause_of self.now.limits self.now.world event.now }
-        ensures room { IfNone result (self.now.world.lines < most_events) }
-        ensures forward { IfNone result (self.now.world.last ≤ event.now.at) }
-        ensures early { IfNone result (event.now.at ≤ self.now.limits.latest) }
-    {
-        self.refused(event, named_task(&self.tasks, &event.act))
-    }
-
     /// The first cause against an event whose act names this task.
     #[tactic(auto, using(crate::proofs::CauseLaws::first_is, std::proofs::lemmas::Bool::Decides::nat_tests))]
     fn refused(&self, event: &Event, named: Option<Task>) -> Option<Cause>
@@ -231,12 +207,50 @@ impl Table {
         )
     }
 
+    /// The one task whose counts an act changes, as it is before the act. `named` is the one with the number that the act names.
+    fn task_before(&self, act: &Act, named: Option<Task>) -> Option<Task>
+        requires { named ≡ named_task self.now.world.tasks act.now }
+        ensures { result ≡ before self.now.world.tasks act.now }
+    {
+        match act {
+            Act::Switch { cpu, .. } => self.running(*cpu),
+            Act::Fork { .. } => None,
+            _ => named,
+        }
+    }
+
+    /// Judges an event: what is found of its tasks where it is legal, and else the first cause against it, in this profile's
+    /// order of causes.
+    pub fn judge(&self, event: &Event) -> Result<Finding, Cause>
+        ensures { Judges self.now event.now result }
+    {
+        let named = named_task(&self.tasks, &event.act);
+        if let Some(cause) = self.refused(event, named) {
+            return Err(cause);
+        }
+        Ok(Finding {
+            named,
+            before: self.task_before(&event.act, named),
+        })
+    }
+
+    /// The first cause against the event, in this profile's order of causes, or none where it is legal.
+    pub fn check(&self, event: &Event) -> Option<Cause>
+        ensures cause { result ≡ cause_of self.now.limits self.now.world event.now }
+        ensures room { IfNone result (self.now.world.lines < most_events) }
+        ensures forward { IfNone result (self.now.world.last ≤ event.now.at) }
+        ensures early { IfNone result (event.now.at ≤ self.now.limits.latest) }
+    {
+        self.judge(event).err()
+    }
+
     /// The world after the event. Where it is refused, or there is no memory for a new task or group, nothing changes:
     /// `Refused` with the first cause, and `NoMemory` for a legal fork or a legal new group alone.
     pub fn play(&mut self, event: &Event) -> Result<(), Fault<Cause>>
         ensures { PlaysEvent self.old event.now self.new result }
     {
-        self.advance(event)?;
+        let finding = self.judge(event)?;
+        self.advance(event, finding)?;
         Ok(())
     }
 
@@ -254,32 +268,48 @@ impl Table {
         ensures moment { IfOk result
             (λ touch. AllTouched (λ cpu change. change.at ≡ event.now.at) touch) }
     {
+        let finding = self.judge(event)?;
+        Ok(self.perform(event, finding)?)
+    }
+
+    /// Does what a legal event does, of which this was found: what it changes on each processor that it touches. Only a fork
+    /// and a new group take memory; where there is none, nothing changes.
+    pub fn perform(&mut self, event: &Event, finding: Finding) -> Result<Touch, NoMemory>
+        requires { IsFinding self.old event.now finding }
+        ensures plays { PlaysLegal self.old event.now self.new result }
+        ensures touch { IfOk result (λ touch.
+            IsTouch self.old.limits.cpus self.old.world event.now touch) }
+        ensures cpus { IfOk result
+            (λ touch. AllTouched (λ cpu change. cpu < self.old.limits.cpus) touch) }
+        ensures slots { IfOk result (λ touch.
+            AllTouched (λ cpu change. HasSlotsBelow (length self.old.world.groups) change) touch) }
+        ensures ones { IfOk result (λ touch. AllTouched (λ cpu change. IsOfOne change) touch) }
+        ensures moment { IfOk result
+            (λ touch. AllTouched (λ cpu change. change.at ≡ event.now.at) touch) }
+    {
         let gate = gate_of(&self.tree, &event.act);
-        let changed = self.advance(event)?;
+        let changed = self.advance(event, finding)?;
         if let Some(gate) = gate {
             return Ok(gate_touch(gate));
         }
         Ok(touch_of(event.at, &event.act, changed, &self.running))
     }
 
-    /// The world after the event as [`Table::play`] makes it, and the task that the event changes.
-    fn advance(&mut self, event: &Event) -> Result<TaskUpdate, Fault<Cause>>
-        ensures plays { PlaysEvent self.old event.now self.new result }
+    /// The world after a legal event, and the task that the event changes. Where there is no memory, nothing changes.
+    fn advance(&mut self, event: &Event, finding: Finding) -> Result<TaskUpdate, NoMemory>
+        requires { IsFinding self.old event.now finding }
+        ensures plays { PlaysLegal self.old event.now self.new result }
         ensures changed { IfOk result (λ c.
             IsChanged self.old.world.groups self.old.world.tasks event.now.act c) }
     {
         let act = &event.act;
-        let named = named_task(&self.tasks, act);
-        if let Some(cause) = self.refused(event, named) {
-            return Err(Fault::Refused(cause));
-        }
         let changed = change_tasks(
             &mut self.tasks,
             &mut self.running,
             &mut self.members,
             &self.tree,
             act,
-            named,
+            finding.named,
         )?;
         change_groups(&mut self.tree, &mut self.members, event.at, act)?;
         note_irq(&mut self.irqs, event.at, act);

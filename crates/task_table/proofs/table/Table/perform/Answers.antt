@@ -1,9 +1,9 @@
-use Rattle.std.proofs.Common.{◌≡◌, ◌∙◌, ap, subst, sym, None}
+use Rattle.std.proofs.Common.{◌∙◌, ap, subst, sym}
 use Rattle.psi_spec.specs.Names.{names}
 use Rattle.psi_counts.specs.Touch.{gate_of}
 use Rattle.task_table.specs.Stands.{IsIndex, TableView}
 use Rattle.task_table.proofs.Touching.{IsTold, gate_told_alone, told_played, unswitched}
-use Rattle.task_table.proofs.table.Table.step.Goals as goal
+use Rattle.task_table.proofs.table.Table.perform.Goals as goal
 
 -- all that is promised of the touch by a gate
 gated : (c : goal.After-gate_touch) → IsTold c.args.self.now.limits c.args.self.now.world c.args.event.now c.gate_touch.result
