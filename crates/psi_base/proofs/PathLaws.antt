@@ -39,12 +39,12 @@ onto byte (part ∷ parts) h =
     (first.0, ap (λ b. b && list_all (list_all is_path_byte) parts) first.1 ∙ all.1)
 
 -- an ASCII byte before ASCII bytes
-cons_ascii : (byte : ℕ) (bytes : List ℕ) → byte < 128 → IsAscii bytes → IsAscii (byte ∷ bytes)
+pub cons_ascii : (byte : ℕ) (bytes : List ℕ) → byte < 128 → IsAscii bytes → IsAscii (byte ∷ bytes)
 cons_ascii byte bytes first rest zero = first
 cons_ascii byte bytes first rest (suc i) = rest i
 
 -- the root's path is ASCII
-root_ascii : IsAscii (codes "/")
+pub root_ascii : IsAscii (codes "/")
 root_ascii zero = omega arith
 root_ascii (suc i) = omega arith
 

@@ -1,6 +1,6 @@
 //! The types of a trace of scheduler events, and the traits through which a replay meets the outside.
 //!
-//! - What a trace tells ([`Event`], [`Act`]) and why a line of it is refused ([`Cause`], [`Refusal`], [`Fault`]).
+//! - What a trace tells ([`Event`], [`Act`]), in which words, and why a line of it is refused ([`Cause`], [`Refusal`], [`Fault`]).
 //! - The outside: [`Shelf`] (files by name), [`Sink`] (places to write to) and [`Gate`] (points at which a test may
 //!   hold a thread), with fakes in memory whose every answer is said by their clauses, [`BufferedSink`], which
 //!   collects bytes for another sink, [`read_behind`], and [`Tally`], a count that only proofs read.
@@ -17,8 +17,10 @@ mod parts;
 mod path;
 mod put;
 mod read;
+mod states;
 mod tally;
 mod text;
+mod words;
 
 pub use buffer::{BufferedSink, Pending};
 pub use event::{

@@ -1,18 +1,14 @@
 -- The kinds of fields that an event line has: the values of each, and the one word that spells a value.
 use Rattle.std.specs.Prelude.{◌≡◌, ◌⊎◌, ℕ, ◌≤◌, ◌<◌, ◌^◌, List, [], ◌∷◌, nat_lt, nat_le, ◌&&◌, Bool, true, false, if◌then◌else◌, codes, decimal, Option, None, Some, IfSome, option_map}
-use Rattle.std.specs.Str.{bytes_eq}
 use Rattle.psi_base.specs.Number.{number_of}
 use Rattle.psi_base.specs.Path.{is_path}
+pub use Rattle.psi_base.specs.Words.{named, how_word, preference_word, resource_word, level_word, hows, preferences, resources, levels}
 use Rattle.psi_base.specs.declared.event.Pid.{Pid}
 use Rattle.psi_base.specs.declared.event.Cpu.{Cpu}
 use Rattle.psi_base.specs.declared.event.How.{How}
-use Rattle.psi_base.specs.declared.event.How.TheVariants.{Preempt, Sleep, IoWait, Exit, Idle}
 use Rattle.psi_base.specs.declared.event.Preference.{Preference}
-use Rattle.psi_base.specs.declared.event.Preference.TheVariants.{Prefer, Plain, Avoid}
 use Rattle.psi_base.specs.declared.event.Res.{Res}
-use Rattle.psi_base.specs.declared.event.Res.TheVariants.{Io, Memory, Cpu as CpuRes}
 use Rattle.psi_base.specs.declared.event.Level.{Level}
-use Rattle.psi_base.specs.declared.event.Level.TheVariants.{SomeStalled, FullStalled}
 
 -- what a field of an event line speaks of: a task, the task that runs next or none, a processor, a group by its path,
 -- how a task leaves its processor, a group's preference, a size or quantity of at most 2^60, any number of 64 bits,
@@ -67,31 +63,6 @@ abbrev pub next_word : Option Pid → List ℕ
 next_word None = codes "0"
 next_word (Some task) = decimal task.0
 
--- how the running task leaves its processor
-abbrev pub how_word : How → List ℕ
-how_word Preempt = codes "preempt"
-how_word Sleep = codes "sleep"
-how_word IoWait = codes "iowait"
-how_word Exit = codes "exit"
-how_word Idle = codes "idle"
-
--- how a group is preferred by what kills
-abbrev pub preference_word : Preference → List ℕ
-preference_word Prefer = codes "prefer"
-preference_word Avoid = codes "avoid"
-preference_word Plain = codes "none"
-
--- the resource that is short
-abbrev pub resource_word : Res → List ℕ
-resource_word Io = codes "io"
-resource_word Memory = codes "memory"
-resource_word CpuRes = codes "cpu"
-
--- whether some tasks stall, or all of them
-abbrev pub level_word : Level → List ℕ
-level_word SomeStalled = codes "some"
-level_word FullStalled = codes "full"
-
 -- whether the account of a group is on
 abbrev pub account_word : Bool → List ℕ
 account_word true = codes "on"
@@ -111,11 +82,6 @@ word resource which = resource_word which
 word level which = level_word which
 word account on = account_word on
 
--- the first of these that is called so
-abbrev pub named : {A : Type 0} → (A → List ℕ) → List A → List ℕ → Option A
-named name [] text = None
-named name (x ∷ xs) text = if bytes_eq text (name x) then Some x else named name xs text
-
 -- this is one of these
 abbrev pub IsAmong : {A : Type 0} → A → List A → Type 0
 IsAmong x [] = ⊥
@@ -133,22 +99,6 @@ number_in holds text = kept holds (number_of text)
 -- 0 is no task
 abbrev pub task_or_none : ℕ → Option Pid
 task_or_none n = if nat_lt 0 n then Some (record { 0 = n }) else None
-
--- the ways to leave a processor
-abbrev pub hows : List How
-hows = Preempt ∷ Sleep ∷ IoWait ∷ Exit ∷ Idle ∷ []
-
--- how a group may be preferred
-abbrev pub preferences : List Preference
-preferences = Prefer ∷ Avoid ∷ Plain ∷ []
-
--- the resources
-abbrev pub resources : List Res
-resources = Io ∷ Memory ∷ CpuRes ∷ []
-
--- the levels
-abbrev pub levels : List Level
-levels = SomeStalled ∷ FullStalled ∷ []
 
 -- an account is on, or off
 abbrev pub accounts : List Bool

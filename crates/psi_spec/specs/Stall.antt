@@ -3,6 +3,7 @@ use Rattle.std.specs.Prelude.{ℕ, zero, suc, ◌+◌, ◌-◌, List, [], ◌∷
 use Rattle.std.specs.List.{list_any, list_all, range_with_len}
 use Rattle.std.specs.FinMap as tasks_by
 use Rattle.psi_base.specs.declared.event.Slot.{Slot}
+pub use Rattle.psi_base.specs.States.{state_number}
 use Rattle.psi_base.specs.declared.event.State.{State}
 use Rattle.psi_base.specs.declared.event.State.TheVariants.{IoSome, IoFull, MemSome, MemFull, CpuSome, CpuFull, Nonidle}
 use Rattle.psi_base.specs.declared.event.Act.{Act}
@@ -75,16 +76,6 @@ holds_of MemFull tasks = list_any stalls tasks && (list_all (λ task. not (is_up
 holds_of CpuSome tasks = list_any queues tasks
 holds_of CpuFull tasks = list_any queues tasks && not (list_any runs tasks)
 holds_of Nonidle tasks = list_any (λ task. waits task || stalls task || is_up task) tasks
-
--- the number of a state, from 0
-abbrev pub state_number : State → ℕ
-state_number IoSome = 0
-state_number IoFull = 1
-state_number MemSome = 2
-state_number MemFull = 3
-state_number CpuSome = 4
-state_number CpuFull = 5
-state_number Nonidle = 6
 
 -- the states in the order of their numbers
 abbrev pub states : List State

@@ -1,0 +1,27 @@
+-- The states that are timed: their numbers, and which of them is that of a resource.
+use Rattle.std.specs.Prelude.{ℕ}
+use Rattle.psi_base.specs.declared.event.State.{State}
+use Rattle.psi_base.specs.declared.event.State.TheVariants.{IoSome, IoFull, MemSome, MemFull, CpuSome, CpuFull, Nonidle}
+use Rattle.psi_base.specs.declared.event.Res.{Res}
+use Rattle.psi_base.specs.declared.event.Res.TheVariants.{Io, Memory, Cpu}
+use Rattle.psi_base.specs.declared.event.Level.{Level}
+use Rattle.psi_base.specs.declared.event.Level.TheVariants.{SomeStalled, FullStalled}
+
+-- the number of a state, from 0
+abbrev pub state_number : State → ℕ
+state_number IoSome = 0
+state_number IoFull = 1
+state_number MemSome = 2
+state_number MemFull = 3
+state_number CpuSome = 4
+state_number CpuFull = 5
+state_number Nonidle = 6
+
+-- the state of a resource, on some or all tasks
+abbrev pub state_of : Res → Level → State
+state_of Io SomeStalled = IoSome
+state_of Io FullStalled = IoFull
+state_of Memory SomeStalled = MemSome
+state_of Memory FullStalled = MemFull
+state_of Cpu SomeStalled = CpuSome
+state_of Cpu FullStalled = CpuFull

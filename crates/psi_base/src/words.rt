@@ -1,0 +1,102 @@
+//! The words of ways to leave a processor, preferences, resources and levels, as texts have them.
+ghost use Rattle.std.specs.Prelude.{◌≡◌, ◌≤◌, length};
+ghost use Rattle.psi_base.specs.Words.{how_word, hows, level_word, levels, named, preference_word, preferences, resource_word, resources};
+
+use crate::event::{How, Level, Preference, Res};
+
+impl How {
+    /// The word for it.
+    pub fn word(self) -> &'static str
+        ensures word { result.now ≡ how_word self }
+        ensures short { length result.now ≤ 7 }
+    {
+        match self {
+            How::Preempt => "preempt",
+            How::Sleep => "sleep",
+            How::IoWait => "iowait",
+            How::Exit => "exit",
+            How::Idle => "idle",
+        }
+    }
+
+    /// The one with this word.
+    pub fn of(word: &[u8]) -> Option<How>
+        ensures { result ≡ named how_word hows word.now }
+    {
+        [How::Preempt, How::Sleep, How::IoWait, How::Exit, How::Idle]
+            .iter()
+            .find(|how| word == how.word().as_bytes())
+            .copied()
+    }
+}
+
+impl Preference {
+    /// The word for it.
+    pub fn word(self) -> &'static str
+        ensures word { result.now ≡ preference_word self }
+        ensures short { length result.now ≤ 6 }
+    {
+        match self {
+            Preference::Prefer => "prefer",
+            Preference::Avoid => "avoid",
+            Preference::Plain => "none",
+        }
+    }
+
+    /// The one with this word.
+    pub fn of(word: &[u8]) -> Option<Preference>
+        ensures { result ≡ named preference_word preferences word.now }
+    {
+        [Preference::Prefer, Preference::Avoid, Preference::Plain]
+            .iter()
+            .find(|preference| word == preference.word().as_bytes())
+            .copied()
+    }
+}
+
+impl Res {
+    /// The word for it.
+    pub fn word(self) -> &'static str
+        ensures word { result.now ≡ resource_word self }
+        ensures short { length result.now ≤ 6 }
+    {
+        match self {
+            Res::Io => "io",
+            Res::Memory => "memory",
+            Res::Cpu => "cpu",
+        }
+    }
+
+    /// The one with this word.
+    pub fn of(word: &[u8]) -> Option<Res>
+        ensures { result ≡ named resource_word resources word.now }
+    {
+        [Res::Io, Res::Memory, Res::Cpu]
+            .iter()
+            .find(|res| word == res.word().as_bytes())
+            .copied()
+    }
+}
+
+impl Level {
+    /// The word for it.
+    pub fn word(self) -> &'static str
+        ensures word { result.now ≡ level_word self }
+        ensures short { length result.now ≤ 4 }
+    {
+        match self {
+            Level::SomeStalled => "some",
+            Level::FullStalled => "full",
+        }
+    }
+
+    /// The one with this word.
+    pub fn of(word: &[u8]) -> Option<Level>
+        ensures { result ≡ named level_word levels word.now }
+    {
+        [Level::SomeStalled, Level::FullStalled]
+            .iter()
+            .find(|level| word == level.word().as_bytes())
+            .copied()
+    }
+}
