@@ -2,12 +2,8 @@
 -- triggers.
 use Rattle.std.specs.Prelude.{ℕ, ◌-◌, List, [], ◌∷◌, ◌++◌, length, map, filter, slice_get, slice_index_or, nat_le, nat_lt, ◌&&◌, Bool, false, Option, None, Some, if◌then◌else◌}
 use Rattle.std.specs.List.{range_with_len}
+pub use Rattle.psi_base.specs.States.{state_of}
 use Rattle.psi_base.specs.declared.event.State.{State}
-use Rattle.psi_base.specs.declared.event.State.TheVariants.{IoSome, IoFull, MemSome, MemFull, CpuSome, CpuFull}
-use Rattle.psi_base.specs.declared.event.Res.{Res}
-use Rattle.psi_base.specs.declared.event.Res.TheVariants.{Io, Memory, Cpu}
-use Rattle.psi_base.specs.declared.event.Level.{Level}
-use Rattle.psi_base.specs.declared.event.Level.TheVariants.{SomeStalled, FullStalled}
 use Rattle.psi_base.specs.declared.event.TriggerSpec.{TriggerSpec}
 use Rattle.psi_base.specs.Missing.{is_some_and}
 use Rattle.psi_spec.specs.declared.machine.GroupLife.{GroupLife}
@@ -65,15 +61,6 @@ unfoldable pub group_averages : ℕ → List GroupLife → List Tick → ℕ →
 group_averages cpus lives ticks slot = averages_after (life_of lives slot).made (history_of cpus lives ticks slot)
 
 -- ---- signals
-
--- the state of a resource, on some or all tasks
-abbrev pub state_of : Res → Level → State
-state_of Io SomeStalled = IoSome
-state_of Io FullStalled = IoFull
-state_of Memory SomeStalled = MemSome
-state_of Memory FullStalled = MemFull
-state_of Cpu SomeStalled = CpuSome
-state_of Cpu FullStalled = CpuFull
 
 -- the state that a trigger watches
 abbrev pub watched_state : TriggerSpec → State
