@@ -76,68 +76,6 @@ fn amount_in(word: &[u8]) -> Option<u64>
 }
 
 #[tactic(auto, unfolding(psi_spec::specs::Fields::value_of))]
-fn how_in(word: &[u8]) -> Option<How>
-    ensures { result ≡ value_of kind.how word.now }
-{
-    if word == b"preempt".as_slice() {
-        Some(How::Preempt)
-    } else if word == b"sleep".as_slice() {
-        Some(How::Sleep)
-    } else if word == b"iowait".as_slice() {
-        Some(How::IoWait)
-    } else if word == b"exit".as_slice() {
-        Some(How::Exit)
-    } else if word == b"idle".as_slice() {
-        Some(How::Idle)
-    } else {
-        None
-    }
-}
-
-#[tactic(auto, unfolding(psi_spec::specs::Fields::value_of))]
-fn preference_in(word: &[u8]) -> Option<Preference>
-    ensures { result ≡ value_of kind.preference word.now }
-{
-    if word == b"prefer".as_slice() {
-        Some(Preference::Prefer)
-    } else if word == b"avoid".as_slice() {
-        Some(Preference::Avoid)
-    } else if word == b"none".as_slice() {
-        Some(Preference::Plain)
-    } else {
-        None
-    }
-}
-
-#[tactic(auto, unfolding(psi_spec::specs::Fields::value_of))]
-fn resource_in(word: &[u8]) -> Option<Res>
-    ensures { result ≡ value_of kind.resource word.now }
-{
-    if word == b"io".as_slice() {
-        Some(Res::Io)
-    } else if word == b"memory".as_slice() {
-        Some(Res::Memory)
-    } else if word == b"cpu".as_slice() {
-        Some(Res::Cpu)
-    } else {
-        None
-    }
-}
-
-#[tactic(auto, unfolding(psi_spec::specs::Fields::value_of))]
-fn level_in(word: &[u8]) -> Option<Level>
-    ensures { result ≡ value_of kind.level word.now }
-{
-    if word == b"some".as_slice() {
-        Some(Level::SomeStalled)
-    } else if word == b"full".as_slice() {
-        Some(Level::FullStalled)
-    } else {
-        None
-    }
-}
-
-#[tactic(auto, unfolding(psi_spec::specs::Fields::value_of))]
 fn account_in(word: &[u8]) -> Option<bool>
     ensures { result ≡ value_of kind.account word.now }
 {
@@ -187,31 +125,35 @@ pub fn number_field(words: &mut Words, index: u8) -> Result<u64, Cause>
 }
 
 /// The field with this number, read as a way to leave a processor.
+#[tactic(auto, unfolding(psi_spec::specs::Fields::value_of))]
 pub fn how_field(words: &mut Words, index: u8) -> Result<How, Cause>
     ensures { TakesWords result words.new (field index kind.how words.old) }
 {
-    how_in(next_word(words, index)?).ok_or(Cause::BadField(index))
+    How::of(next_word(words, index)?).ok_or(Cause::BadField(index))
 }
 
 /// The field with this number, read as a group's preference.
+#[tactic(auto, unfolding(psi_spec::specs::Fields::value_of))]
 pub fn preference_field(words: &mut Words, index: u8) -> Result<Preference, Cause>
     ensures { TakesWords result words.new (field index kind.preference words.old) }
 {
-    preference_in(next_word(words, index)?).ok_or(Cause::BadField(index))
+    Preference::of(next_word(words, index)?).ok_or(Cause::BadField(index))
 }
 
 /// The field with this number, read as a resource.
+#[tactic(auto, unfolding(psi_spec::specs::Fields::value_of))]
 pub fn resource_field(words: &mut Words, index: u8) -> Result<Res, Cause>
     ensures { TakesWords result words.new (field index kind.resource words.old) }
 {
-    resource_in(next_word(words, index)?).ok_or(Cause::BadField(index))
+    Res::of(next_word(words, index)?).ok_or(Cause::BadField(index))
 }
 
 /// The field with this number, read as `some` or `full`.
+#[tactic(auto, unfolding(psi_spec::specs::Fields::value_of))]
 pub fn level_field(words: &mut Words, index: u8) -> Result<Level, Cause>
     ensures { TakesWords result words.new (field index kind.level words.old) }
 {
-    level_in(next_word(words, index)?).ok_or(Cause::BadField(index))
+    Level::of(next_word(words, index)?).ok_or(Cause::BadField(index))
 }
 
 /// The field with this number, read as `on` or `off`.

@@ -3,8 +3,7 @@ ghost use Rattle.std.specs.Prelude.{◌≡◌, ◌≤◌, ◌+◌, ◌++◌, ◌
 ghost use Rattle.psi_spec.specs.Fields as fields;
 ghost use Rattle.psi_trace.specs.Writes.{spaced};
 
-use crate::line::{LongLine, ShortLine};
-use psi_base::{How, Level, Preference, Res};
+use crate::line::{Line, LongLine};
 
 /// Puts a number in front, behind a space.
 #[tactic(auto, using(crate::proofs::InPieces::lines))]
@@ -30,57 +29,15 @@ pub(crate) fn put_numbers(line: &mut LongLine, first: u64, second: u64, third: u
     put_number(line, first);
 }
 
-/// Puts the word for how a task leaves in front, behind a space.
-pub(crate) fn put_how(line: &mut ShortLine, how: How)
-    requires { length line.old ≡ 0 }
-    ensures bytes { line.new ≡ 32 ∷ fields.how_word how ++ line.old }
-    ensures room { length line.new ≤ 8 }
+/// Puts a word in front, behind a space.
+#[inline(always)]
+pub(crate) fn put_word<const ROOM: usize>(line: &mut Line<ROOM>, word: &str)
+    requires { 1 + length word.now + length line.old ≤ ROOM }
+    ensures bytes { line.new ≡ 32 ∷ word.now ++ line.old }
+    ensures length { length line.new ≡ 1 + length word.now + length line.old }
 {
-    match how {
-        How::Preempt => line.text(b" preempt"),
-        How::Sleep => line.text(b" sleep"),
-        How::IoWait => line.text(b" iowait"),
-        How::Exit => line.text(b" exit"),
-        How::Idle => line.text(b" idle"),
-    }
-}
-
-/// Puts the word of a preference in front, behind a space.
-pub(crate) fn put_preference(line: &mut LongLine, preference: Preference)
-    requires { length line.old ≤ 63 }
-    ensures bytes { line.new ≡ 32 ∷ fields.preference_word preference ++ line.old }
-    ensures room { length line.new ≤ 7 + length line.old }
-{
-    match preference {
-        Preference::Prefer => line.text(b" prefer"),
-        Preference::Avoid => line.text(b" avoid"),
-        Preference::Plain => line.text(b" none"),
-    }
-}
-
-/// Puts the word for a resource in front, behind a space.
-pub(crate) fn put_resource(line: &mut LongLine, res: Res)
-    requires { length line.old ≤ 63 }
-    ensures bytes { line.new ≡ 32 ∷ fields.resource_word res ++ line.old }
-    ensures room { length line.new ≤ 7 + length line.old }
-{
-    match res {
-        Res::Io => line.text(b" io"),
-        Res::Memory => line.text(b" memory"),
-        Res::Cpu => line.text(b" cpu"),
-    }
-}
-
-/// Puts the word for some or all tasks in front, behind a space.
-pub(crate) fn put_level(line: &mut LongLine, level: Level)
-    requires { length line.old ≤ 63 }
-    ensures bytes { line.new ≡ 32 ∷ fields.level_word level ++ line.old }
-    ensures room { length line.new ≤ 5 + length line.old }
-{
-    match level {
-        Level::SomeStalled => line.text(b" some"),
-        Level::FullStalled => line.text(b" full"),
-    }
+    line.text(word.as_bytes());
+    line.text(b" ");
 }
 
 /// Puts the word for whether an account is on in front, behind a space.
@@ -90,8 +47,8 @@ pub(crate) fn put_account(line: &mut LongLine, on: bool)
     ensures room { length line.new ≤ 4 + length line.old }
 {
     if on {
-        line.text(b" on")
+        put_word(line, "on")
     } else {
-        line.text(b" off")
+        put_word(line, "off")
     }
 }

@@ -7,9 +7,7 @@ ghost use Rattle.psi_spec.specs.Grammar.{Fits, act_words, form_of, header, kinds
 ghost use Rattle.psi_trace.specs.Writes.{is_short, spaced};
 
 use crate::line::{LongLine, ShortLine};
-use crate::word::{
-    put_account, put_how, put_level, put_number, put_numbers, put_preference, put_resource,
-};
+use crate::word::{put_account, put_number, put_numbers, put_word};
 use psi_base::{Act, Cpu, Event, How, Level, NoMemory, Path, Pid, Preference, Res};
 
 /// Whether an act has few words, and no path among them.
@@ -105,7 +103,7 @@ fn put_prefer(line: &mut LongLine, path: &Path, preference: Preference)
         ≡ spaced (codes "prefer" ∷ path.now ∷ fields.preference_word preference ∷ []) ++ line.old }
     ensures room { length line.new ≤ 330 }
 {
-    put_preference(line, preference);
+    put_word(line, preference.word());
     put_group(line, b" prefer ", path);
 }
 
@@ -184,8 +182,8 @@ fn put_trigger(
 {
     put_number(line, window_us);
     put_number(line, threshold_us);
-    put_level(line, level);
-    put_resource(line, res);
+    put_word(line, level.word());
+    put_word(line, res.word());
     put_group(line, b" trigger ", path);
 }
 
@@ -210,7 +208,7 @@ fn put_switch(line: &mut ShortLine, cpu: Cpu, next: Option<Pid>, how: How)
         ++ line.old }
     ensures room { length line.new ≤ 60 }
 {
-    put_how(line, how);
+    put_word(line, how.word());
     match next {
         Some(pid) => line.number(u64::from(pid.0)),
         None => line.text(b"0"),

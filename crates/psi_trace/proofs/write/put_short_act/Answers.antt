@@ -1,6 +1,3 @@
-use Rattle.psi_spec.specs.Fields.{word}
-use Rattle.psi_spec.specs.Grammar.{act_words, form_of, kinds_of, phrase_of, verb_word, field_words}
-use Rattle.psi_trace.specs.Writes.{spaced}
 use Rattle.psi_trace.proofs.InPieces.{lines}
 use Rattle.psi_trace.proofs.write.put_short_act.Goals as goal
 
