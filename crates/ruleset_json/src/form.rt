@@ -179,11 +179,8 @@ pub fn resource(text: &[u8]) -> Option<Res>
     ensures value { result ≡ form.resource_of text.now }
     ensures range { IfSome result IsStallable }
 {
-    if text == b"io".as_slice() {
-        Some(Res::Io)
-    } else if text == b"memory".as_slice() {
-        Some(Res::Memory)
-    } else {
-        None
+    match Res::of(text) {
+        Some(Res::Cpu) | None => None,
+        stallable => stallable,
     }
 }
