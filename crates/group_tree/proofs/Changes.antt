@@ -153,10 +153,10 @@ set_is_map f (group ∷ groups) (suc place) new here others =
 pub found_made : (groups : List GroupLife) (path : List ℕ) (slot : ℕ) → slot_of groups path ≡ Some slot → slot < length groups
 found_made groups path slot found = let below = found_below 0 groups path slot found in omega (arith, below.1)
 
--- a group that stays
-stays : (groups : List GroupLife) (path : List ℕ) (at place k : ℕ) (group : GroupLife) → IsOneLive groups → slot_of groups path ≡ Some place → slice_get groups k ≡ Some group → k ≢ place → marked_removed path at group ≡ group
-stays groups path at place k group one found got differs =
-    elim (is_live group && bytes_eq group.path path) as (λ b. (is_live group && bytes_eq group.path path) ≡ b → (if b then record group { gone = Some at } else group) ≡ group) [
+-- a group in another place than the one that was found has another path, or is gone
+is_another : (groups : List GroupLife) (path : List ℕ) (place k : ℕ) (group : GroupLife) → IsOneLive groups → slot_of groups path ≡ Some place → slice_get groups k ≡ Some group → k ≢ place → (is_live group && bytes_eq group.path path) ≡ false
+is_another groups path place k group one found got differs =
+    elim (is_live group && bytes_eq group.path path) as (λ b. (is_live group && bytes_eq group.path path) ≡ b → b ≡ false) [
       | true ↦ λ is.
           let alive = first_true (is_live group) (bytes_eq group.path path) is in
           let same = same_bytes group.path path (second_true (is_live group) (bytes_eq group.path path) is) in
@@ -174,7 +174,7 @@ ended_is groups path at place group one found got =
     let same : group ≡ g = cc (got, is) in
     let test = found_group 0 groups path place place g found (omega arith) is in
     ap (λ b. if b then record g { gone = Some at } else g) test ∙ ap (λ (g : GroupLife). let ended : GroupLife = record g { gone = Some at } in ended) (sym same))
-    (λ k g is differs. stays groups path at place k g one found is differs)
+    (λ k g is differs. ap (λ b. if b then record g { gone = Some at } else g) (is_another groups path place k g one found is differs))
 
 -- a path finds nothing, or what it found
 found_less : (groups : List GroupLife) (path : List ℕ) (at : ℕ) (find : List ℕ → Option Slot) → ((path : List ℕ) → find path ≡ as_slot (slot_of groups path)) → (other : List ℕ) → (if bytes_eq path other then None else find other) ≡ as_slot (slot_of (map (marked_removed path at) groups) other)
@@ -241,19 +241,6 @@ not_root groups path none =
       | false ↦ λ here. absurd (cc here)
     ] none
 
--- a group that isn't the switched one
-other_stays : (groups : List GroupLife) (path : List ℕ) (on : Bool) (place k : ℕ) (group : GroupLife) → IsOneLive groups → slot_of groups path ≡ Some place → slice_get groups k ≡ Some group → k ≢ place → marked_switched path on group ≡ group
-other_stays groups path on place k group one found got differs =
-    elim (is_live group && bytes_eq group.path path) as (λ b. (is_live group && bytes_eq group.path path) ≡ b → (if b then record group { on = on } else group) ≡ group) [
-      | true ↦ λ is.
-          let alive = first_true (is_live group) (bytes_eq group.path path) is in
-          let same = same_bytes group.path path (second_true (is_live group) (bytes_eq group.path path) is) in
-          let both : Some k ≡ Some place = sym (one k group got alive) ∙ ap (slot_of groups) same ∙ found in
-          let equal : k ≡ place = cc both in
-          absurd (differs equal)
-      | false ↦ λ _. refl
-    ] refl
-
 -- what is put into the found group's place is the switch
 pub switched_is : (groups : List GroupLife) (path : List ℕ) (on : Bool) (place : ℕ) (group : GroupLife) → IsOneLive groups → slot_of groups path ≡ Some place → slice_get groups place ≡ Some group → slice_set groups place (record group { on = on }) ≡ map (marked_switched path on) groups
 switched_is groups path on place group one found got =
@@ -262,7 +249,7 @@ switched_is groups path on place group one found got =
     let same : group ≡ g = cc (got, is) in
     let test = found_group 0 groups path place place g found (omega arith) is in
     ap (λ b. if b then record g { on = on } else g) test ∙ ap (λ (g : GroupLife). let other : GroupLife = record g { on = on } in other) (sym same))
-    (λ k g is differs. other_stays groups path on place k g one found is differs)
+    (λ k g is differs. ap (λ b. if b then record g { on = on } else g) (is_another groups path place k g one found is differs))
 
 -- live children stay
 count_switched : (path : List ℕ) (on : Bool) (groups : List GroupLife) (slot : ℕ) → count_children (map (marked_switched path on) groups) slot ≡ count_children groups slot

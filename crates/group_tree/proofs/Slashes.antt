@@ -5,6 +5,7 @@ use Rattle.std.specs.List.{list_any}
 use Rattle.std.specs.Str.{IsAscii}
 use Rattle.std.proofs.lemmas.Bool.Decides.{nat_tests}
 use Rattle.std.proofs.lemmas.Str.{IsUtf8-from_ascii}
+use Rattle.psi_base.proofs.PathLaws.{cons_ascii, root_ascii}
 use Rattle.psi_spec.specs.World.{before_last_slash, or_root, parent_path}
 
 -- the byte is a slash
@@ -67,16 +68,6 @@ above_none bytes none = ap or_root (uncut bytes none)
 pub ruleset slashes = (above_cut, above_none)
 
 -- ---- ASCII
-
--- an ASCII byte before ASCII bytes
-cons_ascii : (byte : ℕ) (bytes : List ℕ) → byte < 128 → IsAscii bytes → IsAscii (byte ∷ bytes)
-cons_ascii byte bytes first rest zero = first
-cons_ascii byte bytes first rest (suc i) = rest i
-
--- the root's path is ASCII
-root_ascii : IsAscii (codes "/")
-root_ascii zero = omega arith
-root_ascii (suc i) = omega arith
 
 -- the bytes before the last slash are ASCII
 cut_ascii : (bytes : List ℕ) → IsAscii bytes → IsAscii (before_last_slash bytes)
