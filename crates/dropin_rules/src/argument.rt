@@ -35,17 +35,6 @@ fn patterns_value(alloc: Global, patterns: &Patterns) -> Result<Value, NoMemory>
     text_value(alloc, &text)
 }
 
-// How a resource is called.
-fn resource_word(resource: Res) -> &'static str
-    ensures { result.now ≡ fields.resource_word resource }
-{
-    match resource {
-        Res::Io => "io",
-        Res::Memory => "memory",
-        Res::Cpu => "cpu",
-    }
-}
-
 // How a truth is called.
 fn truth_word(truth: bool) -> &'static str
     ensures { result.now ≡ truth_text truth }
@@ -120,7 +109,7 @@ impl Arguments {
             ≡ with_member (key_word key) (string (fields.resource_word resource))
             (members_view self.old.members.entries)) }
     {
-        let value = Value::try_from_str(self.alloc, resource_word(resource))?;
+        let value = Value::try_from_str(self.alloc, resource.word())?;
         self.put(key, value)
     }
 
