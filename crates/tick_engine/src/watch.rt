@@ -1,17 +1,15 @@
 //! What is kept of one trigger.
 
 ghost use Rattle.std.specs.Prelude.{◌≡◌, ◌≤◌, ◌<◌, ◌+◌, ◌++◌, ◌∷◌, [], All, if◌then◌else◌, length, map, true, vec_capacity, vec_len};
-ghost use Rattle.pressure_spec.specs.Samples as model;
 ghost use Rattle.pressure_spec.specs.Signal.{new_trigger};
 ghost use Rattle.psi_spec.specs.Refusal.{is_window};
-ghost use Rattle.psi_spec.specs.Stall.{state_number};
 ghost use Rattle.psi_spec.specs.Told.{IsTriggerWithin};
 ghost use Rattle.psi_spec.specs.Trace.{last_moment};
 ghost use Rattle.tick_engine.specs.Engine.{AreWatchesWithin};
 ghost use Rattle.tick_engine.specs.Step.{AreStatesWithin, fired_among, new_watch, watch_begun, watch_signals, watch_stepped, watched_total};
 
 use crate::group::Group;
-use psi_base::{Level, Ns, Res, State, TriggerSpec};
+use psi_base::{Ns, State, TriggerSpec};
 use window_trigger::Trigger;
 
 /// A trigger as the trace sets it, and the trigger itself from the first tick on that isn't before its line.
@@ -21,28 +19,13 @@ pub(crate) struct TriggerWatch {
     pub(crate) trigger: Option<Trigger>,
 }
 
-/// The state that a trigger watches.
-fn watched_state(spec: &TriggerSpec) -> State
-    ensures value { result ≡ model.watched_state spec.now }
-    ensures pressure { state_number result < 6 }
-{
-    match (spec.res, spec.level) {
-        (Res::Io, Level::SomeStalled) => State::IoSome,
-        (Res::Io, Level::FullStalled) => State::IoFull,
-        (Res::Memory, Level::SomeStalled) => State::MemSome,
-        (Res::Memory, Level::FullStalled) => State::MemFull,
-        (Res::Cpu, Level::SomeStalled) => State::CpuSome,
-        (Res::Cpu, Level::FullStalled) => State::CpuFull,
-    }
-}
-
 /// The total that a trigger watches (ns).
 fn watched_total(groups: &[Group], spec: &TriggerSpec) -> u64
     requires slot { spec.now.slot.0 < length groups.now }
     ensures { result ≡ watched_total groups.now spec.now }
 {
     let totals = groups[spec.slot.0 as usize].totals.get();
-    totals[watched_state(spec) as usize]
+    totals[State::of(spec.res, spec.level) as usize]
 }
 
 /// The trigger, set with a total (ns).
