@@ -26,10 +26,24 @@ place_is cpu n =
     omega (arith, both)
 
 -- the lane at a place is that of a processor
-lane_of_place : (batches : List (List LaneView)) (worker k : ℕ) → worker < length batches → lane_of batches (k * length batches + worker) ≡ lane_at (batch_at batches worker) k
+pub lane_of_place : (batches : List (List LaneView)) (worker k : ℕ) → worker < length batches → lane_of batches (k * length batches + worker) ≡ lane_at (batch_at batches worker) k
 lane_of_place batches worker k below =
     ap (λ w. lane_at (batch_at batches w) ((k * length batches + worker) / length batches)) (mod-mul-add k (length batches) worker below)
     ∙ ap (lane_at (batch_at batches worker)) (div-mul-add k (length batches) worker below)
+
+-- a place that is counted so is among few
+pub place_few : (workers place worker cpu : ℕ) → worker < workers → place * workers + worker ≡ cpu → cpu < 64 → place < 64
+place_few workers place worker cpu below is few =
+    let some : place * 1 ≤ place * workers = mul-le-mul_left place (let one : 1 ≤ workers = omega (arith, below) in one) in
+    omega (arith, some, is, few)
+
+-- the lane that is kept for a processor stands at its place
+pub place_there : (plans : PlansView) (batches : List (List LaneView)) (tick at worker place cpu : ℕ) → AreKept plans batches tick at → cpu < length plans.plans → worker < length batches → place * length batches + worker ≡ cpu → place < length (batch_at batches worker)
+place_there plans batches tick at worker place cpu kept below inside is =
+    let lane = kept cpu below in
+    let other : cpu % length batches ≡ worker = ap (λ n. n % length batches) (sym is) ∙ mod-mul-add place (length batches) worker inside in
+    let here : cpu / length batches ≡ place = ap (λ n. n / length batches) (sym is) ∙ div-mul-add place (length batches) worker inside in
+    subst (λ n. n < length (batch_at batches worker)) here (subst (λ w. cpu / length batches < length (batch_at batches w)) other lane.place)
 
 -- the lane of each processor is there
 pub lane_there : (plans : PlansView) (batches : List (List LaneView)) (ticks : Ticks) (out room cpu : ℕ) → AreLanes plans batches ticks out room → cpu < length plans.plans → cpu / length batches < length (batch_at batches (cpu % length batches))

@@ -1,14 +1,14 @@
 -- One change, one processor and one group more.
-use Rattle.std.proofs.Common.{◌≡◌, ℕ, ◌+◌, ◌*◌, ◌<◌, ◌≤◌, List, [], ◌∷◌, ◌++◌, length, get_or, set, sym, ap, ◌∙◌, subst, arith, cond, ◌⊎◌, ⊎_elim, inl, inr}
-use Rattle.std.specs.Prelude.{◌≢◌}
+use Rattle.std.proofs.Common.{◌≡◌, ℕ, ◌+◌, ◌*◌, ◌<◌, ◌≤◌, List, [], ◌∷◌, ◌++◌, length, get_or, set, sym, ap, ◌∙◌, subst, arith, ◌⊎◌, ⊎_elim, inl, inr}
 use Rattle.std.proofs.Math.Nat.{mul-le-mul_right}
 use Rattle.std.proofs.lemmas.List.{get_or_append_left, get_or_push, get_or-set_same, get_or-set_other, length-append, length-set}
 use Rattle.plan_laws.specs.Plan.{PlanView}
+use Rattle.proc_plan.specs.Plans.{PlansView, plan_at}
 use Rattle.aggregate.specs.Table.{HasSizes, put_times, times_at}
 use Rattle.aggregate.proofs.TableLaws.{keeps_sizes, sets_one_place}
 use Rattle.replay_workers.specs.declared.ticks.Ticks.{Ticks}
 use Rattle.replay_workers.specs.Crew.{moment_in, times_by}
-use Rattle.replay_workers.specs.Lanes.{FillsProcessor, KeepsTick, KeepsTicks, kept_at}
+use Rattle.replay_workers.specs.Lanes.{FillsRow, KeepsTick, KeepsTicks, kept_at}
 
 -- what holds of each of a list at its place, and of one behind it
 pub each_more : {X : Type 0} → (P : ℕ → X → Type 0) (xs : List X) (x d : X) → ((k : ℕ) → k < length xs → P k (get_or xs k d)) → P (length xs) x → (k : ℕ) → k < length (xs ++ x ∷ []) → P k (get_or (xs ++ x ∷ []) k d)
@@ -86,32 +86,25 @@ kept_more old now slots j slot plan at place times is below room there value =
       before = λ other early. get_or-set_other now place other times [] (λ same. omega (arith, same, there, early)) ∙ is.before other early;
     }
 
--- a table in which the times of the first so many groups on a processor are filled in, as they are kept
-pub record FilledTo (old new : List (List (List ℕ))) (cpus slots cpu slot : ℕ) (kept : List (List ℕ)) (j : ℕ) : Type 0 where
-  pub sizes : HasSizes cpus slots new
-  pub here : (s : ℕ) → s < slot → times_at new s cpu ≡ kept_at kept slots j s
-  pub others : (s other : ℕ) → other ≢ cpu → times_at new s other ≡ times_at old s other
+-- ---- one processor more of a row
 
--- one group more is filled in
-pub filled_more : (old table new : List (List (List ℕ))) (cpus slots cpu slot : ℕ) (kept : List (List ℕ)) (j : ℕ) (times : List ℕ) → FilledTo old table cpus slots cpu slot kept j → slot < slots → cpu < cpus → new ≡ put_times table slot cpu times
-    → times ≡ kept_at kept slots j slot → FilledTo old new cpus slots cpu (slot + 1) kept j
-filled_more old table new cpus slots cpu slot kept j times is below there set value =
-    let place = keeps_sizes.place cpus slots table slot cpu is.sizes below there in
+-- the place of a group among those that are kept is counted in 64 bits
+pub place_fits : (tick slots slot : ℕ) → tick < 4294967296 → slots < 4294967296 → slot < slots → tick * slots + slot < 18446744073709551616
+place_fits tick slots slot early few below =
+    let most : tick * slots ≤ 4294967295 * slots = mul-le-mul_right slots (let last : tick ≤ 4294967295 = omega (arith, early) in last) in
+    omega (arith, most, few, below)
+
+-- the times of a group on one processor more are put in
+pub row_more : (plans : PlansView) (old table new : List (List (List ℕ))) (slot cpu at : ℕ) (times : List ℕ) → HasSizes (length plans.plans) (length plans.lives) table → FillsRow old table plans slot cpu at → slot < length plans.lives
+    → cpu < length plans.plans → new ≡ put_times table slot cpu times → times ≡ times_by (plan_at plans cpu) slot at → FillsRow old new plans slot (cpu + 1) at
+row_more plans old table new slot cpu at times sizes is below there set value =
+    let place = keeps_sizes.place (length plans.plans) (length plans.lives) table slot cpu sizes below there in
     record {
-      sizes = subst (HasSizes cpus slots) (sym set) (keeps_sizes.set cpus slots table slot cpu times is.sizes);
-      here = λ s early.
-          let case : (s < slot) ⊎ (s ≡ slot) = grind (arith, early) in
+      here = λ c early.
+          let case : (c < cpu) ⊎ (c ≡ cpu) = grind (arith, early) in
           ⊎_elim
-          (λ before. ap (λ t. times_at t s cpu) set ∙ sets_one_place.elsewhere table slot cpu times s cpu place (inl (λ same. omega (arith, same, before))) ∙ is.here s before)
-          (λ now. ap (λ t. times_at t s cpu) set ∙ ap (λ k. times_at (put_times table slot cpu times) k cpu) now ∙ sets_one_place.here table slot cpu times place ∙ value ∙ ap (λ k. kept_at kept slots j k) (sym now))
+          (λ before. ap (λ t. times_at t slot c) set ∙ sets_one_place.elsewhere table slot cpu times slot c place (inr (λ same. omega (arith, same, before))) ∙ is.here c before)
+          (λ now. ap (λ t. times_at t slot c) set ∙ ap (λ k. times_at (put_times table slot cpu times) slot k) now ∙ sets_one_place.here table slot cpu times place ∙ value ∙ ap (λ k. times_by (plan_at plans k) slot at) (sym now))
           case;
-      others = λ s other differs. ap (λ t. times_at t s other) set ∙ sets_one_place.elsewhere table slot cpu times s other place (inr differs) ∙ is.others s other differs;
+      others = λ other c differs. ap (λ t. times_at t other c) set ∙ sets_one_place.elsewhere table slot cpu times other c place (inl differs) ∙ is.others other c differs;
     }
-
--- so a processor's times are filled in
-pub filled : (old new : List (List (List ℕ))) (cpus slots cpu : ℕ) (kept : List (List ℕ)) (j : ℕ) (plan : PlanView) (at : ℕ) → FilledTo old new cpus slots cpu slots kept j → ((slot : ℕ) → slot < slots → kept_at kept slots j slot ≡ times_by plan slot at)
-    → FillsProcessor old new slots cpu plan at
-filled old new cpus slots cpu kept j plan at is times = record {
-  here = λ slot below. is.here slot below ∙ times slot below;
-  others = is.others;
-}

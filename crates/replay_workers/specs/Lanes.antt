@@ -76,11 +76,6 @@ pub record HasGone (ticks : Ticks) (old new : LaneView) : Type 0 where
   pub size : length new.kept ≡ length old.kept
   pub keeps : KeepsTicks new.kept old.on.plan ticks ticks.count
 
--- A table has the times of a processor at a moment, by its plan, and those of the other processors as they were.
-pub record FillsProcessor (old new : List (List (List ℕ))) (slots cpu : ℕ) (plan : PlanView) (at : ℕ) : Type 0 where
-  pub here : (slot : ℕ) → slot < slots → times_at new slot cpu ≡ times_by plan slot at
-  pub others : (slot other : ℕ) → other ≢ cpu → times_at new slot other ≡ times_at old slot other
-
 -- ---- batches
 
 -- a lane of a batch, by its place
@@ -119,6 +114,12 @@ pub record IsKept (plans : PlansView) (batches : List (List LaneView)) (cpu tick
 -- so it is for each processor
 abbrev pub AreKept : PlansView → List (List LaneView) → ℕ → ℕ → Type 0
 AreKept plans batches tick at = (cpu : ℕ) → cpu < length plans.plans → IsKept plans batches cpu tick at
+
+-- A table has the times of a group on the first so many processors at a moment (ns), by their plans, and those of the other groups
+-- as they were.
+pub record FillsRow (old new : List (List (List ℕ))) (plans : PlansView) (slot cpus at : ℕ) : Type 0 where
+  pub here : (cpu : ℕ) → cpu < cpus → times_at new slot cpu ≡ times_by (plan_at plans cpu) slot at
+  pub others : (other cpu : ℕ) → other ≢ slot → times_at new other cpu ≡ times_at old other cpu
 
 -- the clocks of so many processors
 abbrev pub clocks_of : List (List LaneView) → ℕ → List OnPlan

@@ -1,5 +1,5 @@
 use Rattle.std.proofs.Common.{◌≡◌, ◌<◌, ap, arith, length, rules, subst, sym, ◌∙◌}
-use Rattle.std.specs.Prelude.{IfOk, Some, is_some, true}
+use Rattle.std.specs.Prelude.{IfOk, Some, is_some}
 use Rattle.proc_plan.specs.Clocks.{OnPlan}
 use Rattle.proc_plan.specs.Plans.{plan_at}
 use Rattle.clock_row.specs.Ends.{ReaderEnd}
