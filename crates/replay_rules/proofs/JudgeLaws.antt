@@ -1,19 +1,16 @@
 -- A judge from tick to tick.
-use Rattle.std.proofs.Common.{◌≡◌, ℕ, suc, ◌+◌, ◌-◌, ◌*◌, ◌<◌, ◌≤◌, List, [], ◌∷◌, map}
+use Rattle.std.proofs.Common.{◌≡◌, ℕ, zero, suc, ◌+◌, ◌-◌, ◌*◌, ◌<◌, List, [], ◌∷◌, map}
 use Rattle.std.proofs.Common.{refl, sym, ap, subst, ◌∙◌, arith, Bool, true, false}
 use Rattle.std.specs.Prelude.{◌/◌, nat_lt, None, Some, if◌then◌else◌}
-use Rattle.std.proofs.Math.Nat.{le-div_iff_mul-le}
 use Rattle.psi_base.specs.declared.event.Slot.{Slot}
-use Rattle.psi_spec.specs.Trace.{Trace, limits_of}
-use Rattle.psi_spec.specs.World.{after}
-use Rattle.plan_laws.proofs.PlanStates.{legal_after}
+use Rattle.psi_spec.specs.Trace.{Trace}
 use Rattle.pressure_spec.specs.Ticks.{is_evaluation, tick_moment}
 use Rattle.ruleset_json.specs.declared.types.Rule.{Rule}
 use Rattle.kill_spec.specs.declared.kill.Kill.{Kill}
 use Rattle.kill_spec.specs.Readings.{Reading}
 use Rattle.kill_spec.specs.Evaluations.{evaluations, reading_at, readings_until}
 use Rattle.kill_spec.specs.Kills as deciding
-use Rattle.run_spec.specs.Replay.{Pace, kills_in, lives_of, tick_count}
+use Rattle.run_spec.specs.Replay.{Pace, kills_in, lives_of}
 use Rattle.proc_plan.specs.Plans.{PlansView}
 use Rattle.tick_engine.specs.Engine.{EngineView}
 use Rattle.replay_rules.specs.Judged.{EvaluatorView, HasJudged, HasRead, HasReadAll, IsToEvaluate}
@@ -23,19 +20,14 @@ use Rattle.replay_rules.specs.Laws.{OneReadingMore, ReadingsStay}
 
 -- ---- moments
 
--- no tick of a planned trace is too late for 64 bits
-pub moment_fits : (judge : JudgeView) (plans : PlansView) (engine : EngineView)
-    (order : List Slot) (trace : Trace) (pace : Pace) (rules : List Rule) (i number : ℕ) →
-    IsToJudge judge plans engine order trace pace rules i → number ≡ i + 1 →
-    tick_moment judge.length number < 18446744073709551616
-moment_fits judge plans engine order trace pace rules i number is next =
-    let planned = is.planned in
-    let limits = limits_of pace.length trace.cpus in
-    let early = (legal_after limits trace.events planned.accepted.legal).early in
-    let within : number ≤ tick_count trace pace = omega (arith, is.left, next) in
-    let here : number * pace.length ≤ (after trace.events).last =
-    (le-div_iff_mul-le planned.some).0 within in
-    rw is.judged.length (omega (arith, here, early, planned.short))
+-- each tick is a length later than the one before it
+pub tick_later : (length tick : ℕ) → 0 < tick →
+    tick_moment length tick ≡ tick_moment length (tick - 1) + length
+tick_later length zero some = absurd (let no : ⊥ = omega (arith, some) in no)
+tick_later length (suc tick) some =
+    let back : suc tick - 1 ≡ tick = omega arith in
+    let more : suc tick * length ≡ tick * length + length = grind arith in
+    more ∙ ap (λ n. n * length + length) (sym back)
 
 -- ---- readings
 
@@ -104,26 +96,33 @@ kills_at_reading trace pace rules i due =
 -- ---- one tick
 
 -- a judge knows which ticks are evaluations
-pub same_schedule : (judge : JudgeView) (trace : Trace) (pace : Pace) (rules : List Rule)
-    (i number : ℕ) → HasJudged judge trace pace rules i →
-    is_evaluation judge.interval judge.length number
-    ≡ is_evaluation pace.interval pace.length number
-same_schedule judge trace pace rules i number is =
-    ap (λ interval. is_evaluation interval judge.length number) is.interval
-    ∙ ap (λ length. is_evaluation pace.interval length number) is.length
+pub same_schedule : (judge : JudgeView) (plans : PlansView) (engine : EngineView)
+    (order : List Slot) (trace : Trace) (pace : Pace) (rules : List Rule) (i at length : ℕ) →
+    IsToJudge judge plans engine order trace pace rules i at length →
+    is_evaluation judge.interval length (i + 1) ≡ is_evaluation pace.interval pace.length (i + 1)
+same_schedule judge plans engine order trace pace rules i at length is =
+    ap (λ interval. is_evaluation interval length (i + 1)) is.judged.interval
+    ∙ ap (λ length. is_evaluation pace.interval length (i + 1)) is.length_is
+
+-- it is told the moment of the tick
+pub moment_is : (judge : JudgeView) (plans : PlansView) (engine : EngineView)
+    (order : List Slot) (trace : Trace) (pace : Pace) (rules : List Rule) (i at length : ℕ) →
+    IsToJudge judge plans engine order trace pace rules i at length →
+    at ≡ tick_moment length (i + 1)
+moment_is judge plans engine order trace pace rules i at length is =
+    is.at_is ∙ ap (λ length. tick_moment length (i + 1)) (sym is.length_is)
 
 -- its evaluator can take the reading of the next tick
 pub to_evaluate : (judge : JudgeView) (evaluator : EvaluatorView) (plans : PlansView)
     (engine : EngineView) (order : List Slot) (trace : Trace) (pace : Pace) (rules : List Rule)
-    (i number at : ℕ) →
-    IsToJudge judge plans engine order trace pace rules i → judge.evaluator ≡ Some evaluator →
-    number ≡ i + 1 → at ≡ tick_moment judge.length number →
+    (i at length : ℕ) →
+    IsToJudge judge plans engine order trace pace rules i at length →
+    judge.evaluator ≡ Some evaluator →
     IsToEvaluate evaluator plans engine order trace pace rules i at
-to_evaluate judge evaluator plans engine order trace pace rules i number at is kept next moment =
+to_evaluate judge evaluator plans engine order trace pace rules i at length is kept =
     record {
       planned = is.planned;
-      at_is = moment ∙ ap (λ length. tick_moment length number) is.judged.length
-          ∙ ap (tick_moment pace.length) next;
+      at_is = is.at_is;
       ticked = is.ticked;
       by_path = is.by_path;
       read = subst (λ e. HasReadAll e trace rules (readings_of trace pace i)) kept is.judged.read;
@@ -149,7 +148,6 @@ judged_none judge trace pace rules i number none is =
     let unkilled : kills_in trace pace rules number ≡ [] =
     ap (λ r. kills_in trace pace r number) empty ∙ none_without_rules trace pace number in
     record {
-      length = is.length;
       interval = is.interval;
       read = subst (λ e. HasReadAll e trace rules now) (sym none) empty;
       kills = tells_none judge none ∙ sym unkilled;
@@ -157,51 +155,38 @@ judged_none judge trace pace rules i number none is =
 
 -- at a tick that is no evaluation a judge changes in nothing but that it tells no kills
 pub judged_same : (old new : JudgeView) (trace : Trace) (pace : Pace) (rules : List Rule)
-    (i number : ℕ) →
-    new.length ≡ old.length → new.interval ≡ old.interval → new.evaluator ≡ old.evaluator →
-    new.evaluated ≡ false → number ≡ i + 1 →
-    is_evaluation pace.interval pace.length number ≡ false →
-    HasJudged old trace pace rules i → HasJudged new trace pace rules number
-judged_same old new trace pace rules i number length interval kept evaluated next none is =
-    let here = subst (λ n. is_evaluation pace.interval pace.length n ≡ false) next none in
-    let readings : readings_of trace pace number ≡ readings_of trace pace i =
-    ap (readings_of trace pace) next ∙ readings_stay trace pace i here in
-    let now = readings_of trace pace number in
-    let same = subst (HasReadAll old.evaluator trace rules) (sym readings) is.read in
+    (i : ℕ) →
+    new.interval ≡ old.interval → new.evaluator ≡ old.evaluator → new.evaluated ≡ false →
+    is_evaluation pace.interval pace.length (i + 1) ≡ false →
+    HasJudged old trace pace rules i → HasJudged new trace pace rules (i + 1)
+judged_same old new trace pace rules i interval kept evaluated none is =
+    let now = readings_of trace pace (i + 1) in
+    let same = subst (HasReadAll old.evaluator trace rules) (sym (readings_stay trace pace i none))
+    is.read in
     record {
-      length = length ∙ is.length;
       interval = interval ∙ is.interval;
       read = subst (λ e. HasReadAll e trace rules now) (sym kept) same;
-      kills = tells_no_old new evaluated ∙ sym (no_kills_between trace pace rules number none);
+      kills = tells_no_old new evaluated ∙ sym (no_kills_between trace pace rules (i + 1) none);
     }
 
 -- at an evaluation its evaluator has one reading more, and tells the kills at it
 pub judged_next : (old new : JudgeView) (evaluator : EvaluatorView) (trace : Trace) (pace : Pace)
-    (rules : List Rule) (i number : ℕ) →
-    new.length ≡ old.length → new.interval ≡ old.interval → new.evaluator ≡ Some evaluator →
-    new.evaluated ≡ true → number ≡ i + 1 →
-    is_evaluation pace.interval pace.length number ≡ true →
+    (rules : List Rule) (i : ℕ) →
+    new.interval ≡ old.interval → new.evaluator ≡ Some evaluator → new.evaluated ≡ true →
+    is_evaluation pace.interval pace.length (i + 1) ≡ true →
     HasRead evaluator trace rules
     (reading_at trace.cpus trace.events pace.length (i + 1) ∷ readings_of trace pace i) →
-    HasJudged old trace pace rules i → HasJudged new trace pace rules number
-judged_next old new evaluator trace pace rules i number length interval kept on next due read is =
-    let here = subst (λ n. is_evaluation pace.interval pace.length n ≡ true) next due in
-    let this : Reading = reading_at trace.cpus trace.events pace.length (i + 1) in
-    let readings : readings_of trace pace number ≡ this ∷ readings_of trace pace i =
-    ap (readings_of trace pace) next ∙ one_reading_more trace pace i here in
-    let now = readings_of trace pace number in
+    HasJudged old trace pace rules i → HasJudged new trace pace rules (i + 1)
+judged_next old new evaluator trace pace rules i interval kept on due read is =
+    let now = readings_of trace pace (i + 1) in
     let all : HasReadAll (Some evaluator) trace rules now =
-    subst (HasReadAll (Some evaluator) trace rules) (sym readings) read in
+    subst (HasReadAll (Some evaluator) trace rules) (sym (one_reading_more trace pace i due)) read in
     let told : judge_kills new ≡ evaluator.killer.found =
     ap (λ b. if b then told_last new.evaluator else []) on ∙ ap told_last kept in
-    let killed : kills_in trace pace rules number
-    ≡ deciding.kills (lives_of trace) rules this (readings_of trace pace i) =
-    ap (kills_in trace pace rules) next ∙ kills_at_reading trace pace rules i here in
     record {
-      length = length ∙ is.length;
       interval = interval ∙ is.interval;
       read = subst (λ e. HasReadAll e trace rules now) (sym kept) all;
-      kills = told ∙ read.killer.found ∙ sym killed;
+      kills = told ∙ read.killer.found ∙ sym (kills_at_reading trace pace rules i due);
     }
 
 -- ---- between evaluations
@@ -226,13 +211,12 @@ nothing_read trace pace = refl
 
 -- a judge that is new has decided at no tick
 pub judged_first : (judge : JudgeView) (trace : Trace) (pace : Pace) (rules : List Rule) →
-    judge.length ≡ pace.length → judge.interval ≡ pace.interval → judge.evaluated ≡ false →
+    judge.interval ≡ pace.interval → judge.evaluated ≡ false →
     HasReadAll judge.evaluator trace rules [] → HasJudged judge trace pace rules 0
-judged_first judge trace pace rules length interval evaluated read =
+judged_first judge trace pace rules interval evaluated read =
     let none : is_evaluation pace.interval pace.length 0 ≡ false =
     not_below_itself (tick_moment pace.length 0 / pace.interval) in
     record {
-      length = length;
       interval = interval;
       read = subst (HasReadAll judge.evaluator trace rules) (sym (nothing_read trace pace)) read;
       kills = tells_no_old judge evaluated ∙ sym (no_kills_between trace pace rules 0 none);

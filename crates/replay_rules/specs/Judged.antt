@@ -10,7 +10,7 @@ use Rattle.ruleset_json.specs.declared.types.Rules.{Rules}
 use Rattle.kill_spec.specs.declared.kill.Kill.{Kill}
 use Rattle.kill_spec.specs.Readings.{Reading}
 use Rattle.kill_spec.specs.Evaluations.{reading_at, readings_until}
-use Rattle.run_spec.specs.Replay.{Pace, kills_in, lives_of, tick_count}
+use Rattle.run_spec.specs.Replay.{Pace, kills_in, lives_of}
 use Rattle.proc_plan.specs.Plans.{PlansView}
 use Rattle.tick_engine.specs.Engine.{EngineView}
 use Rattle.detectors.specs.Views.{ReadingView}
@@ -28,18 +28,16 @@ pub record EvaluatorView : Type 0 where
   pub watch : SideView
   pub reading : ReadingView
 
--- A judge: the length of a tick (ns), the interval of evaluations (ns), an evaluator where there
--- are rules, and whether it evaluated them at the last tick.
+-- A judge: the interval of evaluations (ns), an evaluator where there are rules, and whether it
+-- evaluated them at the last tick.
 pub record JudgeView : Type 0 where
-  pub length : ℕ
   pub interval : ℕ
   pub evaluator : Option EvaluatorView
   pub evaluated : Bool
 
 -- a judge with these parts
-abbrev pub judge_of : ℕ → ℕ → Option EvaluatorView → Bool → JudgeView
-judge_of length interval evaluator evaluated = record {
-  length = length;
+abbrev pub judge_of : ℕ → Option EvaluatorView → Bool → JudgeView
+judge_of interval evaluator evaluated = record {
   interval = interval;
   evaluator = evaluator;
   evaluated = evaluated;
@@ -82,12 +80,11 @@ abbrev pub HasReadAll : Option EvaluatorView → Trace → List Rule → List Re
 HasReadAll None trace rules readings = rules ≡ []
 HasReadAll (Some evaluator) trace rules readings = HasRead evaluator trace rules readings
 
--- A judge with rules has decided at the first so many ticks of a trace at a pace: it has the pace,
--- has taken the readings of all evaluations among them, and tells the kills at the last of these
--- ticks.
+-- A judge with rules has decided at the first so many ticks of a trace at a pace: it has the pace's
+-- interval, has taken the readings of all evaluations among them, and tells the kills at the last of
+-- these ticks.
 pub record HasJudged (judge : JudgeView) (trace : Trace) (pace : Pace) (rules : List Rule) (i : ℕ)
     : Type 0 where
-  pub length : judge.length ≡ pace.length
   pub interval : judge.interval ≡ pace.interval
   pub read : HasReadAll judge.evaluator trace rules (readings_of trace pace i)
   pub kills : judge_kills judge ≡ kills_in trace pace rules i
@@ -99,12 +96,11 @@ pub record Rests (old new : JudgeView) : Type 0 where
 
 -- ---- one tick
 
--- All is there to begin: plans of a trace, which is replayed at a pace with this length of a tick
--- (ns) and this interval of evaluations (ns).
-pub record IsToBegin (plans : PlansView) (trace : Trace) (pace : Pace) (tick interval : ℕ)
+-- All is there to begin: plans of a trace, which is replayed at a pace with this interval of
+-- evaluations (ns).
+pub record IsToBegin (plans : PlansView) (trace : Trace) (pace : Pace) (interval : ℕ)
     : Type 0 where
   pub planned : IsPlanned plans trace pace
-  pub tick_is : tick ≡ pace.length
   pub interval_is : interval ≡ pace.interval
 
 -- All is there to evaluate at a moment (ns): that of the tick behind the first so many.
@@ -116,13 +112,15 @@ pub record IsToEvaluate (evaluator : EvaluatorView) (plans : PlansView) (engine 
   pub by_path : IsPathOrder plans.lives (numbers_of order)
   pub read : HasRead evaluator trace rules (readings_of trace pace i)
 
--- All is there to decide at the tick that comes behind the first so many: it is one of the trace,
--- the engine has taken it, the order has all slots by path, and the judge has decided at those
--- before it.
+-- All is there to decide at the tick that comes behind the first so many: at its moment (ns), by the
+-- length of a tick (ns). The engine has taken it, the order has all slots by path, and the judge has
+-- decided at those before it.
 pub record IsToJudge (judge : JudgeView) (plans : PlansView) (engine : EngineView)
-    (order : List Slot) (trace : Trace) (pace : Pace) (rules : List Rule) (i : ℕ) : Type 0 where
+    (order : List Slot) (trace : Trace) (pace : Pace) (rules : List Rule) (i at length : ℕ)
+    : Type 0 where
   pub planned : IsPlanned plans trace pace
-  pub left : i < tick_count trace pace
+  pub at_is : at ≡ tick_moment pace.length (i + 1)
+  pub length_is : length ≡ pace.length
   pub ticked : HasTicked engine trace pace (i + 1)
   pub by_path : IsPathOrder plans.lives (numbers_of order)
   pub judged : HasJudged judge trace pace rules i

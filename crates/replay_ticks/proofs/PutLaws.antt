@@ -3,7 +3,6 @@ use Rattle.std.proofs.Common.{◌≡◌, ℕ, suc, ◌+◌, ◌-◌, ◌*◌, �
 use Rattle.std.specs.Prelude.{All, Option, Result, if◌then◌else◌}
 use Rattle.std.specs.Io.KnownBytes.{Appends}
 use Rattle.std.specs.List.{flat_map, range_with_len}
-use Rattle.std.proofs.Math.Nat.{le-div_iff_mul-le}
 use Rattle.std.proofs.lemmas.List.{get_or-map, length-map}
 use Rattle.std.proofs.lemmas.List.Elements.{All-filter}
 use Rattle.std.proofs.lemmas.List.FromFn.{get_or-range_with_len, length-range_with_len}
@@ -15,9 +14,7 @@ use Rattle.psi_spec.specs.declared.machine.GroupLife.{GroupLife}
 use Rattle.psi_spec.specs.Grammar.{Version, version_of}
 use Rattle.psi_spec.specs.Groups.{IsPathOrder}
 use Rattle.psi_spec.specs.Told.{triggers_of}
-use Rattle.psi_spec.specs.Trace.{Trace, last_moment, limits_of}
-use Rattle.psi_spec.specs.World.{after}
-use Rattle.plan_laws.proofs.PlanStates.{legal_after}
+use Rattle.psi_spec.specs.Trace.{Trace, limits_of}
 use Rattle.pressure_spec.specs.Average.{AverageState}
 use Rattle.pressure_spec.specs.Ticks.{Tick, is_report, tick_moment, tick_of, ticks_of}
 use Rattle.pressure_spec.specs.Samples.{fired_at, fires_by_number}
@@ -35,23 +32,7 @@ use Rattle.group_tree.specs.Tree.{numbers_of}
 use Rattle.replay_rules.specs.Planned.{HasTicked, IsPlanned}
 use Rattle.replay_ticks.specs.Replays.{IsPaced, IsToPut, due_text, tick_lines}
 use Rattle.replay_ticks.proofs.Pieces.{front_of_both, front_then, puts_then}
-use Rattle.replay_ticks.proofs.StartLaws.{latest_within, triggers_within}
-
--- ---- moments
-
--- no tick of a planned trace is later than the last moment
-pub tick_within : (plans : PlansView) (trace : Trace) (pace : Pace) (number : ℕ) → IsPlanned plans trace pace → number ≤ tick_count trace pace → tick_moment pace.length number ≤ last_moment
-tick_within plans trace pace number planned within =
-    let early = (legal_after (limits_of pace.length trace.cpus) trace.events planned.accepted.legal).early in
-    let here : number * pace.length ≤ (after trace.events).last = (le-div_iff_mul-le planned.some).0 within in
-    omega (arith, here, early, latest_within pace.length planned.short)
-
--- its moment fits 64 bits
-pub moment_fits : (plans : PlansView) (engine : EngineView) (order : List Slot) (pacing : Pacing) (trace : Trace) (pace : Pace) (number : ℕ) →
-    IsToPut plans engine order pacing trace pace number → tick_moment pacing.length number < 18446744073709551616
-moment_fits plans engine order pacing trace pace number is =
-    let here : tick_moment pacing.length number ≤ last_moment = rw is.paced.length (tick_within plans trace pace number is.planned is.within) in
-    omega (arith, here)
+use Rattle.replay_ticks.proofs.StartLaws.{triggers_within}
 
 -- ---- what is below a bound
 
@@ -104,11 +85,10 @@ fired_made plans engine trace pace number planned some stands =
 abbrev pub signals_text : Trace → Pace → ℕ → List ℕ
 signals_text trace pace number = signal_lines (tick_moment pace.length number) (lives_of trace) (triggers_of trace.events) (fired_in trace pace number)
 
-pub signals_are : (plans : PlansView) (engine : EngineView) (order : List Slot) (pacing : Pacing) (trace : Trace) (pace : Pace) (number : ℕ) →
-    IsToPut plans engine order pacing trace pace number →
-    signal_lines (tick_moment pacing.length number) plans.lives plans.triggers engine.fired ≡ signals_text trace pace number
-signals_are plans engine order pacing trace pace number is =
-    rw (is.paced.length, is.planned.stand.lives, is.planned.stand.triggers, fired_is engine trace pace number is.some is.ticked) refl
+pub signals_are : (plans : PlansView) (engine : EngineView) (order : List Slot) (pacing : Pacing) (trace : Trace) (pace : Pace) (number at : ℕ) →
+    IsToPut plans engine order pacing trace pace number at → signal_lines at plans.lives plans.triggers engine.fired ≡ signals_text trace pace number
+signals_are plans engine order pacing trace pace number at is =
+    rw (is.at_is, is.planned.stand.lives, is.planned.stand.triggers, fired_is engine trace pace number is.some is.ticked) refl
 
 -- ---- reports
 
@@ -124,20 +104,20 @@ report_same : (version : Version) (at : ℕ) (lives : List GroupLife) (t u : ℕ
 report_same version at lives t u a b slot totals averages = rw (totals, averages) refl
 
 -- the reports by an engine that stands for ticks are those at the last of them
-pub reports_are : (plans : PlansView) (engine : EngineView) (order : List Slot) (pacing : Pacing) (trace : Trace) (pace : Pace) (number : ℕ) →
-    IsToPut plans engine order pacing trace pace number →
-    slot_reports (version_of pacing.version) (tick_moment pacing.length number) plans.lives (totals_in engine) (averages_in engine) (numbers_of order) ≡ reports trace pace number
-reports_are plans engine order pacing trace pace number is =
-    let at = tick_moment pace.length number in
+pub reports_are : (plans : PlansView) (engine : EngineView) (order : List Slot) (pacing : Pacing) (trace : Trace) (pace : Pace) (number at : ℕ) →
+    IsToPut plans engine order pacing trace pace number at →
+    slot_reports (version_of pacing.version) at plans.lives (totals_in engine) (averages_in engine) (numbers_of order) ≡ reports trace pace number
+reports_are plans engine order pacing trace pace number at is =
+    let moment = tick_moment pace.length number in
     let lives = lives_of trace in
     let ordered : IsPathOrder lives (numbers_of order) = subst (λ lives. IsPathOrder lives (numbers_of order)) is.planned.stand.lives is.by_path in
-    let same : (slot : ℕ) → slot < length lives → slot_report trace.version at lives (totals_in engine) (averages_in engine) slot ≡ slot_report trace.version at lives (totals_at trace pace number) (average_state_at trace pace number) slot = λ slot below.
-    report_same trace.version at lives (totals_in engine) (totals_at trace pace number) (averages_in engine) (average_state_at trace pace number) slot
+    let same : (slot : ℕ) → slot < length lives → slot_report trace.version moment lives (totals_in engine) (averages_in engine) slot ≡ slot_report trace.version moment lives (totals_at trace pace number) (average_state_at trace pace number) slot = λ slot below.
+    report_same trace.version moment lives (totals_in engine) (totals_at trace pace number) (averages_in engine) (average_state_at trace pace number) slot
     (ap (λ (group : Group). group.totals) (is.ticked.groups slot below)) (ap (λ (group : Group). group.averages) (is.ticked.groups slot below)) in
-    ap (λ version. slot_reports version (tick_moment pacing.length number) plans.lives (totals_in engine) (averages_in engine) (numbers_of order)) is.paced.version
-    ∙ ap (λ n. slot_reports trace.version (tick_moment n number) plans.lives (totals_in engine) (averages_in engine) (numbers_of order)) is.paced.length
-    ∙ ap (λ lives. slot_reports trace.version at lives (totals_in engine) (averages_in engine) (numbers_of order)) is.planned.stand.lives
-    ∙ same_pieces (slot_report trace.version at lives (totals_in engine) (averages_in engine)) (slot_report trace.version at lives (totals_at trace pace number) (average_state_at trace pace number)) (length lives) (numbers_of order) same (order_below lives (numbers_of order) ordered)
+    ap (λ version. slot_reports version at plans.lives (totals_in engine) (averages_in engine) (numbers_of order)) is.paced.version
+    ∙ ap (λ n. slot_reports trace.version n plans.lives (totals_in engine) (averages_in engine) (numbers_of order)) is.at_is
+    ∙ ap (λ lives. slot_reports trace.version moment lives (totals_in engine) (averages_in engine) (numbers_of order)) is.planned.stand.lives
+    ∙ same_pieces (slot_report trace.version moment lives (totals_in engine) (averages_in engine)) (slot_report trace.version moment lives (totals_at trace pace number) (average_state_at trace pace number)) (length lives) (numbers_of order) same (order_below lives (numbers_of order) ordered)
     ∙ sym (reports_by_order (limits_of pace.length trace.cpus) trace pace number (numbers_of order) is.planned.accepted.legal ordered)
 
 -- ---- the whole text
@@ -180,20 +160,18 @@ text_plain pacing trace pace number paced due = due_false _ (reports trace pace 
 -- ---- what is put
 
 -- the lines of signals that were put are those of the tick
-pub signals_put : (plans : PlansView) (engine : EngineView) (order : List Slot) (pacing : Pacing) (trace : Trace) (pace : Pace) (number : ℕ) →
-    IsToPut plans engine order pacing trace pace number → (at : ℕ) (lives : List GroupLife) (triggers : List TriggerSpec) (fired : List ℕ) →
-    at ≡ tick_moment pacing.length number → lives ≡ plans.lives → triggers ≡ plans.triggers → fired ≡ engine.fired →
-    signal_lines at lives triggers fired ≡ signals_text trace pace number
-signals_put plans engine order pacing trace pace number is at lives triggers fired at_is lives_are triggers_are fired_are =
-    rw (at_is, lives_are, triggers_are, fired_are) (signals_are plans engine order pacing trace pace number is)
+pub signals_put : (plans : PlansView) (engine : EngineView) (order : List Slot) (pacing : Pacing) (trace : Trace) (pace : Pace) (number at : ℕ) →
+    IsToPut plans engine order pacing trace pace number at → (lives : List GroupLife) (triggers : List TriggerSpec) (fired : List ℕ) →
+    lives ≡ plans.lives → triggers ≡ plans.triggers → fired ≡ engine.fired → signal_lines at lives triggers fired ≡ signals_text trace pace number
+signals_put plans engine order pacing trace pace number at is lives triggers fired lives_are triggers_are fired_are =
+    rw (lives_are, triggers_are, fired_are) (signals_are plans engine order pacing trace pace number at is)
 
 -- the reports that were put are those of the tick
-pub reports_put : (plans : PlansView) (engine : EngineView) (order : List Slot) (pacing : Pacing) (trace : Trace) (pace : Pace) (number : ℕ) →
-    IsToPut plans engine order pacing trace pace number → (at : ℕ) (lives : List GroupLife) →
-    at ≡ tick_moment pacing.length number → lives ≡ plans.lives →
+pub reports_put : (plans : PlansView) (engine : EngineView) (order : List Slot) (pacing : Pacing) (trace : Trace) (pace : Pace) (number at : ℕ) →
+    IsToPut plans engine order pacing trace pace number at → (lives : List GroupLife) → lives ≡ plans.lives →
     slot_reports (version_of pacing.version) at lives (totals_in engine) (averages_in engine) (numbers_of order) ≡ reports trace pace number
-reports_put plans engine order pacing trace pace number is at lives at_is lives_are =
-    rw (at_is, lives_are) (reports_are plans engine order pacing trace pace number is)
+reports_put plans engine order pacing trace pace number at is lives lives_are =
+    rw lives_are (reports_are plans engine order pacing trace pace number at is)
 
 -- the lines of kills that were put are those of the tick
 pub kills_put : (plans : PlansView) (trace : Trace) (pace : Pace) (rules : List Rule) (number : ℕ) → IsPlanned plans trace pace → (lives : List GroupLife) (killed : List Kill) →

@@ -211,16 +211,16 @@ pub sampled_is : (replay : ReplayView) (crew new : CrewView) (rows : List (List 
 sampled_is replay crew new rows engine trace pace rules i is ready sampled =
     subst (λ plans. IsTickSampled plans new rows engine trace pace (i + 1)) (ready.ahead.same ∙ is.ahead.same) sampled
 
--- all is there to write the lines of the tick that was made last
-pub to_put : (replay : ReplayView) (order : List Slot) (trace : Trace) (pace : Pace) (rules : List Rule) (i : ℕ) → IsReplay replay trace pace rules (i + 1) → order ≡ replay.order → IsToPut replay.plans replay.engine order replay.pacing trace pace replay.made
-to_put replay order trace pace rules i is ordered =
+-- all is there to write the lines of the tick that was made last, at its moment
+pub to_put : (replay : ReplayView) (order : List Slot) (trace : Trace) (pace : Pace) (rules : List Rule) (i at : ℕ) → IsReplay replay trace pace rules (i + 1) → order ≡ replay.order → at ≡ tick_moment pace.length (i + 1)
+    → IsToPut replay.plans replay.engine order replay.pacing trace pace replay.made at
+to_put replay order trace pace rules i at is ordered moment =
     let made = is.made in
-    let within = is.within in
     record {
       planned = is.planned;
       paced = is.paced;
       some = omega (arith, made);
-      within = omega (arith, within, made);
+      at_is = moment ∙ ap (tick_moment pace.length) (sym made);
       ticked = subst (HasTicked replay.engine trace pace) (sym made) is.engine;
       by_path = subst (λ slots. IsPathOrder replay.plans.lives (numbers_of slots)) (sym ordered) is.order;
     }
@@ -232,11 +232,12 @@ count_fits replay crew rows engine trace pace rules i is open_ sampled =
     signals_fit replay.plans engine trace pace i replay.signals is.planned (one_left replay trace pace rules i is open_) sampled.ticked is.signals
 
 -- all is there to decide by rules
-pub to_judge : (replay : ReplayView) (crew : CrewView) (rows : List (List (List ℕ))) (engine : EngineView) (order : List Slot) (trace : Trace) (pace : Pace) (rules : List Rule) (i : ℕ) → IsReplay replay trace pace rules i → (replay.made ≡ replay.pacing.last → ⊥)
-    → order ≡ replay.order → IsTickSampled replay.plans crew rows engine trace pace (i + 1) → IsToJudge replay.judge replay.plans engine order trace pace rules i
-to_judge replay crew rows engine order trace pace rules i is open_ ordered sampled = record {
+pub to_judge : (replay : ReplayView) (crew : CrewView) (rows : List (List (List ℕ))) (engine : EngineView) (order : List Slot) (trace : Trace) (pace : Pace) (rules : List Rule) (i at : ℕ) → IsReplay replay trace pace rules i
+    → at ≡ tick_moment replay.pacing.length (replay.made + 1) → order ≡ replay.order → IsTickSampled replay.plans crew rows engine trace pace (i + 1) → IsToJudge replay.judge replay.plans engine order trace pace rules i at replay.pacing.length
+to_judge replay crew rows engine order trace pace rules i at is moment ordered sampled = record {
   planned = is.planned;
-  left = one_left replay trace pace rules i is open_;
+  at_is = moment ∙ moment_is replay trace pace rules i is;
+  length_is = is.paced.length;
   ticked = sampled.ticked;
   by_path = subst (λ slots. IsPathOrder replay.plans.lives (numbers_of slots)) (sym ordered) is.order;
   judged = is.judge;
@@ -286,26 +287,28 @@ passed trace pace rules i old new result given made = subst (Passes trace pace r
 pub to_watch : (replay : ReplayView) (trace : Trace) (pace : Pace) (rules : List Rule) (i : ℕ) → IsReplay replay trace pace rules i → IsWatching replay.crew replay.live trace pace replay.made
 to_watch replay trace pace rules i is = subst (IsWatching replay.crew replay.live trace pace) (sym is.made) is.watching
 
--- the moment of the tick that was made last fits
+-- the moment of the tick that was made last
+pub made_moment : (replay : ReplayView) (trace : Trace) (pace : Pace) (rules : List Rule) (i : ℕ) → IsReplay replay trace pace rules (i + 1) → tick_moment replay.pacing.length replay.made ≡ tick_moment pace.length (i + 1)
+made_moment replay trace pace rules i is = ap (λ length. tick_moment length replay.made) is.paced.length ∙ ap (tick_moment pace.length) is.made
+
+-- it fits
 pub made_fits : (replay : ReplayView) (trace : Trace) (pace : Pace) (rules : List Rule) (i : ℕ) → IsReplay replay trace pace rules (i + 1) → tick_moment replay.pacing.length replay.made < 2 ^ 64
 made_fits replay trace pace rules i is =
     let early = moment_early replay.plans trace pace (i + 1) is.planned is.within in
-    let same : tick_moment replay.pacing.length replay.made ≡ tick_moment pace.length (i + 1) = ap (λ length. tick_moment length replay.made) is.paced.length ∙ ap (tick_moment pace.length) is.made in
+    let same = made_moment replay trace pace rules i is in
     omega (arith, early, same)
 
 -- the lines of its samples are those of the tick
-pub live_is : (replay : ReplayView) (trace : Trace) (pace : Pace) (rules : List Rule) (i at cpus : ℕ) → IsReplay replay trace pace rules (i + 1) → at ≡ tick_moment replay.pacing.length replay.made → cpus ≡ length replay.plans.plans
+pub live_is : (replay : ReplayView) (trace : Trace) (pace : Pace) (rules : List Rule) (i at cpus : ℕ) → IsReplay replay trace pace rules (i + 1) → at ≡ tick_moment pace.length (i + 1) → cpus ≡ length replay.plans.plans
     → watches_text at cpus replay.crew.watches ≡ watches_text (tick_moment pace.length (i + 1)) trace.cpus replay.crew.watches
 live_is replay trace pace rules i at cpus is moment many =
-    let here : at ≡ tick_moment pace.length (i + 1) = moment ∙ ap (λ length. tick_moment length replay.made) is.paced.length ∙ ap (tick_moment pace.length) is.made in
-    ap (λ m. watches_text m cpus replay.crew.watches) here ∙ ap (λ n. watches_text (tick_moment pace.length (i + 1)) n replay.crew.watches) (many ∙ is.planned.stand.each)
+    ap (λ m. watches_text m cpus replay.crew.watches) moment ∙ ap (λ n. watches_text (tick_moment pace.length (i + 1)) n replay.crew.watches) (many ∙ is.planned.stand.each)
 
 -- the clocks of its samples may be opened
-pub live_in_time : (replay : ReplayView) (trace : Trace) (pace : Pace) (rules : List Rule) (i at cpus : ℕ) → IsReplay replay trace pace rules (i + 1) → at ≡ tick_moment replay.pacing.length replay.made → cpus ≡ length replay.plans.plans
+pub live_in_time : (replay : ReplayView) (trace : Trace) (pace : Pace) (rules : List Rule) (i at cpus : ℕ) → IsReplay replay trace pace rules (i + 1) → at ≡ tick_moment pace.length (i + 1) → cpus ≡ length replay.plans.plans
     → AreInTime trace.cpus replay.crew.watches (tick_moment pace.length (i + 1)) → AreInTime cpus replay.crew.watches at
 live_in_time replay trace pace rules i at cpus is moment many are =
-    let here : at ≡ tick_moment pace.length (i + 1) = moment ∙ ap (λ length. tick_moment length replay.made) is.paced.length ∙ ap (tick_moment pace.length) is.made in
-    subst (AreInTime cpus replay.crew.watches) (sym here) (subst (λ n. AreInTime n replay.crew.watches (tick_moment pace.length (i + 1))) (sym (many ∙ is.planned.stand.each)) are)
+    subst (AreInTime cpus replay.crew.watches) (sym moment) (subst (λ n. AreInTime n replay.crew.watches (tick_moment pace.length (i + 1))) (sym (many ∙ is.planned.stand.each)) are)
 
 -- the lines of a tick, live lines first
 pub lines_put : (trace : Trace) (pace : Pace) (rules : List Rule) (i : ℕ) (live : List ℕ) (had mid has : Option (List ℕ)) → Appends had mid live → Appends mid has (tick_text trace pace (with_rules rules) i) → Appends had has (tick_lines trace pace rules i live)

@@ -160,12 +160,12 @@ pub record IsTickSampled (plans : PlansView) (crew : CrewView) (rows : List (Lis
   pub sizes : HasPlaces plans rows
   pub ticked : HasTicked engine trace pace number
 
--- All is there to write the lines of the tick with a number from 1, which was the last to be sampled.
-pub record IsToPut (plans : PlansView) (engine : EngineView) (order : List Slot) (pacing : Pacing) (trace : Trace) (pace : Pace) (number : ℕ) : Type 0 where
+-- All is there to write the lines of the tick with a number from 1, which was the last to be sampled, at its moment (ns).
+pub record IsToPut (plans : PlansView) (engine : EngineView) (order : List Slot) (pacing : Pacing) (trace : Trace) (pace : Pace) (number at : ℕ) : Type 0 where
   pub planned : IsPlanned plans trace pace
   pub paced : IsPaced pacing trace pace
   pub some : 0 < number
-  pub within : number ≤ tick_count trace pace
+  pub at_is : at ≡ tick_moment pace.length number
   pub ticked : HasTicked engine trace pace number
   pub by_path : IsPathOrder plans.lives (numbers_of order)
 

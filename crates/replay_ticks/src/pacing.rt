@@ -1,5 +1,5 @@
 //! Which ticks a trace has, and which of them are reported.
-ghost use Rattle.std.specs.Prelude.{◌≡◌, ◌<◌, ◌^◌};
+ghost use Rattle.std.specs.Prelude.{◌≡◌, ◌<◌};
 ghost use Rattle.pressure_spec.specs.Ticks.{is_report, tick_moment};
 
 use psi_base::Ns;
@@ -19,15 +19,16 @@ pub(crate) struct Pacing {
 }
 
 impl Pacing {
-    /// Whether a tick is reported: the last one is, and each at which a report is due.
-    pub(crate) fn is_report(self, tick: u64) -> bool
+    /// Whether the tick with a number from 1, at its moment (ns), is reported: the last one is, and each at which a report is
+    /// due.
+    pub(crate) fn is_report(self, tick: u64, at: Ns) -> bool
         requires some { 0 < tick }
-        requires early { tick_moment self.length tick < 2 ^ 64 }
+        requires moment { at ≡ tick_moment self.length tick }
         ensures { result ≡ is_report self.report self.length self.last tick }
     {
         if tick == self.last {
             return true;
         }
-        self.report > 0 && is_due(self.report, self.length, tick)
+        self.report > 0 && is_due(self.report, self.length, at)
     }
 }

@@ -3,6 +3,7 @@ ghost use Rattle.std.specs.Prelude.{◌≡◌, ◌+◌, ◌≤◌, ◌<◌, ℕ,
 ghost use Rattle.psi_base.specs.declared.event.Slot.{Slot};
 ghost use Rattle.psi_base.specs.Outside.{HasCause, PutsAll, StaysOver};
 ghost use Rattle.psi_spec.specs.Trace.{Trace};
+ghost use Rattle.pressure_spec.specs.Ticks.{tick_moment};
 ghost use Rattle.run_spec.specs.Replay.{Pace, kills_in, last_line, tick_count, tick_text, with_rules};
 ghost use Rattle.ruleset_json.specs.declared.types.Rule.{Rule};
 ghost use Rattle.replay_ticks.specs.Replays.{IsLiveTick, IsReached, IsReady, IsReplay, IsSlotAt, IsSomeReplay, IsTickLeft, IsTickSampled, IsToGo, IsToPut, IsToPutRoot, IsToSample, IsWatching, Passes, TickGives, due_text, handed, root_report};
@@ -136,7 +137,7 @@ fn sample(crew: &mut Crew<'_>, rows: &mut Rows, engine: &mut Engine, at: Ns)
     engine.tick(at, rows);
 }
 
-// Writes the reports of the tick that was the last to be sampled, by its number from 1, where they are due.
+// Writes the reports of the tick that was the last to be sampled, by its number from 1 and its moment (ns), where they are due.
 fn put_due<K: Sink>(
     out: &mut K,
     plans: &Plans,
@@ -144,49 +145,20 @@ fn put_due<K: Sink>(
     order: &[Slot],
     pacing: Pacing,
     tick: u64,
+    at: Ns,
 ) -> Result<(), WriteFailed>
     requires { (trace : Trace) × (pace : Pace)
-        × IsToPut plans.now engine.now order.now pacing trace pace tick }
+        × IsToPut plans.now engine.now order.now pacing trace pace tick at }
     ensures bytes { (trace : Trace) (pace : Pace) →
-        IsToPut plans.now engine.now order.now pacing trace pace tick →
+        IsToPut plans.now engine.now order.now pacing trace pace tick at →
         PutsAll (K.has out.old) (K.has out.new) result (due_text trace pace tick) }
     ensures cause { HasCause (K.faults out.old) (K.faults out.new) result }
     ensures below { StaysOver (K.below out.old) (K.below out.new) }
 {
-    if pacing.is_report(tick) {
-        let at = tick_moment(pacing.length, tick);
+    if pacing.is_report(tick, at) {
         return put_reports(out, pacing.version, at, plans.lives(), order, engine);
     }
     Ok(())
-}
-
-// Writes the lines of the tick that was the last to be sampled, by its number from 1, with its kills.
-#[tactic(auto, using(psi_base::proofs::Grows::growth))]
-fn put_tick<K: Sink>(
-    out: &mut K,
-    plans: &Plans,
-    engine: &Engine,
-    kills: &[Kill],
-    order: &[Slot],
-    pacing: Pacing,
-    tick: u64,
-) -> Result<(), WriteFailed>
-    requires { (trace : Trace) × (pace : Pace) × (rules : List Rule)
-        × IsToPut plans.now engine.now order.now pacing trace pace tick
-        × (kills.now ≡ kills_in trace pace rules tick) }
-    ensures bytes { (trace : Trace) (pace : Pace) (rules : List Rule) →
-        IsToPut plans.now engine.now order.now pacing trace pace tick →
-        kills.now ≡ kills_in trace pace rules tick →
-        PutsAll (K.has out.old) (K.has out.new) result
-        (tick_text trace pace (with_rules rules) tick) }
-    ensures cause { HasCause (K.faults out.old) (K.faults out.new) result }
-    ensures below { StaysOver (K.below out.old) (K.below out.new) }
-{
-    let at = tick_moment(pacing.length, tick);
-    let lives = plans.lives();
-    put_signals(out, at, lives, plans.triggers(), engine.fired())?;
-    put_kills(out, lives, kills)?;
-    put_due(out, plans, engine, order, pacing, tick)
 }
 
 // Writes the pressure files of the root at the tick that was the last to be sampled, by its number from 1.
@@ -224,9 +196,11 @@ impl<'a> Replay<'a> {
         if self.made == self.pacing.last {
             return None;
         }
-        let next = tick_moment(self.pacing.length, self.made + 1);
         match &self.live {
-            Some(path) => watched_slot(self.plans.lives(), path, next),
+            Some(path) => {
+                let next = tick_moment(self.pacing.length, self.made + 1);
+                watched_slot(self.plans.lives(), path, next)
+            }
             None => None,
         }
     }
@@ -261,8 +235,13 @@ impl<'a> Replay<'a> {
         let at = tick_moment(self.pacing.length, self.made);
         sample(&mut self.crew, &mut self.rows, &mut self.engine, at);
         self.signals += self.engine.fired().len() as u64;
-        self.judge
-            .tick(self.plans, &self.engine, &self.order, self.made);
+        self.judge.tick(
+            self.plans,
+            &self.engine,
+            &self.order,
+            at,
+            self.pacing.length,
+        );
         self.kills += self.judge.kills().len() as u64;
     }
 
@@ -279,6 +258,33 @@ impl<'a> Replay<'a> {
         let slot = self.next_slot();
         self.advance(rt, slot, gate);
         true
+    }
+
+    // Writes the lines of the tick that was made last, whose moment (ns) this is, but for its live lines.
+    #[tactic(auto, using(psi_base::proofs::Grows::growth))]
+    fn put_tick<K: Sink>(&self, out: &mut K, at: Ns) -> Result<(), WriteFailed>
+        requires { (trace : Trace) × (pace : Pace) × (rules : List Rule) × (i : ℕ)
+            × IsReplay self.now trace pace rules (i + 1)
+            × (at ≡ tick_moment pace.length (i + 1)) }
+        ensures bytes { (trace : Trace) (pace : Pace) (rules : List Rule) (i : ℕ) →
+            IsReplay self.now trace pace rules (i + 1) → at ≡ tick_moment pace.length (i + 1) →
+            PutsAll (K.has out.old) (K.has out.new) result
+            (tick_text trace pace (with_rules rules) (i + 1)) }
+        ensures cause { HasCause (K.faults out.old) (K.faults out.new) result }
+        ensures below { StaysOver (K.below out.old) (K.below out.new) }
+    {
+        let lives = self.plans.lives();
+        put_signals(out, at, lives, self.plans.triggers(), self.engine.fired())?;
+        put_kills(out, lives, self.judge.kills())?;
+        put_due(
+            out,
+            self.plans,
+            &self.engine,
+            &self.order,
+            self.pacing,
+            self.made,
+            at,
+        )
     }
 
     /// Makes the next tick and writes its lines. False exactly where no tick is left; then nothing is written. After a fault
@@ -301,15 +307,7 @@ impl<'a> Replay<'a> {
         }
         let at = tick_moment(self.pacing.length, self.made);
         put_live(out, at, &self.crew, self.plans.cpus())?;
-        put_tick(
-            out,
-            self.plans,
-            &self.engine,
-            self.judge.kills(),
-            &self.order,
-            self.pacing,
-            self.made,
-        )?;
+        self.put_tick(out, at)?;
         Ok(true)
     }
 

@@ -73,7 +73,7 @@ pub fn prepare<'a>(
         crew: Crew::make(alloc, plans, options.workers, ahead, asked)?,
         rows: Rows::make(alloc, plans.cpus(), slots)?,
         engine: Engine::make(alloc, plans.lives(), plans.triggers(), plans.cpus())?,
-        judge: Judge::make(alloc, plans, rules, length, interval)?,
+        judge: Judge::make(alloc, plans, rules, interval)?,
         order: plans.groups().path_order(alloc)?,
         pacing: Pacing {
             version,

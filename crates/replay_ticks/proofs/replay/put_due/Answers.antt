@@ -1,19 +1,17 @@
-use Rattle.std.proofs.Common.{sym, subst, ◌∙◌}
+use Rattle.std.proofs.Common.{ap, sym, subst, ◌∙◌}
+use Rattle.pressure_spec.specs.Ticks.{tick_moment}
 use Rattle.psi_base.specs.Outside.{PutsAll}
-use Rattle.replay_ticks.proofs.PutLaws.{moment_fits, order_made, reports_put, text_due}
+use Rattle.replay_ticks.proofs.PutLaws.{order_made, reports_put, text_due}
 use Rattle.replay_ticks.proofs.replay.put_due.Goals as goal
 
-pub is_report-requires-clause-early : goal.is_report-requires-clause-early
-is_report-requires-clause-early g c = moment_fits c.args.plans.now c.args.engine.now c.args.order.now c.args.pacing c.requires.0 c.requires.1 c.args.tick c.requires.2
-
-pub tick_moment-at-requires : goal.tick_moment-at-requires
-tick_moment-at-requires g c = moment_fits c.args.plans.now c.args.engine.now c.args.order.now c.args.pacing c.requires.0 c.requires.1 c.args.tick c.requires.2
+pub is_report-requires-clause-moment : goal.is_report-requires-clause-moment
+is_report-requires-clause-moment g c = c.requires.2.at_is ∙ ap (λ length. tick_moment length c.args.tick) (sym c.requires.2.paced.length)
 
 pub put_reports-requires-clause-made : goal.put_reports-requires-clause-made
 put_reports-requires-clause-made g c = rw c.lives.ensures.lives (order_made c.args.plans.now.lives c.args.order.now c.requires.2.by_path)
 
 pub returns-then-is_report-clause-bytes : goal.returns-then-is_report-clause-bytes
 returns-then-is_report-clause-bytes g c = λ trace pace is.
-    let reported = reports_put c.args.plans.now c.args.engine.now c.args.order.now c.args.pacing trace pace c.args.tick is c.tick_moment-at.result c.lives.result.now c.tick_moment-at.ensures c.lives.ensures.lives in
+    let reported = reports_put c.args.plans.now c.args.engine.now c.args.order.now c.args.pacing trace pace c.args.tick c.args.at is c.lives.result.now c.lives.ensures.lives in
     let due = text_due c.args.pacing trace pace c.args.tick is.paced (sym c.is_report.ensures ∙ c.if-is_report.true) in
     subst (PutsAll (g.K.Sink.has c.args.out.now) (g.K.Sink.has c.put_reports.new.out) c.put_reports.result) (reported ∙ sym due) c.put_reports.ensures.bytes

@@ -25,7 +25,7 @@ returns-clause-replay c = λ trace planned version.
     let rows : c.in_ok-make-2.field-0 ≡ new_table (length plans.plans) (length plans.lives) = c.in_ok-make-2.ensures ∙ rw (c.cpus.ensures.cpus, slots) refl in
     let order : IsPathOrder plans.lives (numbers_of c.in_ok-path_order.field-0.items) = rw (← c.groups-2.ensures.lives) c.in_ok-path_order.ensures in
     let last : c.finish.result / (c.from-length.result * 1000000) ≡ tick_count trace (pace_of c.args.options.now) = ap (λ n. n / (c.from-length.result * 1000000)) (c.finish.ensures ∙ planned.stand.finish) ∙ rw c.from-length.ensures refl in
-    let begins : IsToBegin plans trace (pace_of c.args.options.now) (c.from-length.result * 1000000) (c.from-interval.result * 1000000000) = record { planned = planned; tick_is = rw c.from-length.ensures refl; interval_is = rw c.from-interval.ensures refl } in
+    let begins : IsToBegin plans trace (pace_of c.args.options.now) (c.from-interval.result * 1000000000) = record { planned = planned; interval_is = rw c.from-interval.ensures refl } in
     let judged = c.in_ok-make-4.ensures.judged trace (pace_of c.args.options.now) begins in
     let watching = watching_new c.in_ok-make.field-0 c.in_ok-live.live trace (pace_of c.args.options.now) c.in_ok-live.ensures.path (c.in_ok-make.ensures.asked ∙ c.in_ok-live.ensures.asked) c.in_ok-make.ensures.none c.in_ok-make.ensures.unwatched
     (λ cpu below. c.in_ok-make.ensures.fresh cpu (let many = ap (λ (p : PlansView). length p.plans) c.in_ok-make.ensures.plans in omega (arith, below, many, planned.stand.each))) in

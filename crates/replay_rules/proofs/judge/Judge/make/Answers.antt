@@ -8,9 +8,9 @@ returns-clause-judged c = λ trace pace begin.
     elim c.match-rules.branch [
       | in-Some+in_ok-make-in-Some w ↦
           rw (w.evaluator-is, w.in-Some.is)
-          (judged_first _ trace pace _ begin.tick_is begin.interval_is refl
+          (judged_first _ trace pace _ begin.interval_is refl
           (w.in_ok-make-in-Some.ensures trace pace begin.planned))
       | in-None w ↦
           rw (w.evaluator-is, w.in-None.is)
-          (judged_first _ trace pace _ begin.tick_is begin.interval_is refl refl)
+          (judged_first _ trace pace _ begin.interval_is refl refl)
     ]

@@ -2,7 +2,6 @@ use Rattle.std.proofs.Common.{◌≡◌, ◌+◌, ◌<◌, length, arith, ap, sy
 use Rattle.std.specs.Prelude.{IfSome}
 use Rattle.psi_base.specs.declared.event.Slot.{Slot}
 use Rattle.proc_plan.specs.Plans.{PlansView}
-use Rattle.replay_rules.specs.Judged.{HasJudged}
 use Rattle.replay_ticks.specs.Replays.{IsLiveTick, IsReached, IsReplay, ReplayView}
 use Rattle.replay_ticks.proofs.KillLaws.{kills_fit}
 use Rattle.replay_ticks.proofs.LiveLaws.{live_next, watching_next}
@@ -86,9 +85,7 @@ tick-requires g c =
     let ready = (c.look_ahead.ensures.reached trace pace (laws.to_go _ trace pace rules i is open_left) (laws.to_watch _ trace pace rules i is)).0 in
     let sampled = laws.sampled_is _ c.look_ahead.new.crew c.sample.new.crew c.sample.new.rows c.sample.new.engine trace pace rules i is ready
     (c.sample.ensures.sampled trace pace i (laws.to_sample _ c.look_ahead.new.crew trace pace rules i c.tick_moment-at.result is open_left c.tick_moment-at.ensures ready)) in
-    let to_judge = laws.to_judge _ c.sample.new.crew c.sample.new.rows c.sample.new.engine c.deref.result.now trace pace rules i is open_left c.deref.ensures.value sampled in
-    let number = ap (λ n. n + 1) is.made in
-    (trace, pace, rules, i, to_judge, number)
+    (trace, pace, rules, i, laws.to_judge _ c.sample.new.crew c.sample.new.rows c.sample.new.engine c.deref.result.now trace pace rules i c.tick_moment-at.result is c.tick_moment-at.ensures c.deref.ensures.value sampled)
 
 pub overflow_add-self-3 : goal.overflow_add-self-3
 overflow_add-self-3 g c =
@@ -101,10 +98,8 @@ overflow_add-self-3 g c =
     let ready = (c.look_ahead.ensures.reached trace pace (laws.to_go _ trace pace rules i is open_left) (laws.to_watch _ trace pace rules i is)).0 in
     let sampled = laws.sampled_is _ c.look_ahead.new.crew c.sample.new.crew c.sample.new.rows c.sample.new.engine trace pace rules i is ready
     (c.sample.ensures.sampled trace pace i (laws.to_sample _ c.look_ahead.new.crew trace pace rules i c.tick_moment-at.result is open_left c.tick_moment-at.ensures ready)) in
-    let to_judge = laws.to_judge _ c.sample.new.crew c.sample.new.rows c.sample.new.engine c.deref.result.now trace pace rules i is open_left c.deref.ensures.value sampled in
-    let number = ap (λ n. n + 1) is.made in
-    let judged = c.tick.ensures.judged trace pace rules i to_judge number in
-    let here = subst (HasJudged c.tick.new.self trace pace rules) number judged in
+    let to_judge = laws.to_judge _ c.sample.new.crew c.sample.new.rows c.sample.new.engine c.deref.result.now trace pace rules i c.tick_moment-at.result is c.tick_moment-at.ensures c.deref.ensures.value sampled in
+    let here = c.tick.ensures.judged trace pace rules i to_judge in
     let killed = laws.kills_are c.tick.new.self trace pace rules (i + 1) c.kills.result.now here c.kills.ensures in
     let fits = kills_fit _ trace pace rules i _ is.planned is.fit (laws.one_left _ trace pace rules i is open_left) is.kills in
     omega (arith, fits, ap length killed)
@@ -119,10 +114,8 @@ returns-clause-made g c = λ trace pace rules i given left.
     let sampled = laws.sampled_is _ c.look_ahead.new.crew c.sample.new.crew c.sample.new.rows c.sample.new.engine trace pace rules i is ready
     (c.sample.ensures.sampled trace pace i (laws.to_sample _ c.look_ahead.new.crew trace pace rules i c.tick_moment-at.result is open_left c.tick_moment-at.ensures ready)) in
     let watching = watching_next c.args.watched c.self.inside.crew c.look_ahead.new.crew c.sample.new.crew c.self.inside.live trace pace i is.watching reached c.sample.ensures.handed in
-    let to_judge = laws.to_judge _ c.sample.new.crew c.sample.new.rows c.sample.new.engine c.deref.result.now trace pace rules i is open_left c.deref.ensures.value sampled in
-    let number = ap (λ n. n + 1) is.made in
-    let judged = c.tick.ensures.judged trace pace rules i to_judge number in
-    let here = subst (HasJudged c.tick.new.self trace pace rules) number judged in
+    let to_judge = laws.to_judge _ c.sample.new.crew c.sample.new.rows c.sample.new.engine c.deref.result.now trace pace rules i c.tick_moment-at.result is c.tick_moment-at.ensures c.deref.ensures.value sampled in
+    let here = c.tick.ensures.judged trace pace rules i to_judge in
     let next = laws.is_ticked _ c.sample.new.crew c.sample.new.rows c.sample.new.engine c.tick.new.self trace pace rules i is open_left sampled watching here in (
       rw (c.fired.ensures, c.kills.ensures) next,
       λ found. subst (λ (old : ReplayView). IsLiveTick old.crew c.sample.new.crew trace pace (i + 1)) c.self.view_is (live_next c.args.watched c.self.inside.crew c.look_ahead.new.crew c.sample.new.crew trace pace i reached c.sample.ensures.handed found),

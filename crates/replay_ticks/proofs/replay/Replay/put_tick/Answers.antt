@@ -1,43 +1,72 @@
+use Rattle.std.proofs.Common.{◌+◌, arith, refl, sym, subst}
+use Rattle.psi_base.specs.Outside.{AppendsFront, PutsAll}
 use Rattle.psi_base.proofs.Grows.{PutsAll-failed}
 use Rattle.run_spec.specs.Replay.{tick_text, with_rules}
+use Rattle.replay_ticks.specs.Replays.{IsReplay}
 use Rattle.replay_ticks.proofs.KillLaws.{kills_below}
-use Rattle.replay_ticks.proofs.PutLaws.{all_put, fired_made, kills_front, kills_put, moment_fits, signals_front, signals_put, triggers_made}
-use Rattle.replay_ticks.proofs.replay.put_tick.Goals as goal
-
-pub tick_moment-at-requires : goal.tick_moment-at-requires
-tick_moment-at-requires g c = moment_fits c.args.plans.now c.args.engine.now c.args.order.now c.args.pacing c.requires.0 c.requires.1 c.args.tick c.requires.3
+use Rattle.replay_ticks.proofs.PutLaws.{all_put, fired_made, kills_front, kills_put, signals_front, signals_put, triggers_made}
+use Rattle.replay_ticks.proofs.TickLaws as laws
+use Rattle.replay_ticks.proofs.replay.Replay.put_tick.Goals as goal
 
 pub put_signals-requires-clause-numbers : goal.put_signals-requires-clause-numbers
 put_signals-requires-clause-numbers g c =
-    let is = c.requires.3 in
-    rw (c.fired.ensures, c.triggers.ensures) (fired_made c.args.plans.now c.args.engine.now c.requires.0 c.requires.1 c.args.tick is.planned is.some is.ticked)
+    let replay = c.self.inside in
+    let is = subst (λ replay. IsReplay replay c.requires.0 c.requires.1 c.requires.2 (c.requires.3 + 1)) (sym c.self.view_is) c.requires.4 in
+    rw (c.fired.ensures, c.triggers.ensures) (fired_made replay.plans.now replay.engine c.requires.0 c.requires.1 (c.requires.3 + 1) is.planned (omega arith) is.engine)
 
 pub put_signals-requires-clause-slots : goal.put_signals-requires-clause-slots
 put_signals-requires-clause-slots g c =
-    rw (c.lives-lives.ensures.lives, c.triggers.ensures) (triggers_made c.args.plans.now c.requires.0 c.requires.1 c.requires.3.planned)
+    let is = subst (λ replay. IsReplay replay c.requires.0 c.requires.1 c.requires.2 (c.requires.3 + 1)) (sym c.self.view_is) c.requires.4 in
+    rw (c.lives-lives.ensures.lives, c.triggers.ensures) (triggers_made c.self.inside.plans.now c.requires.0 c.requires.1 is.planned)
 
 pub put_kills-requires : goal.put_kills-requires
 put_kills-requires g c =
-    rw (c.lives-lives.ensures.lives, c.requires.4) (record { slots = kills_below c.args.plans.now c.requires.0 c.requires.1 c.requires.2 c.args.order.now c.args.tick c.requires.3.planned c.requires.3.by_path })
+    let replay = c.self.inside in
+    let is = subst (λ replay. IsReplay replay c.requires.0 c.requires.1 c.requires.2 (c.requires.3 + 1)) (sym c.self.view_is) c.requires.4 in
+    let killed = laws.kills_made _ c.requires.0 c.requires.1 c.requires.2 c.requires.3 c.kills.result.now is c.kills.ensures in
+    rw (c.lives-lives.ensures.lives, killed) (record { slots = kills_below replay.plans.now c.requires.0 c.requires.1 c.requires.2 replay.order.items replay.made is.planned is.order })
 
 pub put_due-requires : goal.put_due-requires
-put_due-requires g c = (c.requires.0, c.requires.1, c.requires.3)
+put_due-requires g c =
+    let is = subst (λ replay. IsReplay replay c.requires.0 c.requires.1 c.requires.2 (c.requires.3 + 1)) (sym c.self.view_is) c.requires.4 in
+    (c.requires.0, c.requires.1, laws.to_put _ c.deref.result.now c.requires.0 c.requires.1 c.requires.2 c.requires.3 c.args.at is c.deref.ensures.value c.requires.5)
 
 pub returns-in_err-put_signals-clause-bytes : goal.returns-in_err-put_signals-clause-bytes
-returns-in_err-put_signals-clause-bytes g c = λ trace pace rules is killed.
-    let same = signals_put c.args.plans.now c.args.engine.now c.args.order.now c.args.pacing trace pace c.args.tick is c.tick_moment-at.result c.lives-lives.result.now c.triggers.result.now c.fired.result.now c.tick_moment-at.ensures c.lives-lives.ensures.lives c.triggers.ensures c.fired.ensures in
-    PutsAll-failed (g.K.Sink.has c.args.out.now) (g.K.Sink.has c.put_signals.new.out) c.from_residual.result (tick_text trace pace (with_rules rules) c.args.tick) c.from_residual.ensures.0
-    (signals_front (g.K.Sink.has c.args.out.now) (g.K.Sink.has c.put_signals.new.out) trace pace rules c.args.tick _ same c.in_err-put_signals.ensures.bytes)
+returns-in_err-put_signals-clause-bytes g c = λ trace pace rules i given moment.
+    let replay = c.self.inside in
+    let old = g.K.Sink.has c.args.out.now in
+    let new = g.K.Sink.has c.put_signals.new.out in
+    let is = subst (λ replay. IsReplay replay trace pace rules (i + 1)) (sym c.self.view_is) given in
+    let to_put = laws.to_put _ replay.order.items trace pace rules i c.args.at is refl moment in
+    let same = signals_put replay.plans.now replay.engine replay.order.items replay.pacing trace pace replay.made c.args.at to_put c.lives-lives.result.now c.triggers.result.now c.fired.result.now c.lives-lives.ensures.lives c.triggers.ensures c.fired.ensures in
+    let front = signals_front old new trace pace rules replay.made _ same c.in_err-put_signals.ensures.bytes in
+    PutsAll-failed old new c.from_residual.result (tick_text trace pace (with_rules rules) (i + 1)) c.from_residual.ensures.0
+    (subst (AppendsFront old new) (laws.text_is _ trace pace rules i is) front)
 
 pub returns-in_err-put_kills-clause-bytes : goal.returns-in_err-put_kills-clause-bytes
-returns-in_err-put_kills-clause-bytes g c = λ trace pace rules is killed.
-    let same = signals_put c.args.plans.now c.args.engine.now c.args.order.now c.args.pacing trace pace c.args.tick is c.tick_moment-at.result c.lives-lives.result.now c.triggers.result.now c.fired.result.now c.tick_moment-at.ensures c.lives-lives.ensures.lives c.triggers.ensures c.fired.ensures in
-    let also = kills_put c.args.plans.now trace pace rules c.args.tick is.planned c.lives-lives.result.now c.args.kills.now c.lives-lives.ensures.lives killed in
-    PutsAll-failed (g.K.Sink.has c.args.out.now) (g.K.Sink.has c.put_kills.new.out) c.from_residual-in_err-put_kills.result (tick_text trace pace (with_rules rules) c.args.tick) c.from_residual-in_err-put_kills.ensures.0
-    (kills_front (g.K.Sink.has c.args.out.now) (g.K.Sink.has c.put_signals.new.out) (g.K.Sink.has c.put_kills.new.out) trace pace rules c.args.tick _ _ same also c.in_ok-put_signals.ensures.bytes c.in_err-put_kills.ensures.bytes)
+returns-in_err-put_kills-clause-bytes g c = λ trace pace rules i given moment.
+    let replay = c.self.inside in
+    let old = g.K.Sink.has c.args.out.now in
+    let mid = g.K.Sink.has c.put_signals.new.out in
+    let new = g.K.Sink.has c.put_kills.new.out in
+    let is = subst (λ replay. IsReplay replay trace pace rules (i + 1)) (sym c.self.view_is) given in
+    let to_put = laws.to_put _ replay.order.items trace pace rules i c.args.at is refl moment in
+    let killed = laws.kills_made _ trace pace rules i c.kills.result.now is c.kills.ensures in
+    let same = signals_put replay.plans.now replay.engine replay.order.items replay.pacing trace pace replay.made c.args.at to_put c.lives-lives.result.now c.triggers.result.now c.fired.result.now c.lives-lives.ensures.lives c.triggers.ensures c.fired.ensures in
+    let also = kills_put replay.plans.now trace pace rules replay.made is.planned c.lives-lives.result.now c.kills.result.now c.lives-lives.ensures.lives killed in
+    let front = kills_front old mid new trace pace rules replay.made _ _ same also c.in_ok-put_signals.ensures.bytes c.in_err-put_kills.ensures.bytes in
+    PutsAll-failed old new c.from_residual-in_err-put_kills.result (tick_text trace pace (with_rules rules) (i + 1)) c.from_residual-in_err-put_kills.ensures.0
+    (subst (AppendsFront old new) (laws.text_is _ trace pace rules i is) front)
 
 pub returns-clause-bytes : goal.returns-clause-bytes
-returns-clause-bytes g c = λ trace pace rules is killed.
-    let same = signals_put c.args.plans.now c.args.engine.now c.args.order.now c.args.pacing trace pace c.args.tick is c.tick_moment-at.result c.lives-lives.result.now c.triggers.result.now c.fired.result.now c.tick_moment-at.ensures c.lives-lives.ensures.lives c.triggers.ensures c.fired.ensures in
-    let also = kills_put c.args.plans.now trace pace rules c.args.tick is.planned c.lives-lives.result.now c.args.kills.now c.lives-lives.ensures.lives killed in
-    all_put (g.K.Sink.has c.args.out.now) (g.K.Sink.has c.put_signals.new.out) (g.K.Sink.has c.put_kills.new.out) (g.K.Sink.has c.put_due.new.out) trace pace rules c.args.tick _ _ c.put_due.result same also c.in_ok-put_signals.ensures.bytes c.in_ok-put_kills.ensures.bytes (c.put_due.ensures.bytes trace pace is)
+returns-clause-bytes g c = λ trace pace rules i given moment.
+    let replay = c.self.inside in
+    let old = g.K.Sink.has c.args.out.now in
+    let new = g.K.Sink.has c.put_due.new.out in
+    let is = subst (λ replay. IsReplay replay trace pace rules (i + 1)) (sym c.self.view_is) given in
+    let to_put = laws.to_put _ c.deref.result.now trace pace rules i c.args.at is c.deref.ensures.value moment in
+    let killed = laws.kills_made _ trace pace rules i c.kills.result.now is c.kills.ensures in
+    let same = signals_put replay.plans.now replay.engine c.deref.result.now replay.pacing trace pace replay.made c.args.at to_put c.lives-lives.result.now c.triggers.result.now c.fired.result.now c.lives-lives.ensures.lives c.triggers.ensures c.fired.ensures in
+    let also = kills_put replay.plans.now trace pace rules replay.made is.planned c.lives-lives.result.now c.kills.result.now c.lives-lives.ensures.lives killed in
+    let all = all_put old (g.K.Sink.has c.put_signals.new.out) (g.K.Sink.has c.put_kills.new.out) new trace pace rules replay.made _ _ c.put_due.result same also c.in_ok-put_signals.ensures.bytes c.in_ok-put_kills.ensures.bytes (c.put_due.ensures.bytes trace pace to_put) in
+    subst (PutsAll old new c.put_due.result) (laws.text_is _ trace pace rules i is) all

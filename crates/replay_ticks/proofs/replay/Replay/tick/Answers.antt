@@ -1,4 +1,4 @@
-use Rattle.std.proofs.Common.{◌≡◌, ◌+◌, true, arith, sym, subst}
+use Rattle.std.proofs.Common.{◌≡◌, ◌+◌, true, arith, sym, subst, ◌∙◌}
 use Rattle.std.specs.Io.KnownBytes.{Appends}
 use Rattle.pressure_spec.specs.Ticks.{tick_moment}
 use Rattle.psi_base.specs.Outside.{AppendsFront}
@@ -17,8 +17,9 @@ put_live-requires g c =
     let done : c.pass.result ≡ true = grind (arith, c.if-not-pass.false) in
     let next = laws.passed c.requires.0 c.requires.1 c.requires.2 c.requires.3 c.args.self.now c.pass.new.self c.pass.result (c.pass.ensures c.requires.0 c.requires.1 c.requires.2 c.requires.3 c.requires.4) done in
     let is = subst (λ replay. IsReplay replay c.requires.0 c.requires.1 c.requires.2 (c.requires.3 + 1)) (sym c.self.view_is) next.1 in
+    let moment = c.tick_moment-at.ensures ∙ laws.made_moment _ c.requires.0 c.requires.1 c.requires.2 c.requires.3 is in
     let taken = subst (λ (replay : ReplayView). IsLiveTick c.args.self.now.crew replay.crew c.requires.0 c.requires.1 (c.requires.3 + 1)) (sym c.self.view_is) next.2 in
-    laws.live_in_time _ c.requires.0 c.requires.1 c.requires.2 c.requires.3 c.tick_moment-at.result c.cpus.result is c.tick_moment-at.ensures c.cpus.ensures.cpus taken.in_time
+    laws.live_in_time _ c.requires.0 c.requires.1 c.requires.2 c.requires.3 c.tick_moment-at.result c.cpus.result is moment c.cpus.ensures.cpus taken.in_time
 
 pub put_tick-requires : goal.put_tick-requires
 put_tick-requires g c =
@@ -26,21 +27,19 @@ put_tick-requires g c =
     let pace = c.requires.1 in
     let rules = c.requires.2 in
     let i = c.requires.3 in
-    let given = c.requires.4 in
     let done : c.pass.result ≡ true = grind (arith, c.if-not-pass.false) in
-    let next = laws.passed trace pace rules i c.args.self.now c.pass.new.self c.pass.result (c.pass.ensures trace pace rules i given) done in
+    let next = laws.passed trace pace rules i c.args.self.now c.pass.new.self c.pass.result (c.pass.ensures trace pace rules i c.requires.4) done in
     let is = subst (λ replay. IsReplay replay trace pace rules (i + 1)) (sym c.self.view_is) next.1 in
-    let to_put = laws.to_put _ c.deref.result.now trace pace rules i is c.deref.ensures.value in
-    let killed = laws.kills_made _ trace pace rules i c.kills.result.now is c.kills.ensures in
-    (trace, pace, rules, to_put, killed)
+    (trace, pace, rules, i, next.1, c.tick_moment-at.ensures ∙ laws.made_moment _ trace pace rules i is)
 
 pub returns-in_err-put_live-clause-tick : goal.returns-in_err-put_live-clause-tick
 returns-in_err-put_live-clause-tick g c = λ trace pace rules i given.
     let done : c.pass.result ≡ true = grind (arith, c.if-not-pass.false) in
     let next = laws.passed trace pace rules i c.args.self.now c.pass.new.self c.pass.result (c.pass.ensures trace pace rules i given) done in
     let is = subst (λ replay. IsReplay replay trace pace rules (i + 1)) (sym c.self.view_is) next.1 in
+    let moment = c.tick_moment-at.ensures ∙ laws.made_moment _ trace pace rules i is in
     let taken = subst (λ (replay : ReplayView). IsLiveTick c.args.self.now.crew replay.crew trace pace (i + 1)) (sym c.self.view_is) next.2 in
-    let text = laws.live_is _ trace pace rules i c.tick_moment-at.result c.cpus.result is c.tick_moment-at.ensures c.cpus.ensures.cpus in
+    let text = laws.live_is _ trace pace rules i c.tick_moment-at.result c.cpus.result is moment c.cpus.ensures.cpus in
     let front = subst (AppendsFront (g.K.Sink.has c.args.out.now) (g.K.Sink.has c.put_live.new.out)) text c.in_err-put_live.ensures.bytes in
     laws.gives_front trace pace rules i c.args.self.now c.pass.new.self _ (g.K.Sink.has c.args.out.now) (g.K.Sink.has c.put_live.new.out) c.from_residual.result c.from_residual.ensures.0 next.0 taken.text
     (laws.live_front trace pace rules (i + 1) _ (g.K.Sink.has c.args.out.now) (g.K.Sink.has c.put_live.new.out) front)
@@ -50,24 +49,21 @@ returns-in_err-put_tick-clause-tick g c = λ trace pace rules i given.
     let done : c.pass.result ≡ true = grind (arith, c.if-not-pass.false) in
     let next = laws.passed trace pace rules i c.args.self.now c.pass.new.self c.pass.result (c.pass.ensures trace pace rules i given) done in
     let is = subst (λ replay. IsReplay replay trace pace rules (i + 1)) (sym c.self.view_is) next.1 in
+    let moment = c.tick_moment-at.ensures ∙ laws.made_moment _ trace pace rules i is in
     let taken = subst (λ (replay : ReplayView). IsLiveTick c.args.self.now.crew replay.crew trace pace (i + 1)) (sym c.self.view_is) next.2 in
-    let text = laws.live_is _ trace pace rules i c.tick_moment-at.result c.cpus.result is c.tick_moment-at.ensures c.cpus.ensures.cpus in
+    let text = laws.live_is _ trace pace rules i c.tick_moment-at.result c.cpus.result is moment c.cpus.ensures.cpus in
     let live = subst (Appends (g.K.Sink.has c.args.out.now) (g.K.Sink.has c.put_live.new.out)) text c.in_ok-put_live.ensures.bytes in
-    let to_put = laws.to_put _ c.deref.result.now trace pace rules i is c.deref.ensures.value in
-    let killed = laws.kills_made _ trace pace rules i c.kills.result.now is c.kills.ensures in
-    let front = subst (AppendsFront (g.K.Sink.has c.put_live.new.out) (g.K.Sink.has c.put_tick.new.out)) (laws.text_is _ trace pace rules i is) (c.in_err-put_tick.ensures.bytes trace pace rules to_put killed) in
     laws.gives_front trace pace rules i c.args.self.now c.pass.new.self _ (g.K.Sink.has c.args.out.now) (g.K.Sink.has c.put_tick.new.out) c.from_residual-in_err-put_tick.result c.from_residual-in_err-put_tick.ensures.0 next.0 taken.text
-    (laws.lines_front trace pace rules (i + 1) _ (g.K.Sink.has c.args.out.now) (g.K.Sink.has c.put_live.new.out) (g.K.Sink.has c.put_tick.new.out) live front)
+    (laws.lines_front trace pace rules (i + 1) _ (g.K.Sink.has c.args.out.now) (g.K.Sink.has c.put_live.new.out) (g.K.Sink.has c.put_tick.new.out) live (c.in_err-put_tick.ensures.bytes trace pace rules i next.1 moment))
 
 pub returns-clause-tick : goal.returns-clause-tick
 returns-clause-tick g c = λ trace pace rules i given.
     let done : c.pass.result ≡ true = grind (arith, c.if-not-pass.false) in
     let next = laws.passed trace pace rules i c.args.self.now c.pass.new.self c.pass.result (c.pass.ensures trace pace rules i given) done in
     let is = subst (λ replay. IsReplay replay trace pace rules (i + 1)) (sym c.self.view_is) next.1 in
-    let text = laws.live_is _ trace pace rules i c.tick_moment-at.result c.cpus.result is c.tick_moment-at.ensures c.cpus.ensures.cpus in
+    let moment = c.tick_moment-at.ensures ∙ laws.made_moment _ trace pace rules i is in
+    let text = laws.live_is _ trace pace rules i c.tick_moment-at.result c.cpus.result is moment c.cpus.ensures.cpus in
     let live = subst (Appends (g.K.Sink.has c.args.out.now) (g.K.Sink.has c.put_live.new.out)) text c.in_ok-put_live.ensures.bytes in
-    let to_put = laws.to_put _ c.deref.result.now trace pace rules i is c.deref.ensures.value in
-    let killed = laws.kills_made _ trace pace rules i c.kills.result.now is c.kills.ensures in
-    let rest = subst (Appends (g.K.Sink.has c.put_live.new.out) (g.K.Sink.has c.put_tick.new.out)) (laws.text_is _ trace pace rules i is) (c.in_ok-put_tick.ensures.bytes trace pace rules to_put killed) in
+    let rest = c.in_ok-put_tick.ensures.bytes trace pace rules i next.1 moment in
     let all = laws.lines_put trace pace rules (i + 1) _ (g.K.Sink.has c.args.out.now) (g.K.Sink.has c.put_live.new.out) (g.K.Sink.has c.put_tick.new.out) live rest in
     (next.0, next.1, next.2, subst (λ (replay : ReplayView). Appends (g.K.Sink.has c.args.out.now) (g.K.Sink.has c.put_tick.new.out) (tick_lines trace pace rules (i + 1) (watches_text (tick_moment pace.length (i + 1)) trace.cpus replay.crew.watches))) c.self.view_is all)
