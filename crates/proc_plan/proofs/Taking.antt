@@ -1,5 +1,5 @@
 -- What a planner has taken after one event more.
-use Rattle.std.proofs.Common.{◌≡◌, ℕ, ◌+◌, ◌<◌, List, [], ◌∷◌, ◌++◌, length, refl, sym, ap, ◌∙◌, subst, arith, Bool, true, false, Option, None, Some, IsSome, IfSome, append_assoc}
+use Rattle.std.proofs.Common.{◌≡◌, ℕ, ◌+◌, ◌<◌, ◌≤◌, List, [], ◌∷◌, ◌++◌, length, refl, sym, ap, ◌∙◌, subst, arith, Bool, true, false, Option, None, Some, IsSome, IfSome, append_assoc}
 use Rattle.std.specs.Prelude.{if◌then◌else◌, ◌==◌}
 use Rattle.std.proofs.lemmas.Bool.Decides.{eqb_tells}
 use Rattle.std.proofs.lemmas.List.{append-nil, length-append}
@@ -14,11 +14,12 @@ use Rattle.psi_counts.specs.declared.changes.Touch.{Touch}
 use Rattle.psi_spec.specs.declared.machine.Task.{Task}
 use Rattle.psi_spec.specs.Grammar.{Fits}
 use Rattle.psi_spec.specs.Trace.{AllFit}
-use Rattle.psi_spec.specs.World.{World, Limits, after, after_event, after_from, first_world, running_on, tasks_after}
+use Rattle.psi_spec.specs.World.{World, Limits, after, after_event, after_from, first_world, most_groups, running_on, tasks_after}
 use Rattle.psi_spec.specs.Refusal.{AreLegal, cause_of}
-use Rattle.psi_counts.specs.Legal.{with_change}
-use Rattle.psi_counts.specs.Touch.{AllTouched, IsTouch, change_of, change_on, change_told, gate_first, shown, task_after, told_first, told_of}
+use Rattle.psi_counts.specs.Legal.{IsLegalWorld, with_change}
+use Rattle.psi_counts.specs.Touch.{AllTouched, HasSlotsBelow, IsTouch, change_of, change_on, change_told, gate_change, gate_first, shown, task_after, told_first, told_of}
 use Rattle.psi_spec.specs.Changes.{before, touched}
+use Rattle.psi_counts.proofs.TouchWithin.{changes_are_within}
 use Rattle.plan_laws.proofs.PlanLaws.{after-push, changes_from-push}
 use Rattle.task_table.specs.Stands.{HasPlayed}
 use Rattle.proc_plan.specs.declared.side.Side.{Side}
@@ -114,6 +115,40 @@ room_for_all w event touch task changes cpus same is each room some cpu below =
     gate_tells : (at : ℕ) (current gate : Option (Slot × Bool)) (other : Option Change) → IsSome gate → IsSome (gate_first at current gate other)
     gate_tells at current None other some = absurd (cc some)
     gate_tells at current (Some gate) other some = refl
+
+-- ---- slots that fit
+
+lower_slot : {A : Type 0} (side : Option (Slot × A)) (low high : ℕ) → low ≤ high → IfSome side (λ pair. pair.0.0 < low) → IfSome side (λ pair. pair.0.0 < high)
+lower_slot None low high fewer below = tt
+lower_slot (Some pair) low high fewer below = omega (arith, fewer, below)
+
+lower_slots : (change : Change) (low high : ℕ) → low ≤ high → HasSlotsBelow low change → HasSlotsBelow high change
+lower_slots change low high fewer below = record {
+  minus = lower_slot change.minus low high fewer below.minus;
+  plus = lower_slot change.plus low high fewer below.plus;
+  current = lower_slot change.current low high fewer below.current;
+  gate = lower_slot change.gate low high fewer below.gate;
+}
+
+-- the slots of changes are as few as groups may be
+pub slots_fit : (limits : Limits) (w : World) (touch : Touch) → IsLegalWorld limits w → AllTouched (λ cpu change. HasSlotsBelow (length w.groups) change) touch → AllTouched (λ cpu change. HasSlotsBelow most_groups change) touch
+slots_fit limits w touch legal below = (fitting touch.first below.0, fitting touch.second below.1)
+  where
+    fitting : (one : Option (Cpu × Change)) → IfSome one (λ one. HasSlotsBelow (length w.groups) one.1) → IfSome one (λ one. HasSlotsBelow most_groups one.1)
+    fitting None low = tt
+    fitting (Some one) low = lower_slots one.1 (length w.groups) most_groups legal.groups.few low
+
+-- so are those of the changes that a gate makes
+pub gate_slots_fit : (limits : Limits) (w : World) (event : Event) (touch : Touch) → cause_of limits w event ≡ None → IsLegalWorld limits w → IsTouch limits.cpus w event touch
+    → IfSome touch.gate (λ gate. (cpu : ℕ) → cpu < limits.cpus → HasSlotsBelow most_groups (gate_change event.at (shown (running_on (after_event w event).tasks cpu)) gate))
+gate_slots_fit limits w event touch allowed legal is = fitting touch.gate refl
+  where
+    fitting : (gate : Option (Slot × Bool)) → touch.gate ≡ gate → IfSome gate (λ gate. (cpu : ℕ) → cpu < limits.cpus → HasSlotsBelow most_groups (gate_change event.at (shown (running_on (after_event w event).tasks cpu)) gate))
+    fitting None there = tt
+    fitting (Some gate) there = λ cpu below.
+        let current = shown (running_on (after_event w event).tasks cpu) in
+        let told : change_of w event cpu ≡ Some (gate_change event.at current gate) = sym (is.told cpu below) ∙ ap (λ g. gate_first event.at current g (told_of touch cpu)) there in
+        lower_slots (gate_change event.at current gate) (length w.groups) most_groups legal.groups.few (changes_are_within limits w event allowed legal.within cpu (gate_change event.at current gate) told).1
 
 -- ---- one step
 

@@ -1,5 +1,4 @@
 pub mod Clocks
-pub mod Packed
 pub mod Plans
 pub mod Room
 pub mod Sides

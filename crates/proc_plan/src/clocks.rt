@@ -115,15 +115,9 @@ impl<'a> ProcClocks for PlainClocks<'a> {
     }
 
     fn apply(&mut self) {
-        let change = self.plan.change(self.count + 1);
-        add_irq(
-            &mut self.irqs,
-            self.parents,
-            &self.clocks,
-            change.current,
-            change.irq,
-        );
-        self.clocks.apply(self.parents, &change);
+        let change = self.plan.packed(self.count + 1);
+        add_irq(&mut self.irqs, self.parents, &self.clocks, change);
+        self.clocks.apply(self.parents, change);
         self.count += 1;
     }
 

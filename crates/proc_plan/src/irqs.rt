@@ -7,7 +7,7 @@ ghost use Rattle.proc_plan.specs.Clocks.{AllGrow, irq_at, irq_taken};
 
 use crate::plan::current_slot;
 use psi_base::Slot;
-use slot_clocks::SlotClocks;
+use slot_clocks::{PackedChange, SlotClocks};
 
 // A time (ns) where an account is on, and none where it is off.
 fn time_if(on: bool, irq: u64) -> u64
@@ -44,27 +44,28 @@ fn climb(
     }
 }
 
-/// Adds a time (ns) that interrupts took, if they took any, to the group of the running task and to each above it, where their
-/// accounts are on by these clocks.
+/// Adds the time that interrupts took by a change, if they took any, to the group of the running task and to each above it, where
+/// their accounts are on by these clocks.
 #[inline(always)]
 pub(crate) fn add_irq(
     times: &mut [u64],
     parents: &[Option<Slot>],
     clocks: &SlotClocks,
-    current: Option<(Slot, bool)>,
-    irq: u64,
+    change: &PackedChange,
 )
     requires older { AreOlder (parent_numbers parents.now) }
     requires room { length times.old ≡ length parents.now }
-    requires below { IfSome current (λ running. running.0.0 < length parents.now) }
+    requires below { IfSome change.now.current (λ running. running.0.0 < length parents.now) }
     requires fits { (slot : ℕ) → slot < length times.old →
         irq_at times.old slot
-        + irq_taken (parent_numbers parents.now) clocks.now current irq slot < 2 ^ 64 }
+        + irq_taken (parent_numbers parents.now) clocks.now change.now.current change.now.irq slot
+        < 2 ^ 64 }
     ensures room { length times.new ≡ length times.old }
-    ensures grown { AllGrow (parent_numbers parents.now) clocks.now current irq
-        times.old times.new }
+    ensures grown { AllGrow (parent_numbers parents.now) clocks.now
+        change.now.current change.now.irq times.old times.new }
 {
+    let irq = change.irq();
     if irq > 0 {
-        climb(times, parents, clocks, current, irq);
+        climb(times, parents, clocks, change.current(), irq);
     }
 }

@@ -8,9 +8,10 @@ ghost use Rattle.slot_clocks.specs.Clocks.{parent_numbers};
 ghost use Rattle.slot_clocks.specs.Walk.{slot_in};
 ghost use Rattle.proc_plan.specs.Plans.{AreConcerned, OthersAreAside, plan_view};
 
-use crate::changes::{Changes, Packed};
+use crate::changes::Changes;
 use psi_base::{Ns, Slot};
 use psi_counts::{Change, Counts};
+use slot_clocks::PackedChange;
 use std::marker::Model;
 
 /// The changes of one processor in a trace, and the parents of all slots, by which a change reaches the groups above the
@@ -75,7 +76,18 @@ impl Plan {
         ensures change { slice_get self.now.changes (k - 1) ≡ Some result }
         ensures one { IsOfOne result }
     {
-        self.changes.all()[k as usize - 1].change()
+        self.packed(k).change()
+    }
+
+    /// The same as it is kept.
+    #[inline(always)]
+    pub(crate) fn packed(&self, k: u64) -> &PackedChange
+        requires from { 1 ≤ k }
+        requires to { k ≤ length self.now.changes }
+        ensures change { slice_get self.now.changes (k - 1) ≡ Some result.now }
+        ensures one { IsOfOne result.now }
+    {
+        &self.changes.all()[k as usize - 1]
     }
 
     /// The moment (ns) of the change with a number from 1.
@@ -84,7 +96,7 @@ impl Plan {
         requires to { k ≤ length self.now.changes }
         ensures { result ≡ last_change self.now k }
     {
-        self.change(k).at
+        self.packed(k).at()
     }
 
     /// The slots on whose chains the change with a number from 1 stands: of the counts that it takes or else of its gate, of
@@ -96,12 +108,12 @@ impl Plan {
         ensures slots { AreConcerned self.now (k - 1) result }
         ensures aside { OthersAreAside self.now (k - 1) result }
     {
-        let change = self.change(k);
+        let change = self.packed(k);
         [
-            current_slot(change.gate).or(part_slot(change.minus)),
-            part_slot(change.plus),
+            current_slot(change.gate()).or(part_slot(change.minus())),
+            part_slot(change.plus()),
             current_slot(self.current_before(k)),
-            current_slot(change.current),
+            current_slot(change.current()),
         ]
     }
 
@@ -114,7 +126,7 @@ impl Plan {
         if k == 1 {
             return None;
         }
-        self.change(k - 1).current
+        self.packed(k - 1).current()
     }
 
     /// How many changes come up to a moment (ns), those at the moment among them. It halves what is left at each step.
@@ -125,7 +137,7 @@ impl Plan {
         ensures next { result < length self.now.changes → at < last_change self.now (result + 1) }
     {
         self.changes.all().partition_point(
-            |change: &Packed| -> bool
+            |change: &PackedChange| -> bool
                 ensures { result ≡ nat_le change.now.at at }
             { change.at() <= at },
         ) as u64

@@ -4,8 +4,8 @@ ghost use Rattle.std.specs.Prelude.{◌≡◌, ◌++◌, ◌+◌, ◌<◌, ◌�
 ghost use Rattle.psi_counts.specs.Legal.{with_change};
 ghost use Rattle.psi_spec.specs.Names.{names};
 ghost use Rattle.psi_spec.specs.Told.{listed};
-ghost use Rattle.psi_spec.specs.World.{is_pressure, running_on};
-ghost use Rattle.psi_counts.specs.Touch.{AllTouched, IsBeside, IsOfOne, change_told, gate_change, shown, told_first, told_of};
+ghost use Rattle.psi_spec.specs.World.{is_pressure, most_groups, running_on};
+ghost use Rattle.psi_counts.specs.Touch.{AllTouched, HasSlotsBelow, IsBeside, IsOfOne, change_told, gate_change, shown, told_first, told_of};
 ghost use Rattle.proc_plan.specs.Plans.{AreSmall};
 ghost use Rattle.proc_plan.specs.Room.{AddsTold, HasRoom, HasRoomFor, HasRoomWithin, changes_in, lists_of};
 ghost use Rattle.proc_plan.specs.Sides.{IsSmall};
@@ -138,6 +138,9 @@ fn gate_change(at: Ns, current: Option<(Slot, bool)>, gate: (Slot, bool)) -> Cha
 fn add_gate(changes: &mut [Changes], at: Ns, gate: (Slot, bool), table: &Table)
     requires each { length changes.old ≡ table.now.limits.cpus }
     requires room { (cpu : ℕ) → HasRoomWithin changes.old cpu }
+    requires slots { (cpu : ℕ) → cpu < table.now.limits.cpus →
+        HasSlotsBelow most_groups
+        (gate_change at (shown (running_on table.now.world.tasks cpu)) gate) }
     ensures each { length changes.new ≡ length changes.old }
     ensures added { (cpu : ℕ) → cpu < length changes.old →
         changes_in changes.new cpu ≡ changes_in changes.old cpu
@@ -153,6 +156,7 @@ fn add_gate(changes: &mut [Changes], at: Ns, gate: (Slot, bool), table: &Table)
 fn add_change(changes: &mut [Changes], touched: Option<(Cpu, Change)>)
     requires room { IfSome touched (λ touched. HasRoom changes.old touched.0.0) }
     requires one { IfSome touched (λ touched. IsOfOne touched.1) }
+    requires slots { IfSome touched (λ touched. HasSlotsBelow most_groups touched.1) }
     ensures each { length changes.new ≡ length changes.old }
     ensures added { AddsTold changes.old changes.new (λ cpu. told_first cpu touched None) }
     ensures others { (cpu : ℕ) → told_first cpu touched None ≡ None →
@@ -170,6 +174,7 @@ fn add_touched(changes: &mut [Changes], touch: &Touch)
     requires room { (cpu : ℕ) → IsSome (told_of touch.now cpu) → HasRoom changes.old cpu }
     requires beside { IsBeside touch.now.first touch.now.second }
     requires ones { AllTouched (λ cpu change. IsOfOne change) touch.now }
+    requires slots { AllTouched (λ cpu change. HasSlotsBelow most_groups change) touch.now }
     ensures each { length changes.new ≡ length changes.old }
     ensures added { AddsTold changes.old changes.new (told_of touch.now) }
 {
@@ -185,6 +190,11 @@ pub(crate) fn add_changes(changes: &mut [Changes], at: Ns, touch: &Touch, table:
     requires all { IsSome touch.now.gate → (cpu : ℕ) → HasRoomWithin changes.old cpu }
     requires beside { IsBeside touch.now.first touch.now.second }
     requires ones { AllTouched (λ cpu change. IsOfOne change) touch.now }
+    requires slots { AllTouched (λ cpu change. HasSlotsBelow most_groups change) touch.now }
+    requires gate_slots { IfSome touch.now.gate (λ gate.
+        (cpu : ℕ) → cpu < table.now.limits.cpus →
+        HasSlotsBelow most_groups
+        (gate_change at (shown (running_on table.now.world.tasks cpu)) gate)) }
     ensures each { length changes.new ≡ length changes.old }
     ensures added { (cpu : ℕ) → cpu < length changes.old →
         changes_in changes.new cpu ≡ changes_in changes.old cpu ++ with_change

@@ -11,6 +11,7 @@ use Rattle.psi_base.specs.declared.event.State.{State}
 use Rattle.psi_base.specs.declared.event.State.TheVariants.{IoSome, IoFull, MemSome, MemFull, CpuSome, CpuFull, Nonidle}
 use Rattle.psi_counts.specs.declared.changes.Counts.{Counts}
 use Rattle.psi_spec.specs.Groups.{AreOlder}
+use Rattle.psi_spec.specs.World.{most_groups}
 use Rattle.psi_spec.specs.Stall.{is_under, number_of_slot}
 use Rattle.psi_counts.specs.Counts.{mask_holds, tells}
 use Rattle.psi_counts.specs.Touch.{AreAtMost, no_counts, on_chain}
@@ -89,11 +90,12 @@ first_sums parents slots count slot =
     })
 
 -- the first clocks stand for tasks of which none is alive
-pub first_machine : (parents : List (Option ℕ)) (groups count : ℕ) (tasks : List (Option (Slot × Counts))) (clocks : ClocksView) → AreOlder parents → tasks ≡ replicate count None → count ≤ 1000 → clocks ≡ first_clocks groups → IsMachine parents groups tasks clocks 0
-first_machine parents groups count tasks clocks older none few first = rw (none, first) (record {
+pub first_machine : (parents : List (Option ℕ)) (groups count : ℕ) (tasks : List (Option (Slot × Counts))) (clocks : ClocksView) → AreOlder parents → tasks ≡ replicate count None → count ≤ 1000 → groups ≤ most_groups → clocks ≡ first_clocks groups → IsMachine parents groups tasks clocks 0
+first_machine parents groups count tasks clocks older none few few_groups first = rw (none, first) (record {
   older = older;
   are_tasks = All-replicate (IsTask groups) count None tt;
   few = omega (arith, few, length-replicate {A = Option (Slot × Counts)} count None);
+  few_groups = few_groups;
   sums = first_sums parents groups count;
   room = omega (arith, length-replicate groups zero_cell);
   told = first_told parents groups;

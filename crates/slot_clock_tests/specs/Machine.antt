@@ -4,6 +4,7 @@ use Rattle.std.specs.List.{All, sum_by}
 use Rattle.psi_base.specs.declared.event.Slot.{Slot}
 use Rattle.psi_counts.specs.declared.changes.Counts.{Counts}
 use Rattle.psi_spec.specs.Groups.{AreOlder}
+use Rattle.psi_spec.specs.World.{most_groups}
 use Rattle.psi_counts.specs.Touch.{AreAtMost, on_chain}
 use Rattle.slot_clocks.specs.Clocks.{AreTold, ClocksView, cell_at}
 
@@ -27,6 +28,7 @@ pub record IsMachine (parents : List (Option ℕ)) (groups : ℕ) (tasks : List 
   pub older : AreOlder parents
   pub are_tasks : All (IsTask groups) tasks
   pub few : length tasks ≤ 1000
+  pub few_groups : groups ≤ most_groups
   pub sums : (slot : ℕ) → AreSums parents slot tasks (cell_at clocks slot).counts
   pub room : groups ≤ length clocks.cells
   pub told : AreTold parents clocks

@@ -9,7 +9,7 @@ ghost use Rattle.slot_clock_tests.specs.Machine.{IsMachine, IsSlot, IsTask};
 use cpu_clock::Clock;
 use psi_base::{NoMemory, Ns, Slot};
 use psi_counts::{Change, Counts};
-use slot_clocks::SlotClocks;
+use slot_clocks::{PackedChange, SlotClocks};
 use std::alloc::{AllocError, Global};
 
 /// The last moment of a clock, in ns.
@@ -89,7 +89,7 @@ fn is_slot(current: Option<(Slot, bool)>, groups: usize) -> bool
 impl Machine {
     /// A processor with so many tasks, of which none is alive, over groups with these parents.
     pub fn new(alloc: Global, parents: Vec<Option<Slot>>, tasks: usize) -> Result<Machine, Failed> {
-        if tasks > 1000 || !are_older(&parents) {
+        if tasks > 1000 || parents.len() > 1024 || !are_older(&parents) {
             return Err(Failed::Unfit);
         }
         let Ok(slots) = u32::try_from(parents.len()) else {
@@ -131,7 +131,7 @@ impl Machine {
             irq: 0,
             gate: None,
         };
-        self.clocks.apply(&self.parents, &change);
+        self.clocks.apply(&self.parents, &PackedChange::new(change));
         self.tasks[task] = now;
         self.last = at;
         Ok(())

@@ -1,4 +1,5 @@
 mod ChainLaws
+mod CountsTable
 mod GateLaws
 mod StartLaws
 mod TurnLaws

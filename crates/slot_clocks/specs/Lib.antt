@@ -1,2 +1,4 @@
+pub mod Bits
 pub mod Clocks
+pub mod Packed
 pub mod Walk

@@ -5,14 +5,15 @@ ghost use Rattle.psi_base.specs.declared.event.State.{State};
 ghost use Rattle.psi_counts.specs.Clock.{ClockFollows};
 ghost use Rattle.psi_counts.specs.Counts.{mask_holds, tells};
 ghost use Rattle.psi_spec.specs.Trace.{last_moment};
-ghost use Rattle.psi_counts.specs.Touch.{Follows, is_current_stalled, no_counts};
+ghost use Rattle.psi_counts.specs.Touch.{Follows, no_counts};
 ghost use Rattle.slot_clocks.specs.Clocks.{CanFollow, IsUpTo, StaysByMask, parent_numbers};
-ghost use Rattle.slot_clocks.specs.Walk.{AreGated, AreSides, AreTogether, AreTurned, CanClimb, MayStart, all_passed, chains_of, height, passed, slot_in, top};
+ghost use Rattle.slot_clocks.specs.Walk.{AreGated, AreSides, AreTogether, AreTurned, CanClimb, MayStart, all_passed, chains_of, height, passed, top};
 
 use crate::cell::Cell;
+use crate::packed::PackedChange;
 use crate::part::Part;
+use crate::running::Running;
 use psi_base::{Ns, Slot};
-use psi_counts::Change;
 
 /// How high the walks up the chains of the four slots stand that a change concerns. A height is one more than the slot, so
 /// that one comparison tells both whether a chain stands somewhere and where; it is 0 behind the root.
@@ -53,28 +54,6 @@ fn height(slot: Option<Slot>) -> u64
     }
 }
 
-// The slot of the running task.
-fn slot_of(current: Option<(Slot, bool)>) -> Option<Slot>
-    ensures { result ≡ slot_in current }
-{
-    current.map(|(slot, _)| slot)
-}
-
-// The running task is in a memory stall.
-fn is_stalled(current: Option<(Slot, bool)>) -> bool
-    ensures { result ≡ is_current_stalled current }
-{
-    matches!(current, Some((_, true)))
-}
-
-// What is told of the running task is the same.
-fn is_same(current: Option<(Slot, bool)>, other: Option<(Slot, bool)>) -> bool
-    ensures { result ≡ true → current ≡ other }
-{
-    let in_one_group = height(slot_of(current)) == height(slot_of(other));
-    in_one_group & (is_stalled(current) == is_stalled(other))
-}
-
 // The height on a chain once the walk has passed one, behind which the parent is.
 fn pass(place: u64, here: u64, parent: u64) -> u64
     ensures { result ≡ passed here parent place }
@@ -92,14 +71,15 @@ fn fits(place: u64, other: u64) -> bool
 impl Chains {
     /// The chains of a change, at their slots. The current task is the one that ran up to it. A change with a gate takes no
     /// counts, and the chain of those begins at the slot of the gate: the walk has to come there.
-    pub(crate) fn of(current: Option<(Slot, bool)>, change: &Change) -> Chains
-        ensures { result ≡ chains_of current change.now }
+    fn of(current: &Running, change: &PackedChange) -> Chains
+        ensures { result ≡ chains_of current.now change.now }
     {
+        let gate = change.gate().map(|(slot, _)| slot);
         Chains {
-            minus: height(slot_of(change.gate).or(change.minus.map(|(slot, _)| slot))),
-            plus: height(change.plus.map(|(slot, _)| slot)),
-            before: height(slot_of(current)),
-            after: height(slot_of(change.current)),
+            minus: height(gate.or(change.minus().map(|(slot, _)| slot))),
+            plus: height(change.plus().map(|(slot, _)| slot)),
+            before: current.height(),
+            after: change.running().height(),
         }
     }
 
@@ -129,43 +109,46 @@ impl Chains {
         }
     }
 
-    // The chains of a change with those of the counts and of the task that ran together, where these stand at one slot. One that
-    // stands nowhere may go with the others, and so may that of the task that ran where what is told of the running task
-    // stays: it has nothing to tell then.
+    // The chains of a change of a task with those of the counts and of the task that ran together, where these stand at one slot.
+    // One that stands nowhere may go with the others, and so may that of the task that ran where what is told of the running
+    // task stays: it has nothing to tell then.
     #[tactic(auto, using(crate::proofs::StartLaws::start_together))]
-    fn together(current: Option<(Slot, bool)>, change: &Change, stays: bool) -> Option<Chains>
-        requires stays { stays ≡ true → current ≡ change.now.current }
-        requires alone { IfSome change.now.gate (λ _. change.now.minus ≡ None) }
-        ensures start { IfSome result (MayStart current change.now) }
+    #[inline(always)]
+    fn together(current: &Running, change: &PackedChange, stays: bool) -> Option<Chains>
+        requires stays { stays ≡ true → current.now ≡ change.now.current }
+        ensures start { IfSome result (MayStart current.now change.now) }
         ensures together { IfSome result AreTogether }
-        ensures low { IfSome result (λ starts. top starts ≤ top (chains_of current change.now)) }
+        ensures low { IfSome result (λ starts.
+            top starts ≤ top (chains_of current.now change.now)) }
     {
-        let chains = Chains::of(current, change);
-        let before = if stays { 0 } else { chains.before };
-        let highest = chains.minus.max(chains.plus).max(before);
-        if !(fits(chains.minus, highest) & fits(chains.plus, highest) & fits(before, highest)) {
+        let (minus, plus) = change.heights()?;
+        let before = if stays { 0 } else { current.height() };
+        let highest = minus.max(plus).max(before);
+        if !(fits(minus, highest) & fits(plus, highest) & fits(before, highest)) {
             return None;
         }
+        let after = change.running().height();
         Some(Chains {
             minus: highest,
             plus: highest,
             before: highest,
-            after: chains.after,
+            after,
         })
     }
 }
 
 impl Sides {
     // What a change means, where this task ran up to it.
-    fn of(current: Option<(Slot, bool)>, change: &Change) -> Sides
-        ensures { AreSides current change.now result }
+    #[inline(always)]
+    fn of(current: &Running, change: &PackedChange) -> Sides
+        ensures { AreSides current.now change.now result }
     {
         Sides {
-            at: change.at,
-            minus: Part::of(change.minus),
-            plus: Part::of(change.plus),
-            stalled: is_stalled(change.current),
-            stays: is_same(current, change.current),
+            at: change.at(),
+            minus: change.taken(),
+            plus: change.added(),
+            stalled: change.running().is_stalled(),
+            stays: current.is_same(change.running()),
         }
     }
 }
@@ -217,14 +200,14 @@ fn turn_at(cell: &mut Cell, sides: &Sides, chains: &Chains, here: u64)
 fn climb(
     cells: &mut [Cell],
     parents: &[Option<Slot>],
-    current: Option<(Slot, bool)>,
-    change: &Change,
+    current: &Running,
+    change: &PackedChange,
     sides: &Sides,
     starts: Chains,
     together: bool,
 )
-    requires can { CanClimb parents.now current change.now starts cells.old }
-    requires sides { AreSides current change.now sides.now }
+    requires can { CanClimb parents.now current.now change.now starts cells.old }
+    requires sides { AreSides current.now change.now sides.now }
     requires together { together ≡ true → AreTogether starts }
     ensures turned { AreTurned (parent_numbers parents.now) change.now cells.old cells.new }
     ensures room { length cells.new ≡ length cells.old }
@@ -241,22 +224,22 @@ fn climb(
     }
 }
 
-// Climbs each of the four chains by itself. That is rare, so it stands aside, and has the change by value: the one that it is
-// a copy of can stay in registers.
+// Climbs each of the four chains by itself. That is rare, so it stands aside.
 #[inline(never)]
 fn climb_each(
     cells: &mut [Cell],
     parents: &[Option<Slot>],
-    current: Option<(Slot, bool)>,
-    change: Change,
+    current: &Running,
+    change: &PackedChange,
 )
-    requires { CanClimb parents.now current change (chains_of current change) cells.old }
-    ensures turned { AreTurned (parent_numbers parents.now) change cells.old cells.new }
+    requires { CanClimb parents.now current.now change.now
+        (chains_of current.now change.now) cells.old }
+    ensures turned { AreTurned (parent_numbers parents.now) change.now cells.old cells.new }
     ensures room { length cells.new ≡ length cells.old }
 {
-    let sides = Sides::of(current, &change);
-    let starts = Chains::of(current, &change);
-    climb(cells, parents, current, &change, &sides, starts, false);
+    let sides = Sides::of(current, change);
+    let starts = Chains::of(current, change);
+    climb(cells, parents, current, change, &sides, starts, false);
 }
 
 /// Takes the gate of a change, if it has one. Counts and clocks stay until the walk comes there.
@@ -272,21 +255,21 @@ pub(crate) fn switch(cells: &mut [Cell], gate: Option<(Slot, bool)>)
 
 /// Takes the groups on the chains of a change through it. For most changes two chains are enough, where there could be four:
 /// the one of the task that runs from then on, and one for the counts and the task that ran.
+#[inline(always)]
 pub(crate) fn walk(
     cells: &mut [Cell],
     parents: &[Option<Slot>],
-    current: Option<(Slot, bool)>,
-    change: &Change,
+    current: &Running,
+    change: &PackedChange,
 )
-    requires can { CanClimb parents.now current change.now
-        (chains_of current change.now) cells.old }
-    requires alone { IfSome change.now.gate (λ _. change.now.minus ≡ None) }
+    requires can { CanClimb parents.now current.now change.now
+        (chains_of current.now change.now) cells.old }
     ensures turned { AreTurned (parent_numbers parents.now) change.now cells.old cells.new }
     ensures room { length cells.new ≡ length cells.old }
 {
     let sides = Sides::of(current, change);
     match Chains::together(current, change, sides.stays) {
         Some(starts) => climb(cells, parents, current, change, &sides, starts, true),
-        None => climb_each(cells, parents, current, *change),
+        None => climb_each(cells, parents, current, change),
     }
 }

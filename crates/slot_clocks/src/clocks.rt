@@ -9,9 +9,10 @@ ghost use Rattle.slot_clocks.specs.Clocks.{AllCanFollow, AllClocksFollow, AllFol
 
 use crate::cell::Cell;
 use crate::chains::{switch, walk};
+use crate::packed::PackedChange;
+use crate::running::Running;
 use cpu_clock::Clock;
 use psi_base::{NoMemory, Ns, Slot};
-use psi_counts::Change;
 use std::alloc::Global;
 use std::marker::Model;
 
@@ -21,8 +22,8 @@ use std::marker::Model;
 pub struct SlotClocks {
     /// By slot, as many as were made at first.
     cells: Vec<Cell>,
-    /// The slot of the running task, and whether that task is in a memory stall.
-    current: Option<(Slot, bool)>,
+    /// The running task.
+    current: Running,
     /// The moment of the last change, 0 before the first.
     last: Ns,
 }
@@ -45,7 +46,7 @@ impl SlotClocks {
     {
         Ok(SlotClocks {
             cells: vec![in alloc; Cell::zero(); slots as usize]?,
-            current: None,
+            current: Running::none(),
             last: 0,
         })
     }
@@ -57,7 +58,7 @@ impl SlotClocks {
     /// It takes time for each group on the chains of four slots: of the counts that are taken, of those that are added, of
     /// the task that ran and of the task that runs.
     #[tactic(auto, using(crate::proofs::GateLaws::turned_since))]
-    pub fn apply(&mut self, parents: &[Option<Slot>], change: &Change)
+    pub fn apply(&mut self, parents: &[Option<Slot>], change: &PackedChange)
         requires older { AreOlder (parent_numbers parents.now) }
         requires room { length parents.now ≤ length self.old.cells }
         requires slots { HasSlotsBelow (length parents.now) change.now }
@@ -80,10 +81,10 @@ impl SlotClocks {
         ensures last { self.new.last ≡ change.now.at }
         ensures room { length self.new.cells ≡ length self.old.cells }
     {
-        switch(&mut self.cells, change.gate);
-        walk(&mut self.cells, parents, self.current, change);
-        self.current = change.current;
-        self.last = change.at;
+        switch(&mut self.cells, change.gate());
+        walk(&mut self.cells, parents, &self.current, change);
+        self.current = change.running().again();
+        self.last = change.at();
     }
 
     /// The account of a group is on, by the changes that were made; it is for a slot beyond the last.

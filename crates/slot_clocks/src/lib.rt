@@ -8,7 +8,10 @@ mod cell;
 mod chains;
 mod clocks;
 mod laws;
+mod packed;
 mod part;
+mod running;
 
 pub use clocks::SlotClocks;
 pub use laws::law_first_clocks;
+pub use packed::PackedChange;

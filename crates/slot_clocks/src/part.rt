@@ -1,45 +1,78 @@
 //! The counts that a change takes or adds, for groups on their chain and for others.
 
-ghost use Rattle.std.specs.Prelude.{◌≡◌, if◌then◌else◌};
-ghost use Rattle.psi_counts.specs.Touch.{no_counts};
-ghost use Rattle.slot_clocks.specs.Walk.{counts_in};
+ghost use Rattle.std.specs.Prelude.{◌≡◌, ◌<◌, if◌then◌else◌};
+ghost use Rattle.psi_counts.specs.Touch.{AreAtMost, no_counts};
+ghost use Rattle.slot_clocks.specs.Bits.{counts_by};
 
-use crate::cell::NO_COUNTS;
-use psi_base::Slot;
 use psi_counts::Counts;
 use std::marker::Model;
 
+// The counts that four bits stand for, in the order of their fields. They are numbers alone: a table of a struct is built
+// anew at each use.
+const COUNTS: [u32; 64] = [
+    0, 0, 0, 0, 1, 0, 0, 0, 0, 1, 0, 0, 1, 1, 0, 0, 0, 0, 1, 0, 1, 0, 1, 0, 0, 1, 1, 0, 1, 1, 1, 0,
+    0, 0, 0, 1, 1, 0, 0, 1, 0, 1, 0, 1, 1, 1, 0, 1, 0, 0, 1, 1, 1, 0, 1, 1, 0, 1, 1, 1, 1, 1, 1, 1,
+];
+
+/// The bits of counts, each of which is at most 1.
+#[inline(always)]
+pub(crate) fn bits_of(counts: &Counts) -> u8
+    requires { AreAtMost 1 counts.now }
+    ensures few { result < 16 }
+    ensures counts { counts_by result ≡ counts.now }
+{
+    (counts.io + 2 * counts.stalled + 4 * counts.running + 8 * counts.stalled_running) as u8
+}
+
+/// The counts of four bits.
+#[inline(always)]
+pub(crate) fn counts_at(bits: u8) -> Counts
+    requires { bits < 16 }
+    ensures { result ≡ counts_by bits }
+{
+    let place = 4 * usize::from(bits);
+    Counts {
+        io: COUNTS[place],
+        stalled: COUNTS[place + 1],
+        running: COUNTS[place + 2],
+        stalled_running: COUNTS[place + 3],
+    }
+}
+
 /// The counts of one part of a change, taken or added. A contract sees these.
 ///
-/// They stand behind counts of nothing, so that a group finds its own by whether their chain stands there: a look-up, with no
-/// branch, since where four chains go is hard to foresee.
+/// A group finds its own by whether their chain stands there, and nothing else at place 0: a look-up, with no branch, since
+/// where four chains go is hard to foresee.
 #[derive(Drop)]
-pub(crate) struct Part([Counts; 2]);
+pub(crate) struct Part(u8);
 
 impl Model for Part {
-    ghost use Rattle.std.specs.Prelude.{◌≡◌, ◌∷◌, [], slice_index_or};
+    ghost use Rattle.std.specs.Prelude.{◌<◌};
     ghost use Rattle.psi_counts.specs.declared.changes.Counts.{Counts};
-    ghost use Rattle.psi_counts.specs.Touch.{no_counts};
+    ghost use Rattle.slot_clocks.specs.Bits.{counts_by};
 
     ghost Value = { Counts };
 
-    ghost view = { λ part. slice_index_or part.0 1 no_counts };
+    ghost view = { λ part. counts_by part.0 };
 
-    ghost invariant = { λ part. part.0 ≡ no_counts ∷ slice_index_or part.0 1 no_counts ∷ [] };
+    ghost invariant = { λ part. part.0 < 16 };
 }
 
 impl Part {
-    /// One part of a change.
-    pub(crate) fn of(side: Option<(Slot, Counts)>) -> Part
-        ensures { result ≡ counts_in side }
+    /// The part with these four bits.
+    #[inline(always)]
+    pub(crate) fn of(bits: u8) -> Part
+        requires { bits < 16 }
+        ensures { result ≡ counts_by bits }
     {
-        Part([NO_COUNTS, side.map_or(NO_COUNTS, |(_, counts)| counts)])
+        Part(bits)
     }
 
     /// The counts for a group, on whose slot their chain stands or doesn't.
+    #[inline(always)]
     pub(crate) fn at(&self, here: bool) -> Counts
         ensures { result ≡ (if here then self.now else no_counts) }
     {
-        self.0[usize::from(here)]
+        counts_at(if here { self.0 } else { 0 })
     }
 }

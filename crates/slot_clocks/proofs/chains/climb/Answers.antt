@@ -7,7 +7,7 @@ use Rattle.slot_clocks.proofs.chains.climb.Goals as goal
 
 pub returns-then-here-eq0-clause-turned : goal.returns-then-here-eq0-clause-turned
 returns-then-here-eq0-clause-turned c = λ slot.
-    laws.all_walked (parent_numbers c.args.parents.now) c.args.current c.args.change.now c.args.starts c.up.chains slot _ _ c.requires.can.older c.requires.can.start (sym c.top-here.ensures ∙ c.if-here-eq0.true) (c.requires.can.told slot) (c.requires.can.up_to slot) (c.up.invariant.groups slot)
+    laws.all_walked (parent_numbers c.args.parents.now) c.args.current.now c.args.change.now c.args.starts c.up.chains slot _ _ c.requires.can.older c.requires.can.start (sym c.top-here.ensures ∙ c.if-here-eq0.true) (c.requires.can.told slot) (c.requires.can.up_to slot) (c.up.invariant.groups slot)
 
 pub turn_at-requires-clause-fits : goal.turn_at-requires-clause-fits
 turn_at-requires-clause-fits c =
@@ -18,7 +18,7 @@ turn_at-requires-clause-fits c =
     let at : here ≡ slot + 1 = omega (arith, c.if-here-eq0.false) in
     let is : top c.up.chains ≡ here = sym c.top-here.ensures in
     let ahead = laws.ahead_at_top parents change c.args.starts c.up.chains slot _ _ c.requires.can.older (is ∙ at) (c.up.invariant.groups slot) in
-    let share = laws.share_at_top parents c.args.current change c.args.starts c.up.chains here slot c.requires.can.older c.requires.can.start at is ahead.1 in
+    let share = laws.share_at_top parents c.args.current.now change c.args.starts c.up.chains here slot c.requires.can.older c.requires.can.start at is ahead.1 in
     let cell = laws.cell_here c.up.cells slot c.index-cells-place.result (omega (arith, is, at, c.up.invariant.slots, c.up.invariant.room, c.requires.can.room)) in
     rw (cell, c.requires.sides.minus, c.requires.sides.plus)
     (laws.can_turn parents change c.up.chains here slot _ _ share ahead.0 (c.requires.can.fits slot))
@@ -44,10 +44,10 @@ turn_at-requires-clause-told c = λ stays off.
     let at : here ≡ slot + 1 = omega (arith, c.if-here-eq0.false) in
     let is : top c.up.chains ≡ here = sym c.top-here.ensures in
     let ahead = laws.ahead_at_top parents change c.args.starts c.up.chains slot _ _ c.requires.can.older (is ∙ at) (c.up.invariant.groups slot) in
-    let share = laws.share_at_top parents c.args.current change c.args.starts c.up.chains here slot c.requires.can.older c.requires.can.start at is ahead.1 in
+    let share = laws.share_at_top parents c.args.current.now change c.args.starts c.up.chains here slot c.requires.can.older c.requires.can.start at is ahead.1 in
     let cell = laws.cell_here c.up.cells slot c.index-cells-place.result (omega (arith, is, at, c.up.invariant.slots, c.up.invariant.room, c.requires.can.room)) in
     rw (cell, c.requires.sides.stalled)
-    (laws.told_here parents c.args.current change c.up.chains here slot _ _ share ahead.0 (c.requires.can.told slot) (c.requires.sides.stays stays) off)
+    (laws.told_here parents c.args.current.now change c.up.chains here slot _ _ share ahead.0 (c.requires.can.told slot) (c.requires.sides.stays stays) off)
 
 pub up-smaller : goal.up-smaller
 up-smaller c =
@@ -70,7 +70,7 @@ up-preserved c =
     let is : top c.up.chains ≡ here = sym c.top-here.ensures in
     let low = laws.top_passed parents c.up.chains (slice_index_or c.args.parents.now slot None) here slot c.requires.can.older (laws.parent_number c.args.parents.now slot) at is in
     let ahead = laws.ahead_at_top parents change starts c.up.chains slot _ _ c.requires.can.older (is ∙ at) (c.up.invariant.groups slot) in
-    let share = laws.share_at_top parents c.args.current change c.args.starts c.up.chains here slot c.requires.can.older c.requires.can.start at is ahead.1 in
+    let share = laws.share_at_top parents c.args.current.now change c.args.starts c.up.chains here slot c.requires.can.older c.requires.can.start at is ahead.1 in
     let room : slot < length c.up.cells = omega (arith, is, at, c.up.invariant.slots, c.up.invariant.room, c.requires.can.room) in
     let cell = laws.cell_here c.up.cells slot c.index-cells-place.result room in
     let counts = rw (cell, c.requires.sides.minus, c.requires.sides.plus) at c.turn_at.ensures.counts in

@@ -22,12 +22,12 @@ apply-requires-clause-current c =
 pub apply-requires-clause-slots : goal.apply-requires-clause-slots
 apply-requires-clause-slots c =
     let place : c.self.inside.count + 1 - 1 ≡ c.self.inside.count = omega arith in
-    let is = rw place at c.change-change.ensures.change in
+    let is = rw place at c.packed-change.ensures.change in
     let known = as_many_parents c.self.inside.parents.now c.self.inside.plan.now c.self.invariant.1 in
-    subst (λ n. HasSlotsBelow n c.change-change.result) known (c.self.invariant.0.whole.slots c.self.inside.count c.change-change.result is)
+    subst (λ n. HasSlotsBelow n c.packed-change.result.now) known (c.self.invariant.0.whole.slots c.self.inside.count c.packed-change.result.now is)
 
 pub apply-requires-clause-alone : goal.apply-requires-clause-alone
-apply-requires-clause-alone c = no_minus c.change-change.result c.change-change.ensures.one
+apply-requires-clause-alone c = no_minus c.packed-change.result.now c.packed-change.ensures.one
 
 pub apply-requires-clause-told : goal.apply-requires-clause-told
 apply-requires-clause-told c = rw c.self.invariant.1 (told c.self.inside.plan.now c.self.inside.clocks c.self.inside.count c.self.invariant.0)
@@ -35,24 +35,24 @@ apply-requires-clause-told c = rw c.self.invariant.1 (told c.self.inside.plan.no
 pub apply-requires-clause-fits : goal.apply-requires-clause-fits
 apply-requires-clause-fits c =
     let place : c.self.inside.count + 1 - 1 ≡ c.self.inside.count = omega arith in
-    let is = rw place at c.change-change.ensures.change in
-    rw c.self.invariant.1 (can_follow c.self.inside.plan.now c.self.inside.clocks c.self.inside.count c.change-change.result c.self.invariant.0 is)
+    let is = rw place at c.packed-change.ensures.change in
+    rw c.self.invariant.1 (can_follow c.self.inside.plan.now c.self.inside.clocks c.self.inside.count c.packed-change.result.now c.self.invariant.0 is)
 
 pub apply-requires-clause-later : goal.apply-requires-clause-later
 apply-requires-clause-later c =
     let place : c.self.inside.count + 1 - 1 ≡ c.self.inside.count = omega arith in
-    let is = rw place at c.change-change.ensures.change in
+    let is = rw place at c.packed-change.ensures.change in
     let are = c.self.invariant.0 in
     let room : c.self.inside.count < length c.self.inside.plan.now.changes = search (arith, c.requires, c.self.view_is) in
-    omega (arith, are.last, are.whole.order c.self.inside.count room, (current_by_change c.self.inside.plan.now c.self.inside.count c.change-change.result is).1)
+    omega (arith, are.last, are.whole.order c.self.inside.count room, (current_by_change c.self.inside.plan.now c.self.inside.count c.packed-change.result.now is).1)
 
 pub apply-requires-clause-early : goal.apply-requires-clause-early
 apply-requires-clause-early c =
     let place : c.self.inside.count + 1 - 1 ≡ c.self.inside.count = omega arith in
-    let is = rw place at c.change-change.ensures.change in
+    let is = rw place at c.packed-change.ensures.change in
     let are = c.self.invariant.0 in
     let room : c.self.inside.count + 1 ≤ length c.self.inside.plan.now.changes = search (arith, c.requires, c.self.view_is) in
-    omega (arith, are.whole.early (c.self.inside.count + 1) room, (current_by_change c.self.inside.plan.now c.self.inside.count c.change-change.result is).1)
+    omega (arith, are.whole.early (c.self.inside.count + 1) room, (current_by_change c.self.inside.plan.now c.self.inside.count c.packed-change.result.now is).1)
 
 pub add_irq-requires-clause-older : goal.add_irq-requires-clause-older
 add_irq-requires-clause-older c = subst AreOlder (sym c.self.invariant.1) c.self.invariant.0.whole.older
@@ -63,32 +63,32 @@ add_irq-requires-clause-room c = rw c.deref_mut.ensures.value (c.self.invariant.
 pub add_irq-requires-clause-below : goal.add_irq-requires-clause-below
 add_irq-requires-clause-below c =
     let place : c.self.inside.count + 1 - 1 ≡ c.self.inside.count = omega arith in
-    let is = rw place at c.change-change.ensures.change in
+    let is = rw place at c.packed-change.ensures.change in
     let known = as_many_parents c.self.inside.parents.now c.self.inside.plan.now c.self.invariant.1 in
-    subst (λ n. IfSome c.change-change.result.current (λ (running : Slot × Bool). running.0.0 < n)) known (c.self.invariant.0.whole.slots c.self.inside.count c.change-change.result is).current
+    subst (λ n. IfSome c.packed-change.result.now.current (λ (running : Slot × Bool). running.0.0 < n)) known (c.self.invariant.0.whole.slots c.self.inside.count c.packed-change.result.now is).current
 
 pub add_irq-requires-clause-fits : goal.add_irq-requires-clause-fits
 add_irq-requires-clause-fits c =
     let place : c.self.inside.count + 1 - 1 ≡ c.self.inside.count = omega arith in
-    let is = rw place at c.change-change.ensures.change in
+    let is = rw place at c.packed-change.ensures.change in
     let room : c.self.inside.count < length c.self.inside.plan.now.changes = search (arith, c.requires, c.self.view_is) in
-    let fit = irqs_fit c.self.inside.plan.now c.self.inside.irqs.items c.self.inside.count c.change-change.result c.self.invariant.0.whole c.self.invariant.2 room is in
+    let fit = irqs_fit c.self.inside.plan.now c.self.inside.irqs.items c.self.inside.count c.packed-change.result.now c.self.invariant.0.whole c.self.invariant.2 room is in
     rw (c.deref_mut.ensures.value, c.self.invariant.1)
     (λ slot below.
-    let taken = taken_is c.self.inside.plan.now c.self.inside.clocks c.self.inside.count c.change-change.result slot c.self.invariant.0 in
+    let taken = taken_is c.self.inside.plan.now c.self.inside.clocks c.self.inside.count c.packed-change.result.now slot c.self.invariant.0 in
     omega (arith, taken, fit slot (omega (arith, below, c.self.invariant.2.room))))
 
 pub invariant_of-self : goal.invariant_of-self
 invariant_of-self c =
     let place : c.self.inside.count + 1 - 1 ≡ c.self.inside.count = omega arith in
-    let is = rw place at c.change-change.ensures.change in
+    let is = rw place at c.packed-change.ensures.change in
     let e = rw c.self.invariant.1 at c.apply.ensures in
-    let made : AreMade c.self.inside.plan.now c.change-change.result c.self.inside.clocks c.apply.new.self = record { room = e.room; counts = e.counts; gates = e.gates; clocks = e.clocks; whole = e.whole; told = e.told; current = e.current; last = e.last } in
+    let made : AreMade c.self.inside.plan.now c.packed-change.result.now c.self.inside.clocks c.apply.new.self = record { room = e.room; counts = e.counts; gates = e.gates; clocks = e.clocks; whole = e.whole; told = e.told; current = e.current; last = e.last } in
     let size : c.self.inside.irqs.len ≡ length c.add_irq.new.times = search rules in
     let kept : take c.self.inside.irqs.len (c.add_irq.new.times ++ drop (length c.add_irq.new.times) c.self.inside.irqs.items) ≡ c.add_irq.new.times = rw size (take-append_seam _ _) in
     let grown = rw (c.deref_mut.ensures.value, c.self.invariant.1) at c.add_irq.ensures in (
-      next_clocks c.self.inside.plan.now c.self.inside.clocks c.apply.new.self c.self.inside.count c.change-change.result c.self.invariant.0 is made,
+      next_clocks c.self.inside.plan.now c.self.inside.clocks c.apply.new.self c.self.inside.count c.packed-change.result.now c.self.invariant.0 is made,
       c.self.invariant.1,
-      rw kept (next_irqs c.self.inside.plan.now c.self.inside.irqs.items c.add_irq.new.times c.self.inside.count c.change-change.result c.self.invariant.2 is grown.room
-          (λ slot below. grown.grown slot below ∙ ap (λ n. irq_at c.self.inside.irqs.items slot + n) (taken_is c.self.inside.plan.now c.self.inside.clocks c.self.inside.count c.change-change.result slot c.self.invariant.0))),
+      rw kept (next_irqs c.self.inside.plan.now c.self.inside.irqs.items c.add_irq.new.times c.self.inside.count c.packed-change.result.now c.self.invariant.2 is grown.room
+          (λ slot below. grown.grown slot below ∙ ap (λ n. irq_at c.self.inside.irqs.items slot + n) (taken_is c.self.inside.plan.now c.self.inside.clocks c.self.inside.count c.packed-change.result.now slot c.self.invariant.0))),
     )

@@ -10,7 +10,7 @@ use Rattle.psi_counts.specs.declared.changes.Change.{Change}
 use Rattle.psi_spec.specs.World.{Limits, running_on}
 use Rattle.proc_plan.specs.Plans.{HasTaken, changes_at, planner_view}
 use Rattle.proc_plan.specs.Room.{ChangesView, changes_in, lists_of, no_room}
-use Rattle.proc_plan.proofs.Taking.{HasStepped, room_for, room_for_all, taken_more}
+use Rattle.proc_plan.proofs.Taking.{HasStepped, gate_slots_fit, room_for, room_for_all, slots_fit, taken_more}
 use Rattle.proc_plan.proofs.planner.Planner.take.Goals as goal
 
 -- what a slice of all items wrote is what is there
@@ -36,6 +36,14 @@ add_changes-requires-clause-each c =
     let each : length c.make_room.new.changes ≡ c.self.inside.table.limits.cpus = c.in_ok-make_room.ensures.each ∙ ap length c.deref_mut.ensures.value ∙ sym (length-map c.self.inside.changes.items (λ (changes : ChangesView). changes.list)) ∙ c.self.invariant.each in
     let there : c.deref_mut-2.result.now ≡ c.make_room.new.changes = c.deref_mut-2.ensures.value ∙ written c.self.inside.changes.len c.make_room.new.changes c.self.inside.changes.items (c.in_ok-make_room.ensures.each ∙ c.deref_mut.ensures.len) in
     rw there (each ∙ sym (ap (λ (limits : Limits). limits.cpus) c.in_ok-touch.ensures.plays.limits))
+
+pub add_changes-requires-clause-slots : goal.add_changes-requires-clause-slots
+add_changes-requires-clause-slots c = slots_fit c.self.inside.table.limits c.self.inside.table.world c.in_ok-touch.touch c.in_ok-touch.ensures.plays.legal_before c.in_ok-touch.ensures.slots
+
+pub add_changes-requires-clause-gate_slots : goal.add_changes-requires-clause-gate_slots
+add_changes-requires-clause-gate_slots c =
+    let plays = c.in_ok-touch.ensures.plays in
+    rw (plays.limits, plays.world) (gate_slots_fit c.self.inside.table.limits c.self.inside.table.world c.args.event.now c.in_ok-touch.touch plays.legal plays.legal_before c.in_ok-touch.ensures.touch)
 
 pub returns-clause-takes : goal.returns-clause-takes
 returns-clause-takes c = λ limits events taken.

@@ -10,5 +10,5 @@ invariant_of-result c =
     let none : c.resize.new.self.items ≡ replicate c.args.tasks None = search rules in
     let slots : c.in-Ok.slots ≡ length parents = search rules in
     record {
-      kept = first_machine (parent_numbers parents) (length parents) c.args.tasks c.resize.new.self.items c.in_ok-clocks.clocks (search rules) none (omega (arith, c.if-tasks-gt1000.false)) (c.in_ok-clocks.ensures ∙ ap first_clocks slots);
+      kept = first_machine (parent_numbers parents) (length parents) c.args.tasks c.resize.new.self.items c.in_ok-clocks.clocks (search rules) none (omega (arith, c.if-tasks-gt1000.false)) (search (arith, rules)) (c.in_ok-clocks.ensures ∙ ap first_clocks slots);
     }

@@ -1,0 +1,38 @@
+-- How a change is kept in 16 bytes.
+use Rattle.std.specs.Prelude.{◌≡◌, ℕ, zero, suc, ◌+◌, ◌*◌, Bool, true, false, Option, None, Some}
+use Rattle.psi_base.specs.declared.event.Slot.{Slot}
+use Rattle.psi_counts.specs.declared.changes.Counts.{Counts}
+use Rattle.slot_clocks.specs.declared.packed.Kind.{Kind}
+use Rattle.slot_clocks.specs.declared.packed.Kind.TheVariants.{Task, Irq, SwitchedOn, SwitchedOff}
+use Rattle.slot_clocks.specs.Bits.{counts_by, slot_by}
+use Rattle.slot_clocks.specs.Walk.{counts_in}
+
+-- what a change takes, or what it adds, on the chain of the slot at a height, and nothing at 0
+abbrev pub part_by : ℕ → ℕ → Option (Slot × Counts)
+part_by zero bits = None
+part_by (suc slot) bits = Some (slot_by slot, counts_by bits)
+
+-- what a change takes or adds, which only one of a task does
+abbrev pub task_part : Kind → ℕ → ℕ → Option (Slot × Counts)
+task_part Task height bits = part_by height bits
+task_part Irq height bits = None
+task_part SwitchedOn height bits = None
+task_part SwitchedOff height bits = None
+
+-- the time (ns) that interrupts took, in two halves of 16 bits each
+abbrev pub irq_by : Kind → ℕ → ℕ → ℕ
+irq_by Irq low high = low + 65536 * high
+irq_by Task low high = 0
+irq_by SwitchedOn low high = 0
+irq_by SwitchedOff low high = 0
+
+-- the gate of a change, if it switches the account of a slot
+abbrev pub gate_by : Kind → ℕ → Option (Slot × Bool)
+gate_by SwitchedOn slot = Some (slot_by slot, true)
+gate_by SwitchedOff slot = Some (slot_by slot, false)
+gate_by Task slot = None
+gate_by Irq slot = None
+
+-- four bits are those of what a change takes or adds, and 0 where that is nothing
+abbrev pub IsPart : Kind → ℕ → ℕ → Type 0
+IsPart kind height bits = counts_by bits ≡ counts_in (task_part kind height bits)

@@ -1,0 +1,302 @@
+//! A change in 16 bytes.
+
+ghost use Rattle.std.specs.Prelude.{◌≡◌, ◌<◌, ◌≤◌, None, Some, IfSome};
+ghost use Rattle.psi_counts.specs.Touch.{AreAtMost, HasSlotsBelow, IsOfOne};
+ghost use Rattle.psi_spec.specs.World.{longest_irq, most_groups};
+ghost use Rattle.slot_clocks.specs.Bits.{counts_by};
+ghost use Rattle.slot_clocks.specs.Packed.{part_by};
+ghost use Rattle.slot_clocks.specs.Walk.{counts_in, height, slot_in};
+
+use crate::part::{Part, bits_of, counts_at};
+use crate::running::Running;
+use psi_base::{Ns, Slot};
+use psi_counts::{Change, Counts};
+use std::marker::Model;
+
+/// What a change tells beside its moment and the running task.
+#[derive(Clone, Copy)]
+enum Kind {
+    /// The counts of one task that are taken and added.
+    Task,
+    /// How long interrupts took.
+    Irq,
+    /// The account of a group is switched on.
+    SwitchedOn,
+    /// The account of a group is switched off.
+    SwitchedOff,
+}
+
+/// A change in 16 bytes, which can only be one of a single task, or tell of interrupts or of a gate alone. Contracts see the
+/// change.
+///
+/// In a plan of 4,000,000 changes each byte counts: a page of memory that is touched for the first time costs more than what is
+/// written there. So a slot stands as its height, the counts of a task as four bits, and what a change of a task has no use for
+/// stands where it has its slots.
+#[derive(Drop)]
+pub struct PackedChange {
+    at: Ns,
+    /// The height of the slot whose counts are taken. Or the slot of a gate, or the lower half of the time of interrupts.
+    first: u16,
+    /// The height of the slot whose counts are added. Or the upper half of the time of interrupts.
+    second: u16,
+    current: Running,
+    /// Sixteen times the bits of what is taken, and the bits of what is added.
+    bits: u8,
+    kind: Kind,
+}
+
+impl Model for PackedChange {
+    ghost use Rattle.std.specs.Prelude.{◌/◌, ◌%◌};
+    ghost use Rattle.psi_counts.specs.declared.changes.Change.{Change};
+    ghost use Rattle.slot_clocks.specs.Packed.{IsPart, gate_by, irq_by, task_part};
+
+    ghost Value = { Change };
+
+    ghost view = { λ p. record {
+      at = p.at;
+      minus = task_part p.kind p.first (p.bits / 16);
+      plus = task_part p.kind p.second (p.bits % 16);
+      current = p.current;
+      irq = irq_by p.kind p.first p.second;
+      gate = gate_by p.kind p.first;
+    } };
+
+    ghost invariant = { λ p.
+        IsPart p.kind p.first (p.bits / 16) × IsPart p.kind p.second (p.bits % 16) };
+}
+
+// The height and the bits of what a change takes or adds. Its slot has to fit.
+#[inline(always)]
+fn pack_part(part: Option<(Slot, Counts)>) -> (u16, u8)
+    requires low { IfSome part (λ part. part.0.0 < most_groups) }
+    requires one { IfSome part (λ part. AreAtMost 1 part.1) }
+    ensures part { part_by result.0 result.1 ≡ part }
+    ensures counts { counts_by result.1 ≡ counts_in part }
+    ensures few { result.1 < 16 }
+{
+    match part {
+        Some((slot, counts)) => (slot.0 as u16 + 1, bits_of(&counts)),
+        None => (0, 0),
+    }
+}
+
+// What a change takes or adds, by its height and its bits.
+fn unpack_part(height: u16, bits: u8) -> Option<(Slot, Counts)>
+    requires { bits < 16 }
+    ensures { result ≡ part_by height bits }
+{
+    if height == 0 {
+        return None;
+    }
+    Some((Slot(u32::from(height) - 1), counts_at(bits)))
+}
+
+impl PackedChange {
+    /// A change, packed. It must be of one task, or tell of interrupts or of a gate alone, and its slots have to fit.
+    #[inline(always)]
+    pub fn new(change: Change) -> PackedChange
+        requires one { IsOfOne change }
+        requires low { HasSlotsBelow most_groups change }
+        ensures { result ≡ change }
+    {
+        match change.gate {
+            Some(gate) => PackedChange::of_gate(change.at, change.current, gate),
+            None if change.irq > 0 => PackedChange::of_irq(change.at, change.current, change.irq),
+            None => PackedChange::of_task(change.at, change.current, change.minus, change.plus),
+        }
+    }
+
+    // A change of a task alone.
+    #[inline(always)]
+    fn of_task(
+        at: Ns,
+        current: Option<(Slot, bool)>,
+        minus: Option<(Slot, Counts)>,
+        plus: Option<(Slot, Counts)>,
+    ) -> PackedChange
+        requires running { IfSome current (λ current. current.0.0 < most_groups) }
+        requires taken { IfSome minus (λ part. (part.0.0 < most_groups) × AreAtMost 1 part.1) }
+        requires added { IfSome plus (λ part. (part.0.0 < most_groups) × AreAtMost 1 part.1) }
+        ensures { result ≡ record {
+          at = at;
+          minus = minus;
+          plus = plus;
+          current = current;
+          irq = 0;
+          gate = None;
+        } }
+    {
+        let (first, taken) = pack_part(minus);
+        let (second, added) = pack_part(plus);
+        PackedChange {
+            at,
+            first,
+            second,
+            current: Running::of(current),
+            bits: 16 * taken + added,
+            kind: Kind::Task,
+        }
+    }
+
+    // A change that tells of interrupts alone. That is rare, so it stands aside, and so does the next.
+    #[inline(never)]
+    fn of_irq(at: Ns, current: Option<(Slot, bool)>, irq: u64) -> PackedChange
+        requires running { IfSome current (λ current. current.0.0 < most_groups) }
+        requires short { irq ≤ longest_irq }
+        ensures { result ≡ record {
+          at = at;
+          minus = None;
+          plus = None;
+          current = current;
+          irq = irq;
+          gate = None;
+        } }
+    {
+        PackedChange {
+            at,
+            first: (irq % 65_536) as u16,
+            second: (irq / 65_536) as u16,
+            current: Running::of(current),
+            bits: 0,
+            kind: Kind::Irq,
+        }
+    }
+
+    // A change with a gate alone.
+    #[inline(never)]
+    fn of_gate(at: Ns, current: Option<(Slot, bool)>, gate: (Slot, bool)) -> PackedChange
+        requires running { IfSome current (λ current. current.0.0 < most_groups) }
+        requires low { gate.0.0 < most_groups }
+        ensures { result ≡ record {
+          at = at;
+          minus = None;
+          plus = None;
+          current = current;
+          irq = 0;
+          gate = Some gate;
+        } }
+    {
+        let (slot, on) = gate;
+        PackedChange {
+            at,
+            first: slot.0 as u16,
+            second: 0,
+            current: Running::of(current),
+            bits: 0,
+            kind: if on {
+                Kind::SwitchedOn
+            } else {
+                Kind::SwitchedOff
+            },
+        }
+    }
+
+    /// When it comes, in ns.
+    #[inline(always)]
+    pub fn at(&self) -> Ns
+        ensures { result ≡ self.now.at }
+    {
+        self.at
+    }
+
+    /// The counts that it takes, and their slot.
+    pub fn minus(&self) -> Option<(Slot, Counts)>
+        ensures { result ≡ self.now.minus }
+    {
+        match self.kind {
+            Kind::Task => unpack_part(self.first, self.bits / 16),
+            Kind::Irq | Kind::SwitchedOn | Kind::SwitchedOff => None,
+        }
+    }
+
+    /// The counts that it adds, and their slot.
+    pub fn plus(&self) -> Option<(Slot, Counts)>
+        ensures { result ≡ self.now.plus }
+    {
+        match self.kind {
+            Kind::Task => unpack_part(self.second, self.bits % 16),
+            Kind::Irq | Kind::SwitchedOn | Kind::SwitchedOff => None,
+        }
+    }
+
+    /// The task that runs from it on: its slot, and whether it is in a memory stall.
+    pub fn current(&self) -> Option<(Slot, bool)>
+        ensures { result ≡ self.now.current }
+    {
+        self.current.get()
+    }
+
+    /// For how long interrupts took, in ns.
+    #[inline(always)]
+    pub fn irq(&self) -> u64
+        ensures { result ≡ self.now.irq }
+    {
+        match self.kind {
+            Kind::Irq => u64::from(self.first) + 65_536 * u64::from(self.second),
+            Kind::Task | Kind::SwitchedOn | Kind::SwitchedOff => 0,
+        }
+    }
+
+    /// Its gate, if it has one.
+    #[inline(always)]
+    pub fn gate(&self) -> Option<(Slot, bool)>
+        ensures { result ≡ self.now.gate }
+    {
+        match self.kind {
+            Kind::SwitchedOn => Some((Slot(u32::from(self.first)), true)),
+            Kind::SwitchedOff => Some((Slot(u32::from(self.first)), false)),
+            Kind::Task | Kind::Irq => None,
+        }
+    }
+
+    /// The change itself.
+    pub fn change(&self) -> Change
+        ensures { result ≡ self.now }
+    {
+        Change {
+            at: self.at(),
+            minus: self.minus(),
+            plus: self.plus(),
+            current: self.current(),
+            irq: self.irq(),
+            gate: self.gate(),
+        }
+    }
+
+    /// The heights of the slots whose counts a change of a task takes and adds. None for another.
+    #[inline(always)]
+    pub(crate) fn heights(&self) -> Option<(u64, u64)>
+        ensures task { IfSome result (λ _. self.now.gate ≡ None) }
+        ensures minus { IfSome result (λ heights. heights.0 ≡ height (slot_in self.now.minus)) }
+        ensures plus { IfSome result (λ heights. heights.1 ≡ height (slot_in self.now.plus)) }
+    {
+        match self.kind {
+            Kind::Task => Some((u64::from(self.first), u64::from(self.second))),
+            Kind::Irq | Kind::SwitchedOn | Kind::SwitchedOff => None,
+        }
+    }
+
+    /// What it takes.
+    #[inline(always)]
+    pub(crate) fn taken(&self) -> Part
+        ensures { result ≡ counts_in self.now.minus }
+    {
+        Part::of(self.bits / 16)
+    }
+
+    /// What it adds.
+    #[inline(always)]
+    pub(crate) fn added(&self) -> Part
+        ensures { result ≡ counts_in self.now.plus }
+    {
+        Part::of(self.bits % 16)
+    }
+
+    /// The running task as it is kept.
+    #[inline(always)]
+    pub(crate) fn running(&self) -> &Running
+        ensures { result.now ≡ self.now.current }
+    {
+        &self.current
+    }
+}

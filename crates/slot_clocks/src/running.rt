@@ -1,0 +1,91 @@
+//! The running task of a processor, in two bytes.
+
+ghost use Rattle.std.specs.Prelude.{◌≡◌, ◌<◌, true, None, IfSome};
+ghost use Rattle.psi_counts.specs.Touch.{is_current_stalled};
+ghost use Rattle.psi_spec.specs.World.{most_groups};
+ghost use Rattle.slot_clocks.specs.Walk.{height, slot_in};
+
+use psi_base::Slot;
+use std::marker::Model;
+
+/// The slot of the running task, and whether it is in a memory stall, or that none runs. Contracts see that.
+///
+/// It is twice the height of the slot, and one more where the task is in a stall.
+#[derive(Drop)]
+pub(crate) struct Running(u16);
+
+impl Model for Running {
+    ghost use Rattle.std.specs.Prelude.{Bool, Option};
+    ghost use Rattle.psi_base.specs.declared.event.Slot.{Slot};
+    ghost use Rattle.slot_clocks.specs.Bits.{IsRunning, running_by};
+
+    ghost Value = { Option (Slot × Bool) };
+
+    ghost view = { λ running. running_by running.0 };
+
+    ghost invariant = { λ running. IsRunning running.0 };
+}
+
+impl Running {
+    /// No task runs.
+    pub(crate) fn none() -> Running
+        ensures { result ≡ None }
+    {
+        Running(0)
+    }
+
+    /// The task that runs, if one does, whose slot has to fit.
+    #[inline(always)]
+    pub(crate) fn of(current: Option<(Slot, bool)>) -> Running
+        requires { IfSome current (λ running. running.0.0 < most_groups) }
+        ensures { result ≡ current }
+    {
+        match current {
+            Some((slot, stalled)) => Running(2 * (slot.0 as u16 + 1) + u16::from(stalled)),
+            None => Running(0),
+        }
+    }
+
+    /// The same once more.
+    #[inline(always)]
+    pub(crate) fn again(&self) -> Running
+        ensures { result ≡ self.now }
+    {
+        Running(self.0)
+    }
+
+    /// The task that runs, if one does.
+    pub(crate) fn get(&self) -> Option<(Slot, bool)>
+        ensures { result ≡ self.now }
+    {
+        let height = self.0 / 2;
+        if height == 0 {
+            return None;
+        }
+        Some((Slot(u32::from(height) - 1), self.0 % 2 == 1))
+    }
+
+    /// The height at which a walk up from its slot begins.
+    #[inline(always)]
+    pub(crate) fn height(&self) -> u64
+        ensures { result ≡ height (slot_in self.now) }
+    {
+        u64::from(self.0 / 2)
+    }
+
+    /// It is in a memory stall.
+    #[inline(always)]
+    pub(crate) fn is_stalled(&self) -> bool
+        ensures { result ≡ is_current_stalled self.now }
+    {
+        self.0 % 2 == 1
+    }
+
+    /// What is told of it is the same.
+    #[inline(always)]
+    pub(crate) fn is_same(&self, other: &Running) -> bool
+        ensures { result ≡ true → self.now ≡ other.now }
+    {
+        self.0 == other.0
+    }
+}
