@@ -16,7 +16,7 @@ use Rattle.slot_clocks.specs.declared.chains.Chains.{Chains}
 use Rattle.slot_clocks.specs.Walk.{IsApart, IsTurned, MayStart, MayStartAt, counts_in, height, reaches, slot_in}
 use Rattle.slot_clocks.proofs.ChainLaws.{stands}
 
--- ---- sides of a change, by what is reached
+-- ---- parts of a change, by what is reached
 
 -- what counts on a chain are for a slot that is reached or isn't, from where the chain may start
 pub chain_is : (parents : List (Option ℕ)) (slot : ℕ) (side : Option (Slot × Counts)) (place : ℕ) (here : Bool) → MayStartAt side place → reaches parents place slot ≡ here → on_chain parents slot side ≡ (if here then counts_in side else no_counts)

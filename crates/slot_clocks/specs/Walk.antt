@@ -11,7 +11,7 @@ use Rattle.psi_spec.specs.Trace.{last_moment}
 use Rattle.psi_counts.specs.Touch.{Follows, gated, is_current_stalled, no_counts, on_chain}
 use Rattle.slot_clocks.specs.declared.cell.Cell.{Cell}
 use Rattle.slot_clocks.specs.declared.chains.Chains.{Chains}
-use Rattle.slot_clocks.specs.declared.chains.Sides.{Sides}
+use Rattle.slot_clocks.specs.declared.chains.Parts.{Parts}
 use Rattle.slot_clocks.specs.Clocks.{CanFollow, IsUpTo, MaskTells, StaysByMask, cell_in, parent_numbers}
 
 -- the slot of a pair, if there is one
@@ -55,12 +55,12 @@ pub record MayStart (current : Option (Slot × Bool)) (change : Change) (starts 
   pub after : starts.after ≡ height (slot_in change.current)
 
 -- what a change means to groups, where a task ran up to it
-pub record AreSides (current : Option (Slot × Bool)) (change : Change) (sides : Sides) : Type 0 where
-  pub at : sides.at ≡ change.at
-  pub minus : sides.minus ≡ counts_in change.minus
-  pub plus : sides.plus ≡ counts_in change.plus
-  pub stalled : sides.stalled ≡ is_current_stalled change.current
-  pub stays : sides.stays ≡ true → current ≡ change.current
+pub record AreParts (current : Option (Slot × Bool)) (change : Change) (parts : Parts) : Type 0 where
+  pub at : parts.at ≡ change.at
+  pub minus : parts.minus ≡ counts_in change.minus
+  pub plus : parts.plus ≡ counts_in change.plus
+  pub stalled : parts.stalled ≡ is_current_stalled change.current
+  pub stays : parts.stays ≡ true → current ≡ change.current
 
 -- the chains of the counts and of the task that ran stand at one height
 pub record AreTogether (chains : Chains) : Type 0 where

@@ -7,7 +7,7 @@ ghost use Rattle.psi_counts.specs.Counts.{mask_holds, tells};
 ghost use Rattle.psi_spec.specs.Trace.{last_moment};
 ghost use Rattle.psi_counts.specs.Touch.{Follows, no_counts};
 ghost use Rattle.slot_clocks.specs.Clocks.{CanFollow, IsUpTo, StaysByMask, parent_numbers};
-ghost use Rattle.slot_clocks.specs.Walk.{AreGated, AreSides, AreTogether, AreTurned, CanClimb, MayStart, all_passed, chains_of, height, passed, top};
+ghost use Rattle.slot_clocks.specs.Walk.{AreGated, AreParts, AreTogether, AreTurned, CanClimb, MayStart, all_passed, chains_of, height, passed, top};
 
 use crate::cell::Cell;
 use crate::packed::PackedChange;
@@ -31,7 +31,7 @@ pub(crate) struct Chains {
 
 /// What a change means to each group on its chains.
 #[derive(Drop)]
-pub(crate) struct Sides {
+pub(crate) struct Parts {
     /// When it is (ns).
     at: Ns,
     /// The counts that are taken.
@@ -137,13 +137,13 @@ impl Chains {
     }
 }
 
-impl Sides {
+impl Parts {
     // What a change means, where this task ran up to it.
     #[inline(always)]
-    fn of(current: &Running, change: &PackedChange) -> Sides
-        ensures { AreSides current.now change.now result }
+    fn of(current: &Running, change: &PackedChange) -> Parts
+        ensures { AreParts current.now change.now result }
     {
-        Sides {
+        Parts {
             at: change.at(),
             minus: change.taken(),
             plus: change.added(),
@@ -156,40 +156,40 @@ impl Sides {
 // Takes the group at a height through a change. Where the change takes and adds nothing there, and what is told of the running
 // task stays, there is nothing to do: it is on the chain of that task alone.
 #[inline(always)]
-fn turn_at(cell: &mut Cell, sides: &Sides, chains: &Chains, here: u64)
+fn turn_at(cell: &mut Cell, parts: &Parts, chains: &Chains, here: u64)
     requires fits { CanFollow cell.old.counts
-        (if chains.now.minus == here then sides.now.minus else no_counts)
-        (if chains.now.plus == here then sides.now.plus else no_counts) }
-    requires up_to { IsUpTo sides.now.at cell.old.clock }
-    requires early { sides.now.at ≤ last_moment }
-    requires told { sides.now.stays ≡ true →
+        (if chains.now.minus == here then parts.now.minus else no_counts)
+        (if chains.now.plus == here then parts.now.plus else no_counts) }
+    requires up_to { IsUpTo parts.now.at cell.old.clock }
+    requires early { parts.now.at ≤ last_moment }
+    requires told { parts.now.stays ≡ true →
         (chains.now.minus == here) ≡ false → (state : State) →
         mask_holds cell.old.clock.mask state
         ≡ (cell.old.on
-        && tells state cell.old.counts (chains.now.after == here) sides.now.stalled) }
+        && tells state cell.old.counts (chains.now.after == here) parts.now.stalled) }
     ensures counts { Follows cell.old.counts
-        (if chains.now.minus == here then sides.now.minus else no_counts)
-        (if chains.now.plus == here then sides.now.plus else no_counts) cell.new.counts }
+        (if chains.now.minus == here then parts.now.minus else no_counts)
+        (if chains.now.plus == here then parts.now.plus else no_counts) cell.new.counts }
     ensures on { cell.new.on ≡ cell.old.on }
-    ensures clock { ClockFollows cell.old.clock sides.now.at cell.new.clock }
+    ensures clock { ClockFollows cell.old.clock parts.now.at cell.new.clock }
     ensures kept { StaysByMask cell.old.clock cell.new.clock }
-    ensures up_to { IsUpTo sides.now.at cell.new.clock }
+    ensures up_to { IsUpTo parts.now.at cell.new.clock }
     ensures told { (state : State) →
         mask_holds cell.new.clock.mask state
         ≡ (cell.new.on
-        && tells state cell.new.counts (chains.now.after == here) sides.now.stalled) }
+        && tells state cell.new.counts (chains.now.after == here) parts.now.stalled) }
 {
     let takes = chains.minus == here;
     let adds = chains.plus == here;
-    if sides.stays & !takes & !adds {
+    if parts.stays & !takes & !adds {
         return;
     }
     cell.turn(
-        sides.at,
-        &sides.minus.at(takes),
-        &sides.plus.at(adds),
+        parts.at,
+        &parts.minus.at(takes),
+        &parts.plus.at(adds),
         chains.after == here,
-        sides.stalled,
+        parts.stalled,
     );
 }
 
@@ -202,12 +202,12 @@ fn climb(
     parents: &[Option<Slot>],
     current: &Running,
     change: &PackedChange,
-    sides: &Sides,
+    parts: &Parts,
     starts: Chains,
     together: bool,
 )
     requires can { CanClimb parents.now current.now change.now starts cells.old }
-    requires sides { AreSides current.now change.now sides.now }
+    requires parts { AreParts current.now change.now parts.now }
     requires together { together ≡ true → AreTogether starts }
     ensures turned { AreTurned (parent_numbers parents.now) change.now cells.old cells.new }
     ensures room { length cells.new ≡ length cells.old }
@@ -219,7 +219,7 @@ fn climb(
             return;
         }
         let place = here as usize - 1;
-        turn_at(&mut cells[place], sides, &chains, here);
+        turn_at(&mut cells[place], parts, &chains, here);
         chains.pass(here, height(parents[place]), together);
     }
 }
@@ -237,9 +237,9 @@ fn climb_each(
     ensures turned { AreTurned (parent_numbers parents.now) change.now cells.old cells.new }
     ensures room { length cells.new ≡ length cells.old }
 {
-    let sides = Sides::of(current, change);
+    let parts = Parts::of(current, change);
     let starts = Chains::of(current, change);
-    climb(cells, parents, current, change, &sides, starts, false);
+    climb(cells, parents, current, change, &parts, starts, false);
 }
 
 /// Takes the gate of a change, if it has one. Counts and clocks stay until the walk comes there.
@@ -267,9 +267,9 @@ pub(crate) fn walk(
     ensures turned { AreTurned (parent_numbers parents.now) change.now cells.old cells.new }
     ensures room { length cells.new ≡ length cells.old }
 {
-    let sides = Sides::of(current, change);
-    match Chains::together(current, change, sides.stays) {
-        Some(starts) => climb(cells, parents, current, change, &sides, starts, true),
+    let parts = Parts::of(current, change);
+    match Chains::together(current, change, parts.stays) {
+        Some(starts) => climb(cells, parents, current, change, &parts, starts, true),
         None => climb_each(cells, parents, current, change),
     }
 }

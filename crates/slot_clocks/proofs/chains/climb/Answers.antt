@@ -20,7 +20,7 @@ turn_at-requires-clause-fits c =
     let ahead = laws.ahead_at_top parents change c.args.starts c.up.chains slot _ _ c.requires.can.older (is ∙ at) (c.up.invariant.groups slot) in
     let share = laws.share_at_top parents c.args.current.now change c.args.starts c.up.chains here slot c.requires.can.older c.requires.can.start at is ahead.1 in
     let cell = laws.cell_here c.up.cells slot c.index-cells-place.result (omega (arith, is, at, c.up.invariant.slots, c.up.invariant.room, c.requires.can.room)) in
-    rw (cell, c.requires.sides.minus, c.requires.sides.plus)
+    rw (cell, c.requires.parts.minus, c.requires.parts.plus)
     (laws.can_turn parents change c.up.chains here slot _ _ share ahead.0 (c.requires.can.fits slot))
 
 pub turn_at-requires-clause-up_to : goal.turn_at-requires-clause-up_to
@@ -33,7 +33,7 @@ turn_at-requires-clause-up_to c =
     let is : top c.up.chains ≡ here = sym c.top-here.ensures in
     let ahead = laws.ahead_at_top parents change c.args.starts c.up.chains slot _ _ c.requires.can.older (is ∙ at) (c.up.invariant.groups slot) in
     let cell = laws.cell_here c.up.cells slot c.index-cells-place.result (omega (arith, is, at, c.up.invariant.slots, c.up.invariant.room, c.requires.can.room)) in
-    rw (cell, c.requires.sides.at, ahead.0) (c.requires.can.up_to slot)
+    rw (cell, c.requires.parts.at, ahead.0) (c.requires.can.up_to slot)
 
 pub turn_at-requires-clause-told : goal.turn_at-requires-clause-told
 turn_at-requires-clause-told c = λ stays off.
@@ -46,8 +46,8 @@ turn_at-requires-clause-told c = λ stays off.
     let ahead = laws.ahead_at_top parents change c.args.starts c.up.chains slot _ _ c.requires.can.older (is ∙ at) (c.up.invariant.groups slot) in
     let share = laws.share_at_top parents c.args.current.now change c.args.starts c.up.chains here slot c.requires.can.older c.requires.can.start at is ahead.1 in
     let cell = laws.cell_here c.up.cells slot c.index-cells-place.result (omega (arith, is, at, c.up.invariant.slots, c.up.invariant.room, c.requires.can.room)) in
-    rw (cell, c.requires.sides.stalled)
-    (laws.told_here parents c.args.current.now change c.up.chains here slot _ _ share ahead.0 (c.requires.can.told slot) (c.requires.sides.stays stays) off)
+    rw (cell, c.requires.parts.stalled)
+    (laws.told_here parents c.args.current.now change c.up.chains here slot _ _ share ahead.0 (c.requires.can.told slot) (c.requires.parts.stays stays) off)
 
 pub up-smaller : goal.up-smaller
 up-smaller c =
@@ -73,12 +73,12 @@ up-preserved c =
     let share = laws.share_at_top parents c.args.current.now change c.args.starts c.up.chains here slot c.requires.can.older c.requires.can.start at is ahead.1 in
     let room : slot < length c.up.cells = omega (arith, is, at, c.up.invariant.slots, c.up.invariant.room, c.requires.can.room) in
     let cell = laws.cell_here c.up.cells slot c.index-cells-place.result room in
-    let counts = rw (cell, c.requires.sides.minus, c.requires.sides.plus) at c.turn_at.ensures.counts in
+    let counts = rw (cell, c.requires.parts.minus, c.requires.parts.plus) at c.turn_at.ensures.counts in
     let on = rw cell at c.turn_at.ensures.on in
-    let clock = rw (cell, c.requires.sides.at) at c.turn_at.ensures.clock in
+    let clock = rw (cell, c.requires.parts.at) at c.turn_at.ensures.clock in
     let kept = rw cell at c.turn_at.ensures.kept in
-    let up_to = rw c.requires.sides.at at c.turn_at.ensures.up_to in
-    let told = rw c.requires.sides.stalled at c.turn_at.ensures.told in
+    let up_to = rw c.requires.parts.at at c.turn_at.ensures.up_to in
+    let told = rw c.requires.parts.stalled at c.turn_at.ensures.told in
     let turned = laws.turned_here parents change c.up.chains here slot (cell_in c.args.cells.now slot) (cell_in c.up.cells slot) c.turn_at.new.cell share ahead.0 counts on clock kept up_to told in
     rw (c.pass.ensures, c.height.ensures) (record {
       slots = omega (arith, low, is, at, c.up.invariant.slots);
