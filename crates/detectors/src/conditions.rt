@@ -1,9 +1,6 @@
 //! Conditions on a reading and its matches.
 ghost use Rattle.std.specs.Prelude.{◌≡◌, ◌≤◌, ◌<◌, ◌^◌, All, false, length};
 ghost use Rattle.std.specs.List.{list_any};
-ghost use Rattle.psi_base.specs.declared.event.Level.TheVariants.{FullStalled};
-ghost use Rattle.psi_spec.specs.Stall.{state_number};
-ghost use Rattle.pressure_spec.specs.Samples.{state_of};
 ghost use Rattle.kill_spec.specs.declared.reading.GroupReading.{GroupReading};
 ghost use Rattle.kill_spec.specs.Detectors.{is_above};
 ghost use Rattle.kill_spec.specs.Readings.{IsGroupReading, IsHostReading, full_average};
@@ -12,7 +9,7 @@ ghost use Rattle.detectors.specs.Tables.{condition_among, found, greatest_among,
 ghost use Rattle.detectors.specs.Tables.{detector_patterns, is_host_swap_short, is_some_above, match_table};
 
 use kill_spec::{GroupReading, HostReading};
-use psi_base::{Path, Res, State};
+use psi_base::{Level, Path, Res, State};
 use psi_spec::GroupLife;
 use ruleset_json::{DetectorSpec, Size};
 
@@ -56,25 +53,12 @@ pub(crate) fn find_matches(matched: &mut [bool], spec: &DetectorSpec, lives: &[G
     }
 }
 
-/// The state of a resource at which no task gets on. Its number is the place of the resource's full averages in
-/// [`GroupReading::averages`].
-pub fn full_state(resource: Res) -> State
-    ensures value { result ≡ state_of resource FullStalled }
-    ensures pressure { state_number result < 6 }
-{
-    match resource {
-        Res::Io => State::IoFull,
-        Res::Memory => State::MemFull,
-        Res::Cpu => State::CpuFull,
-    }
-}
-
 /// The full average of a resource over a window.
 fn full_average(group: &GroupReading, resource: Res, window: usize) -> u64
     requires { window < 3 }
     ensures { result ≡ full_average resource window group.now }
 {
-    group.averages[full_state(resource) as usize][window]
+    group.averages[State::of(resource, Level::FullStalled) as usize][window]
 }
 
 /// The greatest full average of a resource over a window among the matches, and 0 among none.

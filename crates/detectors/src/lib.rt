@@ -9,7 +9,6 @@ mod places;
 mod reading;
 mod scans;
 
-pub use conditions::full_state;
 pub use detector::Detector;
 pub use kill_spec::{GroupReading, HostReading};
 pub use reading::Reading;

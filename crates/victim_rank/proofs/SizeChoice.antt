@@ -1,7 +1,8 @@
 -- The largest group of the best preference, and the choice by size or growth.
 use Rattle.std.proofs.Common.{◌≡◌, ℕ, ◌*◌, ◌≤◌, List, [], ◌∷◌, length, refl, sym, ap, ◌∙◌, arith}
 use Rattle.std.proofs.Common.{true, false, ⊎_elim, inl, inr, subst}
-use Rattle.std.specs.Prelude.{Bool, None, Some, ◌==◌, filter, nat_le, nat_lt, not}
+use Rattle.std.specs.Prelude.{Bool, Option, None, Some, ◌==◌, filter, nat_le, nat_lt, not}
+use Rattle.std.specs.Option.{option_or}
 use Rattle.std.specs.List.{list_any}
 use Rattle.std.proofs.lemmas.Bool.{true≢false, not_from_false, not_from_true}
 use Rattle.std.proofs.lemmas.Bool.Decides.{nat_tests}
@@ -187,6 +188,11 @@ none_large lives size_threshold groups best is share = rw (best_of_is lives grou
     (all_below lives groups best is))))
 
 -- ---- the choice
+
+-- one choice, or else another
+pub or_is : (one other : Option GroupReading) → option_or one other ≡ (one or_else other)
+or_is None other = refl
+or_is (Some group) other = refl
 
 pub choice_none : (sizes : GroupReading → List ℕ) (lives : List GroupLife)
     (size_threshold percentile ratio : ℕ) (groups : List GroupReading) →

@@ -47,10 +47,7 @@ fn by_size_or_growth(
     }
     let best_rank = rank(&largest);
     let few = count_above(percentile, count_in_rank(scope, best_rank, reading));
-    match grown_most(scope, best_rank, reading, past, ratio, few) {
-        Some(growing) => Some(growing),
-        None => Some(largest),
-    }
+    grown_most(scope, best_rank, reading, past, ratio, few).or(Some(largest))
 }
 
 // The choice of an action among the groups of a scope.

@@ -8,9 +8,8 @@ ghost use Rattle.kill_spec.specs.Victims.{is_at_least, pressure_measure, rank_of
 ghost use Rattle.victim_rank.specs.Scopes.{is_eligible, measure_of, rise_from};
 
 use crate::past::Past;
-use detectors::full_state;
 use kill_spec::{GroupReading, HostReading};
-use psi_base::{Preference, Res};
+use psi_base::{Level, Preference, Res, State};
 use ruleset_json::{Action, Size};
 
 /// The rank of a group's preference: what is preferred is chosen first, and what is avoided last.
@@ -30,7 +29,7 @@ fn pressure(group: &GroupReading, resource: Res) -> u64
     requires each { All IsRow group.now.averages }
     ensures { result ≡ pressure_measure resource group.now }
 {
-    let averages = group.averages[full_state(resource) as usize];
+    let averages = group.averages[State::of(resource, Level::FullStalled) as usize];
     averages[0] + averages[1]
 }
 
