@@ -1,8 +1,8 @@
 -- Rows that stand one after the other in one list.
-use Rattle.std.proofs.Common.{◌≡◌, ◌≢◌, ℕ, zero, suc, ◌+◌, ◌-◌, ◌*◌, ◌≤◌, ◌<◌, List, [], length, drop, get_or, set, replicate, refl, sym, ap, ◌∙◌, arith, ◌⊎◌, ⊎_elim}
+use Rattle.std.proofs.Common.{◌≡◌, ◌≢◌, ℕ, zero, suc, ◌+◌, ◌-◌, ◌*◌, ◌≤◌, ◌<◌, List, [], ◌++◌, length, take, drop, get_or, set, replicate, refl, sym, ap, ◌∙◌, arith, ◌⊎◌, ⊎_elim}
 use Rattle.std.proofs.Math.Nat.{mul-le-mul_right}
 use Rattle.std.proofs.Math.Seq.{take-set-lt}
-use Rattle.std.proofs.lemmas.List.{get_or_past, length-take, length-drop, length-set, length-replicate, take-set-le, drop-set-lt, drop-set-add, take-replicate, drop-replicate, get_or-replicate, get_or-set_same, get_or-set_other}
+use Rattle.std.proofs.lemmas.List.{append_assoc, drop-append-le, drop-drop, drop-take, drop_at, get_or_past, length-append, length-take-le, take-append-le, take-take, take_at, length-take, length-drop, length-set, length-replicate, take-set-le, drop-set-lt, drop-set-add, take-replicate, drop-replicate, get_or-replicate, get_or-set_same, get_or-set_other}
 use Rattle.std.proofs.lemmas.List.FromFn.{fill_by_all, get_or-map-range_with_len, length-map-range_with_len}
 use Rattle.aggregate.specs.Table.{row_in, rows_of, new_table, no_times, put_times, times_at, HasSizes, HaveSameSizes, IsPlace, KeepsSizes, SetsOnePlace}
 
@@ -63,6 +63,57 @@ rows_of-set cpus slots flat slot cpu times below inside =
     ∙ ap (λ (r : List (List ℕ)). set r cpu times) (get_or-rows_of cpus slots flat slot [] below)
     ∙ sym (row_set cpus slots flat slot cpu times inside)))
     (λ apart. get_or-set_other rows slot other row [] apart ∙ get_or-rows_of cpus slots flat other [] within ∙ sym (row_kept cpus slots flat slot cpu times other inside apart))
+    case))
+
+-- a row beside one that was taken over is as it was
+row_beside : (cpus slots : ℕ) (flat row : List (List ℕ)) (slot other : ℕ) → length flat ≡ slots * cpus → slot < slots → length row ≡ cpus → other < slots → other ≢ slot →
+    row_in cpus (take (slot * cpus) flat ++ (row ++ drop (slot * cpus + cpus) flat)) other ≡ row_in cpus flat other
+row_beside cpus slots flat row slot other long below wide within apart =
+    let start = slot * cpus in
+    let rest = drop (start + cpus) flat in
+    let here = other * cpus in
+    let end = row_end slot slots cpus below in
+    let front : length (take start flat) ≡ start = length-take-le start flat (omega (arith, long, end)) in
+    let case : (other < slot) ⊎ (slot < other) = grind (arith, apart) in
+    ⊎_elim
+    (λ before.
+    let ends = row_end other slot cpus before in
+    let more : here + (start - here) ≡ start = omega (arith, ends) in
+    let cut : drop here (take start flat) ≡ take (start - here) (drop here flat) = ap (λ n. drop here (take n flat)) (sym more) ∙ drop-take here (start - here) flat in
+    let room : cpus ≤ start - here = omega (arith, ends) in
+    let wide_left : cpus ≤ length (drop here (take start flat)) = simp (length-drop) (omega (arith, front, ends)) in
+    ap (take cpus) (drop-append-le here (take start flat) (row ++ rest) (omega (arith, front, ends)))
+    ∙ take-append-le cpus (drop here (take start flat)) (row ++ rest) wide_left
+    ∙ ap (take cpus) cut ∙ take-take cpus (start - here) (drop here flat) room)
+    (λ behind.
+    let starts = row_end slot other cpus behind in
+    let both : length (take start flat ++ row) ≡ start + cpus = length-append (take start flat) row ∙ ap (λ n. n + length row) front ∙ ap (λ n. start + n) wide in
+    let more : start + cpus + (here - (start + cpus)) ≡ here = omega (arith, starts) in
+    let seam : drop (start + cpus) (take start flat ++ (row ++ rest)) ≡ rest = ap (drop (start + cpus)) (sym (append_assoc (take start flat) row rest)) ∙ drop_at (take start flat ++ row) rest (start + cpus) both in
+    let split : drop here (take start flat ++ (row ++ rest)) ≡ drop (here - (start + cpus)) (drop (start + cpus) (take start flat ++ (row ++ rest))) = ap (λ n. drop n (take start flat ++ (row ++ rest))) (sym more) ∙ sym (drop-drop (here - (start + cpus)) (start + cpus) (take start flat ++ (row ++ rest))) in
+    ap (take cpus) (split ∙ ap (drop (here - (start + cpus))) seam ∙ drop-drop (here - (start + cpus)) (start + cpus) flat ∙ ap (λ n. drop n flat) more))
+    case
+
+-- taking over a row as a whole sets it
+pub rows_of-taken : (cpus slots : ℕ) (flat row : List (List ℕ)) (slot : ℕ) → length flat ≡ slots * cpus → slot < slots → length row ≡ cpus →
+    rows_of cpus slots (take (slot * cpus) flat ++ (row ++ drop (slot * cpus + cpus) flat)) ≡ set (rows_of cpus slots flat) slot row
+rows_of-taken cpus slots flat row slot long below wide =
+    let start = slot * cpus in
+    let rest = drop (start + cpus) flat in
+    let new = take start flat ++ (row ++ rest) in
+    let rows = rows_of cpus slots flat in
+    let many : length rows ≡ slots = length-rows_of cpus slots flat in
+    let end = row_end slot slots cpus below in
+    let front : length (take start flat) ≡ start = length-take-le start flat (omega (arith, long, end)) in
+    let place : slot < length rows = omega (arith, below, many) in
+    sym (fill_by_all (row_in cpus new) (set rows slot row) slots [] (length-set rows slot row ∙ many) (λ other within.
+    let case : (other ≡ slot) ⊎ (other ≢ slot) = grind arith in
+    ⊎_elim
+    (λ same. rw same (get_or-set_same rows slot row [] place
+    ∙ sym (ap (take cpus) (drop_at (take start flat) (row ++ rest) start front) ∙ take_at row rest cpus wide)))
+    (λ apart.
+    let kept : row_in cpus new other ≡ row_in cpus flat other = row_beside cpus slots flat row slot other long below wide within apart in
+    get_or-set_other rows slot other row [] apart ∙ get_or-rows_of cpus slots flat other [] within ∙ sym kept)
     case))
 
 -- ---- tables as callers see them

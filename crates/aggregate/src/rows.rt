@@ -1,5 +1,5 @@
 //! The times of all groups on all processors at a tick.
-ghost use Rattle.std.specs.Prelude.{◌≡◌, ◌<◌, ◌*◌, [], IfOk, length, slice_index_or, replicate};
+ghost use Rattle.std.specs.Prelude.{◌≡◌, ◌<◌, ◌*◌, [], IfOk, length, slice_index_or, slice_set, replicate};
 ghost use Rattle.aggregate.specs.Table as table;
 ghost use Rattle.aggregate.specs.Table.{new_table, put_times, HaveSameSizes, IsPlace, KeepsSizes, SetsOnePlace};
 
@@ -55,6 +55,18 @@ impl Rows {
         self.cpus = other.cpus;
         self.slots = other.slots;
         self.times.copy_from_slice(&other.times);
+    }
+
+    /// Takes over the times of a group on each processor. Takes no memory.
+    pub fn set_row(&mut self, slot: Slot, row: &[Times])
+        requires slot { slot.0 < length self.old }
+        requires row { length row.now ≡ length (slice_index_or self.old slot.0 []) }
+        ensures { self.new ≡ slice_set self.old slot.0 row.now }
+    {
+        let cpus = self.cpus as usize;
+        let (_, rest) = self.times.split_at_mut(slot.0 as usize * cpus);
+        let (into, _) = rest.split_at_mut(cpus);
+        into.copy_from_slice(row);
     }
 
     /// The times of a group on each processor.

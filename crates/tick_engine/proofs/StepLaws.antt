@@ -1,18 +1,20 @@
 -- What one tick keeps: no total is longer than what passed up to it, and triggers stay in range.
-use Rattle.std.proofs.Common.{◌≡◌, ℕ, suc, ◌+◌, ◌≤◌, ◌<◌, List, [], ◌∷◌, ◌++◌, length, get_or, sym, ap, ◌∙◌, refl, arith, true, false}
+use Rattle.std.proofs.Common.{◌≡◌, ◌≢◌, ℕ, suc, ◌+◌, ◌≤◌, ◌<◌, List, [], ◌∷◌, ◌++◌, length, get_or, set, sym, ap, ◌∙◌, refl, arith, true, false, ◌⊎◌, ⊎_elim, inl, inr}
 use Rattle.std.specs.Prelude.{All, map, filter, if◌then◌else◌}
 use Rattle.std.specs.List.{range_with_len}
-use Rattle.std.proofs.lemmas.List.{get_or_default, map-id}
+use Rattle.std.proofs.lemmas.List.{ext_get_or, get_or-set_other, get_or-set_same, get_or_default, length-set, map-id}
 use Rattle.std.proofs.lemmas.List.Elements.{filter-append}
 use Rattle.std.proofs.lemmas.List.FromFn.{map-range_with_len_more}
 use Rattle.psi_spec.specs.Trace.{last_moment, longest_tick}
-use Rattle.pressure_spec.specs.Ticks.{Tick, IsNextTick}
-use Rattle.pressure_spec.specs.Share.{AreAmountsWithin, AreTimesWithin, most_irq_total, plus, shares}
+use Rattle.pressure_spec.specs.Ticks.{Tick, IsNextTick, time_of}
+use Rattle.pressure_spec.specs.Share.{AreAmountsWithin, AreTimesWithin, irq_place, most_irq_total, plus, shares}
 use Rattle.psi_spec.specs.World.{longest_irq}
 use Rattle.pressure_spec.specs.Samples.{growths, row_at}
 use Rattle.pressure_spec.proofs.WithinLaws.{growths_next, irq_sum_most, totals_kept, totals_sampled}
 use Rattle.tick_engine.specs.declared.group.Group.{Group}
 use Rattle.tick_engine.specs.declared.watch.TriggerWatch.{TriggerWatch}
+use Rattle.aggregate.specs.Table.{HasSizes}
+use Rattle.tick_engine.specs.Tables.{tick_at}
 use Rattle.tick_engine.specs.Step.{AreGroupsWithin, AreStatesWithin, AreTotalsWithin, fired_among, group_step, is_live_group, no_group, sampled, watch_in, watch_signals}
 
 -- a list that has f of the elements of another at each place
@@ -59,6 +61,83 @@ states_within tick groups early within = λ slot d below quantity inside.
     let same = get_or_default groups slot d no_group below in
     let most = (within slot below).states quantity inside in
     rw same (omega (arith, most, early))
+
+-- ---- the last tick
+
+-- a tick that has the first so many rows of the next, and else those of the last
+pub record TakesRows (last tick mixed : Tick) (count : ℕ) : Type 0 where
+  pub at : mixed.at ≡ last.at
+  pub taken : (slot : ℕ) → slot < count → row_at mixed slot ≡ row_at tick slot
+  pub left : (slot : ℕ) → count ≤ slot → row_at mixed slot ≡ row_at last slot
+
+-- a place of its rows is as it was, or as it will be
+taken_or_left : (last tick mixed : Tick) (count slot : ℕ) → TakesRows last tick mixed count → (row_at mixed slot ≡ row_at tick slot) ⊎ (row_at mixed slot ≡ row_at last slot)
+taken_or_left last tick mixed count slot takes =
+    let case : (slot < count) ⊎ (count ≤ slot) = grind arith in
+    ⊎_elim (λ early. inl (takes.taken slot early)) (λ late. inr (takes.left slot late)) case
+
+-- the next tick comes next after it too
+pub next_stays : (last tick mixed : Tick) (count : ℕ) → TakesRows last tick mixed count → IsNextTick last tick → IsNextTick mixed tick
+next_stays last tick mixed count takes next = record {
+  later = rw takes.at next.later;
+  soon = rw takes.at next.soon;
+  early = next.early;
+  kept = λ slot cpu place.
+      ⊎_elim
+      (λ now. omega (arith, ap (λ row. time_of row cpu place) now))
+      (λ before. omega (arith, ap (λ row. time_of row cpu place) before, next.kept slot cpu place))
+      (taken_or_left last tick mixed count slot takes);
+  grown = λ slot cpu place state.
+      ⊎_elim
+      (λ now. omega (arith, ap (λ row. time_of row cpu place) now))
+      (λ before. omega (arith, ap (λ row. time_of row cpu place) before, takes.at, next.grown slot cpu place state))
+      (taken_or_left last tick mixed count slot takes);
+  irq_grown = λ slot cpu.
+      ⊎_elim
+      (λ now. omega (arith, ap (λ row. time_of row cpu irq_place) now))
+      (λ before. omega (arith, ap (λ row. time_of row cpu irq_place) before, takes.at, next.irq_grown slot cpu))
+      (taken_or_left last tick mixed count slot takes);
+  irq_early = next.irq_early;
+}
+
+-- the group whose row comes next is stepped as from the last tick
+pub step_stays : (last tick mixed : Tick) (slot : ℕ) (group : Group) → TakesRows last tick mixed slot → group_step mixed tick slot group ≡ group_step last tick slot group
+step_stays last tick mixed slot group takes =
+    ap (λ row. if is_live_group group tick.at then sampled group tick.at (shares (growths row (row_at tick slot))) else group) (takes.left slot (omega arith))
+
+-- one row more is taken over
+pub row_taken : (last tick mixed : Tick) (rows : List (List (List ℕ))) (count : ℕ) → TakesRows last tick mixed count → count < length mixed.table → rows ≡ set mixed.table count (row_at tick count) → TakesRows last tick (tick_at mixed.at rows) (count + 1)
+row_taken last tick mixed rows count takes below is = record {
+  at = takes.at;
+  taken = λ slot early.
+      let case : (slot < count) ⊎ (slot ≡ count) = grind (arith, early) in
+      ⊎_elim
+      (λ before. ap (λ table. get_or table slot []) is ∙ get_or-set_other mixed.table count slot (row_at tick count) [] (λ same. omega (arith, same, before)) ∙ takes.taken slot before)
+      (λ now. ap (λ table. get_or table slot []) is ∙ ap (λ s. get_or (set mixed.table count (row_at tick count)) s []) now ∙ get_or-set_same mixed.table count (row_at tick count) [] below ∙ ap (row_at tick) (sym now))
+      case;
+  left = λ slot late.
+      ap (λ table. get_or table slot []) is ∙ get_or-set_other mixed.table count slot (row_at tick count) [] (λ same. omega (arith, same, late)) ∙ takes.left slot (omega (arith, late));
+}
+
+-- a table keeps its sizes then
+pub sizes_stay : (cpus slots : ℕ) (table rows : List (List (List ℕ))) (slot : ℕ) (row : List (List ℕ)) → HasSizes cpus slots table → slot < slots → length row ≡ cpus → rows ≡ set table slot row → HasSizes cpus slots rows
+sizes_stay cpus slots table rows slot row has below wide is =
+    let long : length rows ≡ length table = ap length is ∙ length-set table slot row in
+    record {
+      slots_are = long ∙ has.slots_are;
+      cpus_are = λ other d inside.
+          let case : (other ≡ slot) ⊎ (other ≢ slot) = grind arith in
+          ap (λ t. length (get_or t other d)) is
+          ∙ ⊎_elim
+          (λ same. ap (λ s. length (get_or (set table slot row) s d)) same ∙ ap length (get_or-set_same table slot row d (omega (arith, below, has.slots_are))) ∙ wide)
+          (λ apart. ap length (get_or-set_other table slot other row d apart) ∙ has.cpus_are other d (omega (arith, inside, long)))
+          case;
+    }
+
+-- when all rows are taken over it is the next tick
+pub all_taken : (last tick mixed : Tick) (count : ℕ) → TakesRows last tick mixed count → length mixed.table ≡ count → length tick.table ≡ count → mixed.table ≡ tick.table
+all_taken last tick mixed count takes many also =
+    ext_get_or [] mixed.table tick.table (many ∙ sym also) (λ slot below. takes.taken slot (omega (arith, below, many)))
 
 -- ---- signals
 

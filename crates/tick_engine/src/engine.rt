@@ -121,9 +121,14 @@ impl Engine {
         ensures slots { length self.new.groups ≡ length self.old.groups }
     {
         begin_all(&mut self.watches, &self.groups, now);
-        tick_all(&mut self.groups, &mut self.growths, &self.last, now, rows);
+        tick_all(
+            &mut self.groups,
+            &mut self.growths,
+            &mut self.last,
+            now,
+            rows,
+        );
         step_all(&mut self.watches, &self.groups, now, &mut self.fired);
-        self.last.set(now, rows);
     }
 
     /// The totals of a group (ns), in the order of the states, and last that of interrupt time.

@@ -88,24 +88,29 @@ impl Group {
     }
 }
 
-/// Takes all groups over a tick.
+/// Takes all groups over a tick, and takes the place of the last one: a group's times are taken over when it has been sampled by
+/// what they grew by.
 pub(crate) fn tick_all(
     groups: &mut [Group],
     growths: &mut [Times],
-    last: &LastTick,
+    last: &mut LastTick,
     now: Ns,
     rows: &Rows,
 )
     requires few { length growths.old ≤ 64 }
     requires slots { length groups.old ≤ most_groups }
-    requires last { HasSizes (length growths.old) (length groups.old) last.now.table }
+    requires last { HasSizes (length growths.old) (length groups.old) last.old.table }
     requires sizes { HasSizes (length growths.old) (length groups.old) rows.now }
-    requires next { IsNextTick last.now (tick_at now rows.now) }
-    requires totals { AreGroupsWithin last.now groups.old }
-    ensures stepped { AreStepped last.now (tick_at now rows.now) groups.old groups.new }
+    requires next { IsNextTick last.old (tick_at now rows.now) }
+    requires totals { AreGroupsWithin last.old groups.old }
+    ensures last { last.new ≡ tick_at now rows.now }
+    ensures stepped { AreStepped last.old (tick_at now rows.now) groups.old groups.new }
     ensures totals { AreGroupsWithin (tick_at now rows.now) groups.new }
 {
     'groups: for (slot, group) in groups.iter_mut().enumerate() {
-        group.tick(Slot(slot as u32), growths, last, now, rows);
+        let slot = Slot(slot as u32);
+        group.tick(slot, growths, last, now, rows);
+        last.rows.set_row(slot, rows.row(slot));
     }
+    last.at = now;
 }

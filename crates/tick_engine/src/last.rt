@@ -1,9 +1,5 @@
 //! The last tick.
 
-ghost use Rattle.std.specs.Prelude.{◌≡◌};
-ghost use Rattle.aggregate.specs.Table.{HaveSameSizes};
-ghost use Rattle.tick_engine.specs.Tables.{tick_at};
-
 use aggregate::Rows;
 use psi_base::Ns;
 use std::marker::Model;
@@ -22,15 +18,4 @@ impl Model for LastTick {
     ghost Value = { Tick };
 
     ghost view = { λ last. record { at = last.at; table = last.rows } };
-}
-
-impl LastTick {
-    /// Takes the place of a tick: its moment (ns), and the times of as many groups and processors. Takes no memory.
-    pub(crate) fn set(&mut self, at: Ns, rows: &Rows)
-        requires { HaveSameSizes self.old.table rows.now }
-        ensures { self.new ≡ tick_at at rows.now }
-    {
-        self.at = at;
-        self.rows.copy_from(rows);
-    }
 }

@@ -36,9 +36,9 @@ step_all-requires-clause-totals c =
     rw groups_seen (states_within (tick_at c.args.now c.args.rows.now) c.tick_all.new.groups c.requires.next.early c.tick_all.ensures.totals)
 
 -- what the calls made of the engine
-ticked : (c : goal.After-set) → stand.IsTicked (tick_at c.args.now c.args.rows.now)
+ticked : (c : goal.After-self-4-1) → stand.IsTicked (tick_at c.args.now c.args.rows.now)
     (record { cpus = length c.self.inside.growths.items; last = c.self.inside.last; groups = c.self.inside.groups.items; watches = c.self.inside.watches.items; fired = c.self.inside.fired.items })
-    (record { cpus = length c.tick_all.new.growths; last = c.set.new.self; groups = c.tick_all.new.groups; watches = c.step_all.new.watches; fired = c.step_all.new.fired.items })
+    (record { cpus = length c.tick_all.new.growths; last = c.tick_all.new.last; groups = c.tick_all.new.groups; watches = c.step_all.new.watches; fired = c.step_all.new.fired.items })
 ticked c =
     let old = c.self.inside in
     let now = c.args.now in
@@ -54,7 +54,7 @@ ticked c =
     let groups_before : c.deref_mut-2.result.now ≡ old.groups.items = c.deref_mut-2.ensures.value in
     record {
       cpus = omega (arith, c.tick_all.auto.growths, ap length c.deref_mut-3.ensures.value);
-      last = c.set.ensures;
+      last = c.tick_all.ensures.last;
       slots = groups_same;
       groups = rw groups_before at stepped;
       watches = c.step_all.ensures.watches ∙ rw (groups_seen, begun_seen) refl;
@@ -62,23 +62,23 @@ ticked c =
     }
 
 -- what was lent is written back in whole
-growths_whole : (c : goal.After-set) → take c.self.inside.growths.len (c.tick_all.new.growths ++ drop (length c.tick_all.new.growths) c.self.inside.growths.items) ≡ c.tick_all.new.growths
+growths_whole : (c : goal.After-self-4-1) → take c.self.inside.growths.len (c.tick_all.new.growths ++ drop (length c.tick_all.new.growths) c.self.inside.growths.items) ≡ c.tick_all.new.growths
 growths_whole c =
     let long : c.self.inside.growths.len ≡ length c.self.inside.growths.items = omega (arith, c.deref_mut-3.ensures.len, ap length c.deref_mut-3.ensures.value) in
     seam c.tick_all.new.growths _ _ (length c.self.inside.growths.items) (ticked c).cpus long
 
-groups_whole : (c : goal.After-set) → take c.self.inside.groups.len (c.tick_all.new.groups ++ drop (length c.tick_all.new.groups) c.self.inside.groups.items) ≡ c.tick_all.new.groups
+groups_whole : (c : goal.After-self-4-1) → take c.self.inside.groups.len (c.tick_all.new.groups ++ drop (length c.tick_all.new.groups) c.self.inside.groups.items) ≡ c.tick_all.new.groups
 groups_whole c =
     let long : c.self.inside.groups.len ≡ length c.self.inside.groups.items = omega (arith, c.deref_mut-2.ensures.len, ap length c.deref_mut-2.ensures.value) in
     seam c.tick_all.new.groups _ _ (length c.self.inside.groups.items) (ticked c).slots long
 
-watches_whole : (c : goal.After-set) → (rest : List TriggerWatch) → take c.self.inside.watches.len (c.step_all.new.watches ++ rest) ≡ c.step_all.new.watches
+watches_whole : (c : goal.After-self-4-1) → (rest : List TriggerWatch) → take c.self.inside.watches.len (c.step_all.new.watches ++ rest) ≡ c.step_all.new.watches
 watches_whole c rest =
     let long : c.self.inside.watches.len ≡ length c.self.inside.watches.items = omega (arith, c.deref_mut.ensures.len, ap length c.deref_mut.ensures.value) in
     seam c.step_all.new.watches rest _ (length c.self.inside.watches.items) (stand.ticked_many (ticked c)) long
 
 -- the tick comes next after the engine's last
-next : (c : goal.After-set) → IsNextTick c.self.inside.last (tick_at c.args.now c.args.rows.now)
+next : (c : goal.After-self-4-1) → IsNextTick c.self.inside.last (tick_at c.args.now c.args.rows.now)
 next c = let P : EngineView → Type 0 = λ engine. IsNextTick engine.last (tick_at c.args.now c.args.rows.now) in subst P (sym c.self.view_is) c.requires.next
 
 pub invariant_of-self : goal.invariant_of-self
@@ -92,7 +92,7 @@ invariant_of-self c =
     )
 
 pub returns-clause-last : goal.returns-clause-last
-returns-clause-last c = c.set.ensures
+returns-clause-last c = c.tick_all.ensures.last
 
 pub returns-clause-cpus : goal.returns-clause-cpus
 returns-clause-cpus c = rw (growths_whole c) ((ticked c).cpus ∙ ap (λ (engine : EngineView). engine.cpus) c.self.view_is)
