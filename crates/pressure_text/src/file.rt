@@ -3,10 +3,9 @@ ghost use Rattle.std.specs.Prelude.{◌≡◌, [], slice_index_or};
 ghost use Rattle.psi_base.specs.Outside.{HasCause, PutsAll, StaysOver};
 ghost use Rattle.pressure_spec.specs.File.{file_line, file_text, full_line, state_line};
 ghost use Rattle.pressure_spec.specs.Share.{irq_quantity};
-ghost use Rattle.pressure_spec.specs.Samples as samples;
 ghost use Rattle.run_spec.specs.Lines.{head_line, irq_report, report_head, report_text};
 
-use crate::pieces::{Piece, level_word, put_pieces, resource_word};
+use crate::pieces::{Piece, put_pieces};
 use fixed_average::Averages;
 use pressure_spec::Amounts;
 use psi_base::{Level, Ns, Path, Res, Sink, State, WriteFailed};
@@ -26,7 +25,7 @@ fn put_line<K: Sink>(
     put_pieces(
         out,
         &[
-            Piece::Text(level_word(level)),
+            Piece::Text(level.word().as_bytes()),
             Piece::Text(b" avg10="),
             Piece::Percent(averages[0]),
             Piece::Text(b" avg60="),
@@ -38,20 +37,6 @@ fn put_line<K: Sink>(
             Piece::Text(b"\n"),
         ],
     )
-}
-
-// The state of a resource, on some or all tasks.
-fn state_of(res: Res, level: Level) -> State
-    ensures { result ≡ samples.state_of res level }
-{
-    match (res, level) {
-        (Res::Io, Level::SomeStalled) => State::IoSome,
-        (Res::Io, Level::FullStalled) => State::IoFull,
-        (Res::Memory, Level::SomeStalled) => State::MemSome,
-        (Res::Memory, Level::FullStalled) => State::MemFull,
-        (Res::Cpu, Level::SomeStalled) => State::CpuSome,
-        (Res::Cpu, Level::FullStalled) => State::CpuFull,
-    }
 }
 
 // The line of a resource on some or all tasks.
@@ -67,7 +52,7 @@ fn put_state<K: Sink>(
     ensures cause { HasCause (K.faults out.old) (K.faults out.new) result }
     ensures below { StaysOver (K.below out.old) (K.below out.new) }
 {
-    let state = state_of(res, level);
+    let state = State::of(res, level);
     put_line(out, level, averages.get(state), totals[state as usize])
 }
 
@@ -149,7 +134,7 @@ pub fn write_report_head<K: Sink>(
     ensures cause { HasCause (K.faults out.old) (K.faults out.new) result }
     ensures below { StaysOver (K.below out.old) (K.below out.new) }
 {
-    put_head(out, at, path, resource_word(res))
+    put_head(out, at, path, res.word().as_bytes())
 }
 
 /// Writes a report on a resource of a group at a tick (ns): its head, as [`write_report_head`], and its

@@ -6,7 +6,7 @@ ghost use Rattle.run_spec.specs.Lines.{check_line, end_line, event_line, kill_li
 ghost use Rattle.run_spec.specs.Lines.{live_line, stall_line};
 ghost use Rattle.pressure_text.specs.Pieces.{with_numbers};
 
-use crate::pieces::{Piece, level_word, put_numbers, put_pieces, resource_word};
+use crate::pieces::{Piece, put_numbers, put_pieces};
 use pressure_spec::Times;
 use psi_base::{Cpu, Ns, Path, Sink, TriggerSpec, WriteFailed, put_all};
 
@@ -151,9 +151,9 @@ pub fn write_fired<K: Sink>(
             Piece::Text(b" "),
             Piece::Text(path.bytes()),
             Piece::Text(b" "),
-            Piece::Text(resource_word(spec.res)),
+            Piece::Text(spec.res.word().as_bytes()),
             Piece::Text(b" "),
-            Piece::Text(level_word(spec.level)),
+            Piece::Text(spec.level.word().as_bytes()),
             Piece::Text(b" "),
             Piece::Number(spec.threshold_us),
             Piece::Text(b" "),

@@ -3,10 +3,9 @@ ghost use Rattle.std.specs.Prelude.{◌≡◌, ◌++◌, codes, decimal};
 ghost use Rattle.std.specs.List.{flat_map};
 ghost use Rattle.psi_base.specs.Outside.{HasCause, PutsAll, StaysOver};
 ghost use Rattle.pressure_spec.specs.File.{hundredths, percent_text, two_digits};
-ghost use Rattle.psi_spec.specs.Fields as fields;
 ghost use Rattle.pressure_text.specs.Pieces.{piece_bytes, spaced_number};
 
-use psi_base::{Level, Res, Sink, WriteFailed, put_all, put_number};
+use psi_base::{Sink, WriteFailed, put_all, put_number};
 
 /// One percent of an average in fixed point.
 const PERCENT: u64 = 2048;
@@ -20,27 +19,6 @@ pub enum Piece<'a> {
     Text(&'a [u8]),
     /// An average, of which 2048 is one percent, in percent with two digits behind the point.
     Percent(u64),
-}
-
-/// The word of a resource.
-pub(crate) fn resource_word(res: Res) -> &'static [u8]
-    ensures { result.now ≡ fields.resource_word res }
-{
-    match res {
-        Res::Io => b"io".as_slice(),
-        Res::Memory => b"memory".as_slice(),
-        Res::Cpu => b"cpu".as_slice(),
-    }
-}
-
-/// The word of a level.
-pub(crate) fn level_word(level: Level) -> &'static [u8]
-    ensures { result.now ≡ fields.level_word level }
-{
-    match level {
-        Level::SomeStalled => b"some".as_slice(),
-        Level::FullStalled => b"full".as_slice(),
-    }
 }
 
 // A point, and an average's hundredths of a percent in two digits.

@@ -9,7 +9,6 @@ ghost use Rattle.pressure_text.specs.Told.{IrqReadsAgain, ReadsAgain, Tells, Tel
 ghost use Rattle.pressure_text.specs.declared.read.PressureFile.{PressureFile};
 ghost use Rattle.pressure_text.specs.declared.read.PressureLine.{PressureLine};
 
-use crate::pieces::level_word;
 use psi_base::{Level, read_number};
 use std::marker::Model;
 
@@ -142,7 +141,7 @@ impl<'a> Rest<'a> {
     fn line(&mut self, level: Level) -> Option<PressureLine>
         ensures { TakesPiece result self.new (line_at level self.old) }
     {
-        self.skip(level_word(level))?;
+        self.skip(level.word().as_bytes())?;
         let short = self.average_past(b" avg10=")?;
         let middle = self.average_past(b" avg60=")?;
         let long = self.average_past(b" avg300=")?;
