@@ -1,6 +1,6 @@
 //! Numbers, paths and parts at their borders.
 use psi_base::{Parts, Path, Text, read_number};
-use std::alloc::{AllocError, Global};
+use std::alloc::Global;
 use std::process::Abort;
 use std::test::Fail;
 
@@ -24,15 +24,6 @@ fn numbers(rt: HostRuntime) {
     }
 }
 
-// The piece as many times.
-fn repeated(alloc: Global, piece: &str, times: usize) -> Result<Vec<u8>, AllocError> {
-    let mut bytes = Vec::new(alloc);
-    for _ in 0..times {
-        bytes.extend_from_slice(piece.as_bytes())?;
-    }
-    Ok(bytes)
-}
-
 // The bytes are a path, and are kept, or they are none.
 fn reads_path(rt: &impl Abort, alloc: Global, bytes: &[u8], is_path: bool) -> Result<(), Fail> {
     match Path::read(alloc, bytes)? {
@@ -53,10 +44,15 @@ fn paths(rt: HostRuntime) -> Result<(), Fail> {
     ] {
         reads_path(&rt, alloc, text.as_bytes(), false)?;
     }
-    reads_path(&rt, alloc, &repeated(alloc, "/a", 32)?, true)?;
-    reads_path(&rt, alloc, &repeated(alloc, "/a", 33)?, false)?;
-    reads_path(&rt, alloc, &repeated(alloc, "/abcdefghijklmn", 17)?, true)?;
-    reads_path(&rt, alloc, &repeated(alloc, "/abcdefghijklmno", 16)?, false)?;
+    for (component, count, is_path) in [
+        ("/a", 32, true),
+        ("/a", 33, false),
+        ("/abcdefghijklmn", 17, true),
+        ("/abcdefghijklmno", 16, false),
+    ] {
+        let path = component.repeat(alloc, count)?;
+        reads_path(&rt, alloc, path.as_bytes(), is_path)?;
+    }
     assert_eq!(rt; Path::root(alloc)?.bytes(), b"/".as_slice());
     Ok(())
 }
