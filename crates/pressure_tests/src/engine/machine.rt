@@ -1,35 +1,17 @@
 //! A machine whose times grow as a test tells.
 
-use crate::checks::{are_lives, are_triggers, table_grew_within};
+use crate::engine::checks::{LAST_MOMENT, are_lives, are_triggers, table_grew_within};
 use aggregate::Rows;
 use pressure_spec::{Amounts, AverageRows, Times};
-use psi_base::{Cpu, NoMemory, Ns, Slot, State, TriggerSpec};
+use psi_base::{Cpu, Ns, Slot, State, TriggerSpec};
 use psi_spec::GroupLife;
 use std::alloc::Global;
 use std::marker::Model;
+use std::test::Fail;
 use tick_engine::Engine;
-
-/// The last moment (ns).
-const LAST_MOMENT: Ns = 60_000_000_000_000_000;
 
 /// The longest tick (ns).
 const LONGEST_TICK: Ns = 60_000_000_000;
-
-/// What a test asked of a machine that can't be had.
-#[derive(Debug, Drop)]
-pub enum Failed {
-    /// A processor, a group, a trigger or a time is out of range.
-    OutOfRange,
-    /// The tick can't come next.
-    NotNext,
-    NoMemory(NoMemory),
-}
-
-impl From<NoMemory> for Failed {
-    fn from(none: NoMemory) -> Self {
-        Failed::NoMemory(none)
-    }
-}
 
 /// An engine, and the times of the last tick and of the one to come.
 #[derive(Drop)]
@@ -44,7 +26,7 @@ pub struct Machine {
 
 impl Model for Machine {
     ghost use Rattle.tick_engine.specs.Engine.{EngineView};
-    ghost use Rattle.engine_tests.specs.Machine.{IsMachine};
+    ghost use Rattle.pressure_tests.specs.Machine.{IsMachine};
 
     ghost Value = { EngineView };
 
@@ -60,10 +42,10 @@ impl Machine {
         cpus: u32,
         lives: &[GroupLife],
         triggers: &[TriggerSpec],
-    ) -> Result<Machine, Failed> {
+    ) -> Result<Machine, Fail> {
         let few = (1..=64).contains(&cpus) && lives.len() <= 1024 && triggers.len() <= 256;
         if !few || !are_lives(lives) || !are_triggers(triggers, lives.len()) {
-            return Err(Failed::OutOfRange);
+            return Err(Fail::new("a number, a group or a trigger is out of range"));
         }
         let slots = lives.len() as u32;
         Ok(Machine {
@@ -77,19 +59,19 @@ impl Machine {
     }
 
     /// Sets the times (ns) of a group on a processor up to the tick to come.
-    pub fn set(&mut self, cpu: u32, slot: u32, times: Times) -> Result<(), Failed> {
+    pub fn set(&mut self, cpu: u32, slot: u32, times: Times) -> Result<(), Fail> {
         if cpu >= self.cpus || slot >= self.slots {
-            return Err(Failed::OutOfRange);
+            return Err(Fail::new("there is no such processor or group"));
         }
         self.next.set(Cpu(cpu), Slot(slot), times);
         Ok(())
     }
 
     /// The next tick, at this moment (ns).
-    pub fn tick(&mut self, now: Ns) -> Result<(), Failed> {
+    pub fn tick(&mut self, now: Ns) -> Result<(), Fail> {
         let is_soon = now > self.at && now - self.at <= LONGEST_TICK && now <= LAST_MOMENT;
         if !is_soon || !table_grew_within(now - self.at, now, self.slots, &self.last, &self.next) {
-            return Err(Failed::NotNext);
+            return Err(Fail::new("the tick can't come next"));
         }
         self.engine.tick(now, &self.next);
         self.last.copy_from(&self.next);
@@ -98,17 +80,17 @@ impl Machine {
     }
 
     /// The totals of a group (ns).
-    pub fn totals(&self, slot: u32) -> Result<Amounts, Failed> {
+    pub fn totals(&self, slot: u32) -> Result<Amounts, Fail> {
         if slot >= self.slots {
-            return Err(Failed::OutOfRange);
+            return Err(Fail::new("there is no such group"));
         }
         Ok(self.engine.totals(Slot(slot)))
     }
 
     /// The averages of a group, in the order of the states, and of interrupt time.
-    pub fn averages(&self, slot: u32) -> Result<AverageRows, Failed> {
+    pub fn averages(&self, slot: u32) -> Result<AverageRows, Fail> {
         if slot >= self.slots {
-            return Err(Failed::OutOfRange);
+            return Err(Fail::new("there is no such group"));
         }
         let averages = self.engine.averages(Slot(slot));
         Ok([

@@ -4,7 +4,7 @@ ghost use Rattle.std.specs.Prelude.{◌≡◌, ℕ, [], All, length, slice_index
 ghost use Rattle.psi_spec.specs.Told.{IsTriggerWithin};
 ghost use Rattle.psi_spec.specs.Trace.{last_moment};
 ghost use Rattle.tick_engine.specs.Engine.{IsLifeWithin};
-ghost use Rattle.engine_tests.specs.Machine.{GrewWithin, RowGrewWithin, TableGrewWithin};
+ghost use Rattle.pressure_tests.specs.Machine.{GrewWithin, RowGrewWithin, TableGrewWithin};
 
 use aggregate::Rows;
 use pressure_spec::{TIMES, Times};
@@ -12,7 +12,7 @@ use psi_base::{Ns, Slot, TriggerSpec};
 use psi_spec::GroupLife;
 
 /// The last moment (ns).
-const LAST_MOMENT: Ns = 60_000_000_000_000_000;
+pub const LAST_MOMENT: Ns = 60_000_000_000_000_000;
 
 /// How much more than the time in between interrupts may have taken (ns).
 const LONGEST_IRQ: Ns = 1_000_000_000;
@@ -32,7 +32,7 @@ fn is_life(life: &GroupLife) -> bool
 }
 
 /// The moments of all groups are.
-pub(crate) fn are_lives(lives: &[GroupLife]) -> bool
+pub fn are_lives(lives: &[GroupLife]) -> bool
     ensures { result ≡ true → All (λ life. IsLifeWithin last_moment life) lives.now }
 {
     'lives: for life in lives {
@@ -54,7 +54,7 @@ fn is_trigger(trigger: &TriggerSpec, slots: usize) -> bool
 }
 
 /// All triggers are.
-pub(crate) fn are_triggers(triggers: &[TriggerSpec], slots: usize) -> bool
+pub fn are_triggers(triggers: &[TriggerSpec], slots: usize) -> bool
     ensures { result ≡ true →
         All (λ trigger. IsTriggerWithin last_moment slots trigger) triggers.now }
 {
@@ -93,7 +93,7 @@ fn row_grew_within(most: Ns, at: Ns, before: &[Times], now: &[Times]) -> bool
 }
 
 /// No time of so many groups on so many processors did.
-pub(crate) fn table_grew_within(most: Ns, at: Ns, slots: u32, before: &Rows, now: &Rows) -> bool
+pub fn table_grew_within(most: Ns, at: Ns, slots: u32, before: &Rows, now: &Rows) -> bool
     requires slots { length before.now ≡ slots }
     requires slots_now { length now.now ≡ slots }
     requires cpus { (slot : ℕ) →

@@ -1,7 +1,7 @@
 //! Groups and triggers over ticks. The expected numbers were computed apart from this program, from the rules of shares,
 //! averages and triggers.
 
-use crate::machine::{Failed, Machine};
+use crate::engine::machine::Machine;
 use pressure_spec::{AverageRows, Times};
 use psi_base::{Level, Ns, Path, Res, Slot, TriggerSpec};
 use psi_spec::GroupLife;
@@ -115,7 +115,7 @@ fn times(tick: u64, slot: u32, cpu: u32) -> Times {
 }
 
 /// Lets the times of four groups on three processors grow, and makes the tick.
-fn play(machine: &mut Machine, tick: u64) -> Result<(), Failed> {
+fn play(machine: &mut Machine, tick: u64) -> Result<(), Fail> {
     for place in 0..12u32 {
         let slot = place / 3;
         let cpu = place % 3;
@@ -139,23 +139,20 @@ fn are(numbers: &[u64], text: &str) -> bool {
 }
 
 /// The group has these totals.
-fn has_totals(machine: &Machine, slot: u32, text: &str) -> bool {
-    match machine.totals(slot) {
-        Ok(totals) => are(&totals, text),
-        Err(_) => false,
-    }
+fn has_totals(machine: &Machine, slot: u32, text: &str) -> Result<bool, Fail> {
+    Ok(are(&machine.totals(slot)?, text))
 }
 
 /// The four groups have these.
-fn have_totals(machine: &Machine, text: &str) -> bool {
+fn have_totals(machine: &Machine, text: &str) -> Result<bool, Fail> {
     let mut slot = 0u32;
     for totals in text.split('|') {
-        if !has_totals(machine, slot, totals) {
-            return false;
+        if !has_totals(machine, slot, totals)? {
+            return Ok(false);
         }
         slot = slot.wrapping_add(1);
     }
-    slot == 4
+    Ok(slot == 4)
 }
 
 /// The numbers of all quantities are those of the text.
@@ -173,11 +170,8 @@ fn are_averages(averages: &AverageRows, text: &str) -> bool {
 }
 
 /// The group has these averages.
-fn has_averages(machine: &Machine, slot: u32, text: &str) -> bool {
-    match machine.averages(slot) {
-        Ok(averages) => are_averages(&averages, text),
-        Err(_) => false,
-    }
+fn has_averages(machine: &Machine, slot: u32, text: &str) -> Result<bool, Fail> {
+    Ok(are_averages(&machine.averages(slot)?, text))
 }
 
 /// The triggers that signalled are those whose digits stand here.
@@ -192,11 +186,12 @@ fn have_signalled(machine: &Machine, digits: &str) -> bool {
 }
 
 /// After the tick the triggers and totals are those of the row.
-fn is_tick(machine: &mut Machine, tick: u64, row: &str) -> bool {
+fn is_tick(machine: &mut Machine, tick: u64, row: &str) -> Result<bool, Fail> {
     let Some((digits, totals)) = row.split_once('|') else {
-        return false;
+        return Ok(false);
     };
-    play(machine, tick).is_ok() && have_signalled(machine, digits) && have_totals(machine, totals)
+    play(machine, tick)?;
+    Ok(have_signalled(machine, digits) && have_totals(machine, totals)?)
 }
 
 /// Each tick: the triggers that signal, and behind them the totals of each group.
@@ -254,12 +249,12 @@ fn groups_that_come_and_go(rt: HostRuntime) -> Result<(), Fail> {
     let mut tick = 0u64;
     for row in TICKS.split(';') {
         tick = tick.wrapping_add(1);
-        assert!(rt; is_tick(&mut machine, tick, row), "at tick {tick}");
+        assert!(rt; is_tick(&mut machine, tick, row)?, "at tick {tick}");
     }
     assert_eq!(rt; tick, 7);
     let mut slot = 0u32;
     for row in AVERAGES.split(';') {
-        assert!(rt; has_averages(&machine, slot, row), "of group {slot}");
+        assert!(rt; has_averages(&machine, slot, row)?, "of group {slot}");
         slot = slot.wrapping_add(1);
     }
     assert_eq!(rt; slot, 4);
@@ -267,17 +262,16 @@ fn groups_that_come_and_go(rt: HostRuntime) -> Result<(), Fail> {
 }
 
 /// All states have lasted the whole time for IO, and none for memory and processors.
-fn waits(machine: &mut Machine, now: Ns) -> Result<(), Failed> {
+fn waits(machine: &mut Machine, now: Ns) -> Result<(), Fail> {
     machine.set(0, 0, [now, now, 0, 0, 0, 0, now, 0])?;
     machine.tick(now)
 }
 
-/// After so many seconds more, the group has these totals and averages, and nothing signalled.
-fn is_wait(machine: &mut Machine, now: Ns, totals: &str, averages: &str) -> bool {
-    waits(machine, now).is_ok()
-        && has_totals(machine, 0, totals)
-        && has_averages(machine, 0, averages)
-        && machine.fired().is_empty()
+/// At a moment, the group has these totals and averages, and nothing signalled.
+fn is_wait(machine: &mut Machine, now: Ns, totals: &str, averages: &str) -> Result<bool, Fail> {
+    waits(machine, now)?;
+    let is_told = has_totals(machine, 0, totals)? && has_averages(machine, 0, averages)?;
+    Ok(is_told && machine.fired().is_empty())
 }
 
 // One processor, where some and all tasks wait for IO all the time, and ticks of two seconds.
@@ -288,32 +282,28 @@ fn waits_without_end(rt: HostRuntime) -> Result<(), Fail> {
     let mut machine = Machine::make(alloc, 1, &lives, &[])?;
     let totals = "2000000000 2000000000 0 0 0 0 0";
     let averages = "37100 6700 1400, 37100 6700 1400, 0 0 0, 0 0 0, 0 0 0, 0 0 0, 0 0 0";
-    assert!(rt; is_wait(&mut machine, 2 * SECOND, totals, averages));
+    assert!(rt; is_wait(&mut machine, 2 * SECOND, totals, averages)?);
     let totals = "4000000000 4000000000 0 0 0 0 0";
     let averages = "67480 13181 2791, 67480 13181 2791, 0 0 0, 0 0 0, 0 0 0, 0 0 0, 0 0 0";
-    assert!(rt; is_wait(&mut machine, 4 * SECOND, totals, averages));
+    assert!(rt; is_wait(&mut machine, 4 * SECOND, totals, averages)?);
     Ok(())
 }
 
 /// Interrupts took so long (ns) up to a moment from a group that is never idle on one processor, and in none of the states.
-fn interrupt(machine: &mut Machine, now: Ns, irq: Ns) -> Result<(), Failed> {
+fn interrupt(machine: &mut Machine, now: Ns, irq: Ns) -> Result<(), Fail> {
     machine.set(0, 0, [0, 0, 0, 0, 0, 0, now, irq])?;
     machine.tick(now)
 }
 
 /// The group has this total of interrupt time (ns), and no other.
-fn has_irq_total(machine: &Machine, irq: Ns) -> bool {
-    match machine.totals(0) {
-        Ok(totals) => totals == [0, 0, 0, 0, 0, 0, irq],
-        Err(_) => false,
-    }
+fn has_irq_total(machine: &Machine, irq: Ns) -> Result<bool, Fail> {
+    Ok(machine.totals(0)? == [0, 0, 0, 0, 0, 0, irq])
 }
 
 /// At a moment, the group has all that interrupts took as its total, and these averages.
-fn is_interrupted(machine: &mut Machine, now: Ns, irq: Ns, averages: &str) -> bool {
-    interrupt(machine, now, irq).is_ok()
-        && has_irq_total(machine, irq)
-        && has_averages(machine, 0, averages)
+fn is_interrupted(machine: &mut Machine, now: Ns, irq: Ns, averages: &str) -> Result<bool, Fail> {
+    interrupt(machine, now, irq)?;
+    Ok(has_irq_total(machine, irq)? && has_averages(machine, 0, averages)?)
 }
 
 // One processor, where interrupts took half of the first two seconds, and nothing of the next two.
@@ -323,9 +313,9 @@ fn interrupts_of_half_a_period(rt: HostRuntime) -> Result<(), Fail> {
     let lives = vec![in alloc; group(alloc, 0, None)?]?;
     let mut machine = Machine::make(alloc, 1, &lives, &[])?;
     let averages = "0 0 0, 0 0 0, 0 0 0, 0 0 0, 0 0 0, 0 0 0, 18550 3350 700";
-    assert!(rt; is_interrupted(&mut machine, 2 * SECOND, SECOND, averages));
+    assert!(rt; is_interrupted(&mut machine, 2 * SECOND, SECOND, averages)?);
     let averages = "0 0 0, 0 0 0, 0 0 0, 0 0 0, 0 0 0, 0 0 0, 15189 3240 695";
-    assert!(rt; is_interrupted(&mut machine, 4 * SECOND, SECOND, averages));
+    assert!(rt; is_interrupted(&mut machine, 4 * SECOND, SECOND, averages)?);
     Ok(())
 }
 
@@ -337,11 +327,11 @@ fn interrupts_told_late(rt: HostRuntime) -> Result<(), Fail> {
     let lives = vec![in alloc; group(alloc, 0, None)?]?;
     let mut machine = Machine::make(alloc, 1, &lives, &[])?;
     let none = "0 0 0, 0 0 0, 0 0 0, 0 0 0, 0 0 0, 0 0 0, 0 0 0";
-    assert!(rt; is_interrupted(&mut machine, SECOND, 0, none));
+    assert!(rt; is_interrupted(&mut machine, SECOND, 0, none)?);
     let half = SECOND / 2;
-    assert!(rt; is_interrupted(&mut machine, SECOND + half, SECOND + half, none));
+    assert!(rt; is_interrupted(&mut machine, SECOND + half, SECOND + half, none)?);
     let averages = "0 0 0, 0 0 0, 0 0 0, 0 0 0, 0 0 0, 0 0 0, 27825 5025 1050";
-    assert!(rt; is_interrupted(&mut machine, 2 * SECOND, SECOND + half, averages));
+    assert!(rt; is_interrupted(&mut machine, 2 * SECOND, SECOND + half, averages)?);
     Ok(())
 }
 
@@ -368,7 +358,7 @@ fn is_range(numbers: &[u32], from: u32, to: u32) -> bool {
 }
 
 /// A second more is all stalled, and the triggers that signal after it are those that are owed.
-fn is_second(machine: &mut Machine, second: u64) -> bool {
+fn is_second(machine: &mut Machine, second: u64) -> Result<bool, Fail> {
     let now = second.wrapping_mul(SECOND);
     let (from, to) = match second {
         1 | 11 => (0, 100),
@@ -376,9 +366,9 @@ fn is_second(machine: &mut Machine, second: u64) -> bool {
         3 => (200, 256),
         _ => (0, 0),
     };
-    machine.set(0, 0, [now, 0, 0, 0, 0, 0, now, 0]).is_ok()
-        && machine.tick(now).is_ok()
-        && is_range(machine.fired(), from, to)
+    machine.set(0, 0, [now, 0, 0, 0, 0, 0, now, 0])?;
+    machine.tick(now)?;
+    Ok(is_range(machine.fired(), from, to))
 }
 
 // The total grows by a second a second.
@@ -388,7 +378,7 @@ fn many_triggers_on_one_group(rt: HostRuntime) -> Result<(), Fail> {
     let lives = vec![in alloc; group(alloc, 0, None)?]?;
     let mut machine = Machine::make(alloc, 1, &lives, &many_triggers(alloc)?)?;
     for second in 1..13u64 {
-        assert!(rt; is_second(&mut machine, second), "at {second} s");
+        assert!(rt; is_second(&mut machine, second)?, "at {second} s");
     }
     Ok(())
 }

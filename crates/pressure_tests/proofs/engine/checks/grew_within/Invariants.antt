@@ -1,6 +1,6 @@
 use Rattle.std.proofs.Common.{ℕ, ◌+◌, ◌<◌, ◌≤◌, get_or}
 use Rattle.pressure_spec.specs.Share.{irq_place}
-use Rattle.engine_tests.proofs.checks.grew_within.Given as goal
+use Rattle.pressure_tests.proofs.engine.checks.grew_within.Given as goal
 
 abbrev pub invariant-each : goal.invariant-each
 invariant-each l = record {

@@ -1,0 +1,4 @@
+//! The engine of ticks.
+mod checks;
+mod machine;
+mod ticks;

@@ -1,0 +1,3 @@
+//! The lines that commands print; pressure files, written and read again.
+mod reading;
+mod writing;

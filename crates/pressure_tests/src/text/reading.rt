@@ -1,0 +1,129 @@
+//! Pressure files at the borders of what is read.
+use pressure_text::{PressureFile, PressureLine, read_file, read_irq};
+use std::alloc::{AllocError, Global};
+use std::test::Fail;
+
+/// A line of zeros on all tasks.
+const FULL: &str = "full avg10=0.00 avg60=0.00 avg300=0.00 total=0\n";
+
+/// What it tells.
+const ZEROS: PressureLine = PressureLine {
+    hundredths: [0; 3],
+    total_us: 0,
+};
+
+/// Lines on some tasks that are read: each with its averages (hundredths of a percent) and its total (us).
+const LINES: [(&str, [u32; 3], u64); 2] = [
+    (
+        "some avg10=18.11 avg60=3.27 avg300=0.68 total=2000000\n",
+        [1811, 327, 68],
+        2_000_000,
+    ),
+    (
+        "some avg10=100.00 avg60=99.99 avg300=0.09 total=18446744073709551615\n",
+        [10_000, 9999, 9],
+        u64::MAX,
+    ),
+];
+
+/// Lines that aren't.
+const WRONG_LINES: [&str; 17] = [
+    "some avg10=100.01 avg60=0.00 avg300=0.00 total=0\n",
+    "some avg10=0.00 avg60=0.00 avg300=101.00 total=0\n",
+    "some avg10=18446744073709551615.00 avg60=0.00 avg300=0.00 total=0\n",
+    "some avg10=0.00 avg60=0.00 avg300=0.00 total=18446744073709551616\n",
+    "some avg10=0.0 avg60=0.00 avg300=0.00 total=0\n",
+    "some avg10=0.000 avg60=0.00 avg300=0.00 total=0\n",
+    "some avg10=00.00 avg60=0.00 avg300=0.00 total=0\n",
+    "some avg10=.00 avg60=0.00 avg300=0.00 total=0\n",
+    "some avg10=0,00 avg60=0.00 avg300=0.00 total=0\n",
+    "some avg10=+1.00 avg60=0.00 avg300=0.00 total=0\n",
+    "some avg10=18.11 .. avg60=0.00 avg300=0.00 total=0\n",
+    "some avg10=0.00 avg60=0.00 avg300=0.00 total=007\n",
+    "some avg10=0.00 avg60=0.00 avg300=0.00 total=\n",
+    "some  avg10=0.00 avg60=0.00 avg300=0.00 total=0\n",
+    "some avg60=0.00 avg10=0.00 avg300=0.00 total=0\n",
+    "some avg10=0.00 avg60=0.00 avg300=0.00 total=0\r\n",
+    "some avg10=0.00 avg60=0.00 avg300=0.00 total=0",
+];
+
+/// Files that aren't read though their first line might be, or that have none.
+const WRONG_FILES: [&str; 6] = [
+    "some avg10=0.00 avg60=0.00 avg300=0.00 total=0\n",
+    "some avg10=0.00 avg60=0.00 avg300=0.00 total=0\nfull avg10=0.00 avg60=0.00 avg300=0.00 total=0",
+    "some avg10=0.00 avg60=0.00 avg300=0.00 total=0\nfull avg10=0.00 avg60=0.00 avg300=0.00 total=0\n\n",
+    "some avg10=0.00 avg60=0.00 avg300=0.00 total=0\nsome avg10=0.00 avg60=0.00 avg300=0.00 total=0\n",
+    "full avg10=0.00 avg60=0.00 avg300=0.00 total=0\nsome avg10=0.00 avg60=0.00 avg300=0.00 total=0\n",
+    "",
+];
+
+/// A file of this line and the one of zeros.
+fn file_of(alloc: Global, line: &str) -> Result<String, AllocError> {
+    format!(in alloc; "{line}{}", FULL)
+}
+
+#[test]
+fn files_at_their_borders(rt: HostRuntime) -> Result<(), Fail> {
+    for (line, hundredths, total_us) in LINES {
+        let file = PressureFile {
+            some_line: PressureLine {
+                hundredths,
+                total_us,
+            },
+            full_line: ZEROS,
+        };
+        let text = file_of(rt.alloc(), line)?;
+        assert_eq!(rt; read_file(text.as_bytes()), Some(file), "{text}");
+    }
+    for line in WRONG_LINES {
+        let text = file_of(rt.alloc(), line)?;
+        assert_eq!(rt; read_file(text.as_bytes()), None, "{text}");
+    }
+    for text in WRONG_FILES {
+        assert_eq!(rt; read_file(text.as_bytes()), None, "{text}");
+    }
+    Ok(())
+}
+
+/// Files of interrupts that are read, told so too.
+const IRQ_FILES: [(&str, [u32; 3], u64); 3] = [
+    (FULL, [0; 3], 0),
+    (
+        "full avg10=9.05 avg60=1.63 avg300=0.34 total=1000000\n",
+        [905, 163, 34],
+        1_000_000,
+    ),
+    (
+        "full avg10=100.00 avg60=99.99 avg300=0.09 total=18446744073709551615\n",
+        [10_000, 9999, 9],
+        u64::MAX,
+    ),
+];
+
+/// Files that aren't.
+const WRONG_IRQ_FILES: [&str; 10] = [
+    "full avg10=100.01 avg60=0.00 avg300=0.00 total=0\n",
+    "full avg10=0.00 avg60=0.00 avg300=0.00 total=18446744073709551616\n",
+    "some avg10=0.00 avg60=0.00 avg300=0.00 total=0\n",
+    "full avg10=0.00 avg60=0.00 avg300=0.00 total=0",
+    "full avg10=0.00 avg60=0.00 avg300=0.00 total=0\n\n",
+    "full avg10=0.00 avg60=0.00 avg300=0.00 total=0\nfull avg10=0.00 avg60=0.00 avg300=0.00 total=0\n",
+    "some avg10=0.00 avg60=0.00 avg300=0.00 total=0\nfull avg10=0.00 avg60=0.00 avg300=0.00 total=0\n",
+    "report 2000000000 / irq\nfull avg10=0.00 avg60=0.00 avg300=0.00 total=0\n",
+    "full avg10=0.00 avg60=0.00 total=0\n",
+    "",
+];
+
+#[test]
+fn files_of_interrupts(rt: HostRuntime) {
+    for (text, hundredths, total_us) in IRQ_FILES {
+        let line = PressureLine {
+            hundredths,
+            total_us,
+        };
+        assert_eq!(rt; read_irq(text.as_bytes()), Some(line), "{text}");
+    }
+    for text in WRONG_IRQ_FILES {
+        assert_eq!(rt; read_irq(text.as_bytes()), None, "{text}");
+    }
+}
