@@ -1,12 +1,13 @@
 -- What a planner has taken after one event more.
 use Rattle.std.proofs.Common.{◌≡◌, ℕ, ◌+◌, ◌<◌, ◌≤◌, List, [], ◌∷◌, ◌++◌, length, refl, sym, ap, ◌∙◌, subst, arith, Bool, true, false, Option, None, Some, IsSome, IfSome, append_assoc}
-use Rattle.std.specs.Prelude.{if◌then◌else◌, ◌==◌}
+use Rattle.std.specs.Prelude.{if◌then◌else◌, ◌==◌, Result, Ok, Err}
 use Rattle.std.proofs.lemmas.Bool.Decides.{eqb_tells}
 use Rattle.std.proofs.lemmas.List.{append-nil, length-append}
 use Rattle.psi_base.specs.declared.event.Cause.{Cause}
 use Rattle.psi_base.specs.declared.event.Cpu.{Cpu}
 use Rattle.psi_base.specs.declared.event.Event.{Event}
 use Rattle.psi_base.specs.declared.event.Fault.{Fault}
+use Rattle.psi_base.specs.declared.event.Fault.TheVariants as fault
 use Rattle.psi_base.specs.declared.event.Slot.{Slot}
 use Rattle.psi_base.specs.declared.event.TriggerSpec.{TriggerSpec}
 use Rattle.psi_counts.specs.declared.changes.Change.{Change}
@@ -22,9 +23,11 @@ use Rattle.psi_spec.specs.Changes.{before, touched}
 use Rattle.psi_counts.proofs.TouchWithin.{changes_are_within}
 use Rattle.plan_laws.proofs.PlanLaws.{after-push, changes_from-push}
 use Rattle.task_table.specs.Stands.{HasPlayed}
+pub use Rattle.task_table.proofs.Playing.{lines_of}
+use Rattle.trace_player.specs.Playing.{PlayerTakes}
 use Rattle.proc_plan.specs.declared.side.Side.{Side}
 use Rattle.group_tree.specs.Tree.{IsGroupFault}
-use Rattle.proc_plan.specs.Plans.{HasTaken, PlannerView, changes_at}
+use Rattle.proc_plan.specs.Plans.{HasTaken, PlannerTakes, PlannerView, changes_at}
 use Rattle.proc_plan.specs.Room.{ChangesView, HasRoom, HasRoomFor, HasRoomWithin}
 use Rattle.psi_spec.specs.Told.{listed, told_from, trigger_by}
 use Rattle.proc_plan.specs.Sides.{sides_by}
@@ -45,14 +48,6 @@ legal_push limits w (first ∷ events) event legal allowed = (legal.0, legal_pus
 pub fit_push : (events : List Event) (event : Event) → AllFit events → Fits event → AllFit (events ++ event ∷ [])
 fit_push [] event all fits = (fits, tt)
 fit_push (first ∷ events) event all fits = (all.0, fit_push events event all.1 fits)
-
-lines_from : (w : World) (events : List Event) → (after_from w events).lines ≡ w.lines + length events
-lines_from w [] = omega arith
-lines_from w (event ∷ events) = omega (arith, lines_from (after_event w event) events)
-
--- a world counts the events before it
-pub lines_of : (events : List Event) → (after events).lines ≡ length events
-lines_of events = omega (arith, lines_from first_world events)
 
 -- ---- what stands against an event
 
@@ -198,3 +193,11 @@ taken_more old new event touch trigger first second limits events step taken =
       },
       omega (arith, step.played.lines, lines, length-append events (event ∷ [])),
     )
+
+-- ---- the planner as a player
+
+-- what a planner's clause tells is what a player owes
+pub planner_takes : (old new : PlannerView) (event : Event) (result : Result (Unit {0}) (Fault Cause)) → PlannerTakes old new event result → PlayerTakes (HasTaken old) (HasTaken new) event result
+planner_takes old new event (Ok x) takes = takes
+planner_takes old new event (Err (fault.Refused why)) takes = takes
+planner_takes old new event (Err (fault.NoMemory _)) takes = tt

@@ -37,6 +37,7 @@ impl Changes {
     }
 
     /// Makes room for one change more.
+    #[inline(always)]
     pub(crate) fn reserve(&mut self) -> Result<(), NoMemory>
         ensures same { self.new.list ≡ self.old.list }
         ensures kept { self.old.room ≤ self.new.room }

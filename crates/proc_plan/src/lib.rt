@@ -8,6 +8,7 @@ mod laws;
 mod plan;
 mod planner;
 mod plans;
+mod player;
 mod room;
 mod side;
 mod side_laws;

@@ -116,6 +116,7 @@ impl Planner {
 
     /// Takes one event more: it is judged, then room is made for what it adds, and then it is done. `Refused` with the first
     /// cause against it, where it isn't legal, and `NoMemory` only where it is. Nothing changes then.
+    #[inline(always)]
     pub fn take(&mut self, event: &Event) -> Result<(), Fault<Cause>>
         requires { Fits event.now }
         ensures takes { PlannerTakes self.old self.new event.now result }

@@ -19,6 +19,7 @@ use psi_spec::Task;
 use task_table::Table;
 
 // The number of the processor that an act names, if it names one.
+#[inline(always)]
 fn named_cpu(act: &Act) -> Option<u32>
     ensures { result ≡ (names act.now).cpu }
 {
@@ -33,6 +34,7 @@ fn named_cpu(act: &Act) -> Option<u32>
 }
 
 // Makes room for a change of the processor at a place.
+#[inline(always)]
 fn reserve_place(changes: &mut [Changes], place: usize) -> Result<(), NoMemory>
     requires { place < length changes.old }
     ensures same { lists_of changes.new ≡ lists_of changes.old }
@@ -44,6 +46,7 @@ fn reserve_place(changes: &mut [Changes], place: usize) -> Result<(), NoMemory>
 }
 
 // Makes room for a change of the processor with a number, if there are both.
+#[inline(always)]
 fn reserve_at(changes: &mut [Changes], cpu: Option<u32>) -> Result<(), NoMemory>
     ensures same { lists_of changes.new ≡ lists_of changes.old }
     ensures each { length changes.new ≡ length changes.old }
@@ -73,6 +76,7 @@ fn reserve_all(changes: &mut [Changes]) -> Result<(), NoMemory>
 }
 
 // The act switches the account of a group.
+#[inline(always)]
 fn is_pressure(act: &Act) -> bool
     ensures { result ≡ is_pressure act.now }
 {
@@ -81,6 +85,7 @@ fn is_pressure(act: &Act) -> bool
 
 // Makes room for what an act changes on each processor that it touches: the one that it names, and the one of the task that
 // it changes; or all of them, where it switches the account of a group.
+#[inline(always)]
 fn reserve_changes(changes: &mut [Changes], act: &Act, task: Option<Task>) -> Result<(), NoMemory>
     ensures same { lists_of changes.new ≡ lists_of changes.old }
     ensures each { length changes.new ≡ length changes.old }
@@ -94,6 +99,7 @@ fn reserve_changes(changes: &mut [Changes], act: &Act, task: Option<Task>) -> Re
 }
 
 /// Makes room for all that an event may add: what its act changes, which changes this task, and what it tells beside.
+#[inline(always)]
 pub(crate) fn make_room(
     changes: &mut [Changes],
     triggers: &mut Vec<TriggerSpec>,
@@ -153,6 +159,7 @@ fn add_gate(changes: &mut [Changes], at: Ns, gate: (Slot, bool), table: &Table)
 }
 
 // Adds what an event changes on a processor, if it changes anything.
+#[inline(always)]
 fn add_change(changes: &mut [Changes], touched: Option<(Cpu, Change)>)
     requires room { IfSome touched (λ touched. HasRoom changes.old touched.0.0) }
     requires one { IfSome touched (λ touched. IsOfOne touched.1) }
@@ -170,6 +177,7 @@ fn add_change(changes: &mut [Changes], touched: Option<(Cpu, Change)>)
 }
 
 // Adds what an event changes on the processors that it names. There must be room for it, and each change must be of one task.
+#[inline(always)]
 fn add_touched(changes: &mut [Changes], touch: &Touch)
     requires room { (cpu : ℕ) → IsSome (told_of touch.now cpu) → HasRoom changes.old cpu }
     requires beside { IsBeside touch.now.first touch.now.second }
@@ -184,6 +192,7 @@ fn add_touched(changes: &mut [Changes], touch: &Touch)
 
 /// Adds what an event at a moment (ns) changes on the processors that it touches. There must be room for it, and each change must
 /// be of one task. The table is as it is after the event.
+#[inline(always)]
 pub(crate) fn add_changes(changes: &mut [Changes], at: Ns, touch: &Touch, table: &Table)
     requires each { length changes.old ≡ table.now.limits.cpus }
     requires room { (cpu : ℕ) → IsSome (told_of touch.now cpu) → HasRoom changes.old cpu }
@@ -207,6 +216,7 @@ pub(crate) fn add_changes(changes: &mut [Changes], at: Ns, touch: &Touch, table:
 }
 
 /// Adds a trigger, if there is one. There must be room for it.
+#[inline(always)]
 pub(crate) fn add_trigger(triggers: &mut Vec<TriggerSpec>, trigger: Option<TriggerSpec>)
     requires { vec_len triggers.old + length (listed trigger) ≤ vec_capacity triggers.old }
     ensures { triggers.new.items ≡ triggers.old.items ++ listed trigger }
@@ -217,6 +227,7 @@ pub(crate) fn add_trigger(triggers: &mut Vec<TriggerSpec>, trigger: Option<Trigg
 }
 
 /// Adds a side, if there is one. There must be room for it.
+#[inline(always)]
 pub(crate) fn add_side(sides: &mut Vec<Side>, side: Option<Side>)
     requires room { vec_len sides.old + length (listed side) ≤ vec_capacity sides.old }
     requires few { AreSmall sides.old.items }

@@ -30,6 +30,7 @@ fn slot_named(groups: &Tree, path: &Path) -> Slot
 }
 
 // The trigger that an act at a moment (ns) sets, if it sets one.
+#[inline(always)]
 fn trigger_by(groups: &Tree, at: Ns, act: &Act) -> Option<TriggerSpec>
     ensures { listed result ≡ trigger_by at groups.now act.now }
 {
@@ -53,6 +54,7 @@ fn trigger_by(groups: &Tree, at: Ns, act: &Act) -> Option<TriggerSpec>
 }
 
 // The sample of a group's memory or of the host's, or the preference, that an act tells, if it tells one.
+#[inline(always)]
 fn sample_by(groups: &Tree, at: Ns, act: &Act) -> Option<Side>
     requires { ActFits act.now }
     ensures side { listed result ≡ sample_by at groups.now act.now }
@@ -115,6 +117,7 @@ fn passage(at: Ns, old: Option<Slot>, new: Option<Slot>) -> (Option<Side>, Optio
 }
 
 // The sides that an event tells in their order, at most two. The task is the one that its act changes, as it is before.
+#[inline(always)]
 fn sides_by(table: &Table, event: &Event, task: Option<Task>) -> (Option<Side>, Option<Side>)
     requires fits { ActFits event.now.act }
     requires task { task ≡ before table.now.world.tasks event.now.act }
@@ -137,6 +140,7 @@ fn sides_by(table: &Table, event: &Event, task: Option<Task>) -> (Option<Side>, 
 }
 
 /// What an event tells. The task is the one that its act changes, as it is before.
+#[inline(always)]
 pub(crate) fn told_by(table: &Table, event: &Event, task: Option<Task>) -> Told
     requires fits { ActFits event.now.act }
     requires task { task ≡ before table.now.world.tasks event.now.act }

@@ -1,5 +1,5 @@
 -- Lines at the front of bytes, field by field.
-use Rattle.std.proofs.Common.{◌≡◌, ℕ, ◌+◌, ◌-◌, ◌*◌, ◌^◌, ◌<◌, ◌≤◌, List, [], ◌∷◌, ◌++◌, length, take, drop, get_or, suc, refl, sym, ap, ◌∙◌, arith, true, take-append-drop, append_assoc}
+use Rattle.std.proofs.Common.{◌≡◌, ℕ, ◌+◌, ◌-◌, ◌*◌, ◌^◌, ◌<◌, ◌≤◌, List, [], ◌∷◌, ◌++◌, length, take, drop, get_or, suc, refl, sym, ap, ◌∙◌, subst, arith, true, take-append-drop, append_assoc}
 use Rattle.std.specs.Prelude.{Option, IfSome, decimal, codes}
 use Rattle.std.specs.Str.{all_ascii_digits, bytes_eq}
 use Rattle.std.proofs.lemmas.List.{take_more, drop_more, drop_at, length-take-le, length-append, get_or-take}
@@ -18,7 +18,7 @@ use Rattle.psi_spec.specs.Fields.{InRange, IsPid, how_word, next_word, word}
 use Rattle.psi_spec.specs.Grammar.{AreInRange, IsKnown, act_words, first_verbs, form_of, joined, kinds_of, spelling, phrase_of, verb_word, field_words}
 use Rattle.psi_spec.specs.Grammar as verb
 use Rattle.trace_laws.proofs.GrammarReads.{found_first, spelled_in_line}
-use Rattle.psi_trace.specs.Front.{AreDigits, BeginsWithEvent, HasInFront}
+use Rattle.psi_trace.specs.Front.{AreDigits, AreFour, BeginsWithEvent, HasInFront, IsDigit}
 
 -- ---- digits
 
@@ -37,26 +37,53 @@ no_digits bytes = record {
   value = refl;
 }
 
-pub digit_more : (bytes : List ℕ) (count number : ℕ) → AreDigits bytes number count → count < length bytes → 48 ≤ get_or bytes count 0 → get_or bytes count 0 ≤ 57 → AreDigits bytes (number * 10 + (get_or bytes count 0 - 48)) (count + 1)
-digit_more bytes count number are inside low high =
+-- one digit more
+pub digit_more : (bytes : List ℕ) (count next number digit : ℕ) → next ≡ count + 1 → AreDigits bytes number count → count < length bytes → IsDigit (get_or bytes count 0) digit → AreDigits bytes (number * 10 + digit) next
+digit_more bytes count next number digit is are inside one =
     let more = take_more bytes count 0 inside in
-    record {
+    rw (is, one.is) (record {
       inside = omega (arith, inside);
-      digits = rw more (all_digits-snoc (take count bytes) (get_or bytes count 0) are.digits low high);
+      digits = rw more (all_digits-snoc (take count bytes) (get_or bytes count 0) are.digits one.low one.high);
       value = rw more (value_after-snoc 0 (take count bytes) (get_or bytes count 0) ∙ ap (λ n. n * 10 + (get_or bytes count 0 - 48)) are.value);
-    }
+    })
+
+-- four digits more, by the law of one
+pub four_more : (bytes : List ℕ) (count number four : ℕ) → AreDigits bytes number count → count + 4 ≤ length bytes → AreFour bytes count four → AreDigits bytes (number * 10000 + four) (count + 4)
+four_more bytes count number four are inside is =
+    let one = digit_more bytes count (count + 1) number is.a (omega arith) are (omega (arith, inside)) is.first in
+    let two = digit_more bytes (count + 1) (count + 2) (number * 10 + is.a) is.b (omega arith) one (omega (arith, inside)) is.second in
+    let three = digit_more bytes (count + 2) (count + 3) ((number * 10 + is.a) * 10 + is.b) is.c (omega arith) two (omega (arith, inside)) is.third in
+    let all = digit_more bytes (count + 3) (count + 4) (((number * 10 + is.a) * 10 + is.b) * 10 + is.c) is.d (omega arith) three (omega (arith, inside)) is.fourth in
+    let value : (((number * 10 + is.a) * 10 + is.b) * 10 + is.c) * 10 + is.d ≡ number * 10000 + four = omega (arith, is.value) in
+    subst (λ n. AreDigits bytes n (count + 4)) value all
 
 -- ---- digits of which there are so many
 
 pow_more : (count : ℕ) → 10 ^ (count + 1) ≡ 10 ^ count * 10
 pow_more count = let next : count + 1 ≡ suc count = omega arith in ap (λ n. 10 ^ n) next ∙ pow-suc 10 count
 
-pub below_more : (count number digit : ℕ) → number < 10 ^ count → digit ≤ 57 → number * 10 + (digit - 48) < 10 ^ (count + 1)
-below_more count number digit below high = let step = pow_more count in omega (arith, below, high, step)
+pub below_more : (count next number digit byte : ℕ) → next ≡ count + 1 → number < 10 ^ count → IsDigit byte digit → number * 10 + digit < 10 ^ next
+below_more count next number digit byte is below one = let step = pow_more count in rw is (omega (arith, below, one.high, one.is, step))
+
+pub below_four : (bytes : List ℕ) (count number four : ℕ) → number < 10 ^ count → AreFour bytes count four → number * 10000 + four < 10 ^ (count + 4)
+below_four bytes count number four below is =
+    let one = below_more count (count + 1) number is.a _ (omega arith) below is.first in
+    let two = below_more (count + 1) (count + 2) (number * 10 + is.a) is.b _ (omega arith) one is.second in
+    let three = below_more (count + 2) (count + 3) ((number * 10 + is.a) * 10 + is.b) is.c _ (omega arith) two is.third in
+    let all = below_more (count + 3) (count + 4) (((number * 10 + is.a) * 10 + is.b) * 10 + is.c) is.d _ (omega arith) three is.fourth in
+    omega (arith, all, is.value)
 
 -- fewer than 19 have room for one more
 pub has_room : (count number : ℕ) → number < 10 ^ count → count < 19 → number < 10 ^ 18
 has_room count number below few = let most = pow-le-pow_right {n = 10} (omega arith) {i = count} {j = 18} (omega (arith, few)) in omega (arith, below, most)
+
+-- at most 15 have room for four
+pub has_room_for_four : (count number : ℕ) → number < 10 ^ count → count ≤ 15 → number < 10 ^ 15
+has_room_for_four count number below few = let most = pow-le-pow_right {n = 10} (omega arith) {i = count} {j = 15} few in omega (arith, below, most)
+
+-- a number of four digits
+pub four_small : (bytes : List ℕ) (place four : ℕ) → AreFour bytes place four → four ≤ 9999
+four_small bytes place four is = omega (arith, is.value, is.first.is, is.first.high, is.second.is, is.second.high, is.third.is, is.third.high, is.fourth.is, is.fourth.high)
 
 -- ---- a number and the byte behind it
 

@@ -1,8 +1,10 @@
 -- The line of an event at the front of bytes.
-use Rattle.std.specs.Prelude.{◌≡◌, ℕ, ◌+◌, ◌≤◌, ◌<◌, List, ◌∷◌, ◌++◌, take, drop, length, true}
+use Rattle.std.specs.Prelude.{◌≡◌, ℕ, ◌+◌, ◌-◌, ◌*◌, ◌≤◌, ◌<◌, List, ◌∷◌, ◌++◌, take, drop, length, slice_index_or, true}
 use Rattle.std.specs.Str.{all_ascii_digits}
 use Rattle.psi_base.specs.Number.{value_after}
 use Rattle.psi_base.specs.declared.event.Event.{Event}
+use Rattle.psi_trace.specs.declared.front.PlayedLine.{PlayedLine}
+use Rattle.trace_player.specs.Playing.{PlayerTakes, Plays}
 use Rattle.psi_spec.specs.Grammar.{Fits, IsKnown, first_verbs, spelling}
 
 -- so many bytes at the front are digits, and write this number
@@ -10,6 +12,24 @@ pub record AreDigits (bytes : List ℕ) (number count : ℕ) : Type 0 where
   pub inside : count ≤ length bytes
   pub digits : all_ascii_digits (take count bytes) ≡ true
   pub value : value_after 0 (take count bytes) ≡ number
+
+-- the byte is a digit, which stands for this number
+pub record IsDigit (byte number : ℕ) : Type 0 where
+  pub low : 48 ≤ byte
+  pub high : byte ≤ 57
+  pub is : number ≡ byte - 48
+
+-- four bytes from a place on are digits, and write this number
+pub record AreFour (bytes : List ℕ) (place number : ℕ) : Type 0 where
+  pub a : ℕ
+  pub b : ℕ
+  pub c : ℕ
+  pub d : ℕ
+  pub first : IsDigit (slice_index_or bytes place 0) a
+  pub second : IsDigit (slice_index_or bytes (place + 1) 0) b
+  pub third : IsDigit (slice_index_or bytes (place + 2) 0) c
+  pub fourth : IsDigit (slice_index_or bytes (place + 3) 0) d
+  pub value : number ≡ a * 1000 + b * 100 + c * 10 + d
 
 -- the bytes are the line of this event with its newline, and then the rest; its verb is one of every version
 pub record BeginsWithEvent (bytes : List ℕ) (event : Event) (rest : List ℕ) : Type 0 where
@@ -22,3 +42,9 @@ pub record HasInFront (bytes : List ℕ) (event : Event) (count : ℕ) : Type 0 
   pub begins : BeginsWithEvent bytes event (drop (count + 1) bytes)
   pub inside : count < length bytes
   pub short : count ≤ 512
+
+-- the bytes begin with the line of an event that a player took so, which has so many bytes before its newline
+pub record TakesFront (Before After : Plays) (bytes : List ℕ) (played : PlayedLine) : Type 0 where
+  pub event : Event
+  pub front : HasInFront bytes event played.count
+  pub takes : PlayerTakes Before After event played.answer

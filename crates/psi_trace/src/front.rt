@@ -1,33 +1,108 @@
-//! The lines that a trace has most of, read where they stand: those of tasks that wake, are switched, stall or migrate.
+//! The lines that a trace has most of, read where they stand, and played: those of tasks that wake, are switched, stall or
+//! migrate.
 //!
 //! Each is read in one pass from the left, and its newline ends it. Where the bytes don't begin with such a line the answer is
 //! none, and nothing is said of them: `read_event` reads any line, and says what is wrong with it.
-ghost use Rattle.std.specs.Prelude.{◌≡◌, ◌<◌, ◌^◌, ◌∷◌, ◌++◌, IfSome, codes, decimal};
+ghost use Rattle.std.specs.Prelude.{◌≡◌, ◌+◌, ◌<◌, ◌≤◌, ◌^◌, ◌∷◌, ◌++◌, IfNone, IfSome, codes, decimal, length};
 ghost use Rattle.psi_spec.specs.Fields.{how_word, next_word, IsPid};
-ghost use Rattle.psi_trace.specs.Front.{AreDigits, BeginsWithEvent, HasInFront};
+ghost use Rattle.psi_trace.specs.Front.{AreDigits, AreFour, BeginsWithEvent, IsDigit, TakesFront};
 
-use psi_base::{Act, Cpu, Event, How, Ns, Pid};
+use psi_base::{Act, Cause, Cpu, Event, Fault, How, Ns, Pid};
+use trace_player::Player;
 
 /// So many digits fit 64 bits, whichever they are.
 const MOST_DIGITS: usize = 19;
 
-// The number that digits at the front of the bytes write, and how many these are: all that stand there, or the first 19.
+/// A line at the front of bytes, whose event a player was given.
+#[derive(Clone, Copy)]
+pub struct PlayedLine {
+    /// How many bytes it has before its newline.
+    pub count: usize,
+    /// What the player answered.
+    pub answer: Result<(), Fault<Cause>>,
+}
+
+// The number that four digits write from a place on, if four stand there.
 #[inline(always)]
-fn digits_before(bytes: &[u8]) -> (u64, usize)
-    ensures { AreDigits bytes.now result.0 result.1 }
+fn four_at(bytes: &[u8], place: usize) -> Option<u64>
+    requires { place + 4 ≤ length bytes.now }
+    ensures { IfSome result (AreFour bytes.now place) }
+{
+    let first = digit(bytes[place])?;
+    let second = digit(bytes[place + 1])?;
+    let third = digit(bytes[place + 2])?;
+    let fourth = digit(bytes[place + 3])?;
+    Some(first * 1000 + second * 100 + third * 10 + fourth)
+}
+
+// What a byte stands for, if it is a digit.
+#[inline(always)]
+fn digit(byte: u8) -> Option<u64>
+    ensures { IfSome result (IsDigit byte) }
+{
+    if byte < b'0' || byte > b'9' {
+        return None;
+    }
+    Some(u64::from(byte - b'0'))
+}
+
+// The number that digits at the front of the bytes write, and how many these are: fours of digits as long as four stand there,
+// 16 at most.
+#[inline(always)]
+fn fours_before(bytes: &[u8]) -> (u64, usize)
+    ensures are { AreDigits bytes.now result.0 result.1 }
+    ensures below { result.0 < 10 ^ result.1 }
+    ensures few { result.1 ≤ 19 }
 {
     let mut number: u64 = 0;
     let mut count = 0;
     let most = bytes.len().min(MOST_DIGITS);
+    'fours: while count + 4 <= most {
+        let Some(four) = four_at(bytes, count) else {
+            break 'fours;
+        };
+        number = number * 10_000 + four;
+        count += 4;
+    }
+    (number, count)
+}
+
+// The number that digits write, of which so many at the front of the bytes write another, and how many all are: all that stand
+// there, or the first 19.
+#[inline(always)]
+fn digits_behind(bytes: &[u8], written: u64, place: usize) -> (u64, usize)
+    requires are { AreDigits bytes.now written place }
+    requires below { written < 10 ^ place }
+    requires few { place ≤ 19 }
+    ensures { AreDigits bytes.now result.0 result.1 }
+{
+    let mut number = written;
+    let mut count = place;
+    let most = bytes.len().min(MOST_DIGITS);
     'digits: while count < most {
-        let byte = bytes[count];
-        if byte < b'0' || byte > b'9' {
+        let Some(next) = digit(bytes[count]) else {
             break 'digits;
-        }
-        number = number * 10 + u64::from(byte - b'0');
+        };
+        number = number * 10 + next;
         count += 1;
     }
     (number, count)
+}
+
+// The number that so many digits at the front of the bytes write, if the byte `end` stands behind them and no zero before others,
+// and the bytes behind that.
+#[inline(always)]
+fn ended_by(bytes: &[u8], number: u64, count: usize, end: u8) -> Option<(u64, &[u8])>
+    requires { AreDigits bytes.now number count }
+    ensures { IfSome result (λ found. bytes.now ≡ decimal found.0 ++ end ∷ found.1.now) }
+{
+    if count >= bytes.len() || bytes[count] != end || count == 0 {
+        return None;
+    }
+    if count > 1 && bytes[0] == b'0' {
+        return None;
+    }
+    Some((number, &bytes[count + 1..]))
 }
 
 // The number that the bytes begin with, if the byte `end` stands behind it, and the bytes behind that. None where it has more
@@ -36,14 +111,18 @@ fn digits_before(bytes: &[u8]) -> (u64, usize)
 fn number_before(bytes: &[u8], end: u8) -> Option<(u64, &[u8])>
     ensures { IfSome result (λ found. bytes.now ≡ decimal found.0 ++ end ∷ found.1.now) }
 {
-    let (number, count) = digits_before(bytes);
-    if count >= bytes.len() || bytes[count] != end || count == 0 {
-        return None;
-    }
-    if count > 1 && bytes[0] == b'0' {
-        return None;
-    }
-    Some((number, &bytes[count + 1..]))
+    let (number, count) = digits_behind(bytes, 0, 0);
+    ended_by(bytes, number, count, end)
+}
+
+// The same of a time (ns), which mostly has many digits: so they are read by four.
+#[inline(always)]
+fn time_before(bytes: &[u8]) -> Option<(Ns, &[u8])>
+    ensures { IfSome result (λ found. bytes.now ≡ decimal found.0 ++ 32 ∷ found.1.now) }
+{
+    let (fours, place) = fours_before(bytes);
+    let (number, count) = digits_behind(bytes, fours, place);
+    ended_by(bytes, number, count, b' ')
 }
 
 // The same of a number below 2^32.
@@ -168,39 +247,53 @@ fn migrate_in(at: Ns, fields: &[u8]) -> Option<(Event, &[u8])>
     Some((Event { at, act }, rest))
 }
 
-// The event of the line that the bytes begin with, and the bytes behind its newline.
+// Plays the event that the bytes begin with the line of, if one was found there, with the bytes behind its newline.
 #[inline(always)]
-fn event_before(bytes: &[u8]) -> Option<(Event, &[u8])>
-    ensures { IfSome result (λ found. BeginsWithEvent bytes.now found.0 found.1.now) }
+fn play_found<P: Player>(
+    bytes: &[u8],
+    found: Option<(Event, &[u8])>,
+    player: &mut P,
+) -> Option<PlayedLine>
+    requires { IfSome found (λ found. BeginsWithEvent bytes.now found.0 found.1.now) }
+    ensures front { IfSome result
+        (TakesFront (P.Played player.old) (P.Played player.new) bytes.now) }
+    ensures same { IfNone result (player.new ≡ player.old) }
 {
-    let (at, rest) = number_before(bytes, b' ')?;
-    if let Some(fields) = rest.strip_prefix(b"switch ".as_slice()) {
-        return switch_in(at, fields);
-    }
-    if let Some(fields) = rest.strip_prefix(b"wake ".as_slice()) {
-        return wake_in(at, fields);
-    }
-    if let Some(fields) = rest.strip_prefix(b"stall ".as_slice()) {
-        return stall_in(at, fields);
-    }
-    if let Some(fields) = rest.strip_prefix(b"unstall ".as_slice()) {
-        return unstall_in(at, fields);
-    }
-    if let Some(fields) = rest.strip_prefix(b"migrate ".as_slice()) {
-        return migrate_in(at, fields);
-    }
-    None
+    let Some((event, rest)) = found else {
+        return None;
+    };
+    let count = bytes.len() - rest.len() - 1;
+    let answer = player.take(&event);
+    Some(PlayedLine { count, answer })
 }
 
-/// The event of the line that the bytes begin with, and how many bytes that line has before its newline, where it is a
-/// `switch` without an `exit`, a `wake`, `stall`, `unstall` or `migrate`. None may also be where the bytes begin with such a
-/// line; where there is an event, it is the one that [`read_event`](crate::read_event) reads.
+/// Plays the event of the line that the bytes begin with, where that is a `switch` without an `exit`, a `wake`, `stall`,
+/// `unstall` or `migrate`: the one that [`read_event`](crate::read_event) reads. None may also be where the bytes begin with
+/// such a line; then nothing is played.
+///
+/// Each verb has a call of its own, in which it is known what the event is. Whether it is stored all the same is the
+/// compiler's choice.
 #[inline(always)]
-pub fn front_event(bytes: &[u8]) -> Option<(Event, usize)>
-    ensures { IfSome result (λ found. HasInFront bytes.now found.0 found.1) }
+pub fn take_front<P: Player>(bytes: &[u8], player: &mut P) -> Option<PlayedLine>
+    ensures front { IfSome result
+        (TakesFront (P.Played player.old) (P.Played player.new) bytes.now) }
+    ensures same { IfNone result (player.new ≡ player.old) }
 {
-    match event_before(bytes) {
-        Some((event, rest)) => Some((event, bytes.len() - rest.len() - 1)),
-        None => None,
+    let (at, rest) = time_before(bytes)?;
+    if let Some(fields) = rest.strip_prefix(b"switch ".as_slice()) {
+        return play_found(bytes, switch_in(at, fields), player);
     }
+    if let Some(fields) = rest.strip_prefix(b"wake ".as_slice()) {
+        return play_found(bytes, wake_in(at, fields), player);
+    }
+    if let Some(fields) = rest.strip_prefix(b"stall ".as_slice()) {
+        return play_found(bytes, stall_in(at, fields), player);
+    }
+    if let Some(fields) = rest.strip_prefix(b"unstall ".as_slice()) {
+        return play_found(bytes, unstall_in(at, fields), player);
+    }
+    if let Some(fields) = rest.strip_prefix(b"migrate ".as_slice()) {
+        return play_found(bytes, migrate_in(at, fields), player);
+    }
+    None
 }

@@ -25,7 +25,8 @@ use Rattle.psi_spec.proofs.Following.{last_end}
 use Rattle.proc_plan.proofs.Taking.{legal_push}
 use Rattle.plan_laws.proofs.PlanLaws.{after-push}
 use Rattle.psi_base.specs.Gives.{Gives}
-use Rattle.replay_core.specs.Reads.{Legally, rest_from, RefusalOf, IsTraceFault, NextGives, Plays, RestGives, TailGives, PlayerTakes, TakesLine, TakesRead, TracePlayed, trace_fault, verbs_in}
+use Rattle.trace_player.specs.Playing.{PlayerTakes, Plays}
+use Rattle.replay_core.specs.Reads.{Legally, rest_from, RefusalOf, IsTraceFault, NextGives, RestGives, TailGives, TakesLine, TakesRead, TracePlayed, trace_fault, verbs_in}
 use Rattle.replay_core.specs.declared.trace.TraceFault.{TraceFault}
 use Rattle.replay_core.specs.declared.trace.TraceFault.TheVariants.{Refused, NoFile, ReadFault, NoMemory}
 

@@ -9,7 +9,7 @@ use Rattle.psi_base.specs.declared.event.Cause.TheVariants as cause
 use Rattle.psi_base.specs.declared.event.Fault.{Fault}
 use Rattle.psi_base.specs.declared.event.Fault.TheVariants as fault
 use Rattle.psi_spec.specs.World.{World, Limits, after, first_world, most_events}
-use Rattle.psi_spec.specs.Refusal.{AreLegal, cause_of}
+use Rattle.psi_spec.specs.Refusal.{AreLegal}
 use Rattle.psi_spec.specs.Grammar.{IsVersion, One, Verb, Version, header_with, verbs_of, version_of, versions}
 use Rattle.psi_spec.specs.Trace.{AllFit, AreKnown, IsAccepted, IsCpuCount, Trace, accepts_with, events_from, followed, limits_of, line_event, refused, trace_of, with_events}
 use Rattle.psi_lines.specs.Lines.{Reader}
@@ -17,20 +17,12 @@ use Rattle.psi_lines.specs.Next.{furthest}
 use Rattle.psi_lines.specs.declared.lines.LineFault.{LineFault}
 use Rattle.psi_lines.specs.declared.lines.LineFault.TheVariants as lines
 use Rattle.psi_trace.specs.declared.header.Header.{Header}
+use Rattle.trace_player.specs.Playing.{IsPlayed, PlayerTakes, Plays}
 use Rattle.proc_plan.specs.Plans.{PlansView, StandFor}
 use Rattle.replay_core.specs.declared.trace.TraceFault.{TraceFault}
 use Rattle.replay_core.specs.declared.trace.TraceFault.TheVariants.{Refused, NoFile, ReadFault, NoMemory}
 
 -- ---- players
-
--- which traces a player has played: limits and events
-abbrev pub Plays : Type 1
-Plays = Limits → List Event → Type 0
-
--- a table's limits and world are those of a trace
-pub record IsPlayed (limits_now : Limits) (w : World) (limits : Limits) (events : List Event) : Type 0 where
-  pub limits_are : limits_now ≡ limits
-  pub world : w ≡ after events
 
 -- a keeper's table has played events, and it keeps them, and how many processors they are on
 pub record HasKept (cpus : ℕ) (kept : List Event) (limits_now : Limits) (w : World) (limits : Limits) (events : List Event) : Type 0 where
@@ -41,13 +33,6 @@ pub record HasKept (cpus : ℕ) (kept : List Event) (limits_now : Limits) (w : W
 -- a player has played events that can each be spelled, by one of these verbs, and are legal in their turn
 abbrev pub Legally : List Verb → Plays → Plays
 Legally verbs Played limits events = Played limits events × AllFit events × AreKnown verbs events × AreLegal limits first_world events
-
--- What an event does to a player that has played any events: it is legal and played behind them, and there were fewer
--- than 4,000,000; or it is refused with the first cause. Of want of memory nothing is said.
-abbrev pub PlayerTakes : Plays → Plays → Event → Result (Unit {0}) (Fault Cause) → Type 0
-PlayerTakes Before After event (Ok x) = (limits : Limits) (events : List Event) → Before limits events → (cause_of limits (after events) event ≡ None) × After limits (events ++ event ∷ []) × (length events < most_events)
-PlayerTakes Before After event (Err (fault.Refused why)) = (limits : Limits) (events : List Event) → Before limits events → cause_of limits (after events) event ≡ Some why
-PlayerTakes Before After event (Err (fault.NoMemory _)) = ⊤
 
 -- what was read of a line does to a player: an event is taken, and a fault is handed on
 abbrev pub TakesRead : Plays → Plays → Result Event (Fault Cause) → Result (Unit {0}) (Fault Cause) → Type 0

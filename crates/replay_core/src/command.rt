@@ -8,7 +8,8 @@ ghost use Rattle.run_spec.specs.MostRead.{most_read};
 ghost use Rattle.run_spec.specs.Run.{Runs, run_counts};
 ghost use Rattle.run_spec.specs.Words.{IsCommand, IsWithin};
 ghost use Rattle.psi_words.specs.Reads.{HasTextNames};
-ghost use Rattle.replay_core.specs.Reads.{IsPlayed, plain_trace};
+ghost use Rattle.replay_core.specs.Reads.{plain_trace};
+ghost use Rattle.trace_player.specs.Playing.{IsPlayed};
 ghost use Rattle.replay_core.specs.Writes.{IsStatusOf, WritesText};
 
 use crate::generated::{write_generated, write_stress};

@@ -12,7 +12,8 @@ ghost use Rattle.psi_spec.specs.World.{Limits};
 ghost use Rattle.proc_plan.specs.Plans.{plan_at};
 ghost use Rattle.replay_core.specs.Lines.{HasMadeAll, all_lines, plan_line, plan_lines};
 ghost use Rattle.replay_workers.specs.Crew.{clocks_at};
-ghost use Rattle.replay_core.specs.Reads.{IsPlayed, plain_trace};
+ghost use Rattle.replay_core.specs.Reads.{plain_trace};
+ghost use Rattle.trace_player.specs.Playing.{IsPlayed};
 
 use pressure_text::{write_check, write_stall, write_stall_irq};
 use proc_plan::{IrqClocks, PlainClocks, Plans, ProcClocks};

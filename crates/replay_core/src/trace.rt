@@ -6,15 +6,14 @@ ghost use Rattle.psi_lines.specs.Lines.{left};
 ghost use Rattle.psi_lines.specs.Next.{furthest};
 ghost use Rattle.psi_spec.specs.Grammar.{Fits, IsVersion, Version, verbs_of};
 ghost use Rattle.psi_spec.specs.Trace.{limits_of, refused};
-ghost use Rattle.psi_trace.specs.Front.{HasInFront};
 ghost use Rattle.run_spec.specs.MostRead.{most_of_trace};
 ghost use Rattle.replay_core.specs.Reads.{CausesTraceFault, HeadGives, IsHead, IsTraceFault, Legally, NextGives, ReadsLine, RestGives, TailGives, TakesLine, TakesRead, TellsNothing, TracePlayed, TraceRefused, trace_fault, verbs_in};
 
-use crate::player::Player;
 use psi_base::{Cause, Event, Fault, NoMemory, Ns, Refusal, Shelf};
 use psi_lines::{LineFault, Lines};
-use psi_trace::{Header, front_event, read_event, read_header};
+use psi_trace::{Header, read_event, read_header, take_front};
 use std::alloc::Global;
+use trace_player::Player;
 
 /// Why there is no trace.
 #[derive(Clone, Copy, Debug, PartialEq, Eq)]
@@ -100,32 +99,6 @@ fn take_line<P: Player>(
     take_read(player, &read_event(alloc, version, line))
 }
 
-// Plays the event of the line at the front of what is held, which has so many bytes before its newline, where the trace
-// hasn't ended.
-#[inline(always)]
-fn play_front<P: Player>(
-    lines: &mut Lines,
-    player: &mut P,
-    event: &Event,
-    count: usize,
-) -> Result<(), TraceFault>
-    requires number { lines.old.number < 2 ^ 32 }
-    requires front { HasInFront lines.old.held event.now count }
-    ensures content { (version : Version) (known : Option (List ℕ)) →
-        NextGives (verbs_of version) (Legally (verbs_of version) (P.Played player.old))
-        (Legally (verbs_of version) (P.Played player.new)) lines.old.number
-        (left lines.old) (left lines.new) known result }
-    ensures reads { (known : Option (List ℕ)) (counts : ShelfCounts) (given : ℕ)
-        → ReadsLine known lines.old lines.new counts counts given given result }
-{
-    let line = lines.number();
-    lines.pass(count);
-    match player.take(event) {
-        Ok(()) => Ok(()),
-        Err(fault) => Err(fault_at(line, fault)),
-    }
-}
-
 // Reads and plays the next event line of a trace of a version, whichever it is, where the trace hasn't ended.
 fn next_event<S: Shelf, P: Player>(
     alloc: Global,
@@ -181,9 +154,14 @@ fn play_next<S: Shelf, P: Player>(
         (counts_of (S.faults shelf.new) (S.absent shelf.new))
         (S.given shelf.old) (S.given shelf.new) result }
 {
-    match front_event(lines.held()) {
-        Some((event, count)) => play_front(lines, player, &event, count),
-        None => next_event(alloc, version, lines, shelf, player),
+    let Some(played) = take_front(lines.held(), player) else {
+        return next_event(alloc, version, lines, shelf, player);
+    };
+    let line = lines.number();
+    lines.pass(played.count);
+    match played.answer {
+        Ok(()) => Ok(()),
+        Err(fault) => Err(fault_at(line, fault)),
     }
 }
 

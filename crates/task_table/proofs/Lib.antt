@@ -5,3 +5,4 @@ pub mod Replacing
 pub mod Tabled
 pub mod Touching
 pub mod Runners
+pub mod Playing

@@ -99,6 +99,7 @@ fn fork_refused(
 }
 
 /// Why a wake isn't legal.
+#[inline(always)]
 fn wake_refused(task: Option<Task>, cpus: usize, cpu: u32) -> Option<Cause>
     ensures { result ≡ wake_cause cpus task cpu }
 {
@@ -115,6 +116,7 @@ fn wake_refused(task: Option<Task>, cpus: usize, cpu: u32) -> Option<Cause>
 }
 
 /// Why the next task, if there is one, can't run on this processor.
+#[inline(always)]
 fn next_refused(next: Option<Pid>, task: Option<Task>, cpus: usize, cpu: u32) -> Option<Cause>
     ensures { result ≡ next_cause cpus cpu next task }
 {
@@ -144,6 +146,7 @@ fn cpu_refused(cpus: usize, cpu: u32) -> Option<Cause>
 }
 
 /// Why the running task can't leave so.
+#[inline(always)]
 fn how_refused(how: How, running: Running) -> Option<Cause>
     ensures { result ≡ how_cause how running }
 {
@@ -157,6 +160,7 @@ fn how_refused(how: How, running: Running) -> Option<Cause>
 }
 
 /// Why a switch isn't legal.
+#[inline(always)]
 fn switch_refused(
     running: &[Running],
     cpu: u32,
@@ -174,6 +178,7 @@ fn switch_refused(
 }
 
 /// Why a stall can't begin.
+#[inline(always)]
 fn stall_refused(task: Option<Task>) -> Option<Cause>
     ensures { result ≡ stall_cause task }
 {
@@ -190,6 +195,7 @@ fn stall_refused(task: Option<Task>) -> Option<Cause>
 }
 
 /// Why a stall can't end.
+#[inline(always)]
 fn unstall_refused(task: Option<Task>) -> Option<Cause>
     ensures { result ≡ unstall_cause task }
 {
@@ -206,6 +212,7 @@ fn unstall_refused(task: Option<Task>) -> Option<Cause>
 }
 
 /// Why a task can't migrate.
+#[inline(always)]
 fn migrate_refused(task: Option<Task>, cpus: usize, cpu: u32) -> Option<Cause>
     ensures { result ≡ migrate_cause cpus task cpu }
 {
@@ -292,6 +299,7 @@ fn irq_refused(irqs: &[Ns], cpus: usize, at: Ns, cpu: Cpu, ns: u64) -> Option<Ca
 
 /// Why the act of an event isn't legal. `irqs` has the moments of the last `irq` lines, and `named` is the task with the number
 /// that the act names.
+#[inline(always)]
 pub(crate) fn act_refused(
     tree: &Tree,
     tasks: &TaskMap,

@@ -16,6 +16,7 @@ use psi_base::{How, Pid};
 use psi_spec::{Mode, Task};
 
 /// A running task after it left its processor, or none where it is gone.
+#[inline(always)]
 fn left(how: How, task: Task) -> Option<Task>
     ensures task { result ≡ left_by how task }
     ensures off { how ≢ Idle → IfSome result (λ t. is_running t.mode ≡ false) }
@@ -40,6 +41,7 @@ fn left(how: How, task: Task) -> Option<Task>
 }
 
 /// The running task of a processor leaves it.
+#[inline(always)]
 fn switch_out(
     tasks: &mut TaskMap,
     running: &mut [Running],
@@ -82,6 +84,7 @@ fn switch_out(
 }
 
 /// A ready task starts on a processor on which none runs.
+#[inline(always)]
 fn switch_in(
     tasks: &mut TaskMap,
     running: &mut [Running],
@@ -115,6 +118,7 @@ fn switch_in(
 }
 
 /// A legal switch, done. `task` is the one that runs next.
+#[inline(always)]
 pub(crate) fn switch(
     tasks: &mut TaskMap,
     running: &mut [Running],

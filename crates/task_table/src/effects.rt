@@ -28,6 +28,7 @@ fn is_end(act: &Act) -> bool
 }
 
 /// The trace has ended with this act, or had before.
+#[inline(always)]
 pub(crate) fn has_ended(before: bool, act: &Act) -> bool
     ensures { result ≡ (before || ends act.now) }
 {
@@ -35,6 +36,7 @@ pub(crate) fn has_ended(before: bool, act: &Act) -> bool
 }
 
 /// How many triggers there are with this act.
+#[inline(always)]
 pub(crate) fn triggers_with(before: u32, act: &Act) -> u32
     requires { before ≤ 256 }
     ensures { result ≡ before + (if is_trigger act.now then 1 else 0) }
@@ -46,6 +48,7 @@ pub(crate) fn triggers_with(before: u32, act: &Act) -> u32
 }
 
 /// How many `pressure` lines there are with this act.
+#[inline(always)]
 pub(crate) fn pressures_with(before: u32, act: &Act) -> u32
     requires { before ≤ 65536 }
     ensures { result ≡ before + (if is_pressure act.now then 1 else 0) }
@@ -57,6 +60,7 @@ pub(crate) fn pressures_with(before: u32, act: &Act) -> u32
 }
 
 /// Keeps the moment (ns) of an act where it is the last `irq` line of its processor.
+#[inline(always)]
 pub(crate) fn note_irq(irqs: &mut [Ns; MOST_CPUS], at: Ns, act: &Act)
     ensures { irqs.new ≡ irqs_after at irqs.old act.now }
 {
@@ -129,6 +133,7 @@ fn moved(task: Option<Task>, slot: Slot) -> Option<Task>
 }
 
 /// The task with the number that an act names.
+#[inline(always)]
 pub(crate) fn named_task(tasks: &TaskMap, act: &Act) -> Option<Task>
     ensures { result ≡ named_task tasks.now act.now }
 {
@@ -238,6 +243,7 @@ fn add_group(tree: &mut Tree, members: &mut Members, path: &Path, at: Ns) -> Res
 
 /// What a legal act does to tasks, done. `named` is the task with the number that the act names. Only a fork takes memory;
 /// where there is none, nothing changes.
+#[inline(always)]
 pub(crate) fn change_tasks(
     tasks: &mut TaskMap,
     running: &mut [Running],
@@ -302,6 +308,7 @@ pub(crate) fn change_tasks(
 
 /// What a legal act at a moment (ns) does to groups, done. Only a new group takes memory; where there is none, nothing
 /// changes.
+#[inline(always)]
 pub(crate) fn change_groups(
     tree: &mut Tree,
     members: &mut Members,

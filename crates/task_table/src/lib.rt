@@ -6,6 +6,7 @@ mod context_switch;
 mod effects;
 mod finding;
 mod members;
+mod player;
 mod running;
 mod table;
 mod task_map;

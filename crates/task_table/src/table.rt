@@ -175,6 +175,7 @@ impl Table {
 
     /// The first cause against an event whose act names this task.
     #[tactic(auto, using(crate::proofs::CauseLaws::first_is, std::proofs::lemmas::Bool::Decides::nat_tests))]
+    #[inline(always)]
     fn refused(&self, event: &Event, named: Option<Task>) -> Option<Cause>
         requires { named ≡ named_task self.now.world.tasks event.now.act }
         ensures cause { result ≡ cause_of self.now.limits self.now.world event.now }
@@ -208,6 +209,7 @@ impl Table {
     }
 
     /// The one task whose counts an act changes, as it is before the act. `named` is the one with the number that the act names.
+    #[inline(always)]
     fn task_before(&self, act: &Act, named: Option<Task>) -> Option<Task>
         requires { named ≡ named_task self.now.world.tasks act.now }
         ensures { result ≡ before self.now.world.tasks act.now }
@@ -221,6 +223,7 @@ impl Table {
 
     /// Judges an event: what is found of its tasks where it is legal, and else the first cause against it, in this profile's
     /// order of causes.
+    #[inline(always)]
     pub fn judge(&self, event: &Event) -> Result<Finding, Cause>
         ensures { Judges self.now event.now result }
     {
@@ -246,6 +249,7 @@ impl Table {
 
     /// The world after the event. Where it is refused, or there is no memory for a new task or group, nothing changes:
     /// `Refused` with the first cause, and `NoMemory` for a legal fork or a legal new group alone.
+    #[inline(always)]
     pub fn play(&mut self, event: &Event) -> Result<(), Fault<Cause>>
         ensures { PlaysEvent self.old event.now self.new result }
     {
@@ -274,6 +278,7 @@ impl Table {
 
     /// Does what a legal event does, of which this was found: what it changes on each processor that it touches. Only a fork
     /// and a new group take memory; where there is none, nothing changes.
+    #[inline(always)]
     pub fn perform(&mut self, event: &Event, finding: Finding) -> Result<Touch, NoMemory>
         requires { IsFinding self.old event.now finding }
         ensures plays { PlaysLegal self.old event.now self.new result }
@@ -296,6 +301,7 @@ impl Table {
     }
 
     /// The world after a legal event, and the task that the event changes. Where there is no memory, nothing changes.
+    #[inline(always)]
     fn advance(&mut self, event: &Event, finding: Finding) -> Result<TaskUpdate, NoMemory>
         requires { IsFinding self.old event.now finding }
         ensures plays { PlaysLegal self.old event.now self.new result }

@@ -62,6 +62,7 @@ impl TaskMap {
     }
 
     /// The task with this number.
+    #[inline(always)]
     pub(crate) fn get(&self, pid: u32) -> Option<Task>
         ensures { result ≡ task_of self.now pid }
     {
@@ -85,6 +86,7 @@ impl TaskMap {
     }
 
     /// Puts a task in the place of the one with this number. It takes no memory.
+    #[inline(always)]
     pub(crate) fn set(&mut self, pid: u32, task: Task)
         requires { IsSome (task_of self.old pid) }
         ensures { self.new ≡ put self.old pid task }

@@ -72,6 +72,7 @@ pub(crate) fn current_on(running: &[Running], cpu: Cpu) -> Option<(Slot, bool)>
 
 /// The change of a processor at a moment (ns), by the task that an act changes and by the tasks that run after it. No interrupts
 /// took time.
+#[inline(always)]
 fn change_of(at: Ns, changed: TaskUpdate, running: &[Running], cpu: Cpu) -> Change
     ensures { result ≡ change_for at changed (slice_index_or running.now cpu.0 None) 0 cpu.0 }
 {
@@ -86,6 +87,7 @@ fn change_of(at: Ns, changed: TaskUpdate, running: &[Running], cpu: Cpu) -> Chan
 }
 
 /// The slot of the live group whose account an act switches, and whether on, if it switches one.
+#[inline(always)]
 pub(crate) fn gate_of(tree: &Tree, act: &Act) -> Option<(Slot, bool)>
     ensures { result ≡ gate_of tree.now act.now }
 {
@@ -109,6 +111,7 @@ pub(crate) fn gate_touch(gate: (Slot, bool)) -> Touch
 
 /// The changes at a moment (ns) of the processors that an act touches, by the task that it changes and by the tasks that
 /// run after it. Where a task comes from another processor, that one is the second. The act switches no account.
+#[inline(always)]
 pub(crate) fn touch_of(at: Ns, act: &Act, changed: TaskUpdate, running: &[Running]) -> Touch
     requires { (names act.now).switched ≡ None }
     ensures told { (cpu : ℕ) →

@@ -1,6 +1,6 @@
 use Rattle.std.proofs.Common.{◌-◌, ◌^◌, ◌<◌, ◌≤◌}
 use Rattle.psi_trace.specs.Front.{AreDigits}
-use Rattle.psi_trace.proofs.front.digits_before.Given as goal
+use Rattle.psi_trace.proofs.front.digits_behind.Given as goal
 
 abbrev pub invariant-digits : goal.invariant-digits
 invariant-digits l = record {

@@ -1,0 +1,25 @@
+//! A planner as what a trace is played on: to sum stalls, and to replay, a trace is taken apart by processor.
+
+use crate::planner::Planner;
+use psi_base::{Cause, Event, Fault, NoMemory, Ns};
+use std::alloc::Global;
+use trace_player::Player;
+
+impl Player for Planner {
+    ghost use Rattle.proc_plan.specs.Plans.{HasTaken};
+
+    ghost Played = { λ planner limits events. HasTaken planner limits events };
+
+    fn start(alloc: Global, cpus: u32, latest: Ns) -> Result<Self, NoMemory> {
+        Planner::new(alloc, cpus, latest)
+    }
+
+    #[inline(always)]
+    fn take(&mut self, event: &Event) -> Result<(), Fault<Cause>> {
+        Planner::take(self, event)
+    }
+
+    fn is_ended(&self) -> bool {
+        Planner::is_ended(self)
+    }
+}

@@ -1,0 +1,25 @@
+//! A table as what a trace is played on: to check a trace it is enough.
+
+use crate::table::Table;
+use psi_base::{Cause, Event, Fault, NoMemory, Ns};
+use std::alloc::Global;
+use trace_player::Player;
+
+impl Player for Table {
+    ghost use Rattle.trace_player.specs.Playing.{IsPlayed};
+
+    ghost Played = { λ table limits events. IsPlayed table.limits table.world limits events };
+
+    fn start(alloc: Global, cpus: u32, latest: Ns) -> Result<Self, NoMemory> {
+        Table::new(alloc, cpus, latest)
+    }
+
+    #[inline(always)]
+    fn take(&mut self, event: &Event) -> Result<(), Fault<Cause>> {
+        self.play(event)
+    }
+
+    fn is_ended(&self) -> bool {
+        Table::is_ended(self)
+    }
+}

@@ -1,0 +1,34 @@
+//! What a trace is played on.
+ghost use Rattle.std.specs.Prelude.{◌≡◌, ◌≤◌, List, [], IfOk};
+ghost use Rattle.psi_base.specs.declared.event.Event.{Event};
+ghost use Rattle.psi_spec.specs.Grammar.{Fits};
+ghost use Rattle.psi_spec.specs.World.{Limits, after};
+ghost use Rattle.psi_spec.specs.Trace.{IsCpuCount, last_moment};
+ghost use Rattle.trace_player.specs.Playing.{PlayerTakes};
+
+use psi_base::{Cause, Event, Fault, NoMemory, Ns};
+use std::alloc::Global;
+
+/// A machine that plays a trace. Where an event is refused, the player isn't used again.
+pub trait Player: Sized {
+    /// It has played these events of a trace with these limits.
+    ghost Played: { Self → Limits → List Event → Type 0 };
+
+    /// The machine before a trace with so many processors, 1 to 64, in which no event is later than `latest` (ns).
+    fn start(alloc: Global, cpus: u32, latest: Ns) -> Result<Self, NoMemory>
+        requires counted { IsCpuCount cpus }
+        requires short { latest ≤ last_moment }
+        ensures { IfOk result (λ player.
+            Self.Played player (record { cpus = cpus; latest = latest }) []) };
+
+    /// Plays one event more, whose numbers are in the ranges of the grammar: `Refused` with the first cause against it, where it
+    /// isn't legal.
+    fn take(&mut self, event: &Event) -> Result<(), Fault<Cause>>
+        requires { Fits event.now }
+        ensures { PlayerTakes (Self.Played self.old) (Self.Played self.new) event.now result };
+
+    /// The trace has ended.
+    fn is_ended(&self) -> bool
+        ensures { (limits : Limits) (events : List Event) → Self.Played self.now limits events →
+            result ≡ (after events).ended };
+}
