@@ -1,6 +1,6 @@
 -- What is gathered behind a line.
-use Rattle.std.proofs.Common.{◌≡◌, ℕ, ◌+◌, ◌≤◌, ◌<◌, List, [], ◌∷◌, ◌++◌, refl, ap, ◌∙◌, sym, subst, arith, true, false, Option, None, Some, length, drop}
-use Rattle.std.specs.Prelude.{is_some, Ok, Err, slice_index_or}
+use Rattle.std.proofs.Common.{◌≡◌, ℕ, ◌+◌, ◌-◌, ◌≤◌, ◌<◌, List, [], ◌∷◌, ◌++◌, refl, ap, ◌∙◌, sym, subst, arith, true, false, Option, None, Some, length, drop}
+use Rattle.std.specs.Prelude.{is_some, max, Ok, Err, slice_index_or}
 use Rattle.std.proofs.lemmas.List.{drop_more, length-append, length-map}
 use Rattle.std.proofs.Math.ListN.{drop_of_length-le}
 use Rattle.psi_base.specs.declared.event.Cpu.{Cpu}
@@ -101,6 +101,15 @@ pub record Sighted (old : Gathering) (at : ℕ) (what : Seen) (moment before : �
   pub before_is : before ≡ length old.kept.items
   pub part_is : part ≡ drop before new
   pub kept : events_by new ≡ events_by old.kept.items ++ events_at moment (acts_of old.table.world.tasks what)
+
+pub sighted : (old : Gathering) (at : ℕ) (what : Seen) (first moment before : ℕ) (cpu : Cpu) (part new : List Kept) → first ≡ first_time (reached_in old) at → moment ≡ max old.moment (at - first) → cpu ≡ needed_cpu what → before ≡ length old.kept.items → part ≡ drop before new → events_by new ≡ events_by old.kept.items ++ events_at moment (acts_of old.table.world.tasks what) → Sighted old at what moment before cpu part new
+sighted old at what first moment before cpu part new begins moved needed count behind kept = record {
+  moment_is = moved ∙ ap (λ f. max old.moment (at - f)) begins;
+  cpu_is = needed;
+  before_is = count;
+  part_is = behind;
+  kept = kept;
+}
 
 -- what is kept isn't less than before
 pub kept_longer : (old new : List Kept) (events : List Event) (before : ℕ) → before ≡ length old → events_by new ≡ events_by old ++ events → before ≤ length new

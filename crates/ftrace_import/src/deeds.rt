@@ -1,7 +1,7 @@
 //! What a line does, as it is kept until all lines are read.
 ghost use Rattle.std.specs.Prelude.{◌≡◌, ◌++◌, ◌∷◌, [], IfOk, if◌then◌else◌};
 ghost use Rattle.psi_spec.specs.World.{running_on, task_of};
-ghost use Rattle.import_spec.specs.Events.{acts_of, arrival_acts, migration_acts, next_acts, runs_there, switch_acts, turn_acts, wakeup_acts};
+ghost use Rattle.import_spec.specs.Events.{acts_of, migration_acts, next_acts, runs_there, switch_acts, turn_acts, wakeup_acts};
 ghost use Rattle.std.specs.Prelude.{None};
 ghost use Rattle.ftrace_import.specs.Deeds.{Adds, act_by, event_by};
 
@@ -135,28 +135,7 @@ fn keep_pulled(kept: &mut Vec<Kept>, at: Ns, pid: Pid, cpu: Cpu, from: Cpu) -> R
     keep(kept, at, Deed::Migrate { pid, cpu })
 }
 
-/// What brings a task to a processor, where it is to run.
-fn keep_arrival(
-    kept: &mut Vec<Kept>,
-    at: Ns,
-    pid: Pid,
-    cpu: Cpu,
-    task: Option<Task>,
-) -> Result<(), NoMemory>
-    ensures { Adds kept.old.items kept.new.items result at (arrival_acts pid cpu task) }
-{
-    let Some(task) = task else {
-        return keep(kept, at, Deed::Fork { pid, cpu });
-    };
-    match task.mode {
-        Mode::Blocked | Mode::Waiting => keep(kept, at, Deed::Wake { pid, cpu }),
-        Mode::Ready if task.cpu.0 == cpu.0 => keep_none(kept, at),
-        Mode::Ready => keep(kept, at, Deed::Migrate { pid, cpu }),
-        Mode::Running => keep_pulled(kept, at, pid, cpu, task.cpu),
-    }
-}
-
-/// What brings the next task, if there is one.
+/// What brings the next task to a processor, where it is to run, if there is one.
 fn keep_next(
     table: &Table,
     kept: &mut Vec<Kept>,
@@ -167,9 +146,17 @@ fn keep_next(
     ensures { Adds kept.old.items kept.new.items result at
         (next_acts table.now.world.tasks cpu next) }
 {
-    match next {
-        Some(pid) => keep_arrival(kept, at, pid, cpu, table.task(pid)),
-        None => keep_none(kept, at),
+    let Some(pid) = next else {
+        return keep_none(kept, at);
+    };
+    let task = table.task(pid);
+    match task {
+        None => keep_wakeup(kept, at, pid, cpu, task),
+        Some(there) => match there.mode {
+            Mode::Blocked | Mode::Waiting => keep_wakeup(kept, at, pid, cpu, task),
+            Mode::Ready => keep_migration(kept, at, pid, cpu, task),
+            Mode::Running => keep_pulled(kept, at, pid, cpu, there.cpu),
+        },
     }
 }
 

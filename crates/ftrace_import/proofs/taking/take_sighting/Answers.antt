@@ -1,7 +1,6 @@
-use Rattle.std.proofs.Common.{◌≡◌, ◌-◌, ◌∙◌, ap, refl, rules, sym, None, Some}
-use Rattle.std.specs.Prelude.{max}
+use Rattle.std.proofs.Common.{◌≡◌, ◌∙◌, ap, refl, rules, sym, None, Some}
 use Rattle.ftrace_import.specs.Gathers.{reached_in}
-use Rattle.ftrace_import.proofs.Gathered.{Sighted, cause_is, kept_longer, sighted_plays, sighted_taken}
+use Rattle.ftrace_import.proofs.Gathered.{cause_is, kept_longer, sighted, sighted_plays, sighted_taken}
 use Rattle.ftrace_import.proofs.Lines.{cause_at, given_refused}
 use Rattle.ftrace_import.proofs.taking.take_sighting.Goals as goal
 
@@ -10,36 +9,21 @@ kept_from-new-requires c = kept_longer c.args.g.now.kept.items c.keep_seen.new.k
 
 pub returns-in-Some : goal.returns-in-Some
 returns-in-Some c =
-    let s : Sighted c.args.g.now c.args.sighting.at c.args.sighting.seen c.moment_of-moment.result c.len-before.result c.needed_cpu-cpu.result c.kept_from-new.result.now c.keep_seen.new.kept.items = record {
-      moment_is = c.moment_of-moment.ensures ∙ ap (λ f. max c.args.g.now.moment (c.args.sighting.at - f)) c.time_or-first.ensures;
-      cpu_is = c.needed_cpu-cpu.ensures;
-      before_is = search rules;
-      part_is = c.kept_from-new.ensures;
-      kept = c.in_ok-keep_seen.ensures;
-    } in
+    let s = sighted c.args.g.now c.args.sighting.at c.args.sighting.seen c.time_or-first.result c.moment_of-moment.result c.len-before.result c.needed_cpu-cpu.result c.kept_from-new.result.now c.keep_seen.new.kept.items
+    c.time_or-first.ensures c.moment_of-moment.ensures c.needed_cpu-cpu.ensures (search rules) c.kept_from-new.ensures c.in_ok-keep_seen.ensures in
     given_refused c.args.g.now.cpus (reached_in c.args.g.now) c.args.sighting.at c.args.sighting.seen c.in-Some.cause
     (cause_is c.args.g.now c.args.sighting.at c.args.sighting.seen _ _ _ _ _ (Some c.in-Some.cause) s c.in-Some.ensures)
 
 pub play_all-requires : goal.play_all-requires
 play_all-requires c =
-    let s : Sighted c.args.g.now c.args.sighting.at c.args.sighting.seen c.moment_of-moment.result c.len-before.result c.needed_cpu-cpu.result c.kept_from-new.result.now c.keep_seen.new.kept.items = record {
-      moment_is = c.moment_of-moment.ensures ∙ ap (λ f. max c.args.g.now.moment (c.args.sighting.at - f)) c.time_or-first.ensures;
-      cpu_is = c.needed_cpu-cpu.ensures;
-      before_is = search rules;
-      part_is = c.kept_from-new.ensures;
-      kept = c.in_ok-keep_seen.ensures;
-    } in
+    let s = sighted c.args.g.now c.args.sighting.at c.args.sighting.seen c.time_or-first.result c.moment_of-moment.result c.len-before.result c.needed_cpu-cpu.result c.kept_from-new.result.now c.keep_seen.new.kept.items
+    c.time_or-first.ensures c.moment_of-moment.ensures c.needed_cpu-cpu.ensures (search rules) c.kept_from-new.ensures c.in_ok-keep_seen.ensures in
     let none : cause_at c.args.g.now.cpus (reached_in c.args.g.now) c.args.sighting.at c.args.sighting.seen ≡ None = cause_is c.args.g.now c.args.sighting.at c.args.sighting.seen _ _ _ _ _ None s (sym c.in_default.is ∙ c.acts_cause.ensures) in
     sighted_plays c.args.g.now c.args.sighting.at c.args.sighting.seen _ _ _ _ _ s c.requires.so c.requires.seen none
 
 pub returns : goal.returns
 returns c =
-    let s : Sighted c.args.g.now c.args.sighting.at c.args.sighting.seen c.moment_of-moment.result c.len-before.result c.needed_cpu-cpu.result c.kept_from-new.result.now c.keep_seen.new.kept.items = record {
-      moment_is = c.moment_of-moment.ensures ∙ ap (λ f. max c.args.g.now.moment (c.args.sighting.at - f)) c.time_or-first.ensures;
-      cpu_is = c.needed_cpu-cpu.ensures;
-      before_is = search rules;
-      part_is = c.kept_from-new.ensures;
-      kept = c.in_ok-keep_seen.ensures;
-    } in
+    let s = sighted c.args.g.now c.args.sighting.at c.args.sighting.seen c.time_or-first.result c.moment_of-moment.result c.len-before.result c.needed_cpu-cpu.result c.kept_from-new.result.now c.keep_seen.new.kept.items
+    c.time_or-first.ensures c.moment_of-moment.ensures c.needed_cpu-cpu.ensures (search rules) c.kept_from-new.ensures c.in_ok-keep_seen.ensures in
     let none : cause_at c.args.g.now.cpus (reached_in c.args.g.now) c.args.sighting.at c.args.sighting.seen ≡ None = cause_is c.args.g.now c.args.sighting.at c.args.sighting.seen _ _ _ _ _ None s (sym c.in_default.is ∙ c.acts_cause.ensures) in
     sighted_taken c.args.g.now _ c.args.sighting.at c.args.sighting.seen _ _ _ _ s c.requires.so c.requires.seen none refl (ap (λ f. Some f) c.time_or-first.ensures) refl c.in_ok-play_all.ensures.limits c.in_ok-play_all.ensures.world
