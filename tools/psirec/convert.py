@@ -7,8 +7,8 @@ from collections.abc import Sequence
 from dataclasses import dataclass, field
 from typing import NamedTuple
 
-from .accounts import Accounts, accounts_of
-from .events import NAMES, Attach, Event, GroupMade, GroupRemoved
+from .accounts import Accounts, accounts_of, is_end_of
+from .events import NAMES, NEVER, Attach, Event, GroupMade, GroupRemoved
 from .first import Beginning, First, beginning_of, tells_of_births
 from .groups import ROOT, Groups, parent_of
 from .layout import escaped_path
@@ -38,12 +38,14 @@ class Known(NamedTuple):
 @dataclass
 class Prior:
     """What is known before the trace begins: groups, those of them that aren't accounted, tasks and samples of memory. `is_sound`
-    says whether nothing was lost up to then."""
+    says whether nothing was lost up to then. A task that no event names up to the moment `settled` (ns) did at the start what is
+    known of it here."""
 
     groups: list[str]
     off: set[str]
     tasks: dict[int, Known]
     samples: Samples
+    settled: int
     is_sound: bool = True
     mended: Counter[str] = field(default_factory=Counter)
 
@@ -78,7 +80,8 @@ def snapshot_prior(snapshot: Snapshot, events: Sequence[Event], beginning: Begin
             first_events.setdefault(escaped_path(event.path), type(event))
     groups = [path for path in sorted(snapshot.groups) if first_events.get(path) is not GroupMade]
     moved = {it.task for it in events if isinstance(it, Attach) and not it.hierarchy and it.moment < snapshot.moment}
-    prior = Prior(groups, off, {}, Samples())
+    settled = next((it.moment for it in events if is_end_of(snapshot, it)), NEVER)
+    prior = Prior(groups, off, {}, Samples(), settled)
     for number, task in snapshot.tasks.items():
         if number in beginning.born:
             continue
@@ -101,7 +104,8 @@ def world_prior(world: World, samples: Samples, is_sound: bool) -> Prior:
         number: Known(task.group, task.process, First(task.state, task.processor), task.is_stalled)
         for number, task in world.tasks.items()
     }
-    return Prior(sorted(world.groups.live - world.groups.leaving), world.off, tasks, samples, is_sound)
+    groups = sorted(world.groups.live - world.groups.leaving)
+    return Prior(groups, world.off, tasks, samples, 0 if is_sound else NEVER, is_sound)
 
 
 # ---------------------------------------------------------------- the first moment
@@ -111,14 +115,24 @@ def first_of(number: int, prior: Prior, beginning: Beginning) -> First:
     """What the task did at the first moment. What an event says goes before what was known."""
     known, said = prior.tasks.get(number), beginning.tasks.get(number)
     if said is None:
-        state, processor = known.first if known else First(State.ASLEEP, 0)
+        state, processor, _ = known.first if known else First(State.ASLEEP, 0)
         is_idle = state is State.RUNNING and processor in beginning.runs
         return First(State.ASLEEP if is_idle or (state is State.READY and not prior.is_sound) else state, processor)
+    if said.state is State.READY and said.moment > prior.settled:
+        return First(late_state(known), said.processor)
     if said.state is State.ASLEEP and known and known.first.state is State.WAITING:
         return First(State.WAITING, said.processor)
     if said.state is State.RUNNING and beginning.runs.get(said.processor) != number:
         return First(State.ASLEEP, said.processor)
     return said
+
+
+def late_state(known: Known | None) -> State:
+    """What a task did at the start that runs later without a wakeup: one that wasn't known to run or to be ready was woken, or
+    made, by a task of which the kernel writes no events. Taken for ready it would wait from the start on."""
+    if known is None:
+        return State.ASLEEP
+    return State.READY if known.first.state is State.RUNNING else known.first.state
 
 
 def begin_task(world: World, number: int, known: Known, first: First, is_stalled: bool) -> None:

@@ -13,10 +13,11 @@ LONGEST_READY = 10**9
 
 
 class First(NamedTuple):
-    """What a task did at the start, and on which processor."""
+    """What a task did at the start, and on which processor; and the moment of the event that says so, 0 where none does."""
 
     state: State
     processor: int
+    moment: int = 0
 
 
 class Beginning:
@@ -41,22 +42,23 @@ class Beginning:
         """Whether nothing was said about this task before."""
         return task != 0 and task not in self.tasks and task not in self.born
 
-    def name(self, task: int, state: State, processor: int) -> None:
+    def name(self, task: int, state: State, processor: int, moment: int) -> None:
         """An event says what the task did. Where it went to another processor before, it did so on the one it came from."""
         if self.is_new(task):
-            self.tasks[task] = First(state, self.origins.get(task, processor))
+            self.tasks[task] = First(state, self.origins.get(task, processor), moment)
 
     def take(self, event: Event) -> None:
         """Takes the next event. Whoever runs where it is written is named by that alone."""
         self.runs.setdefault(event.processor, event.current)
-        self.name(event.current, State.RUNNING, event.processor)
+        self.name(event.current, State.RUNNING, event.processor, event.moment)
         if isinstance(event, Switch):
-            self.name(event.previous, State.RUNNING, event.processor)
+            self.name(event.previous, State.RUNNING, event.processor, event.moment)
             if event.moment > self.latest_ready and self.is_new(event.next):
                 self.born.add(event.next)
-            self.name(event.next, State.READY, event.processor)
+            self.name(event.next, State.READY, event.processor, event.moment)
         elif isinstance(event, Wakeup):
-            self.name(event.task, State.WAITING if event.task in self.waited else State.ASLEEP, event.target)
+            slept = State.WAITING if event.task in self.waited else State.ASLEEP
+            self.name(event.task, slept, event.target, event.moment)
         elif isinstance(event, Migration):
             if self.is_new(event.task):
                 self.origins.setdefault(event.task, event.origin)

@@ -26,6 +26,7 @@ from .recording import read_recording
 from .source import Faulty, Source, Unreadable
 from .summary import limit_lines, summary_of
 from .text import read_text
+from .unwritten import UNWRITTEN, with_unwritten
 from .waits import Method, best_method
 from .window import Window, longest_stretch, loss_text, overlapping
 from .words import Parser, nanoseconds
@@ -122,13 +123,21 @@ def tell(line: str) -> None:
     print(f"psitrace: {line}", file=sys.stderr)
 
 
-def source_of(options: Options) -> Source:
+def read_source(options: Options) -> Source:
     """Reads what is to be converted."""
     if not os.path.isdir(options.source):
         return read_text(options.source, options.processors)
     if options.processors:
         raise Faulty("--cpus is for texts: a recording tells its processors")
     return read_recording(options.source, options.is_forced)
+
+
+def source_of(options: Options) -> Source:
+    """The same, with the switches that weren't written."""
+    source = read_source(options)
+    source.events, count = with_unwritten(source.events, source.gaps)
+    source.mended[UNWRITTEN] += count
+    return source
 
 
 def window_of(options: Options, whole: Window) -> Window:
