@@ -3,7 +3,7 @@ none of the threads of process 1, and none of the idle tasks but the first proce
 whoever follows it would seem to wait until it does something itself.
 
 The next event of the processor tells who runs there. Where that one was ready, the switch to it is put where the one that left was
-seen last: tasks of which nothing is written run for some 50 us, and their followers often for many ms without an event.
+seen last. It may have gone on for a while, but far less than its follower, who often runs for many ms before anything is written.
 """
 from __future__ import annotations
 
@@ -58,9 +58,13 @@ class Chains:
         self.running[processor] = runs
         if known == runs or (known, runs) in self.renamed or self.is_gap(event):
             return []
-        waited = [it for it in self.silent if it in self.ready and self.ready[it].processor == processor and it not in (known, runs)]
-        route = [known, *sorted(waited, key=lambda it: self.ready[it].moment), *([runs] if runs in self.ready or not runs else [])]
-        return list(self.switches(processor, route))
+        follows = [runs] if runs in self.ready or not runs else []
+        return list(self.switches(processor, [known, *self.waiting(processor, {known, runs}), *follows]))
+
+    def waiting(self, processor: int, others: set[int]) -> list[int]:
+        """Tasks that write no switch and were ready there, the first first: whoever follows them, they ran before it."""
+        waiting = [it for it in self.silent - others if it in self.ready and self.ready[it].processor == processor]
+        return sorted(waiting, key=lambda it: self.ready[it].moment)
 
     def is_gap(self, event: Event) -> bool:
         """Whether events of the processor were lost right before this one."""
