@@ -123,21 +123,13 @@ def tell(line: str) -> None:
     print(f"psitrace: {line}", file=sys.stderr)
 
 
-def read_source(options: Options) -> Source:
+def source_of(options: Options) -> Source:
     """Reads what is to be converted."""
     if not os.path.isdir(options.source):
         return read_text(options.source, options.processors)
     if options.processors:
         raise Faulty("--cpus is for texts: a recording tells its processors")
     return read_recording(options.source, options.is_forced)
-
-
-def source_of(options: Options) -> Source:
-    """The same, with the switches that weren't written."""
-    source = read_source(options)
-    source.events, count = with_unwritten(source.events, source.gaps)
-    source.mended[UNWRITTEN] += count
-    return source
 
 
 def window_of(options: Options, whole: Window) -> Window:
@@ -176,6 +168,12 @@ def upon_of(options: Options, source: Source) -> dict[str, list[str]]:
     return upon
 
 
+def put_in_unwritten(source: Source, window: Window) -> None:
+    """Puts in the switches that weren't written, and counts those of the window."""
+    source.events, moments = with_unwritten(source.events, source.gaps)
+    source.mended[UNWRITTEN] += sum(window.start <= it <= window.end for it in moments)
+
+
 def losses_of(source: Source, window: Window, whole: Window) -> list[str]:
     """What was lost in the window; of a whole recording also what was lost before its first event."""
     gaps = source.gaps if window == whole else overlapping(source.gaps, window)
@@ -207,6 +205,7 @@ def run(options: Options) -> int:
     losses = losses_of(source, window, whole)
     if losses and options.is_forced:
         window = longest_stretch(overlapping(source.gaps, window), window)
+    put_in_unwritten(source, window)
     upon = upon_of(options, source)
     method = method_of(options, source)
     check_interrupts(options, source)

@@ -92,16 +92,17 @@ class Chains:
             self.ready[event.task] = Ready(event.target, event.moment)
 
 
-def with_unwritten(events: Sequence[Event], gaps: Sequence[Gap]) -> tuple[list[Event], int]:
-    """The events with the switches among them that weren't written, and how many these are; not where events were lost, since
+def with_unwritten(events: Sequence[Event], gaps: Sequence[Gap]) -> tuple[list[Event], list[int]]:
+    """The events with the switches among them that weren't written, and the moments of these; not where events were lost, since
     then nothing is known of who ran meanwhile."""
     chains = Chains(events, gaps)
     whole: list[Event] = []
+    moments: list[int] = []
     for event in events:
-        whole += chains.missing(event)
+        missing = chains.missing(event)
+        moments += (it.moment for it in missing)
+        whole += missing
         chains.take(event)
         whole.append(event)
-    count = len(whole) - len(events)
-    if count:
-        whole.sort(key=itemgetter(0))
-    return whole, count
+    whole.sort(key=itemgetter(0))
+    return whole, moments
