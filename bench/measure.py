@@ -5,8 +5,9 @@ usage: bench/measure.py [--program PATH] [--rounds N] [--events N]     (the buil
 
 Of each command it prints: instructions a line (by callgrind, where that is installed; they don't depend on the machine), the best
 and the median of its seconds by the clock as times of the best and of the median of `wc -lw` on the same file, its seconds of
-processor time so too (the median), and the most memory that was resident (MB). Below stand the seconds of an hour of the largest
-machine that a trace may have, with 1,024 actions at each evaluation. A benchmark: nothing is asserted; README has its last table.
+processor time so too (the median), and the most memory that was resident (MB, by GNU time). Below stand the seconds of an hour of
+the largest machine that a trace may have, with 1,024 actions at each evaluation. A benchmark: nothing is asserted; README has its
+last table.
 """
 from __future__ import annotations
 
@@ -20,7 +21,7 @@ import tempfile
 import time
 
 from built import program_of
-from effort import instructions_of
+from effort import instructions_of, peak_of
 from hostile import greatest_lines, greatest_rules
 
 SHAPE = ("--seed", "1", "--cpus", "8", "--groups", "40")
@@ -39,11 +40,10 @@ GREATEST_EVENTS = 1_000_000
 
 @dataclasses.dataclass(frozen=True)
 class Taken:
-    """What one run took: seconds by the clock, seconds of processor time, and its peak memory (bytes)."""
+    """What one run took: seconds by the clock, and seconds of processor time."""
 
     clock: float
     processor: float
-    memory: int
 
 
 def once(words: list[str]) -> Taken:
@@ -54,7 +54,7 @@ def once(words: list[str]) -> Taken:
     clock = time.perf_counter() - before
     if status != 0:
         sys.exit(f"{' '.join(words)}: status {os.waitstatus_to_exitcode(status)}")
-    return Taken(clock, usage.ru_utime + usage.ru_stime, usage.ru_maxrss * 1024)
+    return Taken(clock, usage.ru_utime + usage.ru_stime)
 
 
 def write_trace(program: str, events: int, path: str) -> str:
@@ -89,13 +89,13 @@ def in_turns(runs: dict[str, list[str]], rounds: int) -> dict[str, list[Taken]]:
     return taken
 
 
-def row(name: str, counted: float | None, taken: list[Taken], count: list[Taken]) -> str:
-    """A line of the table: a command's figures beside those of `wc -lw`."""
+def row(name: str, counted: float | None, peak: int, taken: list[Taken], count: list[Taken]) -> str:
+    """A line of the table: a command's figures beside those of `wc -lw`, and its peak memory (KB)."""
     best = min(it.clock for it in taken) / min(it.clock for it in count)
     clock = statistics.median(it.clock for it in taken) / statistics.median(it.clock for it in count)
     processor = statistics.median(it.processor for it in taken) / statistics.median(it.processor for it in count)
-    memory = max(it.memory for it in taken) / 1e6
-    return f"{name:<26}{'-' if counted is None else f'{counted:,.0f}':>12}{best:>8.2f}{clock:>8.2f}{processor:>11.2f}{memory:>6.0f}"
+    told = "-" if counted is None else f"{counted:,.0f}"
+    return f"{name:<26}{told:>12}{best:>8.2f}{clock:>8.2f}{processor:>11.2f}{peak / 1000:>6.0f}"
 
 
 def tell_hour(program: str, events: int, rounds: int, room: str) -> None:
@@ -108,7 +108,7 @@ def tell_hour(program: str, events: int, rounds: int, room: str) -> None:
     print(f"{events} events, {os.path.getsize(trace)} bytes, {rounds} rounds; wc -lw {min(it.clock for it in count):.3f} s")
     print(f"{'':<26}{'instructions':>12}{'best':>8}{'median':>8}{'processor':>11}{'MB':>6}")
     for name, its in taken.items():
-        print(row(name, counted.get(name), its, count))
+        print(row(name, counted.get(name), peak_of(runs[name], room), its, count), flush=True)
     os.remove(trace)
 
 
@@ -121,7 +121,7 @@ def tell_greatest(program: str, room: str) -> None:
         file.write(greatest_rules())
     for name, words in {"with 1,024 actions": ["--rules", rules], "without rules": []}.items():
         took = once([program, "replay", trace, *words])
-        print(f"the largest machine, {name}: {took.clock:.1f} s, {took.processor:.1f} of processor time, {took.memory / 1e6:.0f} MB")
+        print(f"the largest machine, {name}: {took.clock:.1f} s, {took.processor:.1f} of processor time", flush=True)
 
 
 def main() -> None:
