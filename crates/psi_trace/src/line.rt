@@ -6,19 +6,19 @@ use std::marker::Model;
 /// A line with room for so many bytes, which contracts see as the bytes that it has. It is written from its end to its
 /// front, so that each number is put where its digits belong, at once.
 #[derive(Drop)]
-pub(crate) struct Line<const ROOM: usize> {
+pub(crate) struct LineBuffer<const ROOM: usize> {
     bytes: [u8; ROOM],
     /// Where the line begins.
     start: usize,
 }
 
 /// A header, or the line of an event that has few words and no path: time, verb, processor, task and how it leaves.
-pub(crate) type ShortLine = Line<80>;
+pub(crate) type ShortLine = LineBuffer<80>;
 
 /// The line of any other event. The longest is that of the memory of a group with a path of 255 bytes.
-pub(crate) type LongLine = Line<384>;
+pub(crate) type LongLine = LineBuffer<384>;
 
-impl<const ROOM: usize> Model for Line<ROOM> {
+impl<const ROOM: usize> Model for LineBuffer<ROOM> {
     ghost use Rattle.std.specs.Prelude.{◌≤◌, ℕ, List, drop};
 
     ghost Value = { List ℕ };
@@ -28,13 +28,13 @@ impl<const ROOM: usize> Model for Line<ROOM> {
     ghost invariant = { λ l. l.start ≤ ROOM };
 }
 
-impl<const ROOM: usize> Line<ROOM> {
+impl<const ROOM: usize> LineBuffer<ROOM> {
     /// A line without bytes.
     #[inline(always)]
-    pub(crate) fn new() -> Line<ROOM>
+    pub(crate) fn new() -> LineBuffer<ROOM>
         ensures { result ≡ [] }
     {
-        Line {
+        LineBuffer {
             bytes: [0; ROOM],
             start: ROOM,
         }

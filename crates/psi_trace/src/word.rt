@@ -3,7 +3,7 @@ ghost use Rattle.std.specs.Prelude.{◌≡◌, ◌≤◌, ◌+◌, ◌++◌, ◌
 ghost use Rattle.psi_spec.specs.Fields as fields;
 ghost use Rattle.psi_trace.specs.Writes.{spaced};
 
-use crate::line::{Line, LongLine};
+use crate::line::{LineBuffer, LongLine};
 
 /// Puts a number in front, behind a space.
 #[tactic(auto, using(crate::proofs::InPieces::lines))]
@@ -31,7 +31,7 @@ pub(crate) fn put_numbers(line: &mut LongLine, first: u64, second: u64, third: u
 
 /// Puts a word in front, behind a space.
 #[inline(always)]
-pub(crate) fn put_word<const ROOM: usize>(line: &mut Line<ROOM>, word: &str)
+pub(crate) fn put_word<const ROOM: usize>(line: &mut LineBuffer<ROOM>, word: &str)
     requires { 1 + length word.now + length line.old ≤ ROOM }
     ensures bytes { line.new ≡ 32 ∷ word.now ++ line.old }
     ensures length { length line.new ≡ 1 + length word.now + length line.old }

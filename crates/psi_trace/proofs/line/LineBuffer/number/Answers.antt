@@ -1,7 +1,7 @@
 use Rattle.std.proofs.Common.{ap, arith, decimal, drop, length, length-append}
 use Rattle.trace_laws.proofs.GrammarWords.{decimal_short}
 use Rattle.psi_trace.proofs.InPieces.{behind}
-use Rattle.psi_trace.proofs.line.Line.number.Goals as goal
+use Rattle.psi_trace.proofs.line.LineBuffer.number.Goals as goal
 
 pub write_digits-self-inside-requires : goal.write_digits-self-inside-requires
 write_digits-self-inside-requires g c =
