@@ -40,7 +40,8 @@ pub fn observe<R: Threads + Wait + Sync, S: Shelf, K: Sink, N: Sink, G: Gate>(
     ensures kept { S.holds shelf.new ≡ S.holds shelf.old }
 
     // Usage comes exactly where the words aren't a name, a number from 1 to 8 and a path.
-    ensures usage { (result ≡ ObserveStatus.Usage) ↔ (request_of (map string_bytes words.now) ≡ None) }
+    ensures usage { (result ≡ ObserveStatus.Usage)
+        ↔ (request_of (map string_bytes words.now) ≡ None) }
 
     // What each status says of the trace and of the output, and which counts of failures rose.
     ensures runs { (request : Request) →

@@ -86,7 +86,8 @@ fn write<K: Sink>(
 ) -> ObserveStatus
     requires none { pending.old ≡ [] }
     requires few { length observed.now.states.items ≤ 8 }
-    ensures writes { WritesText (printed observed.now.entries.items observed.now.states.items finish)
+    ensures writes { WritesText
+        (printed observed.now.entries.items observed.now.states.items finish)
         (K.faults out.old) (K.faults out.new) (K.has out.old) (K.has out.new) result }
 {
     match send(pending, &observed.entries, &observed.states, finish, out) {

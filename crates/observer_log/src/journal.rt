@@ -64,7 +64,8 @@ fn last_count(entries: &[Entry<'_>], observer: u32, cpu: Cpu) -> Option<u64>
 
 // The count of the last entry of an entry's observer and processor, if it is greater than the entry's.
 fn greater_last(entries: &[Entry<'_>], entry: &Entry<'_>) -> Option<u64>
-    ensures falls { (last : ℕ) → (result ≡ Some last) ↔ IsBefore entries.now entry.now last }
+    ensures falls { (last : ℕ) →
+        (result ≡ Some last) ↔ IsBefore entries.now entry.now last }
     ensures none { result ≡ None → IsNotBefore entries.now entry.now }
 {
     let last = last_count(entries, entry.observer, entry.cpu)?;
