@@ -4,8 +4,9 @@
 usage: bench/gate.py [--anew]     (`--anew` proves also what an earlier run on this machine kept)
 
 Prints what `rt ci` prints, and behind it the minutes by the clock and, for each crate and the whole, the minutes of processor time
-that its proofs, the proofs of its tests and its must-fail edits took, the dearest first. Once a second it looks which checks run,
-so a crate that takes less than some seconds is told too low. Ends with the status of `rt ci`.
+that its proofs, the proofs of its tests and its must-fail edits took, the dearest first, and the minutes after the start at which
+its first check began, it was proved, and its last check ended. Once a second it looks which checks run, so a crate that takes less
+than some seconds is told too low. Ends with the status of `rt ci`.
 """
 
 from __future__ import annotations
@@ -17,11 +18,22 @@ import re
 import subprocess
 import sys
 import time
+from typing import NamedTuple
 
 ROOT = pathlib.Path(__file__).resolve().parent.parent
 TICKS = os.sysconf("SC_CLK_TCK")
 KINDS = ("proof", "tests", "edits")
-Seconds = dict[tuple[str, str], float]
+
+
+class Work(NamedTuple):
+    """The checks of a crate of one kind: seconds of processor time, and seconds after the start of the first and the last."""
+
+    seconds: float
+    begun: float
+    ended: float
+
+
+Works = dict[tuple[str, str], Work]
 
 
 def words_of(process: pathlib.Path) -> list[str]:
@@ -56,28 +68,45 @@ def processor_time(process: pathlib.Path) -> float:
     return sum(map(int, fields[11:15])) / TICKS
 
 
-def watch(gate: subprocess.Popen[bytes]) -> Seconds:
-    """The seconds of processor time by crate and kind, once the gate has ended."""
-    taken: dict[tuple[int, str, str], float] = {}
+def watch(gate: subprocess.Popen[bytes], start: float) -> Works:
+    """The work by crate and kind, once the gate has ended that began at a second of the monotonic clock."""
+    taken: dict[tuple[int, str, str], Work] = {}
     while gate.poll() is None:
+        now = time.monotonic() - start
         for process in pathlib.Path("/proc").iterdir():
             found = check_of(process) if process.name.isdigit() else None
             if found is not None:
-                taken[int(process.name), *found] = processor_time(process)
+                key = int(process.name), *found
+                taken[key] = Work(processor_time(process), taken[key].begun if key in taken else now, now)
         time.sleep(1)
-    sums: Seconds = collections.defaultdict(float)
-    for (_, crate, kind), seconds in taken.items():
-        sums[crate, kind] += seconds
-    return sums
+    works: Works = {}
+    for (_, crate, kind), work in taken.items():
+        known = works.get((crate, kind), Work(0, work.begun, work.ended))
+        works[crate, kind] = Work(
+            known.seconds + work.seconds, min(known.begun, work.begun), max(known.ended, work.ended)
+        )
+    return works
 
 
-def table(sums: Seconds) -> str:
-    """A line for each crate, its minutes of processor time by kind, the dearest first, and one for the whole."""
-    crates = sorted({crate for crate, _ in sums}, key=lambda crate: -sum(sums.get((crate, kind), 0) for kind in KINDS))
-    rows = [(crate, [sums.get((crate, kind), 0) / 60 for kind in KINDS]) for crate in crates]
-    rows.append(("in all", [sum(minutes[place] for _, minutes in rows) for place in range(len(KINDS))]))
-    head = f"{'minutes of processor time':<28}" + "".join(f"{kind:>8}" for kind in KINDS)
-    return "\n".join([head, *(f"{name:<28}" + "".join(f"{it:>8.1f}" for it in minutes) for name, minutes in rows)])
+def row(name: str, works: dict[str, Work]) -> str:
+    """A line of a crate: minutes of processor time by kind, then when its first check began, its proofs ended and all ended."""
+    minutes = [works[kind].seconds / 60 if kind in works else 0.0 for kind in KINDS]
+    begun = min(work.begun for work in works.values()) / 60
+    proved = works["proof"].ended / 60 if "proof" in works else begun
+    ended = max(work.ended for work in works.values()) / 60
+    return f"{name:<28}" + "".join(f"{it:>8.1f}" for it in (*minutes, begun, proved, ended))
+
+
+def table(works: Works) -> str:
+    """A line for each crate, the dearest first, and one for the whole."""
+    crates: dict[str, dict[str, Work]] = collections.defaultdict(dict)
+    for (crate, kind), work in works.items():
+        crates[crate][kind] = work
+    dearest = sorted(crates.items(), key=lambda item: -sum(work.seconds for work in item[1].values()))
+    sums = [sum(works[key].seconds for key in works if key[1] == kind) / 60 for kind in KINDS]
+    head = f"{'minutes of processor time':<28}" + "".join(f"{it:>8}" for it in (*KINDS, "from", "proved", "to"))
+    whole = f"{'in all':<28}" + "".join(f"{it:>8.1f}" for it in sums)
+    return "\n".join([head, *(row(*item) for item in dearest), whole])
 
 
 def main() -> int:
@@ -86,10 +115,10 @@ def main() -> int:
     if words not in ([], ["--anew"]):
         print(re.sub(r"\n\n.*", "", __doc__.split("usage: ")[1], flags=re.S), file=sys.stderr)
         return 2
-    begun = time.monotonic()
+    start = time.monotonic()
     gate = subprocess.Popen(["rt", "ci", *words], cwd=ROOT)
-    sums = watch(gate)
-    print(f"{table(sums)}\nby the clock {(time.monotonic() - begun) / 60:.1f} minutes on {os.cpu_count()} processors")
+    works = watch(gate, start)
+    print(f"{table(works)}\nby the clock {(time.monotonic() - start) / 60:.1f} minutes on {os.cpu_count()} processors")
     return gate.returncode
 
 
