@@ -1,0 +1,17 @@
+//! Tests of rules: rules files and the patterns in them, detectors, victims and kills.
+#![tactic(auto)]
+
+#[cfg(test)]
+mod checks;
+#[cfg(test)]
+mod detections;
+#[cfg(test)]
+mod kills;
+#[cfg(test)]
+mod readings;
+#[cfg(test)]
+mod rig;
+#[cfg(test)]
+mod rules;
+#[cfg(test)]
+mod victims;

@@ -1,0 +1,172 @@
+//! Whole rules files: the usual one, field by field, and lists at their limits.
+use crate::rules::shown::{reads, reads_rows, with};
+use ruleset_json::{ActionList, GroupList, Rule, RuleList, Rules, read};
+use std::alloc::{AllocError, Global};
+use std::process::Abort;
+use std::test::Fail;
+
+const USUAL: &str = "{'rulesets':[
+ {'name':'memory pressure','detectors':[['slow',
+   {'name':'pressure_above','args':{'cgroup':'g0,g1','resource':'memory','threshold':'60','duration':'30'}},
+   {'name':'memory_reclaim','args':{'cgroup':'g0,g1','duration':'10'}}]],
+  'actions':[{'name':'kill_by_memory_size_or_growth','args':{'cgroup':'g*'}}]},
+ {'name':'rising io','detectors':[['io',
+   {'name':'pressure_rising_beyond','args':{'cgroup':'g2','resource':'io','threshold':'40','duration':'10','fast_fall_ratio':'0.85'}}]],
+  'actions':[{'name':'kill_by_pressure','args':{'cgroup':'g*','resource':'io','post_action_delay':'30'}}]},
+ {'name':'low swap','silence-logs':'engine','detectors':[['swap',
+   {'name':'swap_free','args':{'threshold_pct':'15'}},
+   {'name':'exists','args':{'cgroup':'g*'}}]],
+  'actions':[{'name':'kill_by_swap_usage','args':{'cgroup':'g*','threshold':'5%'}},
+   {'name':'kill_by_pg_scan','args':{'cgroup':'g*','recursive':'true'}}]}]}";
+
+const SHOWN: &str =
+    "memory pressure: [slow; pressure_above /g0 /g1 Memory 60 30; memory_reclaim /g0 /g1 10] size_or_growth /g0 /g1 /g2 50 80 1250 false false 15;
+rising io: [io; pressure_rising_beyond /g2 Io 40 10 850] pressure /g0 /g1 /g2 Io false false 30;
+low swap: [swap; swap_free 15; exists /g0 /g1 /g2 false] swap_usage /g0 /g1 /g2 Percent(5) false false 15; pg_scan /g0 /g1 /g2 true false 15;
+";
+
+#[test]
+fn usual_file(rt: HostRuntime) -> Result<(), Fail> {
+    reads(&rt, rt.alloc(), USUAL, SHOWN)
+}
+
+// Rules of one ruleset, and the same with a bad pattern.
+const ONE: &str =
+    "{'rulesets':[{'name':'r','detectors':[['g',{'name':'exists','args':{'cgroup':'s/*'}}]],'actions':[{'name':'kill_by_memory_size_or_growth','args':{'cgroup':'s/@'}}]}]}";
+
+#[test]
+fn file_of_one(rt: HostRuntime) -> Result<(), Fail> {
+    let rules = "r: [g; exists /s/a false] size_or_growth /s/a 50 80 1250 false false 15;\n";
+    let fault = "rules ruleset 0 action 0: BadArg";
+    reads_rows(&rt, rt.alloc(), ONE, rules, fault, "*~\n?!")
+}
+
+// The piece as many times, with this between.
+fn listed(alloc: Global, piece: &str, times: usize, between: &str) -> Result<String, AllocError> {
+    vec![in alloc; piece; times]?.join(alloc, between)
+}
+
+// A file of as many pieces is read as this text.
+fn reads_listed(
+    rt: &impl Abort,
+    file: &str,
+    piece: &str,
+    between: &str,
+    times: usize,
+    text: &str,
+    alloc: Global,
+) -> Result<(), Fail> {
+    let pieces = listed(alloc, piece, times, between)?;
+    let file = with(alloc, file, &pieces)?;
+    reads(rt, alloc, &file, text)
+}
+
+// Pieces in a file, and what is shown of them.
+struct Lists {
+    file: &'static str,
+    piece: &'static str,
+    between: &'static str,
+    most: usize,
+    rules: &'static str,
+    shown: &'static str,
+    fault: &'static str,
+}
+
+// A file of as many pieces as there may be is shown, and one of one more has the fault.
+fn are_limited(rt: &impl Abort, alloc: Global, lists: &Lists) -> Result<(), Fail> {
+    let shown = lists.shown.repeat(alloc, lists.most)?;
+    let rules = with(alloc, lists.rules, &shown)?;
+    let Lists {
+        file,
+        piece,
+        between,
+        most,
+        fault,
+        ..
+    } = *lists;
+    reads_listed(rt, file, piece, between, most, &rules, alloc)?;
+    reads_listed(rt, file, piece, between, most.wrapping_add(1), fault, alloc)
+}
+
+const RULESETS: Lists = Lists {
+    file: "{'rulesets':[@]}",
+    piece: "{'name':'r','detectors':[],'actions':[]}",
+    between: ",",
+    most: 64,
+    rules: "@",
+    shown: "r:\n",
+    fault: "rules: TooMany",
+};
+
+const GROUPS: Lists = Lists {
+    file: "{'rulesets':[{'name':'r','detectors':[@],'actions':[]}]}",
+    piece: "['g']",
+    between: ",",
+    most: 16,
+    rules: "r:@\n",
+    shown: " [g]",
+    fault: "rules ruleset 0: TooMany",
+};
+
+const DETECTORS: Lists = Lists {
+    file: "{'rulesets':[{'name':'r','detectors':[['g'@]],'actions':[]}]}",
+    piece: ",{'name':'swap_free','args':{'threshold_pct':1}}",
+    between: "",
+    most: 16,
+    rules: "r: [g@]\n",
+    shown: "; swap_free 1",
+    fault: "rules ruleset 0 group 0: TooMany",
+};
+
+const ACTIONS: Lists = Lists {
+    file: "{'rulesets':[{'name':'r','detectors':[],'actions':[@]}]}",
+    piece: "{'name':'kill_by_pg_scan','args':{'cgroup':'g0'}}",
+    between: ",",
+    most: 16,
+    rules: "r:@\n",
+    shown: " pg_scan /g0 false false 15;",
+    fault: "rules ruleset 0: TooMany",
+};
+
+#[test]
+fn lists_at_their_limits(rt: HostRuntime) -> Result<(), Fail> {
+    let alloc = rt.alloc();
+    reads(&rt, alloc, "{'rulesets':[]}", "")?;
+    are_limited(&rt, alloc, &RULESETS)?;
+    are_limited(&rt, alloc, &GROUPS)?;
+    are_limited(&rt, alloc, &DETECTORS)?;
+    are_limited(&rt, alloc, &ACTIONS)
+}
+
+const ALL: &[u8] =
+    b"{\"rulesets\":[{\"name\":\"r\",\"detectors\":[[\"g\"],[\"h\"]],\"actions\":[{\"name\":\"kill_by_pg_scan\",\"args\":{\"cgroup\":\"g0\"}}]}]}";
+
+// The rule has the name `r`, two groups of which one is left where one is taken away, and one action.
+fn is_the_rule(rule: Rule) -> bool {
+    let Rule {
+        name,
+        groups,
+        actions,
+    } = rule;
+    let mut groups = groups.into_items();
+    let had = groups.len();
+    let is_taken = groups.pop().is_some();
+    let groups = GroupList::new(groups);
+    let actions = ActionList::new(actions.into_items());
+    let lengths = (had, groups.items().len(), actions.items().len());
+    is_taken && lengths == (2, 1, 1) && name.bytes() == b"r".as_slice()
+}
+
+// Lists give their members, and are made of them again.
+#[test]
+fn lists_again(rt: HostRuntime) -> Result<(), Fail> {
+    let Ok(Rules { rules }) = read(rt.alloc(), ALL) else {
+        assert!(rt; false, "no rules");
+        return Ok(());
+    };
+    assert_eq!(rt; rules.items().len(), 1);
+    let mut rules = rules.into_items();
+    assert!(rt; rules.pop().is_some_and(is_the_rule));
+    assert_eq!(rt; RuleList::new(rules).items().len(), 0);
+    Ok(())
+}

@@ -1,8 +1,0 @@
-//! Tests of choices of victims.
-#![tactic(auto)]
-
-#[cfg(test)]
-mod cases;
-mod rig;
-
-pub use rig::Rig;
