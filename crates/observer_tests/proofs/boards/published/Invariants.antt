@@ -1,5 +1,0 @@
-use Rattle.std.proofs.Common.{◌≡◌, ◌+◌, length}
-use Rattle.observer_tests.proofs.boards.published.Given as goal
-
-abbrev pub invariant-ticks : goal.invariant-ticks
-invariant-ticks g l = (l.driver.board ≡ l.fn.board) × (length l.driver.states ≡ l.before + 1)

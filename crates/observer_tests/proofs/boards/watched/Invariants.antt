@@ -1,5 +1,0 @@
-use Rattle.std.proofs.Common.{◌≡◌}
-use Rattle.observer_tests.proofs.boards.watched.Given as goal
-
-abbrev pub invariant-reads : goal.invariant-reads
-invariant-reads g l = l.pass.board ≡ l.fn.board

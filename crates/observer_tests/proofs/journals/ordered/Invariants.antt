@@ -1,5 +1,0 @@
-use Rattle.std.proofs.Common.{◌≡◌}
-use Rattle.observer_tests.proofs.journals.ordered.Given as goal
-
-abbrev pub invariant-entries : goal.invariant-entries
-invariant-entries g l = l.share.parts ≡ 1

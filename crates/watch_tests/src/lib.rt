@@ -1,5 +1,0 @@
-//! Tests of what a watch tells.
-#![tactic(auto)]
-
-#[cfg(test)]
-mod watches;

@@ -1,0 +1,10 @@
+use Rattle.std.proofs.Common.{length, ◌-◌}
+use Rattle.psi_spec.specs.Trace.{AllFit}
+use Rattle.world_tests.proofs.whatif.text_of.Given as goal
+
+-- the events fit
+abbrev pub invariant-events : goal.invariant-events
+invariant-events l = AllFit l.events
+
+abbrev pub decreases-events : goal.decreases-events
+decreases-events l = length l.events - l.at

@@ -1,0 +1,40 @@
+//! Events from lines.
+
+ghost use Rattle.std.specs.Prelude.{IfOk};
+ghost use Rattle.psi_spec.specs.Trace.{AllFit};
+
+use psi_base::{Cause, Event, Fault};
+use psi_trace::read_event;
+use std::alloc::Global;
+
+/// A task waits for IO for one second, and then for a processor.
+pub const WAITS: [&[u8]; 5] = [
+    b"0 fork 1 / 0",
+    b"0 switch 0 1 idle",
+    b"500000000 switch 0 0 iowait",
+    b"1500000000 wake 1 0",
+    b"2000000000 end",
+];
+
+/// A task of the root runs for two seconds, of which interrupts took a quarter of one. They took no time from it by what they
+/// took when it had left.
+pub const INTERRUPTS: [&[u8]; 6] = [
+    b"0 fork 1 / 0",
+    b"0 switch 0 1 idle",
+    b"1000000000 irq 0 250000000",
+    b"2000000000 switch 0 0 iowait",
+    b"2000000000 irq 0 500000000",
+    b"2000000000 end",
+];
+
+/// The events of lines.
+pub fn events_of(alloc: Global, lines: &[&[u8]]) -> Result<Vec<Event>, Fault<Cause>>
+    ensures { IfOk result (λ events. AllFit events.items) }
+{
+    let mut events = Vec::new(alloc);
+    'lines: for line in lines {
+        let event = read_event(alloc, 2, line)?;
+        events.push(event)?;
+    }
+    Ok(events)
+}

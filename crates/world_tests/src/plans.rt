@@ -1,0 +1,7 @@
+//! Traces taken apart by processor.
+mod accounts;
+mod changes;
+mod clocks;
+mod irqs;
+mod refusals;
+mod sides;

@@ -1,0 +1,120 @@
+//! For how long interrupts took from groups, by the clocks of plans.
+
+ghost use Rattle.std.specs.Prelude.{◌≡◌, length};
+
+use crate::events::{INTERRUPTS, events_of};
+use crate::walk::clocks_after;
+use proc_plan::{IrqClocks, PlainClocks, Plan, Plans, ProcClocks};
+use psi_base::{Cpu, NoMemory, Slot};
+use std::alloc::Global;
+use std::test::Fail;
+
+/// The root has /a, /a/b and /c. A task of /a/b runs on the first processor, moves to /c, goes to the second processor and exits
+/// there.
+const LINES: [&[u8]; 21] = [
+    b"0 group /a",
+    b"0 group /a/b",
+    b"0 group /c",
+    b"0 fork 1 /a/b 0",
+    b"0 switch 0 1 idle",
+    b"0 irq 1 0",
+    b"1000 irq 0 100",
+    b"1000 irq 0 0",
+    b"1001 irq 0 1",
+    b"2000 irq 1 700",
+    b"3000 move 1 /c",
+    b"3000 irq 0 20",
+    b"4000 switch 0 0 preempt",
+    b"4000 irq 0 300",
+    b"5000 migrate 1 1",
+    b"5000 switch 1 1 idle",
+    b"6000 irq 1 4",
+    b"6000 irq 0 5",
+    b"7000 switch 1 0 exit",
+    b"7000 irq 1 600",
+    b"8000 end",
+];
+
+// For how long (ns) interrupts took from the root, /a, /a/b and /c, by so many changes of a plan, or by all that it has.
+fn irqs_after(alloc: Global, plan: &Plan, changes: u64) -> Result<[u64; 4], NoMemory>
+    requires { length plan.now.parents ≡ 4 }
+{
+    let mut clocks = clocks_after(alloc, plan, 4, changes.min(plan.len()))?;
+    Ok([
+        clocks.own_irq(Slot(0)),
+        clocks.own_irq(Slot(1)),
+        clocks.own_irq(Slot(2)),
+        clocks.own_irq(Slot(3)),
+    ])
+}
+
+// A change that tells of interrupts counts for the group of the task that runs then and for all above it, and for none where the
+// processor idles. What a task's groups got stays with them when it moves, goes elsewhere or exits.
+#[test]
+fn interrupts_of_each_processor(rt: HostRuntime) -> Result<(), Fail> {
+    let alloc = rt.alloc();
+    let events = events_of(alloc, &LINES)?;
+    let plans = Plans::build(alloc, 2, 8000, &events)?;
+    assert_eq!(rt; plans.lives().len(), 4);
+    let rows: [(u32, u64, [u64; 4]); 16] = [
+        // The task comes and starts to run.
+        (0, 0, [0, 0, 0, 0]),
+        (0, 2, [0, 0, 0, 0]),
+        // Some interrupts, none at the same moment, and some behind them.
+        (0, 3, [100, 100, 100, 0]),
+        (0, 4, [100, 100, 100, 0]),
+        (0, 5, [101, 101, 101, 0]),
+        // It moves.
+        (0, 6, [101, 101, 101, 0]),
+        (0, 7, [121, 101, 101, 20]),
+        // It waits for the processor, which idles, and then leaves it.
+        (0, 9, [121, 101, 101, 20]),
+        (0, 10, [121, 101, 101, 20]),
+        (0, 11, [121, 101, 101, 20]),
+        // The other processor idles, until the task comes and starts to run.
+        (1, 1, [0, 0, 0, 0]),
+        (1, 2, [0, 0, 0, 0]),
+        (1, 4, [0, 0, 0, 0]),
+        (1, 5, [4, 0, 0, 4]),
+        // It exits.
+        (1, 6, [4, 0, 0, 4]),
+        (1, 7, [4, 0, 0, 4]),
+    ];
+    for (cpu, changes, want) in rows {
+        assert!(rt; cpu < plans.cpus());
+        let plan = plans.plan(Cpu(cpu));
+        let irqs = irqs_after(alloc, plan, changes)?;
+        assert_eq!(rt; irqs, want, "{changes} on {cpu}");
+    }
+    Ok(())
+}
+
+// The clocks tell the same however often they are asked, and asking changes nothing of what they have made.
+#[test]
+fn interrupts_of_the_root(rt: HostRuntime) -> Result<(), Fail> {
+    let alloc = rt.alloc();
+    let events = events_of(alloc, &INTERRUPTS)?;
+    let plans = Plans::build(alloc, 1, 2_000_000_000, &events)?;
+    let plan = plans.plan(Cpu(0));
+    assert_eq!(rt; plans.lives().len(), 1);
+    assert_eq!(rt; plan.len(), 5);
+    let change = plan.change(3);
+    assert_eq!(rt; change.irq, 250_000_000);
+    assert_eq!(rt; change.minus, None);
+    assert_eq!(rt; change.plus, None);
+    assert_eq!(rt; change.current, Some((Slot(0), false)));
+    assert_eq!(rt; plan.change(4).irq, 0);
+    assert_eq!(rt; plan.change(5).irq, 500_000_000);
+    assert_eq!(rt; plan.change(5).current, None);
+    let mut clocks = PlainClocks::make(alloc, plan, 1)?;
+    assert_eq!(rt; clocks.own_irq(Slot(0)), 0);
+    clocks.apply();
+    clocks.apply();
+    clocks.apply();
+    clocks.apply();
+    clocks.apply();
+    assert_eq!(rt; clocks.own_irq(Slot(0)), 250_000_000);
+    assert_eq!(rt; clocks.own_irq(Slot(0)), 250_000_000);
+    assert_eq!(rt; clocks.count(), 5);
+    Ok(())
+}

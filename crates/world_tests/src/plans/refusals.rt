@@ -1,0 +1,57 @@
+//! Which traces are refused, at which line and why.
+
+use crate::events::events_of;
+use proc_plan::Plans;
+use psi_base::{Cause, Fault, Refusal};
+use std::test::Fail;
+
+/// Traces of one processor up to 1,000 ns, by their lines from the second on. Each has the first line against which a cause
+/// stands, and the cause.
+const ROWS: [(&[&[u8]], u32, Cause); 12] = [
+    (&[b"1 fork 1 /a 0", b"2 end"], 2, Cause::UnknownGroup),
+    (&[b"1 fork 1 / 1", b"2 end"], 2, Cause::BadCpu),
+    (
+        &[b"1 fork 1 / 0", b"2 wake 1 0", b"2 fork 1 / 0", b"3 end"],
+        3,
+        Cause::NotBlocked,
+    ),
+    (
+        &[b"1 fork 1 / 0", b"2 switch 0 1 idle", b"1 end", b"2 end"],
+        4,
+        Cause::TimeBack,
+    ),
+    (&[b"1000 fork 1 / 0", b"1001 end"], 3, Cause::TimeTooLate),
+    (&[b"1 fork 1 / 0", b"2 switch 0 1 idle"], 4, Cause::NoEnd),
+    (
+        &[b"1 fork 1 / 0", b"2 end", b"3 stall 1", b"4 end"],
+        4,
+        Cause::AfterEnd,
+    ),
+    (&[b"1 end", b"1 end"], 3, Cause::AfterEnd),
+    (&[b"9 irq 0 9", b"8 irq 0 1", b"9 end"], 3, Cause::TimeBack),
+    (
+        &[b"9 irq 0 9", b"9 irq 0 1", b"9 end"],
+        3,
+        Cause::IrqTooLong,
+    ),
+    (
+        &[b"9 irq 0 9", b"9 irq 0 0", b"11 irq 0 3", b"11 end"],
+        4,
+        Cause::IrqTooLong,
+    ),
+    (&[], 2, Cause::NoEnd),
+];
+
+#[test]
+fn first_refused_lines(rt: HostRuntime) -> Result<(), Fail> {
+    let alloc = rt.alloc();
+    for (lines, line, cause) in ROWS {
+        let events = events_of(alloc, lines)?;
+        let Err(fault) = Plans::build(alloc, 1, 1000, &events) else {
+            assert!(rt; false, "{cause:?} at {line}");
+            continue;
+        };
+        assert_eq!(rt; fault, Fault::Refused(Refusal { line, cause }));
+    }
+    Ok(())
+}

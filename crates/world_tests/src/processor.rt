@@ -1,0 +1,134 @@
+//! A processor with tasks in groups, whose changes fit the clocks.
+
+ghost use Rattle.std.specs.Prelude.{◌≡◌, ◌≤◌, length, vec_len, IsTrue};
+ghost use Rattle.std.proofs.Props.{props};
+ghost use Rattle.psi_spec.specs.Groups.{AreOlder};
+ghost use Rattle.slot_clocks.specs.Clocks.{parent_numbers};
+ghost use Rattle.world_tests.specs.Processor.{IsProcessor, IsSlot, IsTask};
+
+use cpu_clock::Clock;
+use psi_base::{Ns, Slot};
+use psi_counts::{Change, Counts};
+use slot_clocks::{PackedChange, SlotClocks};
+use std::alloc::Global;
+use std::test::Fail;
+
+/// The last moment of a clock, in ns.
+const LAST_MOMENT: Ns = 60_000_000_000_000_000;
+
+/// A processor with tasks in groups: for each task its group and what it counts as, None where it isn't alive.
+#[derive(Drop)]
+pub struct Processor {
+    parents: Vec<Option<Slot>>,
+    tasks: Vec<Option<(Slot, Counts)>>,
+    clocks: SlotClocks,
+    last: Ns,
+    ghost kept: { IsProcessor (parent_numbers parents.items)
+        (length parents.items) tasks.items clocks last } by { Prim.hlevel props },
+}
+
+// Each parent has a smaller slot.
+fn are_older(parents: &[Option<Slot>]) -> bool
+    ensures { IsTrue result → AreOlder (parent_numbers parents.now) }
+{
+    'slots: for (slot, parent) in parents.iter().enumerate() {
+        if let Some(parent) = parent {
+            if parent.0 as usize >= slot {
+                return false;
+            }
+        }
+    }
+    true
+}
+
+// The task's group is one of so many, and it counts at most once.
+fn is_task(task: Option<(Slot, Counts)>, groups: usize) -> bool
+    ensures { IsTrue result → IsTask groups task }
+{
+    match task {
+        Some((slot, counts)) => {
+            (slot.0 as usize) < groups
+                && counts.io <= 1
+                && counts.stalled <= 1
+                && counts.running <= 1
+                && counts.stalled_running <= 1
+        }
+        None => true,
+    }
+}
+
+// The running task's group is one of so many.
+fn is_slot(current: Option<(Slot, bool)>, groups: usize) -> bool
+    ensures { IsTrue result → IsSlot groups current }
+{
+    match current {
+        Some((slot, _)) => (slot.0 as usize) < groups,
+        None => true,
+    }
+}
+
+impl Processor {
+    /// A processor with so many tasks, of which none is alive, over groups with these parents.
+    pub fn new(alloc: Global, parents: Vec<Option<Slot>>, tasks: usize) -> Result<Processor, Fail> {
+        if tasks > 1000 || parents.len() > 1024 || !are_older(&parents) {
+            return Err(Fail::new("there are too many tasks or groups, or a parent comes late"));
+        }
+        let Ok(slots) = u32::try_from(parents.len()) else {
+            return Err(Fail::new("there are too many groups"));
+        };
+        let mut none = Vec::new(alloc);
+        none.resize(tasks, None)?;
+        let clocks = SlotClocks::make(alloc, slots)?;
+        Ok(Processor {
+            parents,
+            tasks: none,
+            clocks,
+            last: 0,
+        })
+    }
+
+    /// A change: a task counts as this from now on, and this one runs. Whether it was made: it isn't where there is no such
+    /// task or group, or the moment is past.
+    pub fn change(
+        &mut self,
+        at: Ns,
+        task: usize,
+        now: Option<(Slot, Counts)>,
+        current: Option<(Slot, bool)>,
+    ) -> bool {
+        let groups = self.parents.len();
+        let in_time = self.last <= at && at <= LAST_MOMENT;
+        if task >= self.tasks.len()
+            || !in_time
+            || !is_task(now, groups)
+            || !is_slot(current, groups)
+        {
+            return false;
+        }
+        let change = Change {
+            at,
+            minus: self.tasks[task],
+            plus: now,
+            current,
+            irq: 0,
+            gate: None,
+        };
+        self.clocks.apply(&self.parents, &PackedChange::new(change));
+        self.tasks[task] = now;
+        self.last = at;
+        true
+    }
+
+    /// The times of a group at a moment, None where it isn't one from the last change on.
+    pub fn opened(&self, slot: Slot, at: Ns) -> Option<[u64; 7]> {
+        if at < self.last || at > LAST_MOMENT {
+            return None;
+        }
+        Some(self.clocks.clock(slot).opened(at))
+    }
+
+    /// The clock of a group.
+    pub fn clock(&self, slot: Slot) -> Clock {
+        self.clocks.clock(slot)
+    }
+}

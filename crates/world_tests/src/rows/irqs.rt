@@ -1,0 +1,86 @@
+//! Interrupt time that a writer keeps beside its row.
+
+ghost use Rattle.std.specs.Prelude.{◌≡◌, ◌≤◌, length};
+
+use crate::events::{INTERRUPTS, events_of};
+use crate::rows::shown::{Shown, show, writer_after};
+use proc_plan::{IrqClocks, Plan, Plans};
+use psi_base::{Cpu, NoMemory, Slot};
+use std::alloc::Global;
+use std::test::Fail;
+
+const ROOT: Slot = Slot(0);
+
+/// The root's clock while the task runs: interrupts don't move it.
+const RUNNING: [u64; 9] = [0, 0, 0, 0, 0, 0, 0, 0b100_0000, 0];
+
+// Only the interrupts beside a running task count. They are no words of the row: its clock stays, and the change is seen.
+#[test]
+fn interrupts_of_the_root(rt: HostRuntime) -> Result<(), Fail> {
+    let events = events_of(rt.alloc(), &INTERRUPTS)?;
+    let plans = Plans::build(rt.alloc(), 1, 2_000_000_000, &events)?;
+    let plan = plans.plan(Cpu(0));
+    assert_eq!(rt; plans.lives().len(), 1);
+    assert_eq!(rt; plan.len(), 5);
+    let (mut last, _reader) = writer_after(rt.alloc(), plan, 1, 5)?;
+    assert_eq!(rt; last.own_irq(ROOT), 250_000_000);
+    let (mut writer, mut reader) = writer_after(rt.alloc(), plan, 1, 3)?;
+    assert_eq!(rt; writer.own_irq(ROOT), 250_000_000);
+    let want = Shown {
+        made: 3,
+        own: RUNNING,
+        seen: 0,
+        sampled: Some((3, RUNNING)),
+        seen_then: 3,
+    };
+    assert_eq!(rt; show(&mut writer, &mut reader, ROOT), want);
+    Ok(())
+}
+
+/// Interrupts beside a task in a group below another, beside one that moves to the root, and beside none.
+const GROUPS: [&[u8]; 14] = [
+    b"0 group /a",
+    b"0 group /a/b",
+    b"0 group /c",
+    b"0 fork 1 /a/b 0",
+    b"0 fork 2 /c 0",
+    b"0 switch 0 1 idle",
+    b"10 irq 0 5",
+    b"20 switch 0 2 preempt",
+    b"20 irq 0 3",
+    b"30 move 2 /",
+    b"40 irq 0 7",
+    b"50 switch 0 0 sleep",
+    b"60 irq 0 11",
+    b"60 end",
+];
+
+/// The interrupt times (ns) that a writer tells of four slots after so many changes.
+fn irqs_after(alloc: Global, plan: &Plan, changes: u64) -> Result<[u64; 4], NoMemory>
+    requires slots { 4 ≡ length plan.now.parents }
+    requires changes { changes ≤ length plan.now.changes }
+{
+    let (mut writer, _reader) = writer_after(alloc, plan, 4, changes)?;
+    Ok([
+        writer.own_irq(Slot(0)),
+        writer.own_irq(Slot(1)),
+        writer.own_irq(Slot(2)),
+        writer.own_irq(Slot(3)),
+    ])
+}
+
+// A group has the interrupts of the tasks in it and below it, and keeps them when a task goes.
+#[test]
+fn interrupts_of_groups(rt: HostRuntime) -> Result<(), Fail> {
+    let events = events_of(rt.alloc(), &GROUPS)?;
+    let plans = Plans::build(rt.alloc(), 1, 2_000_000_000, &events)?;
+    let plan = plans.plan(Cpu(0));
+    assert_eq!(rt; plans.lives().len(), 4);
+    assert_eq!(rt; plan.len(), 10);
+    assert_eq!(rt; irqs_after(rt.alloc(), plan, 3)?, [0, 0, 0, 0]);
+    assert_eq!(rt; irqs_after(rt.alloc(), plan, 4)?, [5, 5, 5, 0]);
+    assert_eq!(rt; irqs_after(rt.alloc(), plan, 6)?, [8, 5, 5, 3]);
+    assert_eq!(rt; irqs_after(rt.alloc(), plan, 8)?, [15, 5, 5, 3]);
+    assert_eq!(rt; irqs_after(rt.alloc(), plan, 10)?, [15, 5, 5, 3]);
+    Ok(())
+}

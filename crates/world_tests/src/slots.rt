@@ -1,0 +1,184 @@
+//! The clocks of a processor.
+
+use crate::processor::Processor;
+use psi_base::{Ns, Slot};
+use psi_counts::Counts;
+use std::test::Fail;
+
+/// One task that is ready or runs.
+const READY: Counts = Counts {
+    io: 0,
+    stalled: 0,
+    running: 1,
+    stalled_running: 0,
+};
+
+/// One that is so in a stall.
+const READY_IN_STALL: Counts = Counts {
+    io: 0,
+    stalled: 1,
+    running: 1,
+    stalled_running: 1,
+};
+
+/// One that waits for IO in a stall.
+const WAITS_IN_STALL: Counts = Counts {
+    io: 1,
+    stalled: 1,
+    running: 0,
+    stalled_running: 0,
+};
+
+/// A change, and what is so after it.
+#[derive(Clone, Copy)]
+struct Row {
+    at: Ns,
+    /// The number of the task that changes, and what it counts as from then on.
+    task: usize,
+    now: Option<(Slot, Counts)>,
+    /// The group of the running task, and whether that is in a stall.
+    current: Option<(Slot, bool)>,
+    /// The words of the four clocks: the times of IO some and full, memory some and full, CPU some and full and nonidle, the
+    /// mask with a bit for each in this order, and the start.
+    clocks: [[u64; 9]; 4],
+}
+
+/// The words of a clock that no change has reached.
+const ZERO: [u64; 9] = [0; 9];
+
+/// Of the root, /a, /a/b and /c.
+const ROWS: [Row; 7] = [
+    // A fork in /a/b.
+    Row {
+        at: 10,
+        task: 0,
+        now: Some((Slot(2), READY)),
+        current: None,
+        clocks: [
+            [0, 0, 0, 0, 0, 0, 0, 0b111_0000, 10],
+            [0, 0, 0, 0, 0, 0, 0, 0b111_0000, 10],
+            [0, 0, 0, 0, 0, 0, 0, 0b111_0000, 10],
+            ZERO,
+        ],
+    },
+    // A switch to it from an idle processor, which changes no count.
+    Row {
+        at: 20,
+        task: 2,
+        now: None,
+        current: Some((Slot(2), false)),
+        clocks: [
+            [0, 0, 0, 0, 10, 10, 10, 0b100_0000, 20],
+            [0, 0, 0, 0, 10, 10, 10, 0b100_0000, 20],
+            [0, 0, 0, 0, 10, 10, 10, 0b100_0000, 20],
+            ZERO,
+        ],
+    },
+    // It enters a memory stall.
+    Row {
+        at: 35,
+        task: 0,
+        now: Some((Slot(2), READY_IN_STALL)),
+        current: Some((Slot(2), true)),
+        clocks: [
+            [0, 0, 0, 0, 10, 10, 25, 0b100_1100, 35],
+            [0, 0, 0, 0, 10, 10, 25, 0b100_1100, 35],
+            [0, 0, 0, 0, 10, 10, 25, 0b100_1100, 35],
+            ZERO,
+        ],
+    },
+    // A fork in /a: memory full by the running task, where the counts deny it.
+    Row {
+        at: 50,
+        task: 1,
+        now: Some((Slot(1), READY)),
+        current: Some((Slot(2), true)),
+        clocks: [
+            [0, 0, 15, 15, 10, 10, 40, 0b101_1100, 50],
+            [0, 0, 15, 15, 10, 10, 40, 0b101_1100, 50],
+            [0, 0, 0, 0, 10, 10, 25, 0b100_1100, 35],
+            ZERO,
+        ],
+    },
+    // The first waits for IO, still in its stall, and the second runs.
+    Row {
+        at: 70,
+        task: 0,
+        now: Some((Slot(2), WAITS_IN_STALL)),
+        current: Some((Slot(1), false)),
+        clocks: [
+            [0, 0, 35, 35, 30, 10, 60, 0b100_0101, 70],
+            [0, 0, 35, 35, 30, 10, 60, 0b100_0101, 70],
+            [0, 0, 35, 35, 10, 10, 60, 0b100_1111, 70],
+            ZERO,
+        ],
+    },
+    // The second moves to /c, and runs there.
+    Row {
+        at: 90,
+        task: 1,
+        now: Some((Slot(3), READY)),
+        current: Some((Slot(3), false)),
+        clocks: [
+            [0, 0, 35, 35, 30, 10, 60, 0b100_0101, 70],
+            [20, 0, 55, 35, 30, 10, 80, 0b100_1111, 90],
+            [0, 0, 35, 35, 10, 10, 60, 0b100_1111, 70],
+            [0, 0, 0, 0, 0, 0, 0, 0b100_0000, 90],
+        ],
+    },
+    // It exits.
+    Row {
+        at: 100,
+        task: 1,
+        now: None,
+        current: None,
+        clocks: [
+            [30, 0, 65, 35, 30, 10, 90, 0b100_1111, 100],
+            [20, 0, 55, 35, 30, 10, 80, 0b100_1111, 90],
+            [0, 0, 35, 35, 10, 10, 60, 0b100_1111, 70],
+            [0, 0, 0, 0, 0, 0, 10, 0, 100],
+        ],
+    },
+];
+
+#[test]
+fn changes_of_a_processor(rt: HostRuntime) -> Result<(), Fail> {
+    let alloc = rt.alloc();
+    let parents = vec![in alloc; None, Some(Slot(0)), Some(Slot(1)), Some(Slot(0))]?;
+    let mut processor = Processor::new(alloc, parents, 3)?;
+    for row in ROWS {
+        let is_made = processor.change(row.at, row.task, row.now, row.current);
+        assert!(rt; is_made, "at {}", row.at);
+        let clocks = [Slot(0), Slot(1), Slot(2), Slot(3)];
+        let clocks = clocks.map(|slot| processor.clock(slot).to_words());
+        assert_eq!(rt; clocks, row.clocks, "at {}", row.at);
+    }
+    // Up to a moment after the last change.
+    assert_eq!(rt;
+        processor.opened(Slot(2), 170),
+        Some([100, 100, 135, 135, 10, 10, 160])
+    );
+    Ok(())
+}
+
+// Groups each in the one before, of which a change reaches all at once. A slot beyond them has the zero clock.
+#[test]
+fn groups_that_a_change_first_reaches(rt: HostRuntime) -> Result<(), Fail> {
+    let alloc = rt.alloc();
+    let mut parents = vec![in alloc; None]?;
+    for slot in 0..99u32 {
+        parents.push(Some(Slot(slot)))?;
+    }
+    let mut processor = Processor::new(alloc, parents, 1)?;
+    assert!(rt; processor.change(5, 0, Some((Slot(0), READY)), None));
+    assert!(rt; !processor.change(5, 0, Some((Slot(100), READY)), None));
+    assert_eq!(rt; processor.clock(Slot(99)).start, 0);
+    assert!(rt; processor.change(7, 0, Some((Slot(99), READY)), None));
+    assert_eq!(rt; processor.clock(Slot(0)).start, 5);
+    for slot in 1..100u32 {
+        let words = processor.clock(Slot(slot)).to_words();
+        assert_eq!(rt; words, [0, 0, 0, 0, 0, 0, 0, 0b111_0000, 7], "slot {slot}");
+    }
+    assert_eq!(rt; processor.clock(Slot(100)).to_words(), [0; 9]);
+    Ok(())
+}

@@ -1,0 +1,3 @@
+//! The table of tasks.
+mod causes;
+mod touches;

@@ -1,0 +1,152 @@
+//! Small traces, and what is left of each behind a kill.
+
+ghost use Rattle.psi_spec.specs.Trace.{AllFit};
+
+use crate::events::events_of;
+use proc_plan::Plans;
+use psi_base::{Event, NoMemory, Slot};
+use psi_trace::write_event;
+use std::alloc::Global;
+use std::test::Fail;
+use whatif_trace::without;
+
+/// How many processors each trace has.
+const CPUS: u32 = 2;
+
+/// The latest moment (ns).
+const LATEST: u64 = 2_000_000_000_000_000;
+
+/// A ready task alone.
+const READY: [&[u8]; 4] = [
+    b"0 group /s",
+    b"0 group /s/a",
+    b"0 fork 1 /s/a 0",
+    b"36 end",
+];
+
+/// It runs, and exits.
+const READY_LEFT: [&[u8]; 6] = [
+    b"0 group /s",
+    b"0 group /s/a",
+    b"0 fork 1 /s/a 0",
+    b"6 switch 0 1 idle",
+    b"6 switch 0 0 exit",
+    b"36 end",
+];
+
+/// Tasks of the victim: one waits, one runs in a stall, one is blocked in a stall and one is ready. A task of the root runs
+/// beside them, and makes room for two of them. One of them comes again as a task of the root.
+const MANY: [&[u8]; 22] = [
+    b"0 group /s",
+    b"0 group /s/a",
+    b"0 fork 1 /s/a 0",
+    b"0 fork 2 /s/a 0",
+    b"0 fork 3 /s/a 1",
+    b"0 fork 4 /s/a 1",
+    b"0 fork 5 / 1",
+    b"1 switch 0 1 idle",
+    b"2 switch 0 2 iowait",
+    b"3 stall 2",
+    b"4 switch 1 3 idle",
+    b"5 stall 3",
+    b"6 switch 1 5 sleep",
+    b"20 switch 1 4 preempt",
+    b"21 switch 1 5 sleep",
+    b"22 switch 0 0 preempt",
+    b"24 wake 1 1",
+    b"25 switch 1 1 preempt",
+    b"26 switch 1 5 exit",
+    b"27 fork 1 / 0",
+    b"28 switch 0 1 idle",
+    b"29 end",
+];
+
+/// Their exits at 11 ns, and what is left of the later lines.
+const MANY_LEFT: [&[u8]; 31] = [
+    b"0 group /s",
+    b"0 group /s/a",
+    b"0 fork 1 /s/a 0",
+    b"0 fork 2 /s/a 0",
+    b"0 fork 3 /s/a 1",
+    b"0 fork 4 /s/a 1",
+    b"0 fork 5 / 1",
+    b"1 switch 0 1 idle",
+    b"2 switch 0 2 iowait",
+    b"3 stall 2",
+    b"4 switch 1 3 idle",
+    b"5 stall 3",
+    b"6 switch 1 5 sleep",
+    b"11 wake 1 0",
+    b"11 switch 0 1 preempt",
+    b"11 switch 0 2 exit",
+    b"11 unstall 2",
+    b"11 switch 0 0 exit",
+    b"11 wake 3 1",
+    b"11 switch 1 3 preempt",
+    b"11 unstall 3",
+    b"11 switch 1 5 exit",
+    b"11 switch 1 4 preempt",
+    b"11 switch 1 5 exit",
+    b"20 switch 1 0 preempt",
+    b"21 switch 1 5 idle",
+    b"25 switch 1 0 preempt",
+    b"26 switch 1 5 idle",
+    b"27 fork 1 / 0",
+    b"28 switch 0 1 idle",
+    b"29 end",
+];
+
+/// The lines of events, each with a newline behind it.
+fn text_of(alloc: Global, events: &[Event]) -> Result<Vec<u8>, NoMemory>
+    requires { AllFit events.now }
+{
+    let mut text: Vec<u8> = Vec::new(alloc);
+    let mut at = 0;
+    'events: while at < events.len() {
+        write_event(&events[at], &mut text)?;
+        text.push(b'\n')?;
+        at += 1;
+    }
+    Ok(text)
+}
+
+/// The lines that are left of a trace without the tasks of a group at a moment (ns), if it is one.
+fn left_of(alloc: Global, lines: &[&[u8]], at: u64, victim: Slot) -> Option<Vec<u8>> {
+    let events = events_of(alloc, lines).ok()?;
+    match Plans::build(alloc, CPUS, LATEST, &events) {
+        Ok(_) => {
+            let left = without(alloc, CPUS, LATEST, &events, at, victim).ok()?;
+            text_of(alloc, &left).ok()
+        }
+        Err(_) => None,
+    }
+}
+
+/// Exactly these lines are left without the tasks of a group at a moment (ns).
+fn leaves(alloc: Global, lines: &[&[u8]], at: u64, victim: Slot, want: &[&[u8]]) -> bool {
+    let Ok(wanted) = events_of(alloc, want) else {
+        return false;
+    };
+    match (left_of(alloc, lines, at, victim), text_of(alloc, &wanted)) {
+        (Some(left), Ok(text)) => left.as_slice() == text.as_slice(),
+        _ => false,
+    }
+}
+
+#[test]
+fn a_ready_task(rt: HostRuntime) -> Result<(), Fail> {
+    assert!(rt; leaves(rt.alloc(), &READY, 5, Slot(2), &READY_LEFT));
+    Ok(())
+}
+
+#[test]
+fn the_end_moment(rt: HostRuntime) -> Result<(), Fail> {
+    assert!(rt; leaves(rt.alloc(), &READY, 36, Slot(2), &READY));
+    Ok(())
+}
+
+#[test]
+fn tasks_of_every_kind(rt: HostRuntime) -> Result<(), Fail> {
+    assert!(rt; leaves(rt.alloc(), &MANY, 10, Slot(2), &MANY_LEFT));
+    Ok(())
+}
