@@ -1,5 +1,5 @@
 //! The steps on a row, one function for each.
-ghost use Rattle.std.specs.Prelude.{◌≡◌, ℕ, ◌+◌, ◌*◌, ◌/◌, ◌^◌, ◌<◌, ◌≤◌, true, false, [], slice_index};
+ghost use Rattle.std.specs.Prelude.{◌≡◌, ◌+◌, ◌*◌, ◌/◌, ◌^◌, ◌<◌, ◌≤◌, true, false, [], slice_index};
 ghost use Rattle.clock_row.specs.declared.view.View.TheVariants.{Reader, Writer};
 ghost use Rattle.clock_row.specs.Words.{AreClockWords, StoodTogether};
 ghost use Rattle.clock_row.specs.Row.{sequence};

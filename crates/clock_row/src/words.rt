@@ -1,7 +1,7 @@
 //! The nine words of a slot, and those of all slots.
-ghost use Rattle.std.specs.Prelude.{◌≡◌, ℕ, ◌+◌, ◌*◌, ◌^◌, ◌<◌, ◌≤◌, true, length, take, drop};
+ghost use Rattle.std.specs.Prelude.{◌≡◌, ◌+◌, ◌*◌, ◌^◌, ◌<◌, ◌≤◌, true, length, take, drop};
 ghost use Rattle.psi_counts.specs.Clock.{AreWordsOfClock, words_of};
-ghost use Rattle.clock_row.specs.Words.{ArePut, ClocksWereLoaded, StaysLoaded, WereLoaded, words_at};
+ghost use Rattle.clock_row.specs.Words.{ArePut, ClocksWereLoaded, StaysLoaded, WereLoaded};
 ghost use Rattle.clock_row.specs.Seats.{HasLoaded, HasStored, IsReader, IsSameSeat, IsTrying, IsWriter, loaded_in, reader_on, writer_on};
 
 use crate::steps::{load_word, own_word, put_word};

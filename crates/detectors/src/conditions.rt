@@ -1,9 +1,9 @@
 //! Conditions on a reading and its matches.
-ghost use Rattle.std.specs.Prelude.{◌≡◌, ◌≤◌, ◌<◌, ◌^◌, All, false, length};
+ghost use Rattle.std.specs.Prelude.{◌≡◌, ◌<◌, false, length};
 ghost use Rattle.std.specs.List.{list_any};
 ghost use Rattle.kill_spec.specs.declared.reading.GroupReading.{GroupReading};
 ghost use Rattle.kill_spec.specs.Detectors.{is_above};
-ghost use Rattle.kill_spec.specs.Readings.{IsGroupReading, IsHostReading, full_average};
+ghost use Rattle.kill_spec.specs.Readings.{full_average};
 ghost use Rattle.path_match.specs.Match.{is_match};
 ghost use Rattle.detectors.specs.Tables.{condition_among, found, greatest_among, greatest_of, has};
 ghost use Rattle.detectors.specs.Tables.{detector_patterns, is_host_swap_short, is_some_above, match_table};

@@ -1,5 +1,5 @@
 //! Where groups stand among those of a reading.
-ghost use Rattle.std.specs.Prelude.{◌≡◌, ◌<◌, ◌≤◌, ◌++◌, ◌∷◌, ℕ, [], IfOk, length, slice_index_or, true};
+ghost use Rattle.std.specs.Prelude.{◌≡◌, ◌<◌, ◌≤◌, ℕ, [], IfOk, length, slice_index_or, true};
 ghost use Rattle.psi_spec.specs.Stall.{number_of_slot};
 ghost use Rattle.kill_spec.specs.Victims.{names_slot};
 ghost use Rattle.detectors.specs.Below.{AreBelow, HasPlaced, PlacesView, child_count, places_with};

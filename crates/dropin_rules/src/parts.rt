@@ -1,6 +1,6 @@
 //! The parts of a drop-in file put into rules.
-ghost use Rattle.std.specs.Prelude.{◌≡◌, ◌≢◌, ◌≤◌, length, map, position, Ok, Err, MatchResult};
-ghost use Rattle.psi_base.specs.Gives.{Gives, FaultOf, lacks_memory};
+ghost use Rattle.std.specs.Prelude.{◌≡◌, ◌≢◌, ◌≤◌, length, position, Ok, Err, MatchResult};
+ghost use Rattle.psi_base.specs.Gives.{Gives, lacks_memory};
 ghost use Rattle.dropin_rules.specs.Joined.{is_named, joined, part_joined};
 
 use crate::fault::{DropCause, DropFault};

@@ -1,6 +1,5 @@
 //! What a line does, as it is kept until all lines are read.
-ghost use Rattle.std.specs.Prelude.{◌≡◌, ◌++◌, ◌∷◌, [], IfOk, if◌then◌else◌};
-ghost use Rattle.psi_spec.specs.World.{running_on, task_of};
+ghost use Rattle.std.specs.Prelude.{◌≡◌, ◌∷◌, [], IfOk};
 ghost use Rattle.import_spec.specs.Events.{acts_of, migration_acts, next_acts, runs_there, switch_acts, turn_acts, wakeup_acts};
 ghost use Rattle.std.specs.Prelude.{None};
 ghost use Rattle.ftrace_import.specs.Deeds.{Adds, act_by, event_by};

@@ -1,5 +1,5 @@
 //! A group of detectors.
-ghost use Rattle.std.specs.Prelude.{◌≡◌, ◌≤◌, [], IfOk, All, Some, length};
+ghost use Rattle.std.specs.Prelude.{◌≤◌, [], IfOk, All, Some, length};
 ghost use Rattle.psi_spec.specs.World.{most_groups};
 ghost use Rattle.kill_engine.specs.Rulesets.{AllAnswer, AllTake, DetectorsStand, IsAt, IsStateReady};
 

@@ -1,5 +1,5 @@
 //! The killer.
-ghost use Rattle.std.specs.Prelude.{◌≡◌, ◌≤◌, ◌+◌, ℕ, [], IfOk, All, Some, length, vec_capacity};
+ghost use Rattle.std.specs.Prelude.{◌≡◌, ◌≤◌, [], IfOk, All, Some, length, vec_capacity};
 ghost use Rattle.psi_spec.specs.World.{most_groups};
 ghost use Rattle.detectors.specs.Views.{IsAfter};
 ghost use Rattle.kill_engine.specs.Killers.{Decides, KillerTakes, RulesetsStand, StandsFor, killer_slots};

@@ -1,5 +1,5 @@
 //! A ruleset.
-ghost use Rattle.std.specs.Prelude.{◌≡◌, ◌≤◌, ◌+◌, ℕ, [], IfOk, All, Some, length, nat_lt, vec_capacity, vec_len};
+ghost use Rattle.std.specs.Prelude.{◌≡◌, ◌≤◌, ◌+◌, ℕ, [], IfOk, Some, length, nat_lt, vec_capacity, vec_len};
 ghost use Rattle.psi_spec.specs.World.{most_groups};
 ghost use Rattle.kill_engine.specs.Rulesets.{EachDetector, GroupsStand, GroupsTake, HasKills, IsAt, IsStateReady, match_tables};
 ghost use Rattle.kill_engine.specs.Rulesets.{IsRulesetAt, IsRulesetReady, IsStanding, RulesetStands, RulesetTakes, SomeAnswers};

@@ -1,5 +1,5 @@
 //! The lines that are printed.
-ghost use Rattle.std.specs.Prelude.{◌≡◌, ◌++◌, ◌≤◌, length};
+ghost use Rattle.std.specs.Prelude.{◌≤◌, length};
 ghost use Rattle.std.specs.List.{flat_map};
 ghost use Rattle.psi_base.specs.Outside.{HasCause, PutsAll, StaysOver};
 ghost use Rattle.observe_core.specs.Printed.{end_line, entry_line, printed, state_line, states_text};

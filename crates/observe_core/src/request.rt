@@ -1,7 +1,6 @@
 //! What is asked for is observed, and written.
-ghost use Rattle.std.specs.Prelude.{◌≡◌, ◌+◌, ◌*◌, ◌/◌, ◌≤◌, ◌<◌, [], IfOk, length};
+ghost use Rattle.std.specs.Prelude.{◌≡◌, ◌+◌, ◌*◌, ◌/◌, ◌≤◌, ◌<◌, [], length};
 ghost use Rattle.psi_base.specs.Outside.{HasCause, PutsAll};
-ghost use Rattle.psi_spec.specs.Grammar.{version_of};
 ghost use Rattle.psi_spec.specs.Trace.{Trace, last_moment};
 ghost use Rattle.run_spec.specs.MostRead.{most_of_trace};
 ghost use Rattle.run_spec.specs.Run.{run_counts};

@@ -1,5 +1,5 @@
 //! Observers are made.
-ghost use Rattle.std.specs.Prelude.{◌≡◌, ◌+◌, ◌<◌, ◌≤◌, ℕ, Some, IfOk, length, slice_index_or};
+ghost use Rattle.std.specs.Prelude.{◌≡◌, ◌<◌, ℕ, Some, IfOk, length, slice_index_or};
 ghost use Rattle.replay_ticks.specs.Replays.{IsSomeReplay};
 ghost use Rattle.replay_workers.specs.Crew.{AreInRows, row_at};
 ghost use Rattle.observer_log.specs.Watch.{AreReaders, reader_at};

@@ -1,5 +1,5 @@
 //! The journal of all observers, which stands under a lock.
-ghost use Rattle.std.specs.Prelude.{◌≡◌, ◌≢◌, ◌↔◌, ◌+◌, ◌<◌, [], ◌∷◌, ◌++◌, ℕ, length, map, true, IfErr, IfOk, Err, Ok, None, Some};
+ghost use Rattle.std.specs.Prelude.{◌≡◌, ◌↔◌, ◌+◌, ◌<◌, [], ◌∷◌, ◌++◌, ℕ, length, IfErr, IfOk, Err, Ok, None, Some};
 ghost use Rattle.observer_log.specs.Entries.{AreOwn, by, counts_of, list_of};
 ghost use Rattle.observer_log.specs.Journal.{Agrees, AreInOrder, IsBefore, IsGood, IsNotBefore, joined, last_of};
 ghost use Rattle.observer_log.specs.declared.journal.AddFault.TheVariants.{Falls};

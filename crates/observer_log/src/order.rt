@@ -1,5 +1,5 @@
 //! The entries of the observers' own lists, in the order of the journal where it agrees with them.
-ghost use Rattle.std.specs.Prelude.{◌≡◌, ◌↔◌, ℕ, length, map, true, IfOk, None, Ok, Some};
+ghost use Rattle.std.specs.Prelude.{◌≡◌, ◌↔◌, ℕ, true, IfOk, None, Ok, Some};
 ghost use Rattle.observer_log.specs.Entries.{AreOwn, by, list_of, said};
 ghost use Rattle.observer_log.specs.Journal.{Agrees, AreInOrder, joined};
 

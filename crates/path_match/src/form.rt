@@ -1,5 +1,5 @@
 //! The form of patterns.
-ghost use Rattle.std.specs.Prelude.{◌≡◌, [], length, nat_le};
+ghost use Rattle.std.specs.Prelude.{◌≡◌, length, nat_le};
 ghost use Rattle.std.specs.List.{list_all};
 ghost use Rattle.psi_base.specs.Path.{parts_at};
 ghost use Rattle.path_match.specs.Match.{behind_slash, is_pattern, is_pattern_byte, is_pattern_component};

@@ -1,5 +1,5 @@
 //! Pressure files, and reports of them.
-ghost use Rattle.std.specs.Prelude.{◌≡◌, [], slice_index_or};
+ghost use Rattle.std.specs.Prelude.{[], slice_index_or};
 ghost use Rattle.psi_base.specs.Outside.{HasCause, PutsAll, StaysOver};
 ghost use Rattle.pressure_spec.specs.File.{file_line, file_text, full_line, state_line};
 ghost use Rattle.pressure_spec.specs.Share.{irq_quantity};

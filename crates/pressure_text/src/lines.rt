@@ -1,5 +1,5 @@
 //! The lines that stand alone.
-ghost use Rattle.std.specs.Prelude.{◌≡◌, ◌-◌, ◌<◌, ◌^◌};
+ghost use Rattle.std.specs.Prelude.{◌-◌, ◌<◌, ◌^◌};
 ghost use Rattle.psi_base.specs.Outside.{HasCause, PutsAll, StaysOver};
 ghost use Rattle.psi_spec.specs.Fields as fields;
 ghost use Rattle.run_spec.specs.Lines.{check_line, end_line, event_line, kill_line};

@@ -1,5 +1,5 @@
 //! A text in pieces, each sent as it is made.
-ghost use Rattle.std.specs.Prelude.{◌≡◌, ◌++◌, codes, decimal};
+ghost use Rattle.std.specs.Prelude.{◌≡◌, ◌++◌, codes};
 ghost use Rattle.std.specs.List.{flat_map};
 ghost use Rattle.psi_base.specs.Outside.{HasCause, PutsAll, StaysOver};
 ghost use Rattle.pressure_spec.specs.File.{hundredths, percent_text, two_digits};

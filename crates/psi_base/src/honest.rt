@@ -1,5 +1,5 @@
 //! A shelf and a sink in memory that are honest: they fail only for want of room. Their clauses say each answer exactly.
-ghost use Rattle.std.specs.Prelude.{◌≡◌, ◌+◌, ◌-◌, ◌<◌, ◌≤◌, Some, length, take, min, IfOk, IsErr, vec_capacity, vec_len, IsErrOf, ◌↔◌, []};
+ghost use Rattle.std.specs.Prelude.{◌≡◌, ◌+◌, ◌-◌, ◌<◌, ◌≤◌, Some, length, min, IfOk, IsErr, vec_capacity, vec_len, IsErrOf, ◌↔◌, []};
 ghost use Rattle.std.specs.Io.KnownBytes.{WriteAppends};
 ghost use Rattle.psi_base.specs.Memory.{GivesOf};
 ghost use Rattle.psi_base.specs.Outside.{CountsWhere, given_by};

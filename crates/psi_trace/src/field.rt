@@ -1,6 +1,5 @@
 //! The fields of an event line: each the next part of the line, read as a value of its kind.
-ghost use Rattle.std.specs.Prelude.{◌≡◌, ◌^◌, ◌≢◌, [], ◌∷◌, nat_lt, true, false, MatchResult, IfOk, MatchOption};
-ghost use Rattle.psi_base.specs.Path.{is_path};
+ghost use Rattle.std.specs.Prelude.{◌≡◌, ◌^◌, ◌≢◌, [], ◌∷◌, nat_lt, true, false, MatchResult};
 ghost use Rattle.psi_base.specs.declared.event.Cause.TheVariants as cause;
 ghost use Rattle.psi_spec.specs.Fields as kind;
 ghost use Rattle.psi_spec.specs.Fields.{number_in, value_of};

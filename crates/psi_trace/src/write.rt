@@ -3,7 +3,7 @@ ghost use Rattle.std.specs.Prelude.{◌≡◌, ◌≤◌, ◌<◌, ◌+◌, ◌+
 ghost use Rattle.std.specs.Prelude.{vec_capacity, vec_len};
 ghost use Rattle.psi_spec.specs.Fields as fields;
 ghost use Rattle.psi_spec.specs.Fields.{word};
-ghost use Rattle.psi_spec.specs.Grammar.{Fits, act_words, form_of, header, kinds_of, spelling, phrase_of, verb_word, field_words};
+ghost use Rattle.psi_spec.specs.Grammar.{Fits, act_words, header, spelling};
 ghost use Rattle.psi_trace.specs.Writes.{is_short, spaced};
 
 use crate::line::{LongLine, ShortLine};

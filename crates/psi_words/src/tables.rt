@@ -1,5 +1,5 @@
 //! One table a command: its options, and what they say.
-ghost use Rattle.std.specs.Prelude.{◌≡◌, map, string_bytes, IfOk, IfSome, IsUtf8};
+ghost use Rattle.std.specs.Prelude.{map, string_bytes, IfOk, IfSome, IsUtf8};
 ghost use Rattle.psi_words.specs.Reads.{Finds, HasTextNames, ReadsWord};
 ghost use Rattle.run_spec.specs.Words as spec;
 

@@ -1,5 +1,5 @@
 //! The values of options: numbers in their ranges, and names.
-ghost use Rattle.std.specs.Prelude.{◌≡◌, ◌≤◌, IfOk, IfSome, IsUtf8, option_copied};
+ghost use Rattle.std.specs.Prelude.{◌≤◌, IfOk, IfSome, IsUtf8, option_copied};
 ghost use Rattle.psi_words.specs.Reads.{Finds, ReadsWord};
 ghost use Rattle.run_spec.specs.Words as spec;
 

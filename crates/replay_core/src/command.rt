@@ -1,5 +1,5 @@
 //! The commands, each over its files.
-ghost use Rattle.std.specs.Prelude.{◌≡◌, ◌+◌, ◌≤◌, ℕ, List, None, IfSome, IsUtf8};
+ghost use Rattle.std.specs.Prelude.{◌≡◌, ◌+◌, ◌≤◌, List, None, IfSome, IsUtf8};
 ghost use Rattle.psi_base.specs.Outside.{StaysOver};
 ghost use Rattle.psi_base.specs.declared.event.Event.{Event};
 ghost use Rattle.psi_spec.specs.World.{Limits};

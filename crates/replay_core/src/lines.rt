@@ -1,6 +1,6 @@
 //! What commands print of what was played.
 
-ghost use Rattle.std.specs.Prelude.{◌≡◌, ℕ, ◌+◌, ◌<◌, ◌≤◌, List, length};
+ghost use Rattle.std.specs.Prelude.{◌≡◌, ℕ, ◌<◌, ◌≤◌, List, length};
 ghost use Rattle.std.specs.List.{All};
 ghost use Rattle.psi_base.specs.Outside.{HasCause, PutsAll, StaysOver};
 ghost use Rattle.psi_base.specs.declared.event.Event.{Event};

@@ -3,7 +3,7 @@ ghost use Rattle.std.specs.Prelude.{◌≡◌, ◌++◌, codes, option_map};
 ghost use Rattle.dropin_rules.specs.FaultText.{drop_fault_text};
 ghost use Rattle.ruleset_json.specs.FaultText.{fault_text};
 ghost use Rattle.psi_base.specs.Outside.{PutsAll, HasCause};
-ghost use Rattle.run_spec.specs.Text.{cause_name, cause_text, field_number, import_cause_text};
+ghost use Rattle.run_spec.specs.Text.{cause_name, field_number, import_cause_text};
 ghost use Rattle.run_spec.specs.Status.{import_refusal_text, status_text, name_text, refusal_text};
 
 use dropin_rules::{DropFault, put_drop_fault};

@@ -1,5 +1,5 @@
 //! The stall sums of a trace: it is taken apart by processor, and then clocks make the changes of each.
-ghost use Rattle.std.specs.Prelude.{◌≡◌, ℕ, ◌<◌, ◌≤◌, List, length, IfOk};
+ghost use Rattle.std.specs.Prelude.{◌≡◌, ℕ, ◌<◌, ◌≤◌, List, length};
 ghost use Rattle.psi_base.specs.declared.event.Event.{Event};
 ghost use Rattle.psi_base.specs.Outside.{StaysOver};
 ghost use Rattle.run_spec.specs.Text.{stall_text};

@@ -1,10 +1,10 @@
 //! Traces from a shelf.
-ghost use Rattle.std.specs.Prelude.{◌≡◌, ◌+◌, ◌*◌, ◌<◌, ◌≤◌, ◌^◌, ℕ, List, [], Option, IfOk, IsErrOf, Some, None, Ok, MatchResult, false, length};
-ghost use Rattle.psi_base.specs.Outside.{told, Lacks, ShelfCounts, counts_of};
+ghost use Rattle.std.specs.Prelude.{◌≡◌, ◌+◌, ◌*◌, ◌<◌, ◌≤◌, ◌^◌, ℕ, List, [], IfOk, IsErrOf, Some, None, Ok, MatchResult, false, length};
+ghost use Rattle.psi_base.specs.Outside.{told, Lacks, counts_of};
 ghost use Rattle.psi_base.specs.declared.event.Cause.TheVariants as cause;
 ghost use Rattle.psi_lines.specs.Lines.{left};
 ghost use Rattle.psi_lines.specs.Next.{furthest};
-ghost use Rattle.psi_spec.specs.Grammar.{Fits, IsVersion, Version, verbs_of};
+ghost use Rattle.psi_spec.specs.Grammar.{Fits, IsVersion};
 ghost use Rattle.psi_spec.specs.Trace.{limits_of, refused};
 ghost use Rattle.run_spec.specs.MostRead.{most_of_trace};
 ghost use Rattle.replay_core.specs.Reads.{CausesTraceFault, HeadGives, IsHead, IsTraceFault, Legally, NextGives, ReadsLine, RestGives, TailGives, TakesLine, TakesRead, TellsNothing, TracePlayed, TraceRefused, trace_fault, verbs_in};

@@ -1,7 +1,6 @@
 //! One evaluation of rules.
-ghost use Rattle.std.specs.Prelude.{◌≡◌, ◌∷◌, ◌+◌, ◌<◌, [], ℕ, List, IfOk, length};
+ghost use Rattle.std.specs.Prelude.{◌≡◌, ◌∷◌, ◌+◌, ◌<◌, [], ℕ, List, IfOk};
 ghost use Rattle.psi_spec.specs.Trace.{Trace};
-ghost use Rattle.pressure_spec.specs.Ticks.{tick_moment};
 ghost use Rattle.ruleset_json.specs.declared.types.Rule.{Rule};
 ghost use Rattle.run_spec.specs.Replay.{Pace};
 ghost use Rattle.replay_rules.specs.Planned.{IsPlanned};

@@ -1,5 +1,5 @@
 //! The processors of one worker.
-ghost use Rattle.std.specs.Prelude.{◌≡◌, ◌<◌, ◌≤◌, length};
+ghost use Rattle.std.specs.Prelude.{◌<◌, ◌≤◌};
 ghost use Rattle.std.specs.List.{All};
 ghost use Rattle.psi_spec.specs.Trace.{last_moment};
 ghost use Rattle.replay_workers.specs.Crew.{last_of};

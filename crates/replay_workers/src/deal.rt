@@ -1,5 +1,5 @@
 //! How processors are dealt to workers.
-ghost use Rattle.std.specs.Prelude.{◌≡◌, ◌<◌, ◌≤◌, length, IfOk};
+ghost use Rattle.std.specs.Prelude.{◌≡◌, ◌<◌, ◌≤◌, IfOk};
 ghost use Rattle.replay_workers.specs.Crew.{room_of};
 ghost use Rattle.replay_workers.specs.Lanes.{AreNewBatches, IsNewBatch};
 

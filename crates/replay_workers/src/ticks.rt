@@ -1,5 +1,5 @@
 //! Ticks that a crew goes over at once.
-ghost use Rattle.std.specs.Prelude.{◌≡◌, ◌<◌, ◌≤◌, ◌^◌};
+ghost use Rattle.std.specs.Prelude.{◌≡◌, ◌<◌, ◌^◌};
 ghost use Rattle.replay_workers.specs.Crew.{last_of, moment_in};
 
 use psi_base::Ns;

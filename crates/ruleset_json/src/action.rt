@@ -1,5 +1,5 @@
 //! The actions: for each a function with a line an argument.
-ghost use Rattle.std.specs.Prelude.{◌≡◌, ◌≤◌, option_map, IfOk};
+ghost use Rattle.std.specs.Prelude.{◌≡◌, option_map, IfOk};
 ghost use Rattle.serde_json.specs.View.{view};
 ghost use Rattle.ruleset_json.specs.declared.fault.RulesCause.TheVariants as cause;
 ghost use Rattle.ruleset_json.specs.declared.name.ActionName.TheVariants as name;
@@ -8,7 +8,7 @@ ghost use Rattle.ruleset_json.specs.Names.{action_named};
 ghost use Rattle.ruleset_json.specs.Plugins.{action_of, after_arguments};
 ghost use Rattle.ruleset_json.specs.Ranges.{FitsAction, IsTime};
 ghost use Rattle.ruleset_json.specs.Rules.{made_at, action_made_at, action_in};
-ghost use Rattle.psi_base.specs.Gives.{Gives, FaultOf};
+ghost use Rattle.psi_base.specs.Gives.{Gives};
 
 use crate::arguments::{Arguments, LONGEST_S, PERCENT};
 use crate::fault::{Place, RulesCause, RulesFault};

@@ -1,13 +1,13 @@
 //! The arguments of a plugin: each is looked up by its key and read as its kind.
-ghost use Rattle.std.specs.Prelude.{◌≡◌, ◌<◌, ◌≤◌, ◌^◌, Option, Some, None, option_map, option_and_then, string_bytes, IfOk, codes};
+ghost use Rattle.std.specs.Prelude.{◌≡◌, ◌<◌, ◌≤◌, Option, Some, None, option_map, option_and_then, string_bytes, IfOk, codes};
 ghost use Rattle.serde_json.specs.View.{view};
 ghost use Rattle.serde_json.specs.Find as json;
 ghost use Rattle.ruleset_json.specs.Arguments as kind;
-ghost use Rattle.ruleset_json.specs.Arguments.{argument_text, argument_at, value_at, found_or, or_fault, pattern_cause, required, optional};
+ghost use Rattle.ruleset_json.specs.Arguments.{argument_text, argument_at, value_at, or_fault, pattern_cause, required, optional};
 ghost use Rattle.ruleset_json.specs.Names.{key_word};
 ghost use Rattle.ruleset_json.specs.Rules.{arguments_in};
 ghost use Rattle.ruleset_json.specs.Ranges.{IsRatio, IsSize, IsStallable};
-ghost use Rattle.psi_base.specs.Gives.{Gives, FaultOf};
+ghost use Rattle.psi_base.specs.Gives.{Gives};
 ghost use Rattle.ruleset_json.specs.Gives.{GivesBy, ReadsBy};
 ghost use Rattle.ruleset_json.specs.declared.fault.RulesCause.TheVariants as cause;
 

@@ -8,7 +8,7 @@ ghost use Rattle.ruleset_json.specs.Names.{detector_named};
 ghost use Rattle.ruleset_json.specs.Plugins.{detector_of};
 ghost use Rattle.ruleset_json.specs.Ranges.{FitsDetector};
 ghost use Rattle.ruleset_json.specs.Rules.{made_at, detector_in};
-ghost use Rattle.psi_base.specs.Gives.{Gives, FaultOf};
+ghost use Rattle.psi_base.specs.Gives.{Gives};
 
 use crate::arguments::{Arguments, LONGEST_S, PERCENT};
 use crate::fault::{Place, RulesCause, RulesFault};

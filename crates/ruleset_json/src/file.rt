@@ -9,7 +9,7 @@ ghost use Rattle.ruleset_json.specs.Ranges.{FitsDetectors, FitsActions, IsTime};
 ghost use Rattle.ruleset_json.specs.RuleRanges.{FitsRule, FitsRules};
 ghost use Rattle.ruleset_json.specs.Rules.{each, detector_in, action_in, group_at, delay_at, groups_at, actions_at, data_of, rule_at, rulesets_in, rules_of};
 ghost use Rattle.ruleset_json.specs.Parts.{if_there, part_at, parts_of};
-ghost use Rattle.psi_base.specs.Gives.{Gives, FaultOf, lacks_memory};
+ghost use Rattle.psi_base.specs.Gives.{Gives, lacks_memory};
 ghost use Rattle.ruleset_json.specs.Gives.{GivesBy, ReadsBy};
 ghost use Rattle.ruleset_json.specs.declared.fault.Place.TheVariants as place;
 ghost use Rattle.ruleset_json.specs.declared.fault.RulesCause.TheVariants as cause;

@@ -1,5 +1,5 @@
 //! The texts of arguments: numbers, ratios, sizes, truths and resources.
-ghost use Rattle.std.specs.Prelude.{◌≡◌, ℕ, ◌<◌, ◌≤◌, ◌^◌, ◌*◌, ◌+◌, ◌++◌, ◌&&◌, nat_le, nat_lt, length, take, codes, if◌then◌else◌, Some, None, IfSome};
+ghost use Rattle.std.specs.Prelude.{◌≡◌, ◌<◌, ◌≤◌, ◌^◌, ◌*◌, ◌+◌, ◌++◌, ◌&&◌, nat_le, nat_lt, length, take, codes, if◌then◌else◌, Some, None, IfSome};
 ghost use Rattle.ruleset_json.specs.Forms as form;
 ghost use Rattle.ruleset_json.specs.Ranges.{IsRatio, IsSize, IsStallable};
 

@@ -1,9 +1,8 @@
 //! Values of a rules file by their kinds, and the faults of other kinds.
-ghost use Rattle.std.specs.Prelude.{◌≡◌, ◌≤◌, map, length, IfOk};
+ghost use Rattle.std.specs.Prelude.{◌≤◌, map, length, IfOk};
 ghost use Rattle.serde_json.specs.View.{view};
 ghost use Rattle.ruleset_json.specs.Arguments.{or_fault};
 ghost use Rattle.ruleset_json.specs.Rules.{data_of, object_at, member_at, text_at, list_at};
-ghost use Rattle.psi_base.specs.Gives.{FaultOf};
 ghost use Rattle.ruleset_json.specs.Gives.{GivesBy, ReadsBy};
 ghost use Rattle.ruleset_json.specs.declared.fault.Place.TheVariants as place;
 ghost use Rattle.ruleset_json.specs.declared.fault.RulesCause.TheVariants as cause;

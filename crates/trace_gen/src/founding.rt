@@ -2,7 +2,7 @@
 ghost use Rattle.std.specs.Prelude.{◌≡◌, ◌≤◌, ◌<◌, ◌++◌, ◌∷◌, [], None, IfOk, OnOk, map};
 ghost use Rattle.std.specs.List.{range_with_len};
 ghost use Rattle.psi_spec.specs.Refusal.{cause_of};
-ghost use Rattle.psi_spec.specs.World.{after, after_event};
+ghost use Rattle.psi_spec.specs.World.{after};
 ghost use Rattle.run_spec.specs.Generated.{at_start, first_events, home_of, made_group, made_task};
 ghost use Rattle.run_spec.specs.Generated.{numbered_path, task_count};
 ghost use Rattle.run_spec.specs.Words.{IsShape};

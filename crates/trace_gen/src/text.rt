@@ -3,7 +3,7 @@ ghost use Rattle.std.specs.Prelude.{◌≡◌, ◌≤◌, ◌++◌, ◌∷◌, [
 ghost use Rattle.psi_base.specs.Outside.{HasCause, PutsAll, StaysOver};
 ghost use Rattle.psi_spec.specs.Grammar.{Fits, header, spelling};
 ghost use Rattle.psi_spec.specs.Trace.{AllFit, lines_of};
-ghost use Rattle.run_spec.specs.Generated.{gen_text, generated};
+ghost use Rattle.run_spec.specs.Generated.{gen_text};
 ghost use Rattle.run_spec.specs.Words.{IsShape};
 ghost use Rattle.trace_gen.specs.Writing.{WritesWhole, shape_by};
 

@@ -1,5 +1,5 @@
 //! The victim of an action.
-ghost use Rattle.std.specs.Prelude.{◌≡◌, filter, length};
+ghost use Rattle.std.specs.Prelude.{◌≡◌, length};
 ghost use Rattle.detectors.specs.Tables.{match_table};
 ghost use Rattle.kill_spec.specs.Victims.{action_patterns};
 ghost use Rattle.ruleset_json.specs.Ranges.{FitsAction, IsPercent, IsRatio};

@@ -1,5 +1,5 @@
 //! The growth of groups over their past.
-ghost use Rattle.std.specs.Prelude.{◌≡◌, ◌≤◌, ◌<◌, ◌^◌, ◌*◌, All, MatchOption, filter, if◌then◌else◌, length, nat_le, nat_lt, sum, true, ◌&&◌};
+ghost use Rattle.std.specs.Prelude.{◌≡◌, ◌≤◌, ◌<◌, ◌^◌, ◌*◌, All, MatchOption, filter, length, nat_le, nat_lt, sum, true, ◌&&◌};
 ghost use Rattle.ruleset_json.specs.Ranges.{IsRatio};
 ghost use Rattle.kill_spec.specs.Victims.{largest_few, unbeaten};
 ghost use Rattle.victim_rank.specs.Growth.{has_grown_more_over, is_growing_over, sizes_from};

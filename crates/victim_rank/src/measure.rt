@@ -5,7 +5,7 @@ ghost use Rattle.pressure_spec.specs.Share.{irq_quantity};
 ghost use Rattle.ruleset_json.specs.Ranges.{FitsAction, IsSize};
 ghost use Rattle.kill_spec.specs.Readings.{IsGroupReading, IsHostReading};
 ghost use Rattle.kill_spec.specs.Victims.{is_at_least, pressure_measure, rank_of};
-ghost use Rattle.victim_rank.specs.Scopes.{is_eligible, measure_of, rise_from};
+ghost use Rattle.victim_rank.specs.Scopes.{is_eligible, measure_of};
 
 use crate::past::Past;
 use kill_spec::{GroupReading, HostReading};

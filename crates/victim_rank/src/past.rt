@@ -1,8 +1,7 @@
 //! What is kept of earlier readings.
-ghost use Rattle.std.specs.Prelude.{◌≡◌, ◌≤◌, ◌^◌, ℕ, [], ◌∷◌, All, IfOk, List, Some, length, map, option_map, replicate, slice_index_or, take, None};
+ghost use Rattle.std.specs.Prelude.{◌≡◌, ◌≤◌, ◌^◌, ℕ, [], ◌∷◌, All, IfOk, Some, length, map, option_map, replicate, slice_index_or, take, None};
 ghost use Rattle.kill_spec.specs.declared.reading.GroupReading.{GroupReading};
 ghost use Rattle.kill_spec.specs.Readings.{group_in};
-ghost use Rattle.kill_spec.specs.Victims.{size_at};
 ghost use Rattle.victim_rank.specs.Pasts.{AreSizes, IsPastOf, PastTakes, sizes_of};
 ghost use Rattle.victim_rank.specs.Growth.{sizes_from};
 ghost use Rattle.victim_rank.specs.Scopes.{rise_from};

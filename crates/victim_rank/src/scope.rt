@@ -1,6 +1,5 @@
 //! Among which groups a choice is made.
 ghost use Rattle.std.specs.Prelude.{◌≡◌, ◌<◌, ◌≤◌, None, Some, filter, length};
-ghost use Rattle.path_match.specs.Match.{is_match};
 ghost use Rattle.kill_spec.specs.Victims.{action_patterns, after_of};
 ghost use Rattle.detectors.specs.Below.{AreAmong, groups_at};
 ghost use Rattle.detectors.specs.Tables.{match_table};

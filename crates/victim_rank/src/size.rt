@@ -1,7 +1,7 @@
 //! The sizes of groups against one another.
-ghost use Rattle.std.specs.Prelude.{◌≡◌, ◌≤◌, ◌<◌, ◌^◌, ◌*◌, filter, length, nat_le, nat_lt};
+ghost use Rattle.std.specs.Prelude.{◌≡◌, ◌<◌, ◌^◌, ◌*◌, filter, length, nat_le, nat_lt};
 ghost use Rattle.ruleset_json.specs.Ranges.{IsPercent};
-ghost use Rattle.kill_spec.specs.Victims.{count_above, is_larger, memory_in_use, rank_of, total_size};
+ghost use Rattle.kill_spec.specs.Victims.{count_above, is_larger, memory_in_use, total_size};
 ghost use Rattle.victim_rank.specs.Scopes.{is_in_rank, is_in_view};
 
 use crate::measure::rank;

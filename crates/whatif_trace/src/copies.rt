@@ -1,5 +1,5 @@
 //! Events once more, and how they are kept.
-ghost use Rattle.std.specs.Prelude.{◌≡◌, ◌++◌, ◌∷◌, [], IfOk, OnOk, true};
+ghost use Rattle.std.specs.Prelude.{◌≡◌, ◌∷◌, [], IfOk, true};
 ghost use Rattle.whatif_spec.specs.Without.{acts_if};
 ghost use Rattle.psi_spec.specs.World.{events_at};
 ghost use Rattle.whatif_trace.specs.Left.{Adds, tells_of_group};

@@ -1,5 +1,5 @@
 //! A trace without the tasks of a group that is killed.
-ghost use Rattle.std.specs.Prelude.{◌≡◌, ◌<◌, ◌≤◌, IfOk, MatchResult, None, OnOk, Ok, drop, length, nat_lt, replicate, take};
+ghost use Rattle.std.specs.Prelude.{◌≡◌, ◌<◌, ◌≤◌, IfOk, MatchResult, None, OnOk, Ok, drop, length, nat_lt, take};
 ghost use Rattle.psi_base.specs.Gives.{FaultOf};
 ghost use Rattle.psi_spec.specs.Refusal.{AreLegal, cause_of};
 ghost use Rattle.psi_spec.specs.Trace.{IsAccepted};

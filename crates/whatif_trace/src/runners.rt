@@ -1,5 +1,5 @@
 //! The numbers of the tasks that run on the processors.
-ghost use Rattle.std.specs.Prelude.{◌≡◌, ◌<◌, IfOk, None, length, replicate, slice_set};
+ghost use Rattle.std.specs.Prelude.{◌≡◌, ◌<◌, IfOk, None, replicate, slice_set};
 ghost use Rattle.whatif_trace.specs.Left.{runner_at, turned};
 
 use psi_base::{Act, Cpu, NoMemory, Pid};

@@ -1,6 +1,6 @@
 //! A processor with tasks in groups, whose changes fit the clocks.
 
-ghost use Rattle.std.specs.Prelude.{◌≡◌, ◌≤◌, length, vec_len, IsTrue};
+ghost use Rattle.std.specs.Prelude.{length, IsTrue};
 ghost use Rattle.std.proofs.Props.{props};
 ghost use Rattle.psi_spec.specs.Groups.{AreOlder};
 ghost use Rattle.slot_clocks.specs.Clocks.{parent_numbers};
