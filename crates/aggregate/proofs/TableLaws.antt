@@ -143,7 +143,7 @@ put_has cpus slots table slot cpu times has =
           case;
     }
 
-sizes_same : (cpus slots : ℕ) (table other : List (List (List ℕ))) → HasSizes cpus slots table → HasSizes cpus slots other → HaveSameSizes table other
+pub sizes_same : (cpus slots : ℕ) (table other : List (List (List ℕ))) → HasSizes cpus slots table → HasSizes cpus slots other → HaveSameSizes table other
 sizes_same cpus slots table other has also = record {
   slots = has.slots_are ∙ sym also.slots_are;
   cpus = λ slot.

@@ -1,5 +1,5 @@
--- A table of times: for each group, by its slot, a row with the times (ns) of each processor: in the seven states, and what
--- interrupts took.
+-- A table of times: for each group, by its slot, a row with the times (ns) of each processor: in
+-- the seven states, and what interrupts took.
 use Rattle.std.specs.Prelude.{◌≡◌, ◌≢◌, ◌⊎◌, All, ℕ, ◌*◌, ◌<◌, List, [], length, map, take, drop, replicate, slice_index_or, slice_set}
 use Rattle.std.specs.List.{range_with_len}
 
@@ -44,15 +44,21 @@ pub record HaveSameSizes (table other : List (List (List ℕ))) : Type 0 where
 
 -- ---- laws
 
--- A new table has its sizes, and keeps them as times are set. Tables of the same sizes are as large as one another.
+-- A new table has its sizes, and keeps them as times are set. Tables of the same sizes are as large
+-- as one another.
 pub record KeepsSizes : Type 0 where
   pub new : (cpus slots : ℕ) → HasSizes cpus slots (new_table cpus slots)
-  pub set : (cpus slots : ℕ) (table : List (List (List ℕ))) (slot cpu : ℕ) (times : List ℕ) → HasSizes cpus slots table → HasSizes cpus slots (put_times table slot cpu times)
-  pub same : (cpus slots : ℕ) (table other : List (List (List ℕ))) → HasSizes cpus slots table → HasSizes cpus slots other → HaveSameSizes table other
-  pub place : (cpus slots : ℕ) (table : List (List (List ℕ))) (slot cpu : ℕ) → HasSizes cpus slots table → slot < slots → cpu < cpus → IsPlace table slot cpu
+  pub set : (cpus slots : ℕ) (table : List (List (List ℕ))) (slot cpu : ℕ) (times : List ℕ) → HasSizes cpus slots table
+      → HasSizes cpus slots (put_times table slot cpu times)
+  pub same : (cpus slots : ℕ) (table other : List (List (List ℕ))) → HasSizes cpus slots table → HasSizes cpus slots other
+      → HaveSameSizes table other
+  pub place : (cpus slots : ℕ) (table : List (List (List ℕ))) (slot cpu : ℕ) → HasSizes cpus slots table → slot < slots → cpu < cpus
+      → IsPlace table slot cpu
 
 -- What is set at a place stands there, and the other places are as they were.
 pub record SetsOnePlace : Type 0 where
-  pub here : (table : List (List (List ℕ))) (slot cpu : ℕ) (times : List ℕ) → IsPlace table slot cpu → times_at (put_times table slot cpu times) slot cpu ≡ times
-  pub elsewhere : (table : List (List (List ℕ))) (slot cpu : ℕ) (times : List ℕ) (other_slot other_cpu : ℕ) → IsPlace table slot cpu → (other_slot ≢ slot) ⊎ (other_cpu ≢ cpu) →
+  pub here : (table : List (List (List ℕ))) (slot cpu : ℕ) (times : List ℕ) → IsPlace table slot cpu
+      → times_at (put_times table slot cpu times) slot cpu ≡ times
+  pub elsewhere : (table : List (List (List ℕ))) (slot cpu : ℕ) (times : List ℕ) (other_slot other_cpu : ℕ) → IsPlace table slot cpu
+      → (other_slot ≢ slot) ⊎ (other_cpu ≢ cpu) →
       times_at (put_times table slot cpu times) other_slot other_cpu ≡ times_at table other_slot other_cpu

@@ -8,8 +8,8 @@ use psi_base::{Cpu, NoMemory, Slot};
 use std::alloc::Global;
 use std::marker::Model;
 
-/// For each group, by its slot, a row of each processor's times (ns): in the order of the states, and last what interrupts
-/// took.
+/// For each group, by its slot, a row of each processor's times (ns): in the order of the states,
+/// and last what interrupts took.
 #[derive(Drop)]
 pub struct Rows {
     cpus: u32,
@@ -95,7 +95,8 @@ fn no_times(alloc: Global, count: usize) -> Result<Vec<Times>, NoMemory>
     Ok(vec![in alloc; [0u64; TIMES]; count]?)
 }
 
-/// Laws of tables: they keep their sizes, and what is set is found at its place and changes no other.
+/// Laws of tables: they keep their sizes, and what is set is found at its place and changes no
+/// other.
 pub fn law_rows()
     ensures sizes { KeepsSizes }
     ensures places { SetsOnePlace }

@@ -7,8 +7,8 @@ ghost use Rattle.pressure_spec.specs.Share.{AreAmountsWithin, most_irq_total};
 use pressure_spec::{Amounts, QUANTITIES};
 use std::marker::Model;
 
-/// How long a group was in each state but nonidle since it was made, and how long interrupts took from it (ns): the sums of
-/// its shares.
+/// How long a group was in each state but nonidle since it was made, and how long interrupts took
+/// from it (ns): the sums of its shares.
 #[derive(Drop)]
 pub struct Totals {
     sums: Amounts,

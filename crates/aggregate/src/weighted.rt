@@ -1,11 +1,13 @@
 //! The shares of an interval.
 ghost use Rattle.std.specs.Prelude.{◌≡◌, ◌≤◌, ◌<◌, ◌+◌, ◌*◌, ◌/◌, ℕ, All, length, map, slice_index};
 ghost use Rattle.psi_spec.specs.Trace.{longest_tick};
+ghost use Rattle.aggregate.specs.Since.{NoneFell, growth};
+ghost use Rattle.pressure_spec.specs.Samples.{growths};
 ghost use Rattle.pressure_spec.specs.Share as model;
 ghost use Rattle.pressure_spec.specs.Share.{AreTimesWithin, pressure_places};
 ghost use Rattle.psi_spec.specs.World.{longest_irq};
 
-use pressure_spec::{Amounts, QUANTITIES, Times};
+use pressure_spec::{Amounts, QUANTITIES, TIMES, Times};
 
 /// The kernel's timer tick in this profile: a millisecond (ns).
 const TICK: u64 = 1_000_000;
@@ -16,9 +18,10 @@ const NONIDLE: usize = 6;
 /// The places of the quantities of pressure among the times of a processor: all but nonidle.
 const PLACES: [usize; QUANTITIES] = [0, 1, 2, 3, 4, 5, 7];
 
-/// How long a group was in each state but nonidle in an interval, and how long interrupts took from it (ns), over all
-/// processors: the mean of `deltas`, which has its times in the interval on each processor (ns), each with the weight of
-/// the processor. The weight is for how many whole timer ticks the group wasn't idle there.
+/// How long a group was in each state but nonidle in an interval, and how long interrupts took from
+/// it (ns), over all processors: the mean of `deltas`, which has its times in the interval on each
+/// processor (ns), each with the weight of the processor. The weight is for how many whole timer
+/// ticks the group wasn't idle there.
 pub fn share(deltas: &[Times]) -> Amounts
     requires few { length deltas.now ≤ 64 }
     requires short { All (AreTimesWithin longest_tick (longest_tick + longest_irq)) deltas.now }
@@ -34,6 +37,54 @@ pub fn share(deltas: &[Times]) -> Amounts
     let divisor = weights.max(1);
     divide(&mut sums, divisor);
     sums
+}
+
+/// The same of what the times (ns) of each processor grew by from the begin of the interval to its
+/// end. A processor on which the group was idle has no weight, so it adds nothing, and its other
+/// times aren't read.
+pub fn share_since(now: &[Times], before: &[Times]) -> Amounts
+    requires few { length now.now ≤ 64 }
+    requires each { length before.now ≡ length now.now }
+    requires kept { NoneFell before.now now.now }
+    requires short { All (AreTimesWithin longest_tick (longest_tick + longest_irq))
+        (growths before.now now.now) }
+    ensures { result ≡ model.shares (growths before.now now.now) }
+{
+    let mut sums = [0u64; QUANTITIES];
+    let mut total = 0u64;
+    'rows: for cpu in 0..now.len() {
+        let weight = weight_since(&now[cpu], &before[cpu]);
+        if weight == 0 {
+            continue 'rows;
+        }
+        total += weight;
+        add_weighted(&mut sums, &growth(&now[cpu], &before[cpu]), weight);
+    }
+    let by = total.max(1);
+    divide(&mut sums, by);
+    sums
+}
+
+/// The weight of a processor by what its times grew by.
+#[inline(always)]
+fn weight_since(now: &Times, before: &Times) -> u64
+    requires { (place : ℕ) → slice_index before.now place ≤ slice_index now.now place }
+    ensures { result ≡ model.weight (growth now.now before.now) }
+{
+    (now[NONIDLE] - before[NONIDLE]) / TICK
+}
+
+/// What each of a processor's times grew by.
+#[inline(always)]
+fn growth(now: &Times, before: &Times) -> Times
+    requires { (place : ℕ) → slice_index before.now place ≤ slice_index now.now place }
+    ensures { result ≡ growth now.now before.now }
+{
+    let mut growth = [0u64; TIMES];
+    'each: for i in 0..TIMES {
+        growth[i] = now[i] - before[i];
+    }
+    growth
 }
 
 /// Adds the times of a processor to the sums, with its weight.

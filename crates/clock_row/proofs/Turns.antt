@@ -198,7 +198,7 @@ parent_below parents low (Some slot) older is = older low slot.0 (sym is)
 -- ---- the four chains of a change
 
 some_change : (plan : PlanView) (k : ℕ) → k < length plan.changes → (change : Change) × (slice_get plan.changes k ≡ Some change)
-some_change plan k room = let none : Change = record { at = 0; minus = None; plus = None; current = None; irq = 0; gate = None } in (slice_index_or plan.changes k none, slice_get-get_or plan.changes k none room)
+some_change plan k room = let none : Change = record { at = 0; minus = None; plus = None; current = None; irq = 0; account = None } in (slice_index_or plan.changes k none, slice_get-get_or plan.changes k none room)
 
 -- what holds of four holds of all in their list
 all_four : (P : Option Slot → Type 0) (a b c d : Option Slot) → P a → P b → P c → P d → All P (a ∷ b ∷ c ∷ d ∷ [])
@@ -270,8 +270,8 @@ starts_below plan k starts whole room are =
     let slots = whole.slots k change.0 change.1 in
     let below : Option Slot → Type 0 = λ start. IfSome start (λ slot. slot.0 < length plan.parents) in
     subst (AreBelow (length plan.parents)) (sym (are change.0 change.1))
-    (all_four below (option_or (slot_in change.0.gate) (slot_in change.0.minus)) (slot_in change.0.plus) (slot_in (current_after plan k)) (slot_in change.0.current)
-    (or_below (slot_in change.0.gate) (slot_in change.0.minus) (length plan.parents) (side_below change.0.gate (length plan.parents) slots.gate) (side_below change.0.minus (length plan.parents) slots.minus)) (side_below change.0.plus (length plan.parents) slots.plus)
+    (all_four below (option_or (slot_in change.0.account) (slot_in change.0.minus)) (slot_in change.0.plus) (slot_in (current_after plan k)) (slot_in change.0.current)
+    (or_below (slot_in change.0.account) (slot_in change.0.minus) (length plan.parents) (side_below change.0.account (length plan.parents) slots.account) (side_below change.0.minus (length plan.parents) slots.minus)) (side_below change.0.plus (length plan.parents) slots.plus)
     (side_below (current_after plan k) (length plan.parents) (current_below plan k whole (omega (arith, room)))) (side_below change.0.current (length plan.parents) slots.current))
 
 pub weaker : (o : Option Slot) (n m : ℕ) → IfSome o (λ slot. slot.0 < n) → n ≤ m → IfSome o (λ slot. slot.0 < m)

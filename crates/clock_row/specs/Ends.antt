@@ -20,8 +20,9 @@ pub record ReaderEnd : Type 0 where
   pub row : TableId
   pub knows : ReaderView
 
--- A writer between two calls: the row has one word and nine for each slot of its plan, no change is open, the words of each
--- slot are a clock, and clocks of its own have made the same changes of the same plan.
+-- A writer between two calls: the row has one word and nine for each slot of its plan, no change is
+-- open, the words of each slot are a clock, and clocks of its own have made the same changes of the
+-- same plan.
 pub record IsWriterEnd (row : TableId) (seat : RowSeat) (plan : PlanView) (clocks : OnPlan) : Type 0 where
   pub on_row : seat.table_id ≡ row
   pub wide : row.words ≡ 9 * length plan.parents + 1
@@ -34,7 +35,8 @@ pub record IsWriterEnd (row : TableId) (seat : RowSeat) (plan : PlanView) (clock
   pub clocks_made : clocks.made ≡ (writer_on seat).count
   pub words : AreClockWords plan (writer_on seat).count (writer_on seat).body
 
--- A reader between two calls: the row has one word and nine for each slot of its plan, and no try is open.
+-- A reader between two calls: the row has one word and nine for each slot of its plan, and no try
+-- is open.
 pub record IsReaderEnd (row : TableId) (seat : RowSeat) : Type 0 where
   pub on_row : seat.table_id ≡ row
   pub wide : row.words ≡ 9 * length (reader_on seat).plan.parents + 1
@@ -42,16 +44,18 @@ pub record IsReaderEnd (row : TableId) (seat : RowSeat) : Type 0 where
   pub reader : IsReader seat
   pub closed : (reader_on seat).attempt ≡ Closed
 
--- A try succeeded with so many changes: the number was loaded twice, both times as twice that, and so many were seen.
+-- A try succeeded with so many changes: the number was loaded twice, both times as twice that, and
+-- so many were seen.
 abbrev pub sample_taken : ℕ → ReaderView → ReaderView
-sample_taken count reader = record reader { seen = count; loads = reader.loads + 2; got = reader.got ++ count ∷ []; first = 2 * count; second = 2 * count }
+sample_taken count reader =
+    record reader { seen = count; loads = reader.loads + 2; got = reader.got ++ count ∷ []; first = 2 * count; second = 2 * count }
 
 -- A try met a change: the number was loaded so often, last as these two, and nothing more was seen.
 abbrev pub met_change : ℕ → ℕ → ℕ → ReaderView → ReaderView
 met_change loads first second reader = record reader { loads = reader.loads + loads; met = reader.met + 1; first = first; second = second }
 
--- A try met a change by these two numbers: either one was loaded, which is odd, and stands for both, or two were loaded, the
--- first even and the second greater.
+-- A try met a change by these two numbers: either one was loaded, which is odd, and stands for
+-- both, or two were loaded, the first even and the second greater.
 abbrev pub IsBusy : ℕ → ℕ → ReaderView → ReaderView → Type 0
 IsBusy first second before after =
     ((first % 2 ≡ 1) × (second ≡ first) × (after ≡ met_change 1 before.second first before))

@@ -1,7 +1,8 @@
--- The rule of a row: what its words and the views of its seats tell of each other between any two steps.
+-- The rule of a row: what its words and the views of its seats tell of each other between any two
+-- steps.
 --
--- Word 0 is the sequence number. It is twice the number of changes in the row, and one more while a change is open. Behind it
--- stand nine words for each slot.
+-- Word 0 is the sequence number. It is twice the number of changes in the row, and one more while a
+-- change is open. Behind it stand nine words for each slot.
 use Rattle.std.specs.Prelude.{◌≡◌, ℕ, ◌+◌, ◌*◌, ◌%◌, ◌≤◌, Bool, true, false, List, ◌∷◌, length, replicate}
 use mathlib.Core.Option.{some}
 use lib.ListN.{get_elem?}
@@ -27,23 +28,26 @@ open_bit false = 0
 abbrev pub sequence : WriterView → ℕ
 sequence writer = 2 * writer.count + open_bit writer.changing
 
--- What a try knows of the row. The number with which it began is even and the row isn't before it; and where the row is still
--- there, each value that was loaded is the word at its place.
+-- What a try knows of the row. The number with which it began is even and the row isn't before it;
+-- and where the row is still there, each value that was loaded is the word at its place.
 abbrev pub KnowsLoaded : ℕ → List ℕ → Attempt → Type 0
 KnowsLoaded number body Closed = Unit {0}
 KnowsLoaded number body (Open first loaded) = (first % 2 ≡ 0) × (first ≤ number) × (number ≡ first → Agrees body loaded)
 
--- What a seat knows of the row, where the writer's seat and view are these. No other view is the writer's. Each view that isn't
--- spent names the writer's plan, and twice the number that it has seen or notes is at most the sequence number.
+-- What a seat knows of the row, where the writer's seat and view are these. No other view is the
+-- writer's. Each view that isn't spent names the writer's plan, and twice the number that it has
+-- seen or notes is at most the sequence number.
 abbrev pub Knows : ℕ → WriterView → ℕ → View → Type 0
 Knows seat writer other Spent = Unit {0}
 Knows seat writer other (Noted note) = (note.plan ≡ writer.plan) × (2 * note.number ≤ sequence writer)
 Knows seat writer other (Writer view) = (other ≡ seat) × (view ≡ writer)
-Knows seat writer other (Reader reader) = (reader.plan ≡ writer.plan) × (2 * reader.seen ≤ sequence writer) × KnowsLoaded (sequence writer) writer.body reader.attempt
+Knows seat writer other (Reader reader) =
+    (reader.plan ≡ writer.plan) × (2 * reader.seen ≤ sequence writer) × KnowsLoaded (sequence writer) writer.body reader.attempt
 
--- A row with this writer: the writer's view is at its seat and has the words as they stand behind the sequence number; each
--- seat knows of the row what its view says, and so does the writer of what it was told; and where no change is open, the words
--- of each slot are a clock after the changes that are in the row.
+-- A row with this writer: the writer's view is at its seat and has the words as they stand behind
+-- the sequence number; each seat knows of the row what its view says, and so does the writer of
+-- what it was told; and where no change is open, the words of each slot are a clock after the
+-- changes that are in the row.
 pub record IsWholeRow (seat : ℕ) (writer : WriterView) (row : RowState) : Type 0 where
   pub here : get_elem? row.views seat ≡ some (Writer writer)
   pub words : row.words ≡ sequence writer ∷ writer.body

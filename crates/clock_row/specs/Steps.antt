@@ -1,4 +1,5 @@
--- The nine kinds of step on a row: what each makes of the view of its seat, what it tells, and that it keeps the rule.
+-- The nine kinds of step on a row: what each makes of the view of its seat, what it tells, and that
+-- it keeps the rule.
 use Rattle.std.specs.Prelude.{◌≡◌, ℕ, ◌+◌, ◌*◌, ◌-◌, ◌/◌, ◌%◌, ◌≤◌, max, Bool, true, false, ◌==◌, List, [], ◌∷◌, ◌++◌, slice_index, slice_set}
 use mathlib.Core.Option.{none}
 use Rattle.atomic_table.specs.Table.{Allows, Joins, Me, Splits, Step, opening, step}
@@ -55,18 +56,22 @@ Puts step before word after = Writes (put_at (step.word - 1) step.first) before.
 abbrev pub Closes : RowStep → Sitter → ℕ → Sitter → Type 0
 Closes step before number after = Writes closed before.0 after.0
 
--- 4: a load by the writer finds the word that its view has, and tells that it was told of no more than the number.
+-- 4: a load by the writer finds the word that its view has, and tells that it was told of no more
+-- than the number.
 abbrev pub Owns : RowStep → Sitter → ℕ → Sitter → Type 0
 Owns step before word after =
     (after.0 ≡ before.0)
-    × ((writer : WriterView) → before.0 ≡ Writer writer → (word ≡ slice_index (sequence writer ∷ writer.body) step.word) × (2 * writer.told ≤ sequence writer))
+    × ((writer : WriterView) → before.0 ≡ Writer writer
+    → (word ≡ slice_index (sequence writer ∷ writer.body) step.word) × (2 * writer.told ≤ sequence writer))
 
 -- ---- 5 to 7: a reader
 
--- The number was loaded for a try: it is open where the number is even, and where it is odd the try met a change.
+-- The number was loaded for a try: it is open where the number is even, and where it is odd the try
+-- met a change.
 abbrev pub begun_by : Bool → ℕ → ReaderView → ReaderView
 begun_by true number reader = record reader { loads = reader.loads + 1; first = reader.second; second = number; attempt = Open number [] }
-begun_by false number reader = record reader { loads = reader.loads + 1; met = reader.met + 1; first = reader.second; second = number; attempt = Closed }
+begun_by false number reader =
+    record reader { loads = reader.loads + 1; met = reader.met + 1; first = reader.second; second = number; attempt = Closed }
 
 -- so it is after the first load of a try
 abbrev pub try_begun : ℕ → ReaderView → ReaderView
@@ -81,26 +86,37 @@ loaded_too place value (Open first loaded) = Open first ((place, value) ∷ load
 abbrev pub loaded_at : ℕ → ℕ → ReaderView → ReaderView
 loaded_at place value reader = record reader { attempt = loaded_too place value reader.attempt }
 
--- The number was loaded once more: where it is the first of the try, the try gave so many changes, which are seen now; else
--- it met a change.
+-- The number was loaded once more: where it is the first of the try, the try gave so many changes,
+-- which are seen now; else it met a change.
 abbrev pub ended_by : Bool → ℕ → ℕ → ReaderView → ReaderView
-ended_by true first number reader = record reader { seen = first / 2; loads = reader.loads + 1; got = reader.got ++ first / 2 ∷ []; first = reader.second; second = number; attempt = Closed }
-ended_by false first number reader = record reader { loads = reader.loads + 1; met = reader.met + 1; first = reader.second; second = number; attempt = Closed }
+ended_by true first number reader =
+    record reader {
+      seen = first / 2;
+      loads = reader.loads + 1;
+      got = reader.got ++ first / 2 ∷ [];
+      first = reader.second;
+      second = number;
+      attempt = Closed;
+    }
+ended_by false first number reader =
+    record reader { loads = reader.loads + 1; met = reader.met + 1; first = reader.second; second = number; attempt = Closed }
 
 -- so it is after the second load of a try that began with `first`
 abbrev pub ended : ℕ → ℕ → ReaderView → ReaderView
 ended first number reader = ended_by (number == first) first number reader
 
--- 5: the first load of the number begins a try. No fewer changes are in the row than the reader has seen.
+-- 5: the first load of the number begins a try. No fewer changes are in the row than the reader has
+-- seen.
 abbrev pub BeginsTry : RowStep → Sitter → ℕ → Sitter → Type 0
-BeginsTry step before number after = (reader : ReaderView) → before.0 ≡ Reader reader → (after.0 ≡ Reader (try_begun number reader)) × (2 * reader.seen ≤ number)
+BeginsTry step before number after =
+    (reader : ReaderView) → before.0 ≡ Reader reader → (after.0 ≡ Reader (try_begun number reader)) × (2 * reader.seen ≤ number)
 
 -- 6: the load of a word behind the number is kept in the try.
 abbrev pub Loads : RowStep → Sitter → ℕ → Sitter → Type 0
 Loads step before value after = Reads (loaded_at (step.word - 1) value) before.0 after.0
 
--- 7: The second load of the number ends a try. The number isn't below the first; and where it is the first, what was loaded
--- are words that stood together after so many changes.
+-- 7: The second load of the number ends a try. The number isn't below the first; and where it is
+-- the first, what was loaded are words that stood together after so many changes.
 abbrev pub EndsTry : RowStep → Sitter → ℕ → Sitter → Type 0
 EndsTry step before number after =
     (reader : ReaderView) (first : ℕ) (loaded : List (ℕ × ℕ)) → before.0 ≡ Reader reader → reader.attempt ≡ Open first loaded →
@@ -148,11 +164,14 @@ with_note view note = view
 
 -- A row of zeros before the first change meets the rule, where zeros are clocks then.
 abbrev pub StartHolds : Type 0
-StartHolds = (plan : PlanView) (body : List ℕ) → AreClockWords plan 0 body → HoldsRule (opening (0 ∷ body) [] (Writer (writer_at_start plan body)))
+StartHolds =
+    (plan : PlanView) (body : List ℕ) → AreClockWords plan 0 body → HoldsRule (opening (0 ∷ body) [] (Writer (writer_at_start plan body)))
 
 -- 1: where no change is open, the writer may store the next odd number.
 abbrev pub OpenKeeps : Type 0
-OpenKeeps = (slots id : ℕ) (me : Sitter) (writer : WriterView) (number : ℕ) → me.0 ≡ Writer writer → number ≡ 2 * writer.count + 1 → writer.changing ≡ false →
+OpenKeeps =
+    (slots id : ℕ) (me : Sitter) (writer : WriterView) (number : ℕ) → me.0 ≡ Writer writer → number ≡ 2 * writer.count + 1
+    → writer.changing ≡ false →
     Allows HoldsRule slots id me 0 (λ _. number) (λ _. Opens (step slots 0 number 0 none) me number)
 
 -- 2: in a change it may store any word at any place behind the number.
@@ -162,7 +181,9 @@ PutKeeps = (slots id : ℕ) (me : Sitter) (writer : WriterView) (place word : �
 
 -- 3: once the words of each slot are a clock after the change, it may store the next even number.
 abbrev pub CloseKeeps : Type 0
-CloseKeeps = (slots id : ℕ) (me : Sitter) (writer : WriterView) (number : ℕ) → me.0 ≡ Writer writer → number ≡ 2 * writer.count + 2 → writer.changing ≡ true →
+CloseKeeps =
+    (slots id : ℕ) (me : Sitter) (writer : WriterView) (number : ℕ) → me.0 ≡ Writer writer → number ≡ 2 * writer.count + 2
+    → writer.changing ≡ true →
     AreClockWords writer.plan (writer.count + 1) writer.body →
     Allows HoldsRule slots id me 0 (λ _. number) (λ _. Closes (step slots 0 number 0 none) me number)
 
@@ -172,7 +193,9 @@ OwnKeeps = (slots id word : ℕ) (me : Sitter) → Allows HoldsRule slots id me 
 
 -- 5: a reader may begin a try at any time.
 abbrev pub BeginKeeps : Type 0
-BeginKeeps = (slots id : ℕ) (me : Sitter) (reader : ReaderView) → me.0 ≡ Reader reader → Allows HoldsRule slots id me 0 (λ number. number) (BeginsTry (step slots 0 0 0 none) me)
+BeginKeeps =
+    (slots id : ℕ) (me : Sitter) (reader : ReaderView) → me.0 ≡ Reader reader
+    → Allows HoldsRule slots id me 0 (λ number. number) (BeginsTry (step slots 0 0 0 none) me)
 
 -- 6: it may load any word behind the number.
 abbrev pub LoadKeeps : Type 0
@@ -181,7 +204,8 @@ LoadKeeps = (slots id place : ℕ) (me : Sitter) (reader : ReaderView) → me.0 
 
 -- 7: it may end a try that is open.
 abbrev pub EndKeeps : Type 0
-EndKeeps = (slots id first : ℕ) (me : Sitter) (reader : ReaderView) (loaded : List (ℕ × ℕ)) → me.0 ≡ Reader reader → reader.attempt ≡ Open first loaded →
+EndKeeps = (slots id first : ℕ) (me : Sitter) (reader : ReaderView) (loaded : List (ℕ × ℕ)) → me.0 ≡ Reader reader
+    → reader.attempt ≡ Open first loaded →
     Allows HoldsRule slots id me 0 (λ number. number) (EndsTry (step slots 0 0 0 none) me)
 
 -- 8: a seat may give a reader, and a note.

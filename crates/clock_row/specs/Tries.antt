@@ -6,9 +6,9 @@ use Rattle.clock_row.specs.declared.view.ReaderView.{ReaderView}
 abbrev pub tries_of : ReaderView → ℕ
 tries_of reader = reader.met + length reader.got
 
--- How samples of these counts were taken after one of another count, where successful tries gave some counts and so many tries
--- met a change: each successful try gave a sample, and each sample that repeats the one before it cost eight tries that met a
--- change.
+-- How samples of these counts were taken after one of another count, where successful tries gave
+-- some counts and so many tries met a change: each successful try gave a sample, and each sample
+-- that repeats the one before it cost eight tries that met a change.
 abbrev pub Tried : List ℕ → ℕ → List ℕ → ℕ → Type 0
 Tried [] last got met = got ≡ []
 Tried (count ∷ counts) last got met =

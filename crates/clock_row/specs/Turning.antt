@@ -9,8 +9,8 @@ use Rattle.psi_spec.specs.Stall.{number_of_slot}
 use Rattle.clock_row.specs.Words.{AreClock, AreOnTheWay, GoesOn, words_at}
 use Rattle.clock_row.specs.Seats.{HasStored, IsSameSeat, IsWriter, RowSeat, writer_on}
 
--- A change is open at the writer's seat: the row has one word and nine for each slot of its plan, the plan has a change to make,
--- and the words of each slot are a clock before it or after it.
+-- A change is open at the writer's seat: the row has one word and nine for each slot of its plan,
+-- the plan has a change to make, and the words of each slot are a clock before it or after it.
 pub record IsTurning (row : TableId) (seat : RowSeat) : Type 0 where
   pub on_row : seat.table_id ≡ row
   pub wide : row.words ≡ 9 * length (writer_on seat).plan.parents + 1
@@ -21,7 +21,8 @@ pub record IsTurning (row : TableId) (seat : RowSeat) : Type 0 where
   pub next : (writer_on seat).count < length (writer_on seat).plan.changes
   pub way : AreOnTheWay (writer_on seat).plan (writer_on seat).count (writer_on seat).body
 
--- Slots were turned: words were stored, each slot stayed or turned, and those that were done stayed done.
+-- Slots were turned: words were stored, each slot stayed or turned, and those that were done stayed
+-- done.
 pub record HasTurned (before after : RowSeat) : Type 0 where
   pub seat : IsSameSeat before after
   pub stored : HasStored before after
@@ -33,7 +34,9 @@ IsDone seat slot = AreClock (writer_on seat).plan slot ((writer_on seat).count +
 
 -- so are those of each slot on the chain from this one up, if there is one
 abbrev pub ChainIsDone : RowSeat → Option Slot → Type 0
-ChainIsDone seat start = (slot : ℕ) → slot < length (writer_on seat).plan.parents → leads_to (writer_on seat).plan.parents (number_of_slot start) slot ≡ true → IsDone seat slot
+ChainIsDone seat start =
+    (slot : ℕ) → slot < length (writer_on seat).plan.parents
+    → leads_to (writer_on seat).plan.parents (number_of_slot start) slot ≡ true → IsDone seat slot
 
 -- so they are on each of these chains
 abbrev pub ChainsAreDone : RowSeat → List (Option Slot) → Type 0

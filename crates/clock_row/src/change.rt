@@ -14,8 +14,8 @@ use cpu_clock::Clock;
 use proc_plan::{PlainClocks, Plan, ProcClocks};
 use psi_base::Slot;
 
-// Takes a slot through the change that is open, after which it has this clock. Where its mask stays there is nothing to do: the
-// words are a clock after the change too.
+// Takes a slot through the change that is open, after which it has this clock. Where its mask stays
+// there is nothing to do: the words are a clock after the change too.
 fn turn_slot(board: &Board, seat: &mut RowSeat, slot: Slot, clock: &Clock)
     requires turning { IsTurning board.now.shared.table_id seat.old }
     requires slot { slot.0 < length (writer_on seat.old).plan.parents }

@@ -1,7 +1,7 @@
 //! Laws of the steps on a row. Each function has an empty body: its contract is the law.
 //!
-//! The rule of a row holds between any two steps, whatever threads make them: it holds at the start, and each step keeps it
-//! from whatever row that meets it.
+//! The rule of a row holds between any two steps, whatever threads make them: it holds at the
+//! start, and each step keeps it from whatever row that meets it.
 
 ghost use Rattle.clock_row.specs.Steps.{BeginKeeps, CloseKeeps, EndKeeps, LoadKeeps, OpenKeeps, OwnKeeps, PutKeeps, ReaderTakesNote, SplitKeeps, StartHolds, WriterTakesNote};
 
@@ -20,7 +20,8 @@ pub fn law_put()
     ensures { PutKeeps }
 {}
 
-/// The third keeps it: the writer stores the next even number. It alone owes that the words are clocks again.
+/// The third keeps it: the writer stores the next even number. It alone owes that the words are
+/// clocks again.
 pub fn law_close()
     ensures { CloseKeeps }
 {}
@@ -40,7 +41,8 @@ pub fn law_load()
     ensures { LoadKeeps }
 {}
 
-/// The seventh keeps it: a reader loads the number again. Where it is the first one, what the try loaded stood together.
+/// The seventh keeps it: a reader loads the number again. Where it is the first one, what the try
+/// loaded stood together.
 pub fn law_end()
     ensures { EndKeeps }
 {}

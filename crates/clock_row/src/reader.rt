@@ -14,8 +14,9 @@ use std::alloc::Global;
 use std::marker::Model;
 use std::sync::Arc;
 
-/// Takes the clocks out of a row while its writer may be at work, without a lock and without waiting. It may go to another
-/// thread. Contracts see which row it is, and what the reader knows of it.
+/// Takes the clocks out of a row while its writer may be at work, without a lock and without
+/// waiting. It may go to another thread. Contracts see which row it is, and what the reader knows
+/// of it.
 #[derive(Drop)]
 pub struct ClockReader {
     pub(crate) board: Arc<Board, Global>,
@@ -45,7 +46,8 @@ pub struct Sample {
     pub clock: Clock,
 }
 
-/// A try met a change, by the sequence numbers that it loaded. The second is the first where only one was loaded.
+/// A try met a change, by the sequence numbers that it loaded. The second is the first where only
+/// one was loaded.
 #[derive(Clone, Copy, Debug, PartialEq, Eq)]
 pub struct Busy {
     pub first: u64,
@@ -63,8 +65,9 @@ impl ClockReader {
         self.seen
     }
 
-    /// Tries to take the clock of a slot: it stands for the slot after so many changes as are answered with it, which aren't
-    /// fewer than the reader has seen. Busy where a change was open or came in between. Takes no memory.
+    /// Tries to take the clock of a slot: it stands for the slot after so many changes as are
+    /// answered with it, which aren't fewer than the reader has seen. Busy where a change was open
+    /// or came in between. Takes no memory.
     pub fn try_sample(&mut self, slot: Slot) -> Result<Sample, Busy>
         requires { slot.0 < length self.old.knows.plan.parents }
         ensures row { self.new.row ≡ self.old.row }
@@ -96,8 +99,9 @@ impl ClockReader {
         })
     }
 
-    /// The clock of a slot, after at least as many changes as the last sample of it: the first that a try gives, or the last
-    /// sample again, where eight tries met a change. Takes no memory, and ends after at most eight tries.
+    /// The clock of a slot, after at least as many changes as the last sample of it: the first that
+    /// a try gives, or the last sample again, where eight tries met a change. Takes no memory, and
+    /// ends after at most eight tries.
     pub fn sample_or(&mut self, slot: Slot, last: &Sample) -> Sample
         requires slot { slot.0 < length self.old.knows.plan.parents }
         requires last { IsClock last.now.clock self.old.knows.plan slot.0 last.now.count }
@@ -119,8 +123,9 @@ impl ClockReader {
         *last
     }
 
-    /// Tries to take the clocks of all slots at one number of changes, which it answers. There must be a place for each slot;
-    /// where it answers Busy, there are some clocks in them. Takes no memory.
+    /// Tries to take the clocks of all slots at one number of changes, which it answers. There must
+    /// be a place for each slot; where it answers Busy, there are some clocks in them. Takes no
+    /// memory.
     pub fn try_sample_all(&mut self, into: &mut [Clock]) -> Result<u64, Busy>
         requires { length into.old ≡ length self.old.knows.plan.parents }
         ensures row { self.new.row ≡ self.old.row }

@@ -1,4 +1,5 @@
-//! What the seats of a row know, and the rule of the row. No value of these types is made: they are for contracts alone.
+//! What the seats of a row know, and the rule of the row. No value of these types is made: they are
+//! for contracts alone.
 
 use atomic_table::{Seat, Table, TableRule};
 use proc_plan::Plan;
@@ -22,7 +23,8 @@ pub struct WriterView {
 pub enum Attempt {
     /// There is none.
     Closed,
-    /// The sequence number with which it began, and the places and values of the words loaded since, the last one first.
+    /// The sequence number with which it began, and the places and values of the words loaded
+    /// since, the last one first.
     Open(u64, [(u64, u64); 0]),
 }
 
@@ -66,7 +68,8 @@ pub enum View {
     Reader(ReaderView),
 }
 
-/// The rule of a row: what its words and the views of its seats tell of each other, between any two steps.
+/// The rule of a row: what its words and the views of its seats tell of each other, between any two
+/// steps.
 pub struct RowRule;
 
 impl TableRule<(), View, Plan> for RowRule {

@@ -35,7 +35,8 @@ pub(crate) fn own_words(board: &Board, seat: &mut RowSeat, from: usize) -> [u64;
     words
 }
 
-/// Puts these words from a place on. One that stands there already isn't stored: a store costs more than a load.
+/// Puts these words from a place on. One that stands there already isn't stored: a store costs more
+/// than a load.
 pub(crate) fn put_words(board: &Board, seat: &mut RowSeat, from: usize, words: &[u64; 9])
     requires board { seat.old.table_id ≡ board.now.shared.table_id }
     requires words { from + 9 < board.now.shared.table_id.words }

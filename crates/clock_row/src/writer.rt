@@ -20,14 +20,16 @@ use std::alloc::Global;
 use std::marker::Model;
 use std::sync::Arc;
 
-/// The clocks of a processor in a row of shared words: one writer, and any number of readers that never write.
+/// The clocks of a processor in a row of shared words: one writer, and any number of readers that
+/// never write.
 pub struct Row;
 
-/// Makes the changes of a plan in a row, while readers take clocks out of it. Contracts see which row it is, and what the
-/// writer knows of it.
+/// Makes the changes of a plan in a row, while readers take clocks out of it. Contracts see which
+/// row it is, and what the writer knows of it.
 ///
-/// It counts tasks, turns clocks and sums interrupt time in [`PlainClocks`] of its own, and brings into the row what a change
-/// turned there. Interrupt time stays beside the row, where no reader sees it.
+/// It counts tasks, turns clocks and sums interrupt time in [`PlainClocks`] of its own, and brings
+/// into the row what a change turned there. Interrupt time stays beside the row, where no reader
+/// sees it.
 #[derive(Drop)]
 pub struct ClockWriter<'a> {
     plan: &'a Plan,
@@ -57,8 +59,8 @@ fn see_whole(plan: &Plan)
 }
 
 impl Row {
-    /// The row of a plan that knows the parents of so many slots, before the first change. The writer takes all memory that it
-    /// needs here; each reader takes some of its own.
+    /// The row of a plan that knows the parents of so many slots, before the first change. The
+    /// writer takes all memory that it needs here; each reader takes some of its own.
     pub fn make(alloc: Global, plan: &Plan, slots: u32) -> Result<ClockWriter<'_>, NoMemory>
         requires { slots ≡ length plan.now.parents }
         ensures { IfOk result (λ writer.
@@ -91,8 +93,8 @@ impl<'a> ProcClocks for ClockWriter<'a> {
         self.clocks.count()
     }
 
-    /// Makes the next change of the plan: afterwards the words of each slot are a clock after it. A slot whose mask stays keeps
-    /// its nine words. Takes no memory, and waits for no reader.
+    /// Makes the next change of the plan: afterwards the words of each slot are a clock after it. A
+    /// slot whose mask stays keeps its nine words. Takes no memory, and waits for no reader.
     fn apply(&mut self)
         requires { self.old.knows.count < length self.old.knows.plan.changes }
         ensures plan { self.new.knows.plan ≡ self.old.knows.plan }
@@ -117,7 +119,8 @@ impl<'a> ProcClocks for ClockWriter<'a> {
 }
 
 impl<'a> IrqClocks for ClockWriter<'a> {
-    /// The interrupt time (ns) of a slot, out of the writer's own clocks: the row has none. Takes no memory.
+    /// The interrupt time (ns) of a slot, out of the writer's own clocks: the row has none. Takes
+    /// no memory.
     fn own_irq(&mut self, slot: Slot) -> u64
         requires { slot.0 < length self.old.knows.plan.parents }
         ensures same { self.new ≡ self.old }
@@ -145,8 +148,8 @@ impl<'a> ClockWriter<'a> {
         })
     }
 
-    /// Tells a reader of the row how many changes were made: it has then seen at least so many, and no fewer than before. It
-    /// takes no memory, and always answers Ok.
+    /// Tells a reader of the row how many changes were made: it has then seen at least so many, and
+    /// no fewer than before. It takes no memory, and always answers Ok.
     pub fn meet(&mut self, reader: &mut ClockReader) -> Result<(), NoMemory>
         requires { reader.old.row ≡ self.old.row }
         ensures ok { result ≡ Ok tt }
@@ -160,8 +163,8 @@ impl<'a> ClockWriter<'a> {
         Ok(())
     }
 
-    /// Learns from a reader of the row what it has seen: that is at most the number of changes that were made. It takes no
-    /// memory, and always answers Ok.
+    /// Learns from a reader of the row what it has seen: that is at most the number of changes that
+    /// were made. It takes no memory, and always answers Ok.
     pub fn settle(&mut self, reader: &mut ClockReader) -> Result<(), NoMemory>
         requires { reader.old.row ≡ self.old.row }
         ensures ok { result ≡ Ok tt }

@@ -7,9 +7,10 @@ use psi_base::{Ns, State};
 use state_mask::{Mask, STATES};
 use std::marker::Model;
 
-/// How long a group was in each state on a processor. The kernel keeps the same in its `psi_group_cpu`: `times`,
-/// `state_mask` and `state_start`. Clocks with other numbers may tell the same, where a change that left the states as
-/// they were isn't in one of them, so clocks have no `==`.
+/// How long a group was in each state on a processor. The kernel keeps the same in its
+/// `psi_group_cpu`: `times`, `state_mask` and `state_start`. Clocks with other numbers may tell the
+/// same, where a change that left the states as they were isn't in one of them, so clocks have no
+/// `==`.
 #[derive(Clone, Copy, Debug)]
 pub struct Clock {
     /// For how long each state held up to the start, in ns, in the order of the states.
@@ -41,8 +42,8 @@ const MASK_WORD: usize = 7;
 /// Where the start stands among a clock's words.
 const START_WORD: usize = 8;
 
-/// The time since a clock's start, in ns, if a state holds from there on. There is no branch on that: which states hold is
-/// hard to foresee.
+/// The time since a clock's start, in ns, if a state holds from there on. There is no branch on
+/// that: which states hold is hard to foresee.
 fn open_time(held: bool, time: u64) -> u64
     ensures { result ≡ (if held then time else 0) }
 {
@@ -70,17 +71,22 @@ impl Clock {
         self.times[state as usize] + open
     }
 
-    /// The times at a moment, in ns, in the order of the states: where a state holds, the time since the start is added. The
-    /// kernel's `get_recent_times` does this first, and then takes off the times of its last call.
+    /// The times at a moment, in ns, in the order of the states: where a state holds, the time
+    /// since the start is added. The kernel's `get_recent_times` does this first, and then takes
+    /// off the times of its last call.
     pub fn opened(&self, at: Ns) -> [u64; 7]
         requires { IsInTime self.now at }
         ensures { result ≡ opened self.now at }
     {
+        // Most groups are idle on most processors.
+        if self.mask.bits() == 0 {
+            return self.times;
+        }
         STATES.map(|state| self.opened_time(at, state))
     }
 
-    /// Takes the clock to a moment (ns), from which on the states of the mask hold: the kernel's `record_times`, and then the
-    /// new mask.
+    /// Takes the clock to a moment (ns), from which on the states of the mask hold: the kernel's
+    /// `record_times`, and then the new mask.
     pub fn advance(&mut self, at: Ns, mask: Mask)
         requires { IsInTime self.old at }
         ensures { self.new ≡ advanced self.old at mask }
@@ -90,11 +96,11 @@ impl Clock {
         self.start = at;
     }
 
-    /// Takes the clock over a change of its processor at a moment (ns), from which on the states of the mask hold. Where the
-    /// mask stays the clock does too, and goes on from where it started.
+    /// Takes the clock over a change of its processor at a moment (ns), from which on the states of
+    /// the mask hold. Where the mask stays the clock does too, and goes on from where it started.
     ///
-    /// So a clock that stands for a slot after some changes of a plan stands for it after one more, where the mask has the
-    /// states after that: the law of [`plan_laws::law_plan_clocks`].
+    /// So a clock that stands for a slot after some changes of a plan stands for it after one more,
+    /// where the mask has the states after that: the law of [`plan_laws::law_plan_clocks`].
     pub fn turn(&mut self, at: Ns, mask: Mask)
         requires { IsInTime self.old at }
         ensures mask { self.new.mask ≡ mask }
@@ -119,8 +125,8 @@ impl Clock {
         words
     }
 
-    /// The clock with these words. It asks for words of a clock and tests nothing: who keeps words knows that they came
-    /// from [`Clock::to_words`], and could do nothing where they hadn't.
+    /// The clock with these words. It asks for words of a clock and tests nothing: who keeps words
+    /// knows that they came from [`Clock::to_words`], and could do nothing where they hadn't.
     pub fn from_words(words: [u64; 9]) -> Clock
         requires { AreWordsOfClock words }
         ensures { words_of result ≡ words }

@@ -65,7 +65,8 @@ abbrev pub AreBelow : List GroupLife → List GroupReading → List PlacesView �
 AreBelow lives groups below = (slot : ℕ) (d : PlacesView) → slot < length lives →
     AreHeld (is_child lives slot) groups (child_count lives slot) (slice_index_or below slot d)
 
--- what holds of the places that a reading keeps: those of all its groups, and of the children of each
+-- what holds of the places that a reading keeps: those of all its groups, and of the children of
+-- each
 pub record ArePlaces (lives : List GroupLife) (groups : List GroupReading) (all : PlacesView)
     (below : List PlacesView) : Type 0 where
   pub each : AreHeld (λ group. true) groups (length lives) all

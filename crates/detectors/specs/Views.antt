@@ -44,10 +44,10 @@ pub record IsRoom (count capacity : ℕ) : Type 0 where
 -- ---- detectors
 
 -- A detector: its arguments; the moment (ns) of its last reading; by slot, whether it matches the
--- group; the moment (ns) at which the present run of its condition began; where it asks whether pressure
--- rises, the greatest full average over 10 s of its matches at the last reading, else 0; where it asks
--- for scans, by slot the count of the group at the last reading, if it was live; and the last moment (ns)
--- at which a match's count had risen.
+-- group; the moment (ns) at which the present run of its condition began; where it asks whether
+-- pressure rises, the greatest full average over 10 s of its matches at the last reading, else 0;
+-- where it asks for scans, by slot the count of the group at the last reading, if it was live; and
+-- the last moment (ns) at which a match's count had risen.
 pub record DetectorView : Type 0 where
   pub spec : DetectorSpec
   pub last : Option ℕ

@@ -25,7 +25,8 @@ pub struct Reading {
     groups: Vec<GroupReading>,
     /// Where all of them stand, in order.
     all: Places,
-    /// By slot, where the live children of a group stand among them, with room for all its children.
+    /// By slot, where the live children of a group stand among them, with room for all its
+    /// children.
     below: Vec<Places>,
 }
 

@@ -1,4 +1,5 @@
--- Data that are texts, in lists and objects: what is written of them is UTF-8, and is read again as them.
+-- Data that are texts, in lists and objects: what is written of them is UTF-8, and is read again as
+-- them.
 use Rattle.std.proofs.Common.{◌≡◌, suc, ◌≤◌, List, [], ◌∷◌, ◌++◌, Bool, true, false, Option, Some, option_and_then, refl, sym, ap, ap₂, ◌∙◌, arith, append-nil}
 use Rattle.std.specs.Prelude.{⊤, max, IsUtf8}
 use Rattle.std.proofs.lemmas.Str.{IsUtf8-append, IsUtf8-nil}

@@ -19,13 +19,13 @@ abbrev pub ◌>>=◌ : {A B : Type 0} → Result A DropFault → (A → Result B
 (Err e) >>= f = Err e
 
 -- part number i of a drop-in file is refused for this cause
-abbrev pub refused_for : {A : Type 0} → ℕ → DropCause → Result A DropFault
-refused_for i what = Err (record { place = place.Rule i; what = what })
+abbrev pub refused_part : {A : Type 0} → ℕ → DropCause → Result A DropFault
+refused_part i what = Err (record { place = place.Rule i; what = what })
 
 -- what was found, or this cause against part number i
-abbrev pub or_refused : {A : Type 0} → ℕ → DropCause → Option A → Result A DropFault
-or_refused i what None = refused_for i what
-or_refused i what (Some x) = Ok x
+abbrev pub or_refused_part : {A : Type 0} → ℕ → DropCause → Option A → Result A DropFault
+or_refused_part i what None = refused_part i what
+or_refused_part i what (Some x) = Ok x
 
 -- a ruleset has this name
 abbrev pub is_named : List ℕ → Rule → Bool
@@ -35,13 +35,13 @@ is_named name rule = bytes_eq rule.name name
 abbrev pub gives_nothing : Part → Bool
 gives_nothing part = is_none part.groups && is_none part.actions
 
--- rulesets with one part, which has number i, put into them: what it gives replaces the groups, the actions or both of
--- the first ruleset of its name
+-- rulesets with one part, which has number i, put into them: what it gives replaces the groups, the
+-- actions or both of the first ruleset of its name
 unfoldable pub part_joined : ℕ → Part → List Rule → Result (List Rule) DropFault
 part_joined i part rules =
-    if gives_nothing part then refused_for i cause.NoParts
+    if gives_nothing part then refused_part i cause.NoParts
     else do
-      first ← or_refused i cause.UnknownRule (position (is_named part.name) rules)
+      first ← or_refused_part i cause.UnknownRule (position (is_named part.name) rules)
       Ok (replaced_at first part.groups part.actions rules)
 
 -- rulesets with parts put into them in order, of which the first has number i
@@ -52,8 +52,8 @@ joined_from i (part ∷ parts) rules = do
   joined_from (i + 1) parts with_part
 
 -- rules with the parts of a drop-in file put into them, or the first fault
-unfoldable pub joined : Rules → List Part → Result Rules DropFault
-joined base parts = do
+unfoldable pub parts_joined : Rules → List Part → Result Rules DropFault
+parts_joined base parts = do
   rules ← joined_from 0 parts base.rules
   Ok (record { rules = rules })
 
@@ -66,8 +66,9 @@ abbrev pub parts_read : Result (List Part) RulesFault → Result (List Part) Dro
 parts_read (Ok parts) = Ok parts
 parts_read (Err fault) = Err (of_reading fault)
 
--- rules with a drop-in file of these bytes over them, or its first fault: one of reading it comes before the others
+-- rules with a drop-in file of these bytes over them, or its first fault: one of reading it comes
+-- before the others
 unfoldable pub dropped_in : Rules → List ℕ → Result Rules DropFault
 dropped_in base bytes = do
   parts ← parts_read (parts_of bytes)
-  joined base parts
+  parts_joined base parts

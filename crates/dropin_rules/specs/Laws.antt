@@ -9,9 +9,12 @@ use Rattle.dropin_rules.specs.RulesText.{rules_text}
 
 -- Rules within their ranges and limits are read again from their text, if a file may be so long.
 abbrev pub ReadAgain : Type 0
-ReadAgain = (rules : List Rule) → FitsRules rules → RulesHavePatterns rules → length (rules_text rules) ≤ 1048576 → rules_of (rules_text rules) ≡ Ok (record { rules = rules })
+ReadAgain =
+    (rules : List Rule) → FitsRules rules → RulesHavePatterns rules → length (rules_text rules) ≤ 1048576
+    → rules_of (rules_text rules) ≡ Ok (record { rules = rules })
 
 -- So what was read again has the same text.
 abbrev pub SameText : Type 0
-SameText = (rules : List Rule) (again : Rules) → FitsRules rules → RulesHavePatterns rules → length (rules_text rules) ≤ 1048576 → rules_of (rules_text rules) ≡ Ok again
+SameText = (rules : List Rule) (again : Rules) → FitsRules rules → RulesHavePatterns rules → length (rules_text rules) ≤ 1048576
+    → rules_of (rules_text rules) ≡ Ok again
     → rules_text again.rules ≡ rules_text rules

@@ -1,5 +1,6 @@
--- Rules as text: the compact JSON of a rules file that gives them, with every default filled in. An argument has its own
--- text, and the members of each object stand in the order of their keys' bytes.
+-- Rules as text: the compact JSON of a rules file that gives them, with every default filled in. An
+-- argument has its own text, and the members of each object stand in the order of their keys'
+-- bytes.
 use Rattle.std.specs.Prelude.{ℕ, ◌/◌, ◌%◌, List, [], ◌∷◌, ◌++◌, codes, decimal, map}
 use Rattle.psi_spec.specs.Fields.{resource_word}
 use Rattle.path_match.specs.Match.{patterns_text}
@@ -40,36 +41,43 @@ texts [] = no_members
 texts (argument ∷ arguments) = member (key_word argument.0) (string argument.1) (texts arguments)
 
 -- the plugin of this name, with these arguments
-abbrev pub plugin : List ℕ → List (Key × List ℕ) → Data
-plugin name arguments = object (member (codes "args") (object (texts arguments)) (member (codes "name") (string name) no_members))
+abbrev pub plugin_data : List ℕ → List (Key × List ℕ) → Data
+plugin_data name arguments = object (member (codes "args") (object (texts arguments)) (member (codes "name") (string name) no_members))
 
 -- a detector
 abbrev pub detector_data : DetectorSpec → Data
-detector_data (detector.PressureAbove cgroup resource threshold duration) = plugin (detector_word detector_name.PressureAbove)
-    ((key.Cgroup, patterns_text cgroup) ∷ (key.Duration, decimal duration) ∷ (key.Resource, resource_word resource) ∷ (key.Threshold, decimal threshold) ∷ [])
-detector_data (detector.PressureRisingBeyond cgroup resource threshold duration ratio) = plugin (detector_word detector_name.PressureRisingBeyond)
-    ((key.Cgroup, patterns_text cgroup) ∷ (key.Duration, decimal duration) ∷ (key.FastFallRatio, ratio_text ratio) ∷ (key.Resource, resource_word resource) ∷ (key.Threshold, decimal threshold) ∷ [])
-detector_data (detector.MemoryAbove cgroup threshold duration) = plugin (detector_word detector_name.MemoryAbove)
+detector_data (detector.PressureAbove cgroup resource threshold duration) = plugin_data (detector_word detector_name.PressureAbove)
+    ((key.Cgroup, patterns_text cgroup) ∷ (key.Duration, decimal duration) ∷ (key.Resource, resource_word resource)
+    ∷ (key.Threshold, decimal threshold) ∷ [])
+detector_data (detector.PressureRisingBeyond cgroup resource threshold duration ratio) =
+    plugin_data (detector_word detector_name.PressureRisingBeyond)
+    ((key.Cgroup, patterns_text cgroup) ∷ (key.Duration, decimal duration) ∷ (key.FastFallRatio, ratio_text ratio)
+    ∷ (key.Resource, resource_word resource) ∷ (key.Threshold, decimal threshold) ∷ [])
+detector_data (detector.MemoryAbove cgroup threshold duration) = plugin_data (detector_word detector_name.MemoryAbove)
     ((key.Cgroup, patterns_text cgroup) ∷ (key.Duration, decimal duration) ∷ (key.Threshold, size_text threshold) ∷ [])
-detector_data (detector.MemoryReclaim cgroup duration) = plugin (detector_word detector_name.MemoryReclaim)
+detector_data (detector.MemoryReclaim cgroup duration) = plugin_data (detector_word detector_name.MemoryReclaim)
     ((key.Cgroup, patterns_text cgroup) ∷ (key.Duration, decimal duration) ∷ [])
-detector_data (detector.SwapFree threshold) = plugin (detector_word detector_name.SwapFree)
+detector_data (detector.SwapFree threshold) = plugin_data (detector_word detector_name.SwapFree)
     ((key.ThresholdPct, decimal threshold) ∷ [])
-detector_data (detector.Exists cgroup negate) = plugin (detector_word detector_name.Exists)
+detector_data (detector.Exists cgroup negate) = plugin_data (detector_word detector_name.Exists)
     ((key.Cgroup, patterns_text cgroup) ∷ (key.Negate, truth_text negate) ∷ [])
 
 -- an action
 abbrev pub action_data : Action → Data
-action_data (action.SizeOrGrowth cgroup size_threshold percentile ratio after) = plugin (action_word action_name.SizeOrGrowth)
-    ((key.AlwaysContinue, truth_text after.always_continue) ∷ (key.Cgroup, patterns_text cgroup) ∷ (key.GrowingSizePercentile, decimal percentile) ∷ (key.MinGrowthRatio, ratio_text ratio)
-    ∷ (key.PostActionDelay, decimal after.delay_s) ∷ (key.Recursive, truth_text after.recursive) ∷ (key.SizeThreshold, decimal size_threshold) ∷ [])
-action_data (action.SwapUsage cgroup threshold after) = plugin (action_word action_name.SwapUsage)
+action_data (action.SizeOrGrowth cgroup size_threshold percentile ratio after) = plugin_data (action_word action_name.SizeOrGrowth)
     ((key.AlwaysContinue, truth_text after.always_continue) ∷ (key.Cgroup, patterns_text cgroup)
-    ∷ (key.PostActionDelay, decimal after.delay_s) ∷ (key.Recursive, truth_text after.recursive) ∷ (key.Threshold, size_text threshold) ∷ [])
-action_data (action.Pressure cgroup resource after) = plugin (action_word action_name.Pressure)
+    ∷ (key.GrowingSizePercentile, decimal percentile) ∷ (key.MinGrowthRatio, ratio_text ratio)
+    ∷ (key.PostActionDelay, decimal after.delay_s) ∷ (key.Recursive, truth_text after.recursive)
+    ∷ (key.SizeThreshold, decimal size_threshold) ∷ [])
+action_data (action.SwapUsage cgroup threshold after) = plugin_data (action_word action_name.SwapUsage)
     ((key.AlwaysContinue, truth_text after.always_continue) ∷ (key.Cgroup, patterns_text cgroup)
-    ∷ (key.PostActionDelay, decimal after.delay_s) ∷ (key.Recursive, truth_text after.recursive) ∷ (key.Resource, resource_word resource) ∷ [])
-action_data (action.PgScan cgroup after) = plugin (action_word action_name.PgScan)
+    ∷ (key.PostActionDelay, decimal after.delay_s) ∷ (key.Recursive, truth_text after.recursive)
+    ∷ (key.Threshold, size_text threshold) ∷ [])
+action_data (action.Pressure cgroup resource after) = plugin_data (action_word action_name.Pressure)
+    ((key.AlwaysContinue, truth_text after.always_continue) ∷ (key.Cgroup, patterns_text cgroup)
+    ∷ (key.PostActionDelay, decimal after.delay_s) ∷ (key.Recursive, truth_text after.recursive)
+    ∷ (key.Resource, resource_word resource) ∷ [])
+action_data (action.PgScan cgroup after) = plugin_data (action_word action_name.PgScan)
     ((key.AlwaysContinue, truth_text after.always_continue) ∷ (key.Cgroup, patterns_text cgroup)
     ∷ (key.PostActionDelay, decimal after.delay_s) ∷ (key.Recursive, truth_text after.recursive) ∷ [])
 
@@ -94,7 +102,8 @@ rule_data rule = object
 abbrev pub rules_data : List Rule → Data
 rules_data rules = object (member (codes "rulesets") (list_data (map rule_data rules)) no_members)
 
--- the text of rules. In a text a quotation mark and a backslash have a backslash before them; a byte below 32 is `\b`,
--- `\t`, `\n`, `\f`, `\r`, or `\u00` with two lower-case digits; each other byte stands for itself.
+-- the text of rules. In a text a quotation mark and a backslash have a backslash before them; a
+-- byte below 32 is `\b`, `\t`, `\n`, `\f`, `\r`, or `\u00` with two lower-case digits; each other
+-- byte stands for itself.
 unfoldable pub rules_text : List Rule → List ℕ
 rules_text rules = compact_text (rules_data rules)

@@ -101,8 +101,8 @@ fn rules_value(alloc: Global, rules: &[Rule]) -> Result<Value, NoMemory>
     Ok(Value::Object(members))
 }
 
-/// Appends the rules as one line of compact JSON with every default filled in, without a newline: a rules file that
-/// gives these rules. `NoMemory` leaves the bytes as they were.
+/// Appends the rules as one line of compact JSON with every default filled in, without a newline: a
+/// rules file that gives these rules. `NoMemory` leaves the bytes as they were.
 pub fn write_rules(rules: &Rules, to: &mut Vec<u8>) -> Result<(), NoMemory>
     ensures text { OnOk result (to.new.items ≡ to.old.items ++ rules_text rules.now.rules) }
     ensures kept { OnErr result (to.new.items ≡ to.old.items) }

@@ -2,7 +2,7 @@
 use Rattle.std.proofs.Common.{◌≡◌, ℕ, ◌+◌, ◌<◌, ◌≤◌, List, ◌++◌, length, take, drop, sym, ap, ◌∙◌, length-drop, arith}
 use Rattle.std.proofs.Math.Seq.{take-add}
 use Rattle.std.proofs.lemmas.List.{take_all}
-use Rattle.psi_base.specs.Outside.{ReadsBytes}
+use Rattle.outside.specs.Outside.{ReadsBytes}
 
 -- what was read behind a front makes it longer
 pub front_grows : (whole before old new : List ℕ) (held n : ℕ) → take held new ≡ take held old → take held old ≡ take held whole
@@ -10,7 +10,8 @@ pub front_grows : (whole before old new : List ℕ) (held n : ℕ) → take held
 front_grows whole before old new held n kept front reads =
     take-add held n new ∙ ap (λ xs. xs ++ take n (drop held new)) (kept ∙ front) ∙ ap (λ xs. take held whole ++ xs) reads.read ∙ sym (take-add held n whole)
 
--- a front behind which nothing was read, though there was room, is the whole, however many bytes are asked for
+-- a front behind which nothing was read, though there was room, is the whole, however many bytes
+-- are asked for
 pub front_ends : (whole before new : List ℕ) (held n : ℕ) → ReadsBytes whole held n before (drop held new) → n ≡ 0 → held < length new
     → take held whole ≡ take (length new) whole
 front_ends whole before new held n reads none room =

@@ -1,8 +1,8 @@
 -- What reading the front of a file answers, and what it does to the counts of a shelf.
 use Rattle.std.specs.Prelude.{Result, Ok, Err, IsErrOf, ⊤}
-use Rattle.psi_base.specs.Outside.{HasCauses, ShelfCounts}
-use Rattle.psi_base.specs.declared.outside.ShelfFault.{ShelfFault}
-use Rattle.psi_base.specs.declared.outside.ShelfFault.TheVariants as shelf
+use Rattle.outside.specs.Outside.{HasCauses, ShelfCounts}
+use Rattle.outside.specs.declared.shelf.ShelfFault.{ShelfFault}
+use Rattle.outside.specs.declared.shelf.ShelfFault.TheVariants as shelf
 use Rattle.file_reader.specs.declared.front.FileFault.{FileFault}
 use Rattle.file_reader.specs.declared.front.FileFault.TheVariants as fault
 

@@ -1,9 +1,10 @@
 //! The front of a file, however the shelf's reads cut it.
 ghost use Rattle.std.specs.Prelude.{◌≡◌, ◌+◌, ◌<◌, ◌≤◌, ℕ, List, length, take, IfOk, IsErrOf, Some, None};
-ghost use Rattle.psi_base.specs.Outside.{Lacks, counts_of, told};
+ghost use Rattle.outside.specs.Outside.{Lacks, counts_of, told};
 ghost use Rattle.file_reader.specs.Front.{CausesFileFault, TellsNothing};
 
-use psi_base::{NoMemory, Shelf, ShelfFault, read_behind};
+use outside::{Shelf, ShelfFault, read_behind};
+use psi_base::NoMemory;
 use std::alloc::Global;
 
 /// Why a file wasn't read.
@@ -49,7 +50,8 @@ fn zeros(alloc: Global, count: usize) -> Result<Vec<u8>, NoMemory>
     Ok(vec![in alloc; 0; count]?)
 }
 
-// Reads from the start of a file on until the buffer is full or the file ends, and says how many bytes.
+// Reads from the start of a file on until the buffer is full or the file ends, and says how many
+// bytes.
 fn fill<S: Shelf>(shelf: &mut S, name: &str, bytes: &mut [u8]) -> Result<usize, FileFault>
     requires some { 0 < length bytes.old }
     ensures kept { S.holds shelf.new ≡ S.holds shelf.old }
@@ -75,8 +77,9 @@ fn fill<S: Shelf>(shelf: &mut S, name: &str, bytes: &mut [u8]) -> Result<usize, 
     Ok(held)
 }
 
-/// The bytes of a name, or the first `most` of them where it has more. It takes the memory for `most` bytes before it reads,
-/// and reads no more bytes than these, also where it fails. `NoFile` and `ReadFault` come from the shelf, which counts them.
+/// The bytes of a name, or the first `most` of them where it has more. It takes the memory for
+/// `most` bytes before it reads, and reads no more bytes than these, also where it fails. `NoFile`
+/// and `ReadFault` come from the shelf, which counts them.
 pub fn read_front<S: Shelf>(
     alloc: Global,
     shelf: &mut S,

@@ -18,11 +18,13 @@ const PERIOD: Ns = 2_000_000_000;
 /// The place of interrupt time among the quantities that have averages.
 const IRQ: usize = QUANTITIES - 1;
 
-/// What is left of an average over 10, 60 and 300 seconds after a period with nothing active, in parts of 2048.
+/// What is left of an average over 10, 60 and 300 seconds after a period with nothing active, in
+/// parts of 2048.
 const FACTORS: [u64; 3] = [1677, 1981, 2034];
 
-/// The averages of a group's pressure over 10, 60 and 300 seconds, of each state but nonidle, and of interrupt time: the
-/// kernel's `avg` of a `psi_group`. Each is a fixed-point number of at most 204,800.
+/// The averages of a group's pressure over 10, 60 and 300 seconds, of each state but nonidle, and
+/// of interrupt time: the kernel's `avg` of a `psi_group`. Each is a fixed-point number of at most
+/// 204,800.
 #[derive(Drop)]
 pub struct Averages {
     /// The moment of the last update (ns).
@@ -83,7 +85,8 @@ fn decays_of(missed: u64) -> [u64; 3]
     ]
 }
 
-/// An average after an update: it decays over the missed periods, if there are any, and is loaded with the sample.
+/// An average after an update: it decays over the missed periods, if there are any, and is loaded
+/// with the sample.
 #[tactic(auto, using(pressure_spec::proofs::AverageLaws::power_most))]
 fn average_after(missed: u64, decay: u64, average: u64, factor: u64, percent: u64) -> u64
     requires decay { decay ≡ model.power factor missed }
@@ -132,7 +135,8 @@ fn update_rows(rows: &mut AverageRows, missed: u64, time: Ns, samples: &Amounts)
 }
 
 impl Averages {
-    /// The averages of a group that is made at this moment (ns): all 0, with the first update two seconds later.
+    /// The averages of a group that is made at this moment (ns): all 0, with the first update two
+    /// seconds later.
     pub fn new(at: Ns) -> Averages
         requires { at ≤ last_moment }
         ensures { result ≡ model.new_averages at }
@@ -145,9 +149,10 @@ impl Averages {
         }
     }
 
-    /// A tick at this moment (ns), with the group's totals (ns) of all states but nonidle, in the order of the states,
-    /// and of interrupt time. Where an update is due, each average decays over the periods that were missed and is loaded with what is new of its
-    /// total, of which no more is taken than the time since the last update less these periods: the kernel's
+    /// A tick at this moment (ns), with the group's totals (ns) of all states but nonidle, in the
+    /// order of the states, and of interrupt time. Where an update is due, each average decays over
+    /// the periods that were missed and is loaded with what is new of its total, of which no more
+    /// is taken than the time since the last update less these periods: the kernel's
     /// `update_averages`. Before that, nothing changes.
     pub fn update(&mut self, now: Ns, totals: Amounts)
         requires { now ≤ last_moment }

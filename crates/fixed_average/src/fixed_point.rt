@@ -5,8 +5,8 @@ ghost use Rattle.pressure_spec.specs.Average as model;
 /// One, in fixed point.
 const ONE: u64 = 2048;
 
-/// An average `a` after a period in which it decays by the factor `e` and `x` was active, rounded up where it doesn't
-/// fall: the kernel's `calc_load`.
+/// An average `a` after a period in which it decays by the factor `e` and `x` was active, rounded
+/// up where it doesn't fall: the kernel's `calc_load`.
 pub fn load(a: u64, e: u64, x: u64) -> u64
     requires average { a ≤ 204800 }
     requires factor { e ≤ 2048 }

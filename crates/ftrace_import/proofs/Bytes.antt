@@ -8,7 +8,7 @@ use Rattle.std.proofs.Math.ListN.{drop_of_length-le}
 use Rattle.std.proofs.lemmas.List.{drop-drop, drop_more, get_or-drop, length-drop}
 use Rattle.std.proofs.lemmas.Bool.Decides.{nat_tests}
 use Rattle.psi_base.specs.Number.{digits_after, digits_of, value_after}
-use Rattle.import_spec.specs.Places.{begins, first_place, last_place}
+use Rattle.import_spec.specs.Places.{begins_with, first_place, last_place}
 use Rattle.import_spec.specs.Laws.{NonePasses}
 use Rattle.import_spec.specs.Tails.{digit_count, is_bracketed}
 use Rattle.ftrace_import.specs.Bytes.{IsLastBracket}
@@ -17,7 +17,7 @@ use Rattle.import_spec.proofs.PlaceLaws.{first_is, first_none, last_is, last_non
 -- ---- texts
 
 -- bytes don't begin with a text whose first byte is another
-pub begins_other : (text rest : List ℕ) → 0 < length text → (get_or text 0 0 == get_or rest 0 0) ≡ false → begins text rest ≡ false
+pub begins_other : (text rest : List ℕ) → 0 < length text → (get_or text 0 0 == get_or rest 0 0) ≡ false → begins_with text rest ≡ false
 begins_other [] rest some other = absurd (omega (arith, some))
 begins_other (c ∷ cs) [] some other = refl
 begins_other (c ∷ cs) (x ∷ xs) some other = rw other refl
@@ -32,7 +32,7 @@ other_byte x y other = grind (arith, nat_tests)
 off_byte : (x y : ℕ) → x ≢ y → nat_eq x y ≡ false
 off_byte x y other = grind (arith, nat_tests)
 
-pub other_first : (text bytes : List ℕ) (at : ℕ) → 0 < length text → get_or bytes at 0 ≢ get_or text 0 0 → nat_eq (get_or bytes at 0) (get_or text 0 0) ≡ begins text (drop at bytes)
+pub other_first : (text bytes : List ℕ) (at : ℕ) → 0 < length text → get_or bytes at 0 ≢ get_or text 0 0 → nat_eq (get_or bytes at 0) (get_or text 0 0) ≡ begins_with text (drop at bytes)
 other_first text bytes at some other =
     off_byte (get_or bytes at 0) (get_or text 0 0) other
     ∙ sym (begins_other text (drop at bytes) some (other_byte (get_or text 0 0) (get_or (drop at bytes) 0 0) (λ same. other (sym (front bytes at) ∙ same))))
@@ -72,16 +72,16 @@ pub first_missing : (test : List ℕ → Bool) (bytes : List ℕ) (at : ℕ) →
 first_missing test bytes at end none = first_none test bytes (λ k low under. none k low (omega (arith, under, end)))
 
 -- a text that stands in bytes fits there
-begins_fits : (text rest : List ℕ) → begins text rest ≡ true → length text ≤ length rest
+begins_fits : (text rest : List ℕ) → begins_with text rest ≡ true → length text ≤ length rest
 begins_fits [] rest is = omega arith
 begins_fits (c ∷ cs) [] is = absurd (cc is)
 begins_fits (c ∷ cs) (x ∷ xs) is =
-    elim (nat_eq c x) as (λ b. (b && begins cs xs) ≡ true → suc (length cs) ≤ suc (length xs)) [
+    elim (nat_eq c x) as (λ b. (b && begins_with cs xs) ≡ true → suc (length cs) ≤ suc (length xs)) [
       | true ↦ λ more. let fits = begins_fits cs xs more in omega (arith, fits)
       | false ↦ λ more. absurd (cc more)
     ] is
 
-pub text_fits : (text bytes : List ℕ) (at : ℕ) → at < length bytes → begins text (drop at bytes) ≡ true → at + length text ≤ length bytes
+pub text_fits : (text bytes : List ℕ) (at : ℕ) → at < length bytes → begins_with text (drop at bytes) ≡ true → at + length text ≤ length bytes
 text_fits text bytes at inside is = let fits = begins_fits text (drop at bytes) is in let left = length-drop at bytes in omega (arith, inside, fits, left)
 
 -- ---- runs

@@ -14,7 +14,7 @@ use Rattle.import_spec.specs.declared.cause.ImportCause.{ImportCause}
 use Rattle.import_spec.specs.declared.seen.Seen.{Seen}
 use Rattle.import_spec.specs.declared.seen.Sighting.{Sighting}
 use Rattle.import_spec.specs.Marked.{read_line}
-use Rattle.import_spec.specs.Events.{Given, Reached, acts_cause, acts_of, first_time, given_at, given_by, given_of, make_task, moment_of, needed_cpu, unreached}
+use Rattle.import_spec.specs.Events.{GivenLine, Reached, acts_cause, acts_of, first_time, given_at, given_read, given_of, make_task, line_moment, needed_cpu, unreached}
 use Rattle.import_spec.specs.Import.{end_at}
 use Rattle.ftrace_import.specs.declared.deeds.Kept.{Kept}
 use Rattle.ftrace_import.specs.declared.taking.Gathering.{Gathering}
@@ -66,7 +66,7 @@ gathered_none g counted limits_are fresh none = record {
 }
 
 -- behind a line
-pub taken_given : (cpus : ℕ) (old new : Gathering) (given : Given) → IsGathered old → new.cpus ≡ old.cpus → new.table.limits ≡ old.table.limits → events_by new.kept.items ≡ events_by old.kept.items ++ given.events → reached_in new ≡ given.reached
+pub taken_given : (cpus : ℕ) (old new : Gathering) (given : GivenLine) → IsGathered old → new.cpus ≡ old.cpus → new.table.limits ≡ old.table.limits → events_by new.kept.items ≡ events_by old.kept.items ++ given.events → reached_in new ≡ given.reached
     → Gives old.cpus (reached_in old) given → IsGathered new
 taken_given cpus old new given so same limits_same kept reached gives = record {
   limits_are = limits_same ∙ so.limits_are ∙ ap limits (sym same);
@@ -82,21 +82,22 @@ taken_given cpus old new given so same limits_same kept reached gives = record {
 
 pub take_told : (cpus : ℕ) (reached : Reached) (line : List ℕ) (sighting : Sighting) → Ok (Some sighting) ≡ read_line line → given_of cpus reached line ≡ given_at cpus reached sighting.at sighting.seen
 unfolding given_of
-take_told cpus reached line sighting is = ap (given_by cpus reached) (sym is)
+take_told cpus reached line sighting is = ap (given_read cpus reached) (sym is)
 
 pub take_none : (cpus : ℕ) (reached : Reached) (line : List ℕ) → Ok None ≡ read_line line → given_of cpus reached line ≡ Ok (record { events = []; reached = reached })
 unfolding given_of
-take_none cpus reached line is = ap (given_by cpus reached) (sym is)
+take_none cpus reached line is = ap (given_read cpus reached) (sym is)
 
 pub take_bad : (cpus : ℕ) (reached : Reached) (line : List ℕ) (why : ImportCause) → Err why ≡ read_line line → given_of cpus reached line ≡ Err why
 unfolding given_of
-take_bad cpus reached line why is = ap (given_by cpus reached) (sym is)
+take_bad cpus reached line why is = ap (given_read cpus reached) (sym is)
 
 -- ---- what a line tells
 
--- what the code has of a line at a time, which tells this: its moment, what was kept before and now, and the part that is new
+-- what the code has of a line at a time, which tells this: its moment, what was kept before and
+-- now, and the part that is new
 pub record Sighted (old : Gathering) (at : ℕ) (what : Seen) (moment before : ℕ) (cpu : Cpu) (part new : List Kept) : Type 0 where
-  pub moment_is : moment ≡ moment_of (reached_in old) at
+  pub moment_is : moment ≡ line_moment (reached_in old) at
   pub cpu_is : cpu ≡ needed_cpu what
   pub before_is : before ≡ length old.kept.items
   pub part_is : part ≡ drop before new
@@ -121,17 +122,17 @@ kept_longer old new events before is kept =
 part_new : (old : Gathering) (at : ℕ) (what : Seen) (moment before : ℕ) (cpu : Cpu) (part new : List Kept) → Sighted old at what moment before cpu part new → part ≡ drop (length old.kept.items) new
 part_new old at what moment before cpu part new is = is.part_is ∙ ap (λ n. drop n new) is.before_is
 
-kept_at : (old : Gathering) (at : ℕ) (what : Seen) (moment before : ℕ) (cpu : Cpu) (part new : List Kept) → Sighted old at what moment before cpu part new → events_by new ≡ events_by old.kept.items ++ events_at (moment_of (reached_in old) at) (acts_of old.table.world.tasks what)
+kept_at : (old : Gathering) (at : ℕ) (what : Seen) (moment before : ℕ) (cpu : Cpu) (part new : List Kept) → Sighted old at what moment before cpu part new → events_by new ≡ events_by old.kept.items ++ events_at (line_moment (reached_in old) at) (acts_of old.table.world.tasks what)
 kept_at old at what moment before cpu part new is = is.kept ∙ ap (λ m. events_by old.kept.items ++ events_at m (acts_of old.table.world.tasks what)) is.moment_is
 
-part_events : (old : Gathering) (at : ℕ) (what : Seen) (moment before : ℕ) (cpu : Cpu) (part new : List Kept) → Sighted old at what moment before cpu part new → events_by part ≡ events_at (moment_of (reached_in old) at) (acts_of old.table.world.tasks what)
+part_events : (old : Gathering) (at : ℕ) (what : Seen) (moment before : ℕ) (cpu : Cpu) (part new : List Kept) → Sighted old at what moment before cpu part new → events_by part ≡ events_at (line_moment (reached_in old) at) (acts_of old.table.world.tasks what)
 part_events old at what moment before cpu part new is =
     ap events_by (part_new old at what moment before cpu part new is) ∙ kept_new old.kept.items new _ (kept_at old at what moment before cpu part new is)
 
 pub cause_is : (old : Gathering) (at : ℕ) (what : Seen) (moment before : ℕ) (cpu : Cpu) (part new : List Kept) (o : Option ImportCause) → Sighted old at what moment before cpu part new → o ≡ acts_cause old.cpus old.table.world moment cpu (acts_in part) → cause_at old.cpus (reached_in old) at what ≡ o
 cause_is old at what moment before cpu part new o is found =
     let acts : acts_in part ≡ acts_of old.table.world.tasks what =
-    ap acts_in (part_new old at what moment before cpu part new is) ∙ acts_new old.kept.items new (moment_of (reached_in old) at) (acts_of old.table.world.tasks what) (kept_at old at what moment before cpu part new is) in
+    ap acts_in (part_new old at what moment before cpu part new is) ∙ acts_new old.kept.items new (line_moment (reached_in old) at) (acts_of old.table.world.tasks what) (kept_at old at what moment before cpu part new is) in
     sym (found ∙ rw (acts, is.moment_is, is.cpu_is) refl)
 
 pub gives_here : (old : Gathering) (at : ℕ) (what : Seen) → IsGathered old → IsSeen what → cause_at old.cpus (reached_in old) at what ≡ None → Gives old.cpus (reached_in old) (given_behind (reached_in old) at what)
@@ -146,7 +147,7 @@ pub sighted_taken : (old now : Gathering) (at : ℕ) (what : Seen) (moment befor
     → now.cpus ≡ old.cpus → now.first ≡ Some (first_time (reached_in old) at) → now.moment ≡ moment → now.table.limits ≡ old.table.limits → now.table.world ≡ after_from old.table.world (events_by part) → HasTaken (given_at old.cpus (reached_in old) at what) old now
 sighted_taken old now at what moment before cpu part is so seen none cpus first last limits_same world =
     let gives = gives_here old at what so seen none in
-    let there : now.table.world ≡ after_from old.table.world (events_at (moment_of (reached_in old) at) (acts_of old.table.world.tasks what)) = world ∙ ap (after_from old.table.world) (part_events old at what moment before cpu part now.kept.items is) in
+    let there : now.table.world ≡ after_from old.table.world (events_at (line_moment (reached_in old) at) (acts_of old.table.world.tasks what)) = world ∙ ap (after_from old.table.world) (part_events old at what moment before cpu part now.kept.items is) in
     let reached : reached_in now ≡ (given_behind (reached_in old) at what).reached = rw (first, last, is.moment_is, there) refl in
     let kept = kept_at old at what moment before cpu part now.kept.items is in
     record {

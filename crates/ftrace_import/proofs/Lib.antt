@@ -11,3 +11,4 @@ pub mod Steps
 pub mod Texts
 pub mod Turns
 pub mod Whole
+pub mod Written

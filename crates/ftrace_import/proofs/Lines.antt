@@ -22,7 +22,7 @@ use Rattle.import_spec.specs.declared.seen.Seen.{Seen}
 use Rattle.import_spec.specs.declared.seen.Seen.TheVariants as seen
 use Rattle.import_spec.specs.declared.seen.Sighting.{Sighting}
 use Rattle.import_spec.specs.Marked.{read_line}
-use Rattle.import_spec.specs.Events.{Given, Reached, acts_cause, acts_of, first_time, given_at, given_by, given_of, given_or, make_task, migration_acts, moment_of, needed_cpu, switch_acts, wakeup_acts}
+use Rattle.import_spec.specs.Events.{GivenLine, Reached, acts_cause, acts_of, first_time, given_at, given_read, given_of, given_or, make_task, migration_acts, line_moment, needed_cpu, switch_acts, wakeup_acts}
 use Rattle.ftrace_import.specs.Laws.{runner}
 use Rattle.ftrace_import.specs.Stands.{IsSeen, IsUnderWay, Leaves, Stands, limits}
 use Rattle.ftrace_import.proofs.Steps.{Goes, goes_none, goes_one, stands_later, step_migrate}
@@ -64,7 +64,7 @@ pass cpus w moment cpu acts is =
     }
 
 -- what was given is one thing
-ok_same : (x y : Given) → (let r : Result Given ImportCause = Ok x in r) ≡ Ok y → x ≡ y
+ok_same : (x y : GivenLine) → (let r : Result GivenLine ImportCause = Ok x in r) ≡ Ok y → x ≡ y
 ok_same x y is = cc is
 
 -- ---- a wakeup
@@ -119,90 +119,90 @@ goes cpus at w (seen.Wakeup pid cpu) so is pass = (wakes cpus at _ cpu pid w (ta
 goes cpus at w (seen.Migration pid cpu) so is pass = moves cpus at _ cpu pid w (task_of w.tasks pid.0) so (omega arith) is pass.there refl
 
 -- it stands at the moment of a line with room for its events
-stands_at : (cpus : ℕ) (reached : Reached) (at : ℕ) (cpu : Cpu) (acts : List Act) → IsUnderWay cpus reached → Pass cpus reached.world (moment_of reached at) cpu acts → Stands cpus (moment_of reached at) (length acts) reached.world
-stands_at cpus reached at cpu acts so pass = stands_later cpus reached.moment 0 (moment_of reached at) (length acts) reached.world so (omega arith) pass.early pass.few
+stands_at : (cpus : ℕ) (reached : Reached) (at : ℕ) (cpu : Cpu) (acts : List Act) → IsUnderWay cpus reached → Pass cpus reached.world (line_moment reached at) cpu acts → Stands cpus (line_moment reached at) (length acts) reached.world
+stands_at cpus reached at cpu acts so pass = stands_later cpus reached.moment 0 (line_moment reached at) (length acts) reached.world so (omega arith) pass.early pass.few
 
 -- what a line gives may be spelled and is legal, and the import stands behind it
-pub record Gives (cpus : ℕ) (reached : Reached) (given : Given) : Type 0 where
+pub record Gives (cpus : ℕ) (reached : Reached) (given : GivenLine) : Type 0 where
   pub fit : AllFit given.events
   pub known : AreKnown (verbs_of One) given.events
   pub legal : AreLegal (limits cpus) reached.world given.events
   pub world : given.reached.world ≡ after_from reached.world given.events
   pub later : IsUnderWay cpus given.reached
 
-gives_or : (cpus : ℕ) (reached : Reached) (at : ℕ) (what : Seen) (given : Given) → IsUnderWay cpus reached → IsSeen what → (o : Option ImportCause)
-    → acts_cause cpus reached.world (moment_of reached at) (needed_cpu what) (acts_of reached.world.tasks what) ≡ o → given_or reached at (moment_of reached at) (acts_of reached.world.tasks what) o ≡ Ok given → Gives cpus reached given
+gives_or : (cpus : ℕ) (reached : Reached) (at : ℕ) (what : Seen) (given : GivenLine) → IsUnderWay cpus reached → IsSeen what → (o : Option ImportCause)
+    → acts_cause cpus reached.world (line_moment reached at) (needed_cpu what) (acts_of reached.world.tasks what) ≡ o → given_or reached at (line_moment reached at) (acts_of reached.world.tasks what) o ≡ Ok given → Gives cpus reached given
 gives_or cpus reached at what given so is (Some why) none found = absurd (cc found)
 gives_or cpus reached at what given so is None none found =
-    let passes = pass cpus reached.world (moment_of reached at) (needed_cpu what) (acts_of reached.world.tasks what) none in
-    let all = goes cpus (moment_of reached at) reached.world what (stands_at cpus reached at (needed_cpu what) (acts_of reached.world.tasks what) so passes) is passes in
-    subst (λ (g : Given). Gives cpus reached g) (ok_same _ given found) (record { fit = all.fit; known = all.known; legal = all.legal; world = refl; later = all.later })
+    let passes = pass cpus reached.world (line_moment reached at) (needed_cpu what) (acts_of reached.world.tasks what) none in
+    let all = goes cpus (line_moment reached at) reached.world what (stands_at cpus reached at (needed_cpu what) (acts_of reached.world.tasks what) so passes) is passes in
+    subst (λ (g : GivenLine). Gives cpus reached g) (ok_same _ given found) (record { fit = all.fit; known = all.known; legal = all.legal; world = refl; later = all.later })
 
-pub gives_at : (cpus : ℕ) (reached : Reached) (at : ℕ) (what : Seen) (given : Given) → IsUnderWay cpus reached → IsSeen what → given_at cpus reached at what ≡ Ok given → Gives cpus reached given
+pub gives_at : (cpus : ℕ) (reached : Reached) (at : ℕ) (what : Seen) (given : GivenLine) → IsUnderWay cpus reached → IsSeen what → given_at cpus reached at what ≡ Ok given → Gives cpus reached given
 unfolding given_at
 gives_at cpus reached at what given so is found = gives_or cpus reached at what given so is _ refl found
 
-gives_by : (cpus : ℕ) (reached : Reached) (line : List ℕ) (given : Given) → IsUnderWay cpus reached → (r : Result (Option Sighting) ImportCause) → read_line line ≡ r → given_by cpus reached r ≡ Ok given → Gives cpus reached given
+gives_by : (cpus : ℕ) (reached : Reached) (line : List ℕ) (given : GivenLine) → IsUnderWay cpus reached → (r : Result (Option Sighting) ImportCause) → read_line line ≡ r → given_read cpus reached r ≡ Ok given → Gives cpus reached given
 gives_by cpus reached line given so (Err why) read found = absurd (cc found)
-gives_by cpus reached line given so (Ok None) read found = subst (λ (g : Given). Gives cpus reached g) (ok_same _ given found) (record { fit = tt; known = tt; legal = tt; world = refl; later = so })
+gives_by cpus reached line given so (Ok None) read found = subst (λ (g : GivenLine). Gives cpus reached g) (ok_same _ given found) (record { fit = tt; known = tt; legal = tt; world = refl; later = so })
 gives_by cpus reached line given so (Ok (Some sighting)) read found = gives_at cpus reached sighting.at sighting.seen given so (line_seen line sighting read) found
 
-pub gives : (cpus : ℕ) (reached : Reached) (line : List ℕ) (given : Given) → IsUnderWay cpus reached → given_of cpus reached line ≡ Ok given → Gives cpus reached given
+pub gives : (cpus : ℕ) (reached : Reached) (line : List ℕ) (given : GivenLine) → IsUnderWay cpus reached → given_of cpus reached line ≡ Ok given → Gives cpus reached given
 unfolding given_of
 gives cpus reached line given so found = gives_by cpus reached line given so (read_line line) refl found
 
 -- ---- laws of one line
 
 -- after a switch its next task runs
-switch_or : (cpus : ℕ) (reached : Reached) (at : ℕ) (cpu : Cpu) (previous next : Option Pid) (how : How) (given : Given) → IsUnderWay cpus reached → IfSome next IsPid × Leaves how → (o : Option ImportCause)
-    → acts_cause cpus reached.world (moment_of reached at) cpu (switch_acts reached.world.tasks cpu previous next how) ≡ o → given_or reached at (moment_of reached at) (switch_acts reached.world.tasks cpu previous next how) o ≡ Ok given → runner given.reached.world.tasks cpu.0 ≡ next
+switch_or : (cpus : ℕ) (reached : Reached) (at : ℕ) (cpu : Cpu) (previous next : Option Pid) (how : How) (given : GivenLine) → IsUnderWay cpus reached → IfSome next IsPid × Leaves how → (o : Option ImportCause)
+    → acts_cause cpus reached.world (line_moment reached at) cpu (switch_acts reached.world.tasks cpu previous next how) ≡ o → given_or reached at (line_moment reached at) (switch_acts reached.world.tasks cpu previous next how) o ≡ Ok given → runner given.reached.world.tasks cpu.0 ≡ next
 switch_or cpus reached at cpu previous next how given so is (Some why) none found = absurd (cc found)
 switch_or cpus reached at cpu previous next how given so is None none found =
     let acts = switch_acts reached.world.tasks cpu previous next how in
-    let passes = pass cpus reached.world (moment_of reached at) cpu acts none in
-    let turned = switches cpus (moment_of reached at) (length acts) reached.world cpu previous next how (stands_at cpus reached at cpu acts so passes) (omega arith) passes.there is passes.space in
-    subst (λ (g : Given). runner g.reached.world.tasks cpu.0 ≡ next) (ok_same _ given found) turned.runs
+    let passes = pass cpus reached.world (line_moment reached at) cpu acts none in
+    let turned = switches cpus (line_moment reached at) (length acts) reached.world cpu previous next how (stands_at cpus reached at cpu acts so passes) (omega arith) passes.there is passes.space in
+    subst (λ (g : GivenLine). runner g.reached.world.tasks cpu.0 ≡ next) (ok_same _ given found) turned.runs
 
-pub switch_runs : (cpus : ℕ) (reached : Reached) (at : ℕ) (cpu : Cpu) (previous next : Option Pid) (how : How) (given : Given) → IsUnderWay cpus reached → IfSome next IsPid × Leaves how → given_at cpus reached at (seen.Switch cpu previous next how) ≡ Ok given → runner given.reached.world.tasks cpu.0 ≡ next
+pub switch_runs : (cpus : ℕ) (reached : Reached) (at : ℕ) (cpu : Cpu) (previous next : Option Pid) (how : How) (given : GivenLine) → IsUnderWay cpus reached → IfSome next IsPid × Leaves how → given_at cpus reached at (seen.Switch cpu previous next how) ≡ Ok given → runner given.reached.world.tasks cpu.0 ≡ next
 unfolding given_at
 switch_runs cpus reached at cpu previous next how given so is found = switch_or cpus reached at cpu previous next how given so is _ refl found
 
 -- after a wakeup its task doesn't sleep
-wakeup_or : (cpus : ℕ) (reached : Reached) (at : ℕ) (pid : Pid) (cpu : Cpu) (given : Given) → IsUnderWay cpus reached → IsPid pid → (o : Option ImportCause)
-    → acts_cause cpus reached.world (moment_of reached at) cpu (wakeup_acts pid cpu (task_of reached.world.tasks pid.0)) ≡ o → given_or reached at (moment_of reached at) (wakeup_acts pid cpu (task_of reached.world.tasks pid.0)) o ≡ Ok given
+wakeup_or : (cpus : ℕ) (reached : Reached) (at : ℕ) (pid : Pid) (cpu : Cpu) (given : GivenLine) → IsUnderWay cpus reached → IsPid pid → (o : Option ImportCause)
+    → acts_cause cpus reached.world (line_moment reached at) cpu (wakeup_acts pid cpu (task_of reached.world.tasks pid.0)) ≡ o → given_or reached at (line_moment reached at) (wakeup_acts pid cpu (task_of reached.world.tasks pid.0)) o ≡ Ok given
     → is_some_and (task_of given.reached.world.tasks pid.0) (λ task. is_active task.mode) ≡ true
 wakeup_or cpus reached at pid cpu given so is (Some why) none found = absurd (cc found)
 wakeup_or cpus reached at pid cpu given so is None none found =
     let acts = wakeup_acts pid cpu (task_of reached.world.tasks pid.0) in
-    let passes = pass cpus reached.world (moment_of reached at) cpu acts none in
-    let woken = wakes cpus (moment_of reached at) (length acts) cpu pid reached.world (task_of reached.world.tasks pid.0) (stands_at cpus reached at cpu acts so passes) (omega arith) is passes.there refl passes.space in
-    subst (λ (g : Given). is_some_and (task_of g.reached.world.tasks pid.0) (λ task. is_active task.mode) ≡ true) (ok_same _ given found) woken.awake
+    let passes = pass cpus reached.world (line_moment reached at) cpu acts none in
+    let woken = wakes cpus (line_moment reached at) (length acts) cpu pid reached.world (task_of reached.world.tasks pid.0) (stands_at cpus reached at cpu acts so passes) (omega arith) is passes.there refl passes.space in
+    subst (λ (g : GivenLine). is_some_and (task_of g.reached.world.tasks pid.0) (λ task. is_active task.mode) ≡ true) (ok_same _ given found) woken.awake
 
-pub wakeup_wakes : (cpus : ℕ) (reached : Reached) (at : ℕ) (pid : Pid) (cpu : Cpu) (given : Given) → IsUnderWay cpus reached → IsPid pid → given_at cpus reached at (seen.Wakeup pid cpu) ≡ Ok given → is_some_and (task_of given.reached.world.tasks pid.0) (λ task. is_active task.mode) ≡ true
+pub wakeup_wakes : (cpus : ℕ) (reached : Reached) (at : ℕ) (pid : Pid) (cpu : Cpu) (given : GivenLine) → IsUnderWay cpus reached → IsPid pid → given_at cpus reached at (seen.Wakeup pid cpu) ≡ Ok given → is_some_and (task_of given.reached.world.tasks pid.0) (λ task. is_active task.mode) ≡ true
 unfolding given_at
 wakeup_wakes cpus reached at pid cpu given so is found = wakeup_or cpus reached at pid cpu given so is _ refl found
 
 -- ---- what a line gives, by the cause against it
 
 -- what is given where no cause stands
-abbrev pub given_behind : Reached → ℕ → Seen → Given
+abbrev pub given_behind : Reached → ℕ → Seen → GivenLine
 given_behind reached at what = record {
-  events = events_at (moment_of reached at) (acts_of reached.world.tasks what);
+  events = events_at (line_moment reached at) (acts_of reached.world.tasks what);
   reached = record {
     first = Some (first_time reached at);
-    moment = moment_of reached at;
-    world = after_from reached.world (events_at (moment_of reached at) (acts_of reached.world.tasks what));
+    moment = line_moment reached at;
+    world = after_from reached.world (events_at (line_moment reached at) (acts_of reached.world.tasks what));
   };
 }
 
 -- the cause against a line that tells this at a time
 abbrev pub cause_at : ℕ → Reached → ℕ → Seen → Option ImportCause
-cause_at cpus reached at what = acts_cause cpus reached.world (moment_of reached at) (needed_cpu what) (acts_of reached.world.tasks what)
+cause_at cpus reached at what = acts_cause cpus reached.world (line_moment reached at) (needed_cpu what) (acts_of reached.world.tasks what)
 
 pub given_free : (cpus : ℕ) (reached : Reached) (at : ℕ) (what : Seen) → cause_at cpus reached at what ≡ None → given_at cpus reached at what ≡ Ok (given_behind reached at what)
 unfolding given_at
-given_free cpus reached at what none = ap (given_or reached at (moment_of reached at) (acts_of reached.world.tasks what)) none
+given_free cpus reached at what none = ap (given_or reached at (line_moment reached at) (acts_of reached.world.tasks what)) none
 
 pub given_refused : (cpus : ℕ) (reached : Reached) (at : ℕ) (what : Seen) (why : ImportCause) → cause_at cpus reached at what ≡ Some why → given_at cpus reached at what ≡ Err why
 unfolding given_at
-given_refused cpus reached at what why some = ap (given_or reached at (moment_of reached at) (acts_of reached.world.tasks what)) some
+given_refused cpus reached at what why some = ap (given_or reached at (line_moment reached at) (acts_of reached.world.tasks what)) some

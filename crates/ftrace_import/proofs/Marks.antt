@@ -2,7 +2,7 @@
 use Rattle.std.proofs.Common.{◌≡◌, ◌≢◌, ℕ, ◌+◌, List, refl, ap, ◌∙◌, sym, arith, true, false, Option, None, Some, ◌==◌, length, drop, take, get_or}
 use Rattle.std.specs.Prelude.{codes, is_some, option_map, Ok}
 use Rattle.std.proofs.lemmas.Bool.Decides.{nat_tests}
-use Rattle.import_spec.specs.Places.{◌>>=◌, begins, first_place}
+use Rattle.import_spec.specs.Places.{◌>>=◌, begins_with, first_place}
 use Rattle.import_spec.specs.Marked.{Mark, Marked, begins_marked, if_formed, mark_of, marked_of, read_line, read_marked, sighting_of}
 use Rattle.ftrace_import.specs.declared.marked.ShortMark.{ShortMark}
 use Rattle.ftrace_import.specs.Bytes.{IsFirstMark, mark_parts, parted}
@@ -37,15 +37,15 @@ marked_as line at (Some m) short is =
     let same : mark_parts m ≡ short = cc is in
     ap (λ (p : ShortMark). let r : Option Marked = Some (parted line at p) in r) same
 
-pub read_comment : (line : List ℕ) → begins (codes "#") line ≡ true → read_line line ≡ Ok None
+pub read_comment : (line : List ℕ) → begins_with (codes "#") line ≡ true → read_line line ≡ Ok None
 unfolding read_line marked_of
 read_comment line is = rw is refl
 
-pub read_unmarked : (line : List ℕ) → begins (codes "#") line ≡ false → first_place begins_marked line ≡ None → read_line line ≡ Ok None
+pub read_unmarked : (line : List ℕ) → begins_with (codes "#") line ≡ false → first_place begins_marked line ≡ None → read_line line ≡ Ok None
 unfolding read_line marked_of
 read_unmarked line off none = rw (off, none) refl
 
-pub read_found : (line : List ℕ) (at : ℕ) (short : ShortMark) → begins (codes "#") line ≡ false → IsFirstMark line at short → read_line line ≡ if_formed (sighting_of (parted line at short))
+pub read_found : (line : List ℕ) (at : ℕ) (short : ShortMark) → begins_with (codes "#") line ≡ false → IsFirstMark line at short → read_line line ≡ if_formed (sighting_of (parted line at short))
 unfolding read_line marked_of
 read_found line at short off mark =
     let found = marked_as line at (mark_of (drop at line)) short mark.mark in

@@ -12,8 +12,8 @@ use Rattle.import_spec.specs.declared.seen.LineKind.{LineKind}
 use Rattle.import_spec.specs.declared.seen.LineKind.TheVariants as kind
 use Rattle.import_spec.specs.declared.seen.Seen.{Seen}
 use Rattle.import_spec.specs.declared.seen.Sighting.{Sighting}
-use Rattle.import_spec.specs.Places.{◌>>=◌, begins, behind_last, last_place}
-use Rattle.import_spec.specs.Tails.{cpu_in, field_in, how_in, if_small, is_space, number_in, pid_in, time_in}
+use Rattle.import_spec.specs.Places.{◌>>=◌, begins_with, behind_last, last_place}
+use Rattle.import_spec.specs.Tails.{cpu_in, field_in, how_in, if_small, is_space, short_number, pid_in, time_in}
 use Rattle.import_spec.specs.Marked.{Marked, if_formed, marked_of, migration_in, read_line, read_marked, seen_in, sighting_of, switch_in, wakeup_in}
 use Rattle.ftrace_import.specs.Stands.{IsSeen, Leaves}
 
@@ -42,7 +42,7 @@ field_small : (key part : List ℕ) (n : ℕ) → field_in key part ≡ Some n �
 unfolding field_in
 field_small key part n is =
     let first = bound (behind_last key part) _ n is in
-    let second = bound (number_in 10 (before_first is_space first.value)) _ n first.then in
+    let second = bound (short_number 10 (before_first is_space first.value)) _ n first.then in
     small_is second.value n second.then
 
 pid_fits : (n : ℕ) → n < 2 ^ 32 → IfSome (pid_in n) IsPid
@@ -66,7 +66,7 @@ how_leaves (first ∷ rest) how is = subst Leaves (some_same _ how is) (leaves_a
 switch_seen : (cpu : ℕ) (tail : List ℕ) (what : Seen) → switch_in cpu tail ≡ Some what → IsSeen what
 unfolding switch_in
 switch_seen cpu tail what is =
-    let arrow = bound (last_place (begins (codes " ==> ")) tail) _ what is in
+    let arrow = bound (last_place (begins_with (codes " ==> ")) tail) _ what is in
     let previous = bound (field_in (codes " prev_pid=") (take arrow.value tail)) _ what arrow.then in
     let state = bound (behind_last (codes " prev_state=") (take arrow.value tail)) _ what previous.then in
     let how = bound (how_in state.value) _ what state.then in

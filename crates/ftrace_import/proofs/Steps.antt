@@ -1,4 +1,5 @@
--- The acts of an import, one by one: each may be spelled and is legal, and the world stays one of an import.
+-- The acts of an import, one by one: each may be spelled and is legal, and the world stays one of
+-- an import.
 use Rattle.std.proofs.Common.{◌≡◌, ℕ, ◌+◌, ◌^◌, ◌≤◌, ◌<◌, List, [], ◌∷◌, ◌++◌, refl, ◌∙◌, arith, cond, true, false, Option, None, Some, inl, inr}
 use Rattle.std.specs.Prelude.{◌&&◌, IfSome, codes, is_some, nat_le}
 use Rattle.std.specs.FinMap as tasks_by
@@ -91,7 +92,8 @@ step_is cpus at room w what so none fits known same goes calm =
 
 -- ---- several acts
 
--- acts at one moment may be spelled and are legal in their turn, and the world behind them is one of an import
+-- acts at one moment may be spelled and are legal in their turn, and the world behind them is one
+-- of an import
 pub record Goes (cpus at room : ℕ) (w : World) (acts : List Act) : Type 0 where
   pub fit : AllFit (events_at at acts)
   pub known : AreKnown (verbs_of One) (events_at at acts)

@@ -14,8 +14,8 @@ use Rattle.psi_lines.specs.declared.lines.LineFault.{LineFault}
 use Rattle.psi_lines.specs.declared.lines.LineFault.TheVariants as lines
 use Rattle.import_spec.specs.declared.cause.ImportCause.{ImportCause}
 use Rattle.import_spec.specs.declared.cause.ImportCause.TheVariants as cause
-use Rattle.import_spec.specs.Events.{Given, Reached, given_of, unreached}
-use Rattle.import_spec.specs.Import.{Refused, end_at, ends_or, followed, import_from, import_of, line_given, or_refused, refused, rest_cause}
+use Rattle.import_spec.specs.Events.{GivenLine, Reached, given_of, unreached}
+use Rattle.import_spec.specs.Import.{Refused, end_at, ends_or, events_followed, import_from, import_of, line_given, or_refused_line, import_refused, tail_cause}
 use Rattle.ftrace_import.specs.declared.taking.Gathering.{Gathering}
 use Rattle.ftrace_import.specs.declared.text.ImportFault.{ImportFault}
 use Rattle.ftrace_import.specs.declared.text.ImportFault.TheVariants as import
@@ -28,14 +28,14 @@ Answer = Result (List Event) Refused
 
 -- ---- one line
 
-step_parts : (cpus : ℕ) (reached : Reached) (number : ℕ) (line : List ℕ) (parts : List (List ℕ)) → HasFirst parts → import_from cpus reached number (line ∷ parts) ≡ or_refused number (line_given cpus reached number line) (λ behind. import_from cpus behind (number + 1) parts)
+step_parts : (cpus : ℕ) (reached : Reached) (number : ℕ) (line : List ℕ) (parts : List (List ℕ)) → HasFirst parts → import_from cpus reached number (line ∷ parts) ≡ or_refused_line number (line_given cpus reached number line) (λ behind. import_from cpus behind (number + 1) parts)
 unfolding import_from
 step_parts cpus reached number line parts has = rw has.2 refl
 
-rest_line : (cpus : ℕ) (reached : Reached) (number : ℕ) (line behind : List ℕ) → HasNone 10 line (length line) → rest_from cpus reached number (line ++ 10 ∷ behind) ≡ or_refused number (line_given cpus reached number line) (λ r. rest_from cpus r (number + 1) behind)
+rest_line : (cpus : ℕ) (reached : Reached) (number : ℕ) (line behind : List ℕ) → HasNone 10 line (length line) → rest_from cpus reached number (line ++ 10 ∷ behind) ≡ or_refused_line number (line_given cpus reached number line) (λ r. rest_from cpus r (number + 1) behind)
 rest_line cpus reached number line behind none = rw (parts_at-line 10 line behind none) (step_parts cpus reached number line (parts_at 10 behind) (first_part 10 behind))
 
-rest_last : (cpus : ℕ) (reached : Reached) (number : ℕ) (rest : List ℕ) → HasNone 10 rest (length rest) → rest_from cpus reached number rest ≡ ends_or reached number (rest_cause number rest)
+rest_last : (cpus : ℕ) (reached : Reached) (number : ℕ) (rest : List ℕ) → HasNone 10 rest (length rest) → rest_from cpus reached number rest ≡ ends_or reached number (tail_cause number rest)
 unfolding import_from
 rest_last cpus reached number rest none = rw (parts_at-all 10 rest none) refl
 
@@ -64,15 +64,15 @@ unfolding line_given
 given_many cpus reached number line many = rw (high_number number many) refl
 
 -- a line and what it gives
-at_line : (cpus : ℕ) (reached : Reached) (number : ℕ) (bytes line behind : List ℕ) (r : Result Given ImportCause) → number ≤ 16000000 → BeginsWithLine bytes line behind → given_of cpus reached line ≡ r → rest_from cpus reached number bytes ≡ or_refused number r (λ next. rest_from cpus next (number + 1) behind)
+at_line : (cpus : ℕ) (reached : Reached) (number : ℕ) (bytes line behind : List ℕ) (r : Result GivenLine ImportCause) → number ≤ 16000000 → BeginsWithLine bytes line behind → given_of cpus reached line ≡ r → rest_from cpus reached number bytes ≡ or_refused_line number r (λ next. rest_from cpus next (number + 1) behind)
 at_line cpus reached number bytes line behind r few begins is =
     ap (rest_from cpus reached number) begins.whole ∙ rest_line cpus reached number line behind begins.one
-    ∙ ap (λ r. or_refused number r (λ next. rest_from cpus next (number + 1) behind)) (given_plain cpus reached number line few begins.short ∙ is)
+    ∙ ap (λ r. or_refused_line number r (λ next. rest_from cpus next (number + 1) behind)) (given_plain cpus reached number line few begins.short ∙ is)
 
 -- ---- the end
 
-rest_some : (number : ℕ) (rest : List ℕ) (why : ImportCause) → rest ≢ [] → (cond (nat_lt 16000000 number) cause.TooManyLines (cond (nat_lt 512 (length rest)) cause.LineTooLong cause.Cut)) ≡ why → rest_cause number rest ≡ Some why
-unfolding rest_cause
+rest_some : (number : ℕ) (rest : List ℕ) (why : ImportCause) → rest ≢ [] → (cond (nat_lt 16000000 number) cause.TooManyLines (cond (nat_lt 512 (length rest)) cause.LineTooLong cause.Cut)) ≡ why → tail_cause number rest ≡ Some why
+unfolding tail_cause
 rest_some number [] why some is = absurd (some refl)
 rest_some number (byte ∷ rest) why some is =
     elim (nat_lt 16000000 number) as (λ b. cond b cause.TooManyLines (cond (nat_lt 512 (suc (length rest))) cause.LineTooLong cause.Cut) ≡ why → cond b (Some cause.TooManyLines) (cond (nat_lt 512 (suc (length rest))) (Some cause.LineTooLong) (Some cause.Cut)) ≡ Some why) [
@@ -88,20 +88,20 @@ no_byte : HasNone 10 [] 0
 no_byte k below = absurd (omega (arith, below))
 
 pub rest_none : (cpus : ℕ) (reached : Reached) (number : ℕ) (bytes : List ℕ) → bytes ≡ [] → rest_from cpus reached number bytes ≡ Ok (end_at reached ∷ [])
-unfolding rest_cause
+unfolding tail_cause
 rest_none cpus reached number bytes is = ap (rest_from cpus reached number) is ∙ rest_last cpus reached number [] no_byte
 
 some_bytes : (bytes : List ℕ) → 0 < length bytes → bytes ≢ []
 some_bytes bytes some is = let none = ap length is in absurd (omega (arith, some, none))
 
-refusal_at : (reached : Reached) (number : ℕ) (why : ImportCause) (o : Option ImportCause) → o ≡ Some why → ends_or reached number o ≡ Err (refused number why)
+refusal_at : (reached : Reached) (number : ℕ) (why : ImportCause) (o : Option ImportCause) → o ≡ Some why → ends_or reached number o ≡ Err (import_refused number why)
 refusal_at reached number why o is = ap (ends_or reached number) is
 
 -- a text that ends inside a line
-rest_cut : (cpus : ℕ) (reached : Reached) (number : ℕ) (bytes : List ℕ) → number ≤ 16000000 → IsCut bytes → rest_from cpus reached number bytes ≡ Err (refused number cause.Cut)
+rest_cut : (cpus : ℕ) (reached : Reached) (number : ℕ) (bytes : List ℕ) → number ≤ 16000000 → IsCut bytes → rest_from cpus reached number bytes ≡ Err (import_refused number cause.Cut)
 rest_cut cpus reached number bytes few is =
     rest_last cpus reached number bytes is.none
-    ∙ refusal_at reached number cause.Cut (rest_cause number bytes) (rest_some number bytes cause.Cut (some_bytes bytes is.some) (rw (low_number number few, short_line (length bytes) is.short) refl))
+    ∙ refusal_at reached number cause.Cut (tail_cause number bytes) (rest_some number bytes cause.Cut (some_bytes bytes is.some) (rw (low_number number few, short_line (length bytes) is.short) refl))
 
 -- the first line of bytes without a newline among their first 513 is longer than 512
 long_first : (bytes : List ℕ) (c : Cut 10 bytes) → IsTooLong bytes → 513 ≤ length c.line
@@ -109,25 +109,25 @@ long_first bytes c is =
     let case : (513 ≤ length c.line) ⊎ (length c.line < 513) = grind arith in
     ⊎_elim (λ long. long) (λ short. absurd (is.none (length c.line) short (ap (λ bs. get_or bs (length c.line) 0) c.whole ∙ get_or-append_seam c.line 10 c.behind 0))) case
 
-rest_long : (cpus : ℕ) (reached : Reached) (number : ℕ) (bytes : List ℕ) → number ≤ 16000000 → IsTooLong bytes → rest_from cpus reached number bytes ≡ Err (refused number cause.LineTooLong)
+rest_long : (cpus : ℕ) (reached : Reached) (number : ℕ) (bytes : List ℕ) → number ≤ 16000000 → IsTooLong bytes → rest_from cpus reached number bytes ≡ Err (import_refused number cause.LineTooLong)
 rest_long cpus reached number bytes few is = ⊎_elim
     (λ none.
     rest_last cpus reached number bytes none
-    ∙ refusal_at reached number cause.LineTooLong (rest_cause number bytes) (rest_some number bytes cause.LineTooLong (let long = is.long in some_bytes bytes (omega (arith, long))) (rw (low_number number few, long_line (length bytes) is.long) refl)))
+    ∙ refusal_at reached number cause.LineTooLong (tail_cause number bytes) (rest_some number bytes cause.LineTooLong (let long = is.long in some_bytes bytes (omega (arith, long))) (rw (low_number number few, long_line (length bytes) is.long) refl)))
     (λ (c : Cut 10 bytes).
     ap (rest_from cpus reached number) c.whole ∙ rest_line cpus reached number c.line c.behind c.none
-    ∙ ap (λ r. or_refused number r (λ next. rest_from cpus next (number + 1) c.behind)) (given_long cpus reached number c.line few (long_first bytes c is)))
+    ∙ ap (λ r. or_refused_line number r (λ next. rest_from cpus next (number + 1) c.behind)) (given_long cpus reached number c.line few (long_first bytes c is)))
     (cut 10 bytes)
 
 -- something behind the most lines
-pub rest_many : (cpus : ℕ) (reached : Reached) (number : ℕ) (bytes : List ℕ) → 16000000 < number → bytes ≢ [] → rest_from cpus reached number bytes ≡ Err (refused number cause.TooManyLines)
+pub rest_many : (cpus : ℕ) (reached : Reached) (number : ℕ) (bytes : List ℕ) → 16000000 < number → bytes ≢ [] → rest_from cpus reached number bytes ≡ Err (import_refused number cause.TooManyLines)
 rest_many cpus reached number bytes many some = ⊎_elim
     (λ none.
     rest_last cpus reached number bytes none
-    ∙ refusal_at reached number cause.TooManyLines (rest_cause number bytes) (rest_some number bytes cause.TooManyLines some (rw (high_number number many) refl)))
+    ∙ refusal_at reached number cause.TooManyLines (tail_cause number bytes) (rest_some number bytes cause.TooManyLines some (rw (high_number number many) refl)))
     (λ (c : Cut 10 bytes).
     ap (rest_from cpus reached number) c.whole ∙ rest_line cpus reached number c.line c.behind c.none
-    ∙ ap (λ r. or_refused number r (λ next. rest_from cpus next (number + 1) c.behind)) (given_many cpus reached number c.line many))
+    ∙ ap (λ r. or_refused_line number r (λ next. rest_from cpus next (number + 1) c.behind)) (given_many cpus reached number c.line many))
     (cut 10 bytes)
 
 -- ---- what the next line gives
@@ -141,7 +141,7 @@ next_taken old new number line before behind known few taken begins = record {
   kept = taken.kept;
   read = λ bytes tells.
       at_line old.cpus (reached_in old) number (before bytes) line (behind bytes) (Ok taken.behind) few (begins bytes tells) taken.is
-      ∙ ap (λ (r : Reached). followed taken.behind.events (rest_from old.cpus r (number + 1) (behind bytes))) (sym taken.reached);
+      ∙ ap (λ (r : Reached). events_followed taken.behind.events (rest_from old.cpus r (number + 1) (behind bytes))) (sym taken.reached);
 }
 
 pub next_refused : (old new : Gathering) (number : ℕ) (line : List ℕ) (before behind : List ℕ → List ℕ) (known : Option (List ℕ)) (why : Fault ImportCause) (found : ImportFault) → number ≤ 16000000 → IsLineFault number why found → TakesLine (given_of old.cpus (reached_in old) line) old new (Err why)
@@ -159,11 +159,11 @@ not_read g bytes old new (lines.NoMemory none) few found = tt
 
 -- ---- all lines
 
-followed_none : (rest : Answer) → followed [] rest ≡ rest
+followed_none : (rest : Answer) → events_followed [] rest ≡ rest
 followed_none (Ok events) = refl
 followed_none (Err refusal) = refl
 
-followed_on : (xs ys : List Event) (rest : Answer) → followed (xs ++ ys) rest ≡ followed xs (followed ys rest)
+followed_on : (xs ys : List Event) (rest : Answer) → events_followed (xs ++ ys) rest ≡ events_followed xs (events_followed ys rest)
 followed_on xs ys (Ok events) = ap (λ es. let r : Answer = Ok es in r) (append_assoc xs ys events)
 followed_on xs ys (Err refusal) = refl
 
@@ -171,7 +171,7 @@ followed_on xs ys (Err refusal) = refl
 pub record SoFar (cpus number : ℕ) (g : Gathering) (before behind : List ℕ → List ℕ) (known : Option (List ℕ)) : Type 0 where
   pub so : IsGathered g
   pub cpus_are : g.cpus ≡ cpus
-  pub read : (bytes : List ℕ) → known ≡ Some bytes → followed (events_by g.kept.items) (rest_from cpus (reached_in g) number (behind bytes)) ≡ rest_from cpus unreached 1 (before bytes)
+  pub read : (bytes : List ℕ) → known ≡ Some bytes → events_followed (events_by g.kept.items) (rest_from cpus (reached_in g) number (behind bytes)) ≡ rest_from cpus unreached 1 (before bytes)
 
 pub none_so_far : (cpus number : ℕ) (g : Gathering) (before : List ℕ → List ℕ) (known : Option (List ℕ)) → IsGathered g → g.cpus ≡ cpus → reached_in g ≡ unreached → g.kept.items ≡ [] → number ≡ 1 → SoFar cpus number g before before known
 none_so_far cpus number g before known so is fresh none first = record {
@@ -185,15 +185,15 @@ one_more cpus number old new before behind later known so taken = record {
   so = taken.so;
   cpus_are = taken.cpus ∙ so.cpus_are;
   read = λ bytes tells.
-      let here = subst (λ n. rest_from n (reached_in old) number (behind bytes) ≡ followed taken.events (rest_from n (reached_in new) (number + 1) (later bytes))) so.cpus_are (taken.read bytes tells) in
-      ap (λ es. followed es (rest_from cpus (reached_in new) (number + 1) (later bytes))) taken.kept
+      let here = subst (λ n. rest_from n (reached_in old) number (behind bytes) ≡ events_followed taken.events (rest_from n (reached_in new) (number + 1) (later bytes))) so.cpus_are (taken.read bytes tells) in
+      ap (λ es. events_followed es (rest_from cpus (reached_in new) (number + 1) (later bytes))) taken.kept
       ∙ followed_on (events_by old.kept.items) taken.events (rest_from cpus (reached_in new) (number + 1) (later bytes))
-      ∙ ap (followed (events_by old.kept.items)) (sym here) ∙ so.read bytes tells;
+      ∙ ap (events_followed (events_by old.kept.items)) (sym here) ∙ so.read bytes tells;
 }
 
 -- the fault of a line is the whole's
-faulted : (events : List Event) (rest whole : Answer) (why : ImportFault) → followed events rest ≡ whole → RefusalOf why rest → RefusalOf why whole
-faulted events rest whole (import.Refused number cause) is found = sym is ∙ ap (followed events) found
+faulted : (events : List Event) (rest whole : Answer) (why : ImportFault) → events_followed events rest ≡ whole → RefusalOf why rest → RefusalOf why whole
+faulted events rest whole (import.Refused number cause) is found = sym is ∙ ap (events_followed events) found
 faulted events rest whole import.NoFile is found = tt
 faulted events rest whole import.ReadFault is found = tt
 faulted events rest whole (import.NoMemory none) is found = tt
@@ -208,7 +208,7 @@ fault_here cpus number old before behind known why so found bytes tells =
 pub ends_here : (cpus number : ℕ) (old : Gathering) (before behind : List ℕ → List ℕ) (known : Option (List ℕ)) → SoFar cpus number old before behind known → ((bytes : List ℕ) → known ≡ Some bytes → rest_from old.cpus (reached_in old) number (behind bytes) ≡ Ok (end_at (reached_in old) ∷ []))
     → (bytes : List ℕ) → known ≡ Some bytes → rest_from cpus unreached 1 (before bytes) ≡ Ok (whole_events old)
 ends_here cpus number old before behind known so found bytes tells =
-    sym (so.read bytes tells) ∙ ap (followed (events_by old.kept.items)) (subst (λ n. rest_from n (reached_in old) number (behind bytes) ≡ Ok (end_at (reached_in old) ∷ [])) so.cpus_are (found bytes tells))
+    sym (so.read bytes tells) ∙ ap (events_followed (events_by old.kept.items)) (subst (λ n. rest_from n (reached_in old) number (behind bytes) ≡ Ok (end_at (reached_in old) ∷ [])) so.cpus_are (found bytes tells))
 
 -- ---- a whole text
 

@@ -10,8 +10,8 @@ use Rattle.import_spec.specs.declared.cause.ImportCause.{ImportCause}
 use Rattle.import_spec.specs.declared.cause.ImportCause.TheVariants as cause
 use Rattle.import_spec.specs.declared.seen.Sighting.{Sighting}
 use Rattle.import_spec.specs.Marked.{read_line}
-use Rattle.import_spec.specs.Events.{Given, Reached, given_at, given_by, given_of, unreached}
-use Rattle.import_spec.specs.Import.{Refused, end_at, ends_or, followed, import_from, import_of, line_given, or_refused, rest_cause}
+use Rattle.import_spec.specs.Events.{GivenLine, Reached, given_at, given_read, given_of, unreached}
+use Rattle.import_spec.specs.Import.{Refused, end_at, ends_or, events_followed, import_from, import_of, line_given, or_refused_line, tail_cause}
 use Rattle.psi_base.specs.Path.{parts_at}
 use Rattle.ftrace_import.specs.Laws.{ImportedIsTrace, SwitchRunsNext, WakeupWakes, behind_given, reached_by}
 use Rattle.ftrace_import.specs.Stands.{Ends, IsSeen, IsUnderWay, Run, limits}
@@ -50,14 +50,14 @@ end_ends : (cpus : ℕ) (reached : Reached) → IsUnderWay cpus reached → Ends
 end_ends cpus reached so = record { run = end_runs cpus reached so; ends = ([], reached.moment, refl) }
 
 -- what a line gives, and what goes on behind it
-pub then_ends : (cpus : ℕ) (reached : Reached) (given : Given) (rest : List Event) → Gives cpus reached given → Ends cpus given.reached.world rest → Ends cpus reached.world (given.events ++ rest)
+pub then_ends : (cpus : ℕ) (reached : Reached) (given : GivenLine) (rest : List Event) → Gives cpus reached given → Ends cpus given.reached.world rest → Ends cpus reached.world (given.events ++ rest)
 then_ends cpus reached given rest gives behind = record {
   run = run_on cpus reached.world given.events rest (record { fit = gives.fit; known = gives.known; legal = gives.legal }) (subst (λ (w : World). Run cpus w rest) gives.world behind.run);
   ends = ends_behind given.events rest behind.ends;
 }
 
 -- a whole line that is given isn't too long, nor one too many
-pub given_whole : (cpus : ℕ) (reached : Reached) (number : ℕ) (line : List ℕ) (given : Given) → line_given cpus reached number line ≡ Ok given → given_of cpus reached line ≡ Ok given
+pub given_whole : (cpus : ℕ) (reached : Reached) (number : ℕ) (line : List ℕ) (given : GivenLine) → line_given cpus reached number line ≡ Ok given → given_of cpus reached line ≡ Ok given
 unfolding line_given
 given_whole cpus reached number line given is =
     elim (nat_lt 16000000 number) as (λ b. cond b (Err cause.TooManyLines) (cond (nat_lt 512 (length line)) (Err cause.LineTooLong) (given_of cpus reached line)) ≡ Ok given → given_of cpus reached line ≡ Ok given) [
@@ -79,12 +79,12 @@ at_rest : (cpus : ℕ) (reached : Reached) (number : ℕ) (events : List Event) 
 at_rest cpus reached number events None so is = subst (λ es. Ends cpus reached.world es) (events_same _ events is) (end_ends cpus reached so)
 at_rest cpus reached number events (Some why) so is = absurd (cc is)
 
-behind_line : (cpus : ℕ) (reached : Reached) (given : Given) (events : List Event) (rest : Answer) → Gives cpus reached given → ((es : List Event) → rest ≡ Ok es → Ends cpus given.reached.world es) → followed given.events rest ≡ Ok events → Ends cpus reached.world events
+behind_line : (cpus : ℕ) (reached : Reached) (given : GivenLine) (events : List Event) (rest : Answer) → Gives cpus reached given → ((es : List Event) → rest ≡ Ok es → Ends cpus given.reached.world es) → events_followed given.events rest ≡ Ok events → Ends cpus reached.world events
 behind_line cpus reached given events (Err refusal) gives goes is = absurd (cc is)
 behind_line cpus reached given events (Ok rest) gives goes is = subst (λ es. Ends cpus reached.world es) (events_same _ events is) (then_ends cpus reached given rest gives (goes rest refl))
 
-at_line : (cpus : ℕ) (reached : Reached) (number : ℕ) (line : List ℕ) (events : List Event) (behind : Reached → Answer) → IsUnderWay cpus reached → (r : Result Given ImportCause) → line_given cpus reached number line ≡ r
-    → ((next : Reached) (es : List Event) → IsUnderWay cpus next → behind next ≡ Ok es → Ends cpus next.world es) → or_refused number r behind ≡ Ok events → Ends cpus reached.world events
+at_line : (cpus : ℕ) (reached : Reached) (number : ℕ) (line : List ℕ) (events : List Event) (behind : Reached → Answer) → IsUnderWay cpus reached → (r : Result GivenLine ImportCause) → line_given cpus reached number line ≡ r
+    → ((next : Reached) (es : List Event) → IsUnderWay cpus next → behind next ≡ Ok es → Ends cpus next.world es) → or_refused_line number r behind ≡ Ok events → Ends cpus reached.world events
 at_line cpus reached number line events behind so (Err why) found goes is = absurd (cc is)
 at_line cpus reached number line events behind so (Ok given) found goes is =
     let here = gives cpus reached line given so (given_whole cpus reached number line given found) in
@@ -93,7 +93,7 @@ at_line cpus reached number line events behind so (Ok given) found goes is =
 pub import_ends : (cpus : ℕ) (parts : List (List ℕ)) (reached : Reached) (number : ℕ) (events : List Event) → IsUnderWay cpus reached → import_from cpus reached number parts ≡ Ok events → Ends cpus reached.world events
 unfolding import_from
 import_ends cpus [] reached number events so is = subst (λ es. Ends cpus reached.world es) (events_same _ events is) (end_ends cpus reached so)
-import_ends cpus (rest ∷ []) reached number events so is = at_rest cpus reached number events (rest_cause number rest) so is
+import_ends cpus (rest ∷ []) reached number events so is = at_rest cpus reached number events (tail_cause number rest) so is
 import_ends cpus (line ∷ next ∷ parts) reached number events so is =
     at_line cpus reached number line events (λ behind. import_from cpus behind (number + 1) (next ∷ parts)) so (line_given cpus reached number line) refl
     (λ behind es under. import_ends cpus (next ∷ parts) behind (number + 1) es under) is
@@ -113,7 +113,7 @@ imported_is_trace cpus bytes events versions counted is first =
     }
 
 -- lines that aren't refused leave an import under way
-behind_if : (cpus : ℕ) (reached behind : Reached) (line : List ℕ) (next : Reached → Option Reached) → IsUnderWay cpus reached → (r : Result Given ImportCause) → given_of cpus reached line ≡ r
+behind_if : (cpus : ℕ) (reached behind : Reached) (line : List ℕ) (next : Reached → Option Reached) → IsUnderWay cpus reached → (r : Result GivenLine ImportCause) → given_of cpus reached line ≡ r
     → ((now : Reached) → IsUnderWay cpus now → next now ≡ Some behind → IsUnderWay cpus behind) → behind_given r next ≡ Some behind → IsUnderWay cpus behind
 behind_if cpus reached behind line next so (Err why) found goes is = absurd (cc is)
 behind_if cpus reached behind line next so (Ok given) found goes is = goes given.reached (gives cpus reached line given so found).later is
@@ -124,15 +124,15 @@ under_way cpus (line ∷ lines) reached behind so is =
     behind_if cpus reached behind line (λ now. reached_by cpus now lines) so (given_of cpus reached line) refl (λ now under. under_way cpus lines now behind under) is
 
 -- a line that tells something gives what that gives, and it is in range
-record Told (cpus : ℕ) (reached : Reached) (sighting : Sighting) (given : Given) : Type 0 where
+record Told (cpus : ℕ) (reached : Reached) (sighting : Sighting) (given : GivenLine) : Type 0 where
   seen : IsSeen sighting.seen
   gives : given_at cpus reached sighting.at sighting.seen ≡ Ok given
 
-told : (cpus : ℕ) (reached : Reached) (line : List ℕ) (sighting : Sighting) (given : Given) → read_line line ≡ Ok (Some sighting) → given_of cpus reached line ≡ Ok given → Told cpus reached sighting given
+told : (cpus : ℕ) (reached : Reached) (line : List ℕ) (sighting : Sighting) (given : GivenLine) → read_line line ≡ Ok (Some sighting) → given_of cpus reached line ≡ Ok given → Told cpus reached sighting given
 unfolding given_of
 told cpus reached line sighting given tells is = record {
   seen = line_seen line sighting tells;
-  gives = sym (ap (given_by cpus reached) tells) ∙ is;
+  gives = sym (ap (given_read cpus reached) tells) ∙ is;
 }
 
 pub switch_runs_next : SwitchRunsNext

@@ -1,6 +1,6 @@
 -- What gathering the events of a text gives.
 use Rattle.std.specs.Prelude.{◌≡◌, ℕ, ◌+◌, ◌≤◌, List, [], ◌∷◌, ◌++◌, Bool, true, false, Option, None, Some, OnOk, IsErrOf, Result, Ok, Err, ⊤}
-use Rattle.psi_base.specs.Outside.{HasCauses, ShelfCounts}
+use Rattle.outside.specs.Outside.{HasCauses, ShelfCounts}
 use Rattle.psi_base.specs.Path.{parts_at}
 use Rattle.psi_base.specs.declared.event.Event.{Event}
 use Rattle.psi_base.specs.declared.event.Fault.{Fault}
@@ -12,8 +12,8 @@ use Rattle.psi_lines.specs.declared.lines.LineFault.{LineFault}
 use Rattle.psi_lines.specs.declared.lines.LineFault.TheVariants as lines
 use Rattle.import_spec.specs.declared.cause.ImportCause.{ImportCause}
 use Rattle.import_spec.specs.declared.cause.ImportCause.TheVariants as cause
-use Rattle.import_spec.specs.Events.{Given, Reached, unreached}
-use Rattle.import_spec.specs.Import.{Refused, end_at, followed, import_from, import_of, refused}
+use Rattle.import_spec.specs.Events.{GivenLine, Reached, unreached}
+use Rattle.import_spec.specs.Import.{Refused, end_at, events_followed, import_from, import_of, import_refused}
 use Rattle.ftrace_import.specs.declared.taking.Gathering.{Gathering}
 use Rattle.ftrace_import.specs.declared.text.ImportFault.{ImportFault}
 use Rattle.ftrace_import.specs.declared.text.ImportFault.TheVariants as import
@@ -26,8 +26,8 @@ use Rattle.ftrace_import.specs.Stands.{Ends, IsUnderWay, Run, limits}
 abbrev pub reached_in : Gathering → Reached
 reached_in g = record { first = g.first; moment = g.moment; world = g.table.world }
 
--- What holds behind each line: the table has the limits of the import, and its world is the one that the events made which were
--- kept. They may be spelled and are legal.
+-- What holds behind each line: the table has the limits of the import, and its world is the one
+-- that the events made which were kept. They may be spelled and are legal.
 pub record IsGathered (g : Gathering) : Type 0 where
   pub limits_are : g.table.limits ≡ limits g.cpus
   pub under : IsUnderWay g.cpus (reached_in g)
@@ -35,8 +35,8 @@ pub record IsGathered (g : Gathering) : Type 0 where
   pub after_them : g.table.world ≡ after_from first_world (events_by g.kept.items)
 
 -- what a line gives was kept behind the events before it
-pub record HasTaken (given : Result Given ImportCause) (old new : Gathering) : Type 0 where
-  pub behind : Given
+pub record HasTaken (given : Result GivenLine ImportCause) (old new : Gathering) : Type 0 where
+  pub behind : GivenLine
   pub is : given ≡ Ok behind
   pub kept : events_by new.kept.items ≡ events_by old.kept.items ++ behind.events
   pub reached : reached_in new ≡ behind.reached
@@ -44,7 +44,7 @@ pub record HasTaken (given : Result Given ImportCause) (old new : Gathering) : T
   pub so : IsGathered new
 
 -- what taking a line gives: what the line gives was kept, or the cause against the line
-abbrev pub TakesLine : Result Given ImportCause → Gathering → Gathering → Result (Unit {0}) (Fault ImportCause) → Type 0
+abbrev pub TakesLine : Result GivenLine ImportCause → Gathering → Gathering → Result (Unit {0}) (Fault ImportCause) → Type 0
 TakesLine given old new (Ok done) = HasTaken given old new
 TakesLine given old new (Err (fault.Refused why)) = given ≡ Err why
 TakesLine given old new (Err (fault.NoMemory _)) = ⊤
@@ -57,7 +57,7 @@ rest_from cpus reached number bytes = import_from cpus reached number (parts_at 
 
 -- a refusal is the definition's; the other faults have clauses of their own
 abbrev pub RefusalOf : ImportFault → Result (List Event) Refused → Type 0
-RefusalOf (import.Refused number why) read = read ≡ Err (refused number why)
+RefusalOf (import.Refused number why) read = read ≡ Err (import_refused number why)
 RefusalOf import.NoFile read = ⊤
 RefusalOf import.ReadFault read = ⊤
 RefusalOf (import.NoMemory _) read = ⊤
@@ -81,20 +81,26 @@ pub record LineTaken (number : ℕ) (old new : Gathering) (before behind : List 
   pub cpus : new.cpus ≡ old.cpus
   pub events : List Event
   pub kept : events_by new.kept.items ≡ events_by old.kept.items ++ events
-  pub read : (bytes : List ℕ) → known ≡ Some bytes → rest_from old.cpus (reached_in old) number (before bytes) ≡ followed events (rest_from old.cpus (reached_in new) (number + 1) (behind bytes))
+  pub read : (bytes : List ℕ) → known ≡ Some bytes → rest_from old.cpus (reached_in old) number (before bytes)
+      ≡ events_followed events (rest_from old.cpus (reached_in new) (number + 1) (behind bytes))
 
 -- what the next line gives: it was taken, or there is none, or a fault
-abbrev pub NextGives : ℕ → Gathering → Gathering → (List ℕ → List ℕ) → (List ℕ → List ℕ) → Option (List ℕ) → Result Bool ImportFault → Type 0
+abbrev pub NextGives : ℕ → Gathering → Gathering → (List ℕ → List ℕ) → (List ℕ → List ℕ) → Option (List ℕ) → Result Bool ImportFault
+    → Type 0
 NextGives number old new before behind known (Ok true) = LineTaken number old new before behind known
-NextGives number old new before behind known (Ok false) = (new ≡ old) × ((bytes : List ℕ) → known ≡ Some bytes → rest_from old.cpus (reached_in old) number (before bytes) ≡ Ok (end_at (reached_in old) ∷ []))
-NextGives number old new before behind known (Err fault) = (bytes : List ℕ) → known ≡ Some bytes → RefusalOf fault (rest_from old.cpus (reached_in old) number (before bytes))
+NextGives number old new before behind known (Ok false) =
+    (new ≡ old) × ((bytes : List ℕ) → known ≡ Some bytes
+    → rest_from old.cpus (reached_in old) number (before bytes) ≡ Ok (end_at (reached_in old) ∷ []))
+NextGives number old new before behind known (Err fault) =
+    (bytes : List ℕ) → known ≡ Some bytes → RefusalOf fault (rest_from old.cpus (reached_in old) number (before bytes))
 
 -- a shelf counted this fault of an import and nothing else: a failed read, or a name that it hasn't
 abbrev pub CausesImportFault : {A : Type 0} → ShelfCounts → ShelfCounts → Result A ImportFault → Type 0
 CausesImportFault before now result = HasCauses before now (IsErrOf result import.ReadFault) (IsErrOf result import.NoFile)
 
 -- what reading the next line does to the reader and to the shelf, whatever stands on the line
-pub record ReadsLine {A : Type 0} (known : Option (List ℕ)) (old new : Reader) (counts counts_now : ShelfCounts) (given given_now : ℕ) (result : Result A ImportFault) : Type 0 where
+pub record ReadsLine {A : Type 0} (known : Option (List ℕ)) (old new : Reader) (counts counts_now : ShelfCounts) (given given_now : ℕ)
+    (result : Result A ImportFault) : Type 0 where
   pub name : new.name ≡ old.name
   pub number : OnOk result (new.number ≤ old.number + 1)
   pub missed : IsErrOf result import.NoFile → known ≡ None
@@ -118,14 +124,18 @@ whole_events g = events_by g.kept.items ++ end_at (reached_in g) ∷ []
 
 -- what taking all lines gives
 abbrev pub LinesGive : ℕ → Gathering → (List ℕ → List ℕ) → Option (List ℕ) → Result (Unit {0}) ImportFault → Type 0
-LinesGive cpus new before known (Ok done) = IsGathered new × (new.cpus ≡ cpus) × ((bytes : List ℕ) → known ≡ Some bytes → rest_from cpus unreached 1 (before bytes) ≡ Ok (whole_events new))
-LinesGive cpus new before known (Err fault) = (bytes : List ℕ) → known ≡ Some bytes → RefusalOf fault (rest_from cpus unreached 1 (before bytes))
+LinesGive cpus new before known (Ok done) =
+    IsGathered new × (new.cpus ≡ cpus) × ((bytes : List ℕ) → known ≡ Some bytes
+    → rest_from cpus unreached 1 (before bytes) ≡ Ok (whole_events new))
+LinesGive cpus new before known (Err fault) =
+    (bytes : List ℕ) → known ≡ Some bytes → RefusalOf fault (rest_from cpus unreached 1 (before bytes))
 
 -- the most bytes that are read: no further than what is held behind the most lines
 abbrev pub most_of_text : ℕ
 most_of_text = furthest 16000001
 
--- all lines of a file were taken: their events and the end are accepted, and are those of its bytes, where they are told
+-- all lines of a file were taken: their events and the end are accepted, and are those of its
+-- bytes, where they are told
 pub record AllTaken (cpus : ℕ) (g : Gathering) (known : Option (List ℕ)) : Type 0 where
   pub so : IsGathered g
   pub cpus_are : g.cpus ≡ cpus

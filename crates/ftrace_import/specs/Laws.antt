@@ -1,30 +1,34 @@
 -- What an import amounts to.
-use Rattle.std.specs.Prelude.{◌≡◌, ℕ, List, [], ◌∷◌, true, Option, None, Some, option_map, Result, Ok, Err}
+use Rattle.std.specs.Prelude.{◌≡◌, ◌≢◌, ℕ, List, [], ◌∷◌, ◌++◌, true, Option, None, Some, option_map, Result, Ok, Err}
 use Rattle.psi_base.specs.declared.event.Cpu.{Cpu}
 use Rattle.psi_base.specs.declared.event.Event.{Event}
 use Rattle.psi_base.specs.declared.event.How.{How}
 use Rattle.psi_base.specs.declared.event.Pid.{Pid}
+use Rattle.psi_base.specs.Path.{parts_at}
 use Rattle.psi_base.specs.Missing.{is_some_and}
 use Rattle.psi_spec.specs.declared.machine.Task.{Task}
 use Rattle.psi_spec.specs.Fields.{IsAmong}
 use Rattle.psi_spec.specs.Grammar.{One, Version}
 use Rattle.psi_spec.specs.Trace.{IsCpuCount, accepts_with, text_of}
 use Rattle.psi_spec.specs.Laws.{IsTrace}
-use Rattle.psi_spec.specs.World.{Tasks, is_active, running_on, task_of}
+use Rattle.psi_spec.specs.World.{Tasks, after, is_active, running_on, task_of}
 use Rattle.import_spec.specs.declared.cause.ImportCause.{ImportCause}
 use Rattle.import_spec.specs.declared.seen.Seen.TheVariants as seen
 use Rattle.import_spec.specs.declared.seen.Sighting.{Sighting}
 use Rattle.import_spec.specs.Marked.{read_line}
-use Rattle.import_spec.specs.Events.{Given, Reached, default_tick, given_of, unreached}
+use Rattle.import_spec.specs.Events.{GivenLine, Reached, default_tick, given_of, unreached}
 use Rattle.import_spec.specs.Import.{import_of, import_trace}
 
--- Each text of an import is accepted at the default tick, as the trace of its events, wherever the first version is.
+-- Each text of an import is accepted at the default tick, as the trace of its events, wherever the
+-- first version is.
 abbrev pub ImportedIsTrace : Type 0
-ImportedIsTrace = (cpus : ℕ) (bytes : List ℕ) (events : List Event) (versions : List Version) → IsCpuCount cpus → import_of cpus bytes ≡ Ok events → IsAmong One versions
+ImportedIsTrace =
+    (cpus : ℕ) (bytes : List ℕ) (events : List Event) (versions : List Version) → IsCpuCount cpus → import_of cpus bytes ≡ Ok events
+    → IsAmong One versions
     → IsTrace (accepts_with versions default_tick) (text_of (import_trace cpus events)) (import_trace cpus events)
 
 -- how far an import comes behind a line that isn't refused
-abbrev pub behind_given : Result Given ImportCause → (Reached → Option Reached) → Option Reached
+abbrev pub behind_given : Result GivenLine ImportCause → (Reached → Option Reached) → Option Reached
 behind_given (Err why) next = None
 behind_given (Ok given) next = next given.reached
 
@@ -34,7 +38,7 @@ reached_by cpus reached [] = Some reached
 reached_by cpus reached (line ∷ lines) = behind_given (given_of cpus reached line) (λ behind. reached_by cpus behind lines)
 
 -- a line gives this behind other lines that aren't refused, and tells this
-pub record GivesBehind (cpus : ℕ) (lines : List (List ℕ)) (line : List ℕ) (sighting : Sighting) (given : Given) : Type 0 where
+pub record GivesBehind (cpus : ℕ) (lines : List (List ℕ)) (line : List ℕ) (sighting : Sighting) (given : GivenLine) : Type 0 where
   pub counted : IsCpuCount cpus
   pub reached : Reached
   pub behind : reached_by cpus unreached lines ≡ Some reached
@@ -47,10 +51,35 @@ runner tasks cpu = option_map (λ (e : ℕ × Task). let pid : Pid = record { 0 
 
 -- After a line of a switch its processor runs the next task, or none.
 abbrev pub SwitchRunsNext : Type 0
-SwitchRunsNext = (cpus : ℕ) (lines : List (List ℕ)) (line : List ℕ) (at : ℕ) (cpu : Cpu) (previous next : Option Pid) (how : How) (given : Given)
-    → GivesBehind cpus lines line (record { at = at; seen = seen.Switch cpu previous next how }) given → runner given.reached.world.tasks cpu.0 ≡ next
+SwitchRunsNext =
+    (cpus : ℕ) (lines : List (List ℕ)) (line : List ℕ) (at : ℕ) (cpu : Cpu) (previous next : Option Pid) (how : How) (given : GivenLine)
+    → GivesBehind cpus lines line (record { at = at; seen = seen.Switch cpu previous next how }) given
+    → runner given.reached.world.tasks cpu.0 ≡ next
 
 -- After a line of a wakeup its task is live, and doesn't sleep.
 abbrev pub WakeupWakes : Type 0
-WakeupWakes = (cpus : ℕ) (lines : List (List ℕ)) (line : List ℕ) (at : ℕ) (pid : Pid) (cpu : Cpu) (given : Given)
-    → GivesBehind cpus lines line (record { at = at; seen = seen.Wakeup pid cpu }) given → is_some_and (task_of given.reached.world.tasks pid.0) (λ task. is_active task.mode) ≡ true
+WakeupWakes = (cpus : ℕ) (lines : List (List ℕ)) (line : List ℕ) (at : ℕ) (pid : Pid) (cpu : Cpu) (given : GivenLine)
+    → GivesBehind cpus lines line (record { at = at; seen = seen.Wakeup pid cpu }) given
+    → is_some_and (task_of given.reached.world.tasks pid.0) (λ task. is_active task.mode) ≡ true
+
+-- A whole line of a text that isn't refused, behind these lines, gives some of the events that are
+-- written: those before them make the world that the lines reach, and with them these make the
+-- world behind the line. So what is said of a line's world is said of the world after a front of
+-- the events that are written.
+pub record IsWritten (cpus : ℕ) (lines : List (List ℕ)) (line : List ℕ) (events : List Event) : Type 0 where
+  pub front : List Event
+  pub behind : List Event
+  pub reached : Reached
+  pub given : GivenLine
+  pub before : reached_by cpus unreached lines ≡ Some reached
+  pub gives : given_of cpus reached line ≡ Ok given
+  pub written : events ≡ front ++ given.events ++ behind
+  pub there : reached.world ≡ after front
+  pub world : given.reached.world ≡ after (front ++ given.events)
+
+-- So it is of each line of a text that isn't refused: of each part of it that stands before a
+-- newline.
+abbrev pub LinesAreWritten : Type 0
+LinesAreWritten = (cpus : ℕ) (bytes : List ℕ) (events : List Event) (lines more : List (List ℕ)) (line : List ℕ)
+    → import_of cpus bytes ≡ Ok events → parts_at 10 bytes ≡ lines ++ line ∷ more → more ≢ []
+    → IsWritten cpus lines line events

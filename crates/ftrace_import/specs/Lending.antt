@@ -8,8 +8,8 @@ use Rattle.import_spec.specs.Events.{made}
 use Rattle.ftrace_import.specs.declared.taking.Gathering.{Gathering}
 use Rattle.ftrace_import.specs.Gathers.{whole_events}
 
--- an import as its events are lent: the one that it stands at, which means nothing before the first, and those that are left behind
--- it, the end among them
+-- an import as its events are lent: the one that it stands at, which means nothing before the
+-- first, and those that are left behind it, the end among them
 pub record Lending : Type 0 where
   pub event : Event
   pub left : List Event
@@ -32,7 +32,8 @@ GoesOn old new false = (old.left ≡ []) × (new.left ≡ [])
 abbrev pub IsMade : Act → Type 0
 IsMade what = (pid : Pid) × (cpu : Cpu) × (what ≡ made pid cpu)
 
--- No more were lent than there are, and the event that is lent where a task is made makes one in the root group.
+-- No more were lent than there are, and the event that is lent where a task is made makes one in
+-- the root group.
 pub record IsLending (g : Gathering) (at : ℕ) (making : Event) : Type 0 where
   pub place : at ≤ length g.kept.items + 1
   pub makes : IsMade making.act

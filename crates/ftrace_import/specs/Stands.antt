@@ -22,8 +22,8 @@ limits cpus = limits_of default_tick cpus
 abbrev pub IsCalm : Tasks → Type 0
 IsCalm tasks = (q : ℕ) → is_some_and (task_of tasks q) (λ t. t.stalled) ≡ false
 
--- The world of an import, in which so many events may still be written at a moment (ns): it is legal, no task is in a stall, the
--- root is the only group, and the trace goes on.
+-- The world of an import, in which so many events may still be written at a moment (ns): it is
+-- legal, no task is in a stall, the root is the only group, and the trace goes on.
 pub record Stands (cpus at room : ℕ) (w : World) : Type 0 where
   pub counted : IsCpuCount cpus
   pub legal : IsLegalWorld (limits cpus) w

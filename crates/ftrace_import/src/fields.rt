@@ -1,7 +1,8 @@
-//! The parts of a marked line: numbers, the time and the processor of its head, and the fields of its tail.
+//! The parts of a marked line: numbers, the time and the processor of its head, and the fields of
+//! its tail.
 ghost use Rattle.std.specs.Prelude.{◌≡◌, ◌+◌, ◌-◌, ◌^◌, ◌<◌, ◌≤◌, IfSome, IsNone, Some, None, length, drop, if◌then◌else◌};
 ghost use Rattle.import_spec.specs.Places.{last_place};
-ghost use Rattle.import_spec.specs.Tails.{cpu_in, digit_count, field_in, how_in, is_bracketed, number_in, pid_in, time_in, time_of};
+ghost use Rattle.import_spec.specs.Tails.{cpu_in, digit_count, field_in, how_in, is_bracketed, short_number, pid_in, time_in, time_of};
 ghost use Rattle.ftrace_import.specs.Bytes.{IsLastBracket};
 
 use crate::places::{behind_last, count_before, count_digits};
@@ -12,7 +13,7 @@ const SECOND: Ns = 1_000_000_000;
 
 /// The number that at most so many digits write.
 fn number_in(digits: &[u8], most: usize) -> Option<u64>
-    ensures value { result ≡ number_in most digits.now }
+    ensures value { result ≡ short_number most digits.now }
     ensures below { IfSome result (λ number. number < 10 ^ most) }
     ensures length { IfSome result (λ _. (0 < length digits.now) × (length digits.now ≤ most)) }
 {

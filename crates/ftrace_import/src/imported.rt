@@ -1,6 +1,6 @@
 //! The events of an import, one by one.
 ghost use Rattle.std.specs.Prelude.{◌≡◌, ◌+◌, ◌≤◌, ℕ, List, false, IfOk, IsErrOf, MatchResult, Some, None, Ok};
-ghost use Rattle.psi_base.specs.Outside.{told, Lacks, counts_of};
+ghost use Rattle.outside.specs.Outside.{told, Lacks, counts_of};
 ghost use Rattle.psi_spec.specs.Trace.{IsCpuCount};
 ghost use Rattle.psi_spec.specs.World.{first_world};
 ghost use Rattle.import_spec.specs.Events.{made};
@@ -13,12 +13,13 @@ ghost use Rattle.ftrace_import.specs.Stands.{Ends};
 use crate::deeds::{Deed, Kept};
 use crate::taking::Gathering;
 use crate::text::{ImportFault, gather};
-use psi_base::{Act, Cpu, Event, NoMemory, Ns, Path, Pid, Shelf};
+use outside::Shelf;
+use psi_base::{Act, Cpu, Event, NoMemory, Ns, Path, Pid};
 use std::alloc::Global;
 use std::marker::Model;
 
-/// The events of an import, with the end, one by one: contracts see the one that it stands at and the list of those that are left.
-/// Each is lent until it goes on, so that none takes memory.
+/// The events of an import, with the end, one by one: contracts see the one that it stands at and
+/// the list of those that are left. Each is lent until it goes on, so that none takes memory.
 #[derive(Drop)]
 pub struct Imported {
     gathering: Gathering,
@@ -71,7 +72,8 @@ fn tell_other(other: &mut Event, at: Ns, act: Act) -> bool
     false
 }
 
-/// Makes one of two events the one that was kept: the first where a task is made, and else the other.
+/// Makes one of two events the one that was kept: the first where a task is made, and else the
+/// other.
 fn tell(kept: Kept, making: &mut Event, other: &mut Event) -> bool
     requires { IsMade making.old.act }
     ensures told { shown result making.new other.new ≡ event_by kept }
@@ -147,8 +149,9 @@ impl Imported {
     }
 }
 
-/// Imports a file's text of ftrace, whose events are then lent one by one. `Refused` with the first refused line and its first
-/// cause. It takes all memory that the events need, about 24 bytes for each.
+/// Imports a file's text of ftrace, whose events are then lent one by one. `Refused` with the first
+/// refused line and its first cause. It takes all memory that the events need, about 24 bytes for
+/// each.
 pub fn read_import<S: Shelf>(
     alloc: Global,
     shelf: &mut S,

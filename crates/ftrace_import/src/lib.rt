@@ -11,6 +11,6 @@ mod taking;
 mod text;
 
 pub use imported::{Imported, read_import};
-pub use laws::{law_imported, law_lines};
+pub use laws::{law_imported, law_lines, law_written};
 pub use taking::Gathering;
 pub use text::{ImportFault, gather, import};

@@ -2,7 +2,7 @@
 ghost use Rattle.std.specs.Prelude.{◌≡◌, ◌+◌, ◌<◌, ◌≤◌, IfSome, length, drop};
 ghost use Rattle.std.specs.List.{position_or_len, prefix_len};
 ghost use Rattle.std.specs.Char.{is_ascii_digit};
-ghost use Rattle.import_spec.specs.Places.{begins, behind_last, last_place};
+ghost use Rattle.import_spec.specs.Places.{begins_with, behind_last, last_place};
 ghost use Rattle.ftrace_import.specs.Bytes.{is_at, shown};
 
 /// A text of one byte or more stands at this place.
@@ -10,7 +10,7 @@ ghost use Rattle.ftrace_import.specs.Bytes.{is_at, shown};
 fn stands_at(bytes: &[u8], at: usize, text: &[u8]) -> bool
     requires some { 0 < length text.now }
     requires inside { at < length bytes.now }
-    ensures stands { result ≡ begins text.now (drop at bytes.now) }
+    ensures stands { result ≡ begins_with text.now (drop at bytes.now) }
 {
     bytes[at] == text[0] && bytes[at..].starts_with(text)
 }
@@ -19,7 +19,7 @@ fn stands_at(bytes: &[u8], at: usize, text: &[u8]) -> bool
 #[inline(always)]
 pub(crate) fn last_text(bytes: &[u8], text: &[u8]) -> Option<usize>
     requires some { 0 < length text.now }
-    ensures last { result ≡ last_place (begins text.now) bytes.now }
+    ensures last { result ≡ last_place (begins_with text.now) bytes.now }
     ensures inside { IfSome result (λ at. at + length text.now ≤ length bytes.now) }
 {
     let mut at = bytes.len();

@@ -145,7 +145,8 @@ fn time_or(first: Option<Ns>, at: Ns) -> Ns
     }
 }
 
-/// The moment (ns) of a line at this time, where the first marked line was at another, and the last had this moment.
+/// The moment (ns) of a line at this time, where the first marked line was at another, and the last
+/// had this moment.
 fn moment_of(first: Ns, moment: Ns, at: Ns) -> Ns
     ensures { result ≡ max moment (at - first) }
 {
@@ -182,7 +183,8 @@ fn take_sighting(g: &mut Gathering, sighting: Sighting) -> Result<(), Fault<Impo
     Ok(())
 }
 
-/// Takes a line: keeps its events, if it is marked. Where it is refused, the import isn't used again.
+/// Takes a line: keeps its events, if it is marked. Where it is refused, the import isn't used
+/// again.
 pub(crate) fn take_line(g: &mut Gathering, line: &[u8]) -> Result<(), Fault<ImportCause>>
     requires { IsGathered g.old }
     ensures { TakesLine (given_of g.old.cpus (reached_in g.old) line.now) g.old g.new result }

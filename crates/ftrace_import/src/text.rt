@@ -1,6 +1,6 @@
 //! The import of a file's text.
 ghost use Rattle.std.specs.Prelude.{◌≡◌, ◌+◌, ◌≤◌, ℕ, List, [], IfOk, IsErrOf, MatchResult, Some, None, Ok, true, false};
-ghost use Rattle.psi_base.specs.Outside.{told, Lacks, counts_of};
+ghost use Rattle.outside.specs.Outside.{told, Lacks, counts_of};
 ghost use Rattle.psi_lines.specs.Lines.{left};
 ghost use Rattle.psi_spec.specs.Trace.{IsCpuCount};
 ghost use Rattle.psi_spec.specs.World.{first_world};
@@ -12,7 +12,8 @@ ghost use Rattle.ftrace_import.specs.Stands.{Ends};
 use crate::deeds::event_of;
 use crate::taking::{Gathering, start, take_line};
 use import_spec::ImportCause;
-use psi_base::{Act, Event, Fault, NoMemory, Shelf};
+use outside::Shelf;
+use psi_base::{Act, Event, Fault, NoMemory};
 use psi_lines::{LineFault, Lines};
 use std::alloc::Global;
 
@@ -189,7 +190,8 @@ fn take_lines<S: Shelf>(
     }
 }
 
-/// Reads a file's text of ftrace, and keeps its events, on a machine with 1 to 64 processors. It reads 16,000,001 lines at most.
+/// Reads a file's text of ftrace, and keeps its events, on a machine with 1 to 64 processors. It
+/// reads 16,000,001 lines at most.
 ///
 /// `NoFile` and `ReadFault` only where the shelf counted an absent name or a fault in this call.
 pub fn gather<S: Shelf>(
@@ -216,7 +218,8 @@ pub fn gather<S: Shelf>(
     }
 }
 
-/// Imports a file's text of ftrace: its events, and the end. `Refused` with the first refused line and its first cause.
+/// Imports a file's text of ftrace: its events, and the end. `Refused` with the first refused line
+/// and its first cause.
 ///
 /// The program writes its output from what [`gather`] keeps, which takes a third of the memory.
 pub fn import<S: Shelf>(

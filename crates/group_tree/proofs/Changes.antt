@@ -1,4 +1,5 @@
--- What a tree keeps, after a group was made, after one was removed, and after the account of one was switched.
+-- What a tree keeps, after a group was made, after one was removed, and after the account of one
+-- was switched.
 use Rattle.std.proofs.Common.{◌≡◌, ◌≢◌, ℕ, zero, suc, ◌+◌, ◌<◌, ◌≤◌, List, [], ◌∷◌, ◌++◌, refl, ap, ◌∙◌, sym, subst, Bool, true, false, arith, Option, None, Some, ◌==◌, length, map, take, drop}
 use Rattle.std.specs.Prelude.{not, codes, nat_le, is_some, ◌&&◌, if◌then◌else◌, IfSome, slice_get, slice_set, slice_index_or}
 use Rattle.std.specs.Str.{bytes_eq}
@@ -11,7 +12,8 @@ use Rattle.psi_spec.specs.World.{root, is_live, is_root, slot_of, as_slot, paren
 use Rattle.psi_spec.specs.Refusal.{is_slot}
 use Rattle.psi_spec.specs.Stall.{number_of_slot, parents_of}
 use Rattle.psi_spec.specs.Groups.{AreOlder, IsOneLive, AreGroups}
-use Rattle.psi_spec.proofs.GroupLaws.{first_of_two, found_behind, found_group, found_below, removed_not_found, same_bytes, and_false, got_behind, groups_first, groups_made, groups_removed, groups_switched, parents_behind}
+use Rattle.psi_spec.proofs.GroupLaws.{first_of_two, found_behind, found_group, found_below, removed_not_found, same_bytes, and_false}
+use Rattle.psi_spec.proofs.GroupChanges.{got_behind, groups_first, groups_made, groups_removed, groups_switched, parents_behind}
 use Rattle.psi_spec.proofs.RefusalLaws.{first_true, second_true}
 use Rattle.psi_spec.proofs.SwitchLaws.{switched_found, switched_leaves}
 use Rattle.group_tree.specs.Tree.{slot_at, add_cause, pressure_cause, count_children, IsTree}

@@ -15,20 +15,23 @@ use Rattle.psi_spec.specs.Groups.{AreGroups}
 
 -- ---- refusals
 
--- the first cause against a new group: 1,024 were made, one with the path is live, or none with the path above is
+-- the first cause against a new group: 1,024 were made, one with the path is live, or none with the
+-- path above is
 abbrev pub add_cause : List GroupLife → List ℕ → Option Cause
 add_cause groups path =
     if nat_le most_groups (length groups) then Some cause.TooManyGroups else
     if has_group groups (Some path) then Some cause.GroupExists else
     if lacks_parent groups (Some path) then Some cause.NoParent else None
 
--- the first cause against the end of a group: none with the path is live, or it is the root or has a live child
+-- the first cause against the end of a group: none with the path is live, or it is the root or has
+-- a live child
 abbrev pub remove_cause : List GroupLife → List ℕ → Option Cause
 remove_cause groups path =
     if lacks_group groups (Some path) then Some cause.UnknownGroup else
     if is_root path || has_child groups (slot_of groups path) then Some cause.GroupBusy else None
 
--- the first cause against a switch of a group's account: none with the path is live, or it is the root
+-- the first cause against a switch of a group's account: none with the path is live, or it is the
+-- root
 abbrev pub pressure_cause : List GroupLife → List ℕ → Option Cause
 pressure_cause groups path =
     if lacks_group groups (Some path) then Some cause.UnknownGroup else
@@ -80,8 +83,8 @@ abbrev pub count_children : List GroupLife → ℕ → ℕ
 count_children [] slot = 0
 count_children (group ∷ groups) slot = count_children groups slot + (if is_live group && is_slot (Some slot) group.parent then 1 else 0)
 
--- What is true of each tree: its groups are those of a legal world, a look-up of a path finds the live ones, and it has
--- the number of live children of each.
+-- What is true of each tree: its groups are those of a legal world, a look-up of a path finds the
+-- live ones, and it has the number of live children of each.
 pub record IsTree (groups : List GroupLife) (find : List ℕ → Option Slot) (children : List ℕ) : Type 0 where
   pub legal : AreGroups groups
   pub found : (path : List ℕ) → find path ≡ as_slot (slot_of groups path)

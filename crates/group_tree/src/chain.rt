@@ -19,8 +19,8 @@ pub(crate) fn parent_of(lives: &[GroupLife], slot: Slot) -> Option<Slot>
     }
 }
 
-/// The slots of a group and of those above it that are left, from the newest to the root. Contracts see the list of
-/// them.
+/// The slots of a group and of those above it that are left, from the newest to the root. Contracts
+/// see the list of them.
 #[derive(Drop)]
 pub struct Chain<'a> {
     lives: &'a [GroupLife],

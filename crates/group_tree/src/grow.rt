@@ -38,7 +38,8 @@ fn uncount_child(children: &mut [u32], parent: Option<Slot>)
     }
 }
 
-/// Puts a group behind the others. All memory is taken first, so that where there is none nothing changes.
+/// Puts a group behind the others. All memory is taken first, so that where there is none nothing
+/// changes.
 pub(crate) fn push_group(
     lives: &mut Vec<GroupLife>,
     slots: &mut HashMap<String, Slot>,

@@ -19,9 +19,9 @@ use std::marker::Model;
 /// The most groups that may ever be made, the root among them.
 const MOST_GROUPS: usize = 1024;
 
-/// All groups ever made, in the order of their slots. Contracts see the list of their lives. A path finds its live
-/// group in a map, and the live children of each group are counted, so that no call but [`Tree::live_order`] and
-/// [`Tree::path_order`] walks all groups.
+/// All groups ever made, in the order of their slots. Contracts see the list of their lives. A path
+/// finds its live group in a map, and the live children of each group are counted, so that no call
+/// but [`Tree::live_order`] and [`Tree::path_order`] walks all groups.
 #[derive(Drop)]
 pub struct Tree {
     alloc: Global,
@@ -70,7 +70,8 @@ impl Tree {
         })
     }
 
-    /// All groups ever made, in the order of their slots. Those that were removed have the moment in `gone`.
+    /// All groups ever made, in the order of their slots. Those that were removed have the moment
+    /// in `gone`.
     pub fn lives(&self) -> &[GroupLife]
         ensures lives { result.now ≡ self.now }
         ensures groups { AreGroups result.now }
@@ -107,8 +108,9 @@ impl Tree {
         self.children.get(slot.0 as usize).copied().unwrap_or(0) > 0
     }
 
-    /// Why a group with this path can't be made: the first of TooManyGroups, where 1,024 were made, GroupExists, where
-    /// a live one has the path, and NoParent, where none has the path above. None exactly where it can.
+    /// Why a group with this path can't be made: the first of TooManyGroups, where 1,024 were made,
+    /// GroupExists, where a live one has the path, and NoParent, where none has the path above.
+    /// None exactly where it can.
     pub fn add_cause(&self, path: &Path) -> Option<Cause>
         ensures { result ≡ add_cause self.now path.now }
     {
@@ -123,8 +125,9 @@ impl Tree {
         }
     }
 
-    /// Why the group with this path can't be removed, as far as groups tell: UnknownGroup, where no live one has it, or
-    /// GroupBusy, where it is the root or has a live child. None exactly where neither is so.
+    /// Why the group with this path can't be removed, as far as groups tell: UnknownGroup, where no
+    /// live one has it, or GroupBusy, where it is the root or has a live child. None exactly where
+    /// neither is so.
     pub fn remove_cause(&self, path: &Path) -> Option<Cause>
         ensures { result ≡ remove_cause self.now path.now }
     {
@@ -138,8 +141,8 @@ impl Tree {
         }
     }
 
-    /// Why the account of the group with this path can't be switched: UnknownGroup, where no live one has it, or
-    /// RootPressure, where it is the root. None exactly where it can.
+    /// Why the account of the group with this path can't be switched: UnknownGroup, where no live
+    /// one has it, or RootPressure, where it is the root. None exactly where it can.
     pub fn pressure_cause(&self, path: &Path) -> Option<Cause>
         ensures { result ≡ pressure_cause self.now path.now }
     {
@@ -171,7 +174,8 @@ impl Tree {
         Chain::new(&self.lives, Some(slot))
     }
 
-    /// The first group is the second, or has it among the groups above it. A group that wasn't made is only itself.
+    /// The first group is the second, or has it among the groups above it. A group that wasn't made
+    /// is only itself.
     pub fn is_under(&self, low: Slot, high: Slot) -> bool
         ensures { result ≡ is_under (parents_of self.now) low.0 high.0 }
     {
@@ -198,8 +202,8 @@ impl Tree {
         })
     }
 
-    /// Makes a group at a moment (ns) in the next slot, which it gives. Refused exactly with the cause of
-    /// [`Tree::add_cause`], and nothing changes then, nor where there is no memory.
+    /// Makes a group at a moment (ns) in the next slot, which it gives. Refused exactly with the
+    /// cause of [`Tree::add_cause`], and nothing changes then, nor where there is no memory.
     pub fn add(&mut self, path: &Path, at: Ns) -> Result<Slot, Fault<Cause>>
         ensures legal { OnOk result (add_cause self.old path.now ≡ None) }
         ensures groups { OnOk result
@@ -224,8 +228,8 @@ impl Tree {
         Ok(slot)
     }
 
-    /// Ends the live group with this path at a moment (ns), and gives its slot. Refused exactly with the cause of
-    /// [`Tree::remove_cause`], and nothing changes then. It takes no memory.
+    /// Ends the live group with this path at a moment (ns), and gives its slot. Refused exactly
+    /// with the cause of [`Tree::remove_cause`], and nothing changes then. It takes no memory.
     pub fn remove(&mut self, path: &Path, at: Ns) -> Result<Slot, Cause>
         ensures legal { OnOk result (remove_cause self.old path.now ≡ None) }
         ensures groups { OnOk result (self.new ≡ map (marked_removed path.now at) self.old) }
@@ -250,8 +254,9 @@ impl Tree {
         Ok(slot)
     }
 
-    /// Switches the account of the live group with this path on, or off, and gives its slot. Refused exactly with the cause of
-    /// [`Tree::pressure_cause`], and nothing changes then. It takes no memory.
+    /// Switches the account of the live group with this path on, or off, and gives its slot.
+    /// Refused exactly with the cause of [`Tree::pressure_cause`], and nothing changes then. It
+    /// takes no memory.
     pub fn switch(&mut self, path: &Path, on: bool) -> Result<Slot, Cause>
         ensures legal { OnOk result (pressure_cause self.old path.now ≡ None) }
         ensures groups { OnOk result (self.new ≡ map (marked_switched path.now on) self.old) }
@@ -277,7 +282,8 @@ impl Tree {
         live_order(alloc, &self.lives)
     }
 
-    /// All slots in the byte order of their paths, the removed groups' too; those of one path stand in any order.
+    /// All slots in the byte order of their paths, the removed groups' too; those of one path stand
+    /// in any order.
     pub fn path_order(&self, alloc: Global) -> Result<Vec<Slot>, NoMemory>
         ensures { IfOk result (λ order. IsPathOrder self.now (numbers_of order.items)) }
     {

@@ -4,12 +4,13 @@ ghost use Rattle.std.specs.Io.KnownBytes.{Keeps, ReadConsumes};
 ghost use Rattle.host_files.specs.Host.{GoesOn, LeavesFromPlace, ReadsFront, StandsAt};
 
 use crate::name::Name;
-use psi_base::{Shelf, ShelfFault, Sink, Tally, WriteFailed};
+use outside::{Shelf, ShelfFault, Sink, Tally, WriteFailed};
 use std::fs;
 use std::io::{AsBytes, Cursor, ErrorKind, Read, Seek, SeekFrom, Write};
 use std::rt::Files;
 
-// What it means that a file can't be opened: there is none only where the system says that it isn't there.
+// What it means that a file can't be opened: there is none only where the system says that it isn't
+// there.
 fn open_fault(kind: ErrorKind) -> ShelfFault
     ensures missing { kind ≡ ErrorKind.NotFound → result ≡ ShelfFault.NoFile }
     ensures other { kind ≢ ErrorKind.NotFound → result ≡ ShelfFault.Failed }
@@ -211,8 +212,8 @@ impl<'a, R: Files, I: Read> Shelf for HostShelf<'a, R, I> {
     }
 }
 
-/// Standard output or standard error, which has what its stream tells: the system's tell nothing. A write that takes
-/// nothing of a piece that isn't empty has failed.
+/// Standard output or standard error, which has what its stream tells: the system's tell nothing. A
+/// write that takes nothing of a piece that isn't empty has failed.
 #[derive(Drop)]
 pub struct HostSink<W> {
     stream: W,

@@ -16,8 +16,8 @@ fn behind_the_name(alloc: Global, words: Args) -> Result<Vec<String>, AllocError
     words.skip(1).collect(alloc)
 }
 
-/// The words of a command line, of which the first is the program's name. Where one isn't UTF-8 there are none: that is
-/// no command either.
+/// The words of a command line, of which the first is the program's name. Where one isn't UTF-8
+/// there are none: that is no command either.
 pub fn words_of(alloc: Global, given: io::Result<Args>) -> Result<Vec<String>, NoMemory>
     ensures words { IfOk given
         (λ args. IfOk result (λ words. words.items ≡ drop 1 (into_iter_items args))) }

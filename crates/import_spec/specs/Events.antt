@@ -39,8 +39,9 @@ migration_acts pid cpu None = []
 migration_acts pid cpu (Some task) =
     if is_ready task.mode && not (task.cpu.0 == cpu.0) then act.Migrate pid cpu ∷ [] else []
 
--- What brings a live task to a processor, where it is to run, by where it is and what it does: it is woken where it sleeps, goes
--- there where it is ready elsewhere, and where it runs elsewhere it is preempted first.
+-- What brings a live task to a processor, where it is to run, by where it is and what it does: it
+-- is woken where it sleeps, goes there where it is ready elsewhere, and where it runs elsewhere it
+-- is preempted first.
 abbrev pub coming_acts : Pid → Cpu → Cpu → Mode → List Act
 coming_acts pid cpu from Blocked = act.Wake pid cpu ∷ []
 coming_acts pid cpu from Waiting = act.Wake pid cpu ∷ []
@@ -62,7 +63,8 @@ abbrev pub runs_there : Tasks → Cpu → Option Pid → Bool
 runs_there tasks cpu None = false
 runs_there tasks cpu (Some pid) = is_some_and (task_of tasks pid.0) (is_running_on cpu.0)
 
--- how the task that runs on a processor makes way: as the line says, where the line names it, and else it is preempted
+-- how the task that runs on a processor makes way: as the line says, where the line names it, and
+-- else it is preempted
 abbrev pub leaving : Tasks → Cpu → Option Pid → How → How
 leaving tasks cpu previous how = if runs_there tasks cpu previous then how else Preempt
 
@@ -77,8 +79,8 @@ turn_acts tasks cpu previous next how =
     if is_some (running_on tasks cpu.0) then act.Switch cpu next (leaving tasks cpu previous how) ∷ []
     else start_acts cpu next
 
--- A switch does nothing where its next task runs there already. Else that is brought there, and the one that runs makes way;
--- what brings the next changes nothing of who runs there.
+-- A switch does nothing where its next task runs there already. Else that is brought there, and the
+-- one that runs makes way; what brings the next changes nothing of who runs there.
 abbrev pub switch_acts : Tasks → Cpu → Option Pid → Option Pid → How → List Act
 switch_acts tasks cpu previous next how =
     if runs_there tasks cpu next then [] else next_acts tasks cpu next ++ turn_acts tasks cpu previous next how
@@ -91,8 +93,8 @@ acts_of tasks (seen.Migration pid cpu) = migration_acts pid cpu (task_of tasks p
 
 -- ---- moments and causes
 
--- How far an import has come: the time (ns) of the first marked line, if there was one, the moment (ns) of the last, 0 where
--- there was none, and the world after the events so far.
+-- How far an import has come: the time (ns) of the first marked line, if there was one, the moment
+-- (ns) of the last, 0 where there was none, and the world after the events so far.
 pub record Reached : Type 0 where
   pub first : Option ℕ
   pub moment : ℕ
@@ -106,9 +108,10 @@ unreached = record { first = None; moment = 0; world = first_world }
 abbrev pub first_time : Reached → ℕ → ℕ
 first_time reached at = unwrap_or reached.first at
 
--- the moment (ns) of a line at this time: since the first marked line, and no less than that of the marked line before it
-abbrev pub moment_of : Reached → ℕ → ℕ
-moment_of reached at = max reached.moment (at - first_time reached at)
+-- the moment (ns) of a line at this time: since the first marked line, and no less than that of the
+-- marked line before it
+abbrev pub line_moment : Reached → ℕ → ℕ
+line_moment reached at = max reached.moment (at - first_time reached at)
 
 -- the default length of a tick (ns), 2 s
 abbrev pub default_tick : ℕ
@@ -144,12 +147,12 @@ acts_cause cpus w moment cpu acts =
 -- ---- one line
 
 -- what a line gives: its events, and how far the import has come behind it
-pub record Given : Type 0 where
+pub record GivenLine : Type 0 where
   pub events : List Event
   pub reached : Reached
 
 -- what a line gives at this time that does this at a moment (ns), or the cause against it
-abbrev pub given_or : Reached → ℕ → ℕ → List Act → Option ImportCause → Result Given ImportCause
+abbrev pub given_or : Reached → ℕ → ℕ → List Act → Option ImportCause → Result GivenLine ImportCause
 given_or reached at moment acts (Some why) = Err why
 given_or reached at moment acts None = Ok (record {
   events = events_at moment acts;
@@ -161,17 +164,17 @@ given_or reached at moment acts None = Ok (record {
 })
 
 -- what a line gives that tells this at a time (ns), with so many processors
-unfoldable pub given_at : ℕ → Reached → ℕ → Seen → Result Given ImportCause
+unfoldable pub given_at : ℕ → Reached → ℕ → Seen → Result GivenLine ImportCause
 given_at cpus reached at what =
-    given_or reached at (moment_of reached at) (acts_of reached.world.tasks what)
-    (acts_cause cpus reached.world (moment_of reached at) (needed_cpu what) (acts_of reached.world.tasks what))
+    given_or reached at (line_moment reached at) (acts_of reached.world.tasks what)
+    (acts_cause cpus reached.world (line_moment reached at) (needed_cpu what) (acts_of reached.world.tasks what))
 
 -- the same of what was read of a line: one that isn't marked gives nothing
-abbrev pub given_by : ℕ → Reached → Result (Option Sighting) ImportCause → Result Given ImportCause
-given_by cpus reached (Err why) = Err why
-given_by cpus reached (Ok None) = Ok (record { events = []; reached = reached })
-given_by cpus reached (Ok (Some sighting)) = given_at cpus reached sighting.at sighting.seen
+abbrev pub given_read : ℕ → Reached → Result (Option Sighting) ImportCause → Result GivenLine ImportCause
+given_read cpus reached (Err why) = Err why
+given_read cpus reached (Ok None) = Ok (record { events = []; reached = reached })
+given_read cpus reached (Ok (Some sighting)) = given_at cpus reached sighting.at sighting.seen
 
 -- what a line gives, or the cause against it
-unfoldable pub given_of : ℕ → Reached → List ℕ → Result Given ImportCause
-given_of cpus reached line = given_by cpus reached (read_line line)
+unfoldable pub given_of : ℕ → Reached → List ℕ → Result GivenLine ImportCause
+given_of cpus reached line = given_read cpus reached (read_line line)

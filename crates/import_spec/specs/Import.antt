@@ -7,7 +7,7 @@ use Rattle.psi_spec.specs.Grammar.{One}
 use Rattle.psi_spec.specs.Trace.{Trace}
 use Rattle.import_spec.specs.declared.cause.ImportCause.{ImportCause}
 use Rattle.import_spec.specs.declared.cause.ImportCause.TheVariants as cause
-use Rattle.import_spec.specs.Events.{Given, Reached, given_of, unreached}
+use Rattle.import_spec.specs.Events.{GivenLine, Reached, given_of, unreached}
 
 -- the line that is refused, by its number from 1, and why
 pub record Refused : Type 0 where
@@ -15,57 +15,58 @@ pub record Refused : Type 0 where
   pub cause : ImportCause
 
 -- a line with this number is refused
-abbrev pub refused : ℕ → ImportCause → Refused
-refused line why = record { line = line; cause = why }
+abbrev pub import_refused : ℕ → ImportCause → Refused
+import_refused line why = record { line = line; cause = why }
 
 -- how many lines are read
-abbrev pub most_lines : ℕ
-most_lines = 16000000
+abbrev pub most_text_lines : ℕ
+most_text_lines = 16000000
 
 -- the end, at the moment (ns) that was reached
 abbrev pub end_at : Reached → Event
 end_at reached = record { at = reached.moment; act = act.End }
 
 -- a whole line: none may stand behind so many, and it may not be too long
-unfoldable pub line_given : ℕ → Reached → ℕ → List ℕ → Result Given ImportCause
+unfoldable pub line_given : ℕ → Reached → ℕ → List ℕ → Result GivenLine ImportCause
 line_given cpus reached number line =
-    if nat_lt most_lines number then Err cause.TooManyLines
+    if nat_lt most_text_lines number then Err cause.TooManyLines
     else if nat_lt 512 (length line) then Err cause.LineTooLong
     else given_of cpus reached line
 
 -- the cause against what stands behind the last newline, or none where nothing does
-unfoldable pub rest_cause : ℕ → List ℕ → Option ImportCause
-rest_cause number [] = None
-rest_cause number (byte ∷ rest) =
-    if nat_lt most_lines number then Some cause.TooManyLines
+unfoldable pub tail_cause : ℕ → List ℕ → Option ImportCause
+tail_cause number [] = None
+tail_cause number (byte ∷ rest) =
+    if nat_lt most_text_lines number then Some cause.TooManyLines
     else if nat_lt 512 (length (byte ∷ rest)) then Some cause.LineTooLong
     else Some cause.Cut
 
 -- the end of the text, or a refusal
 abbrev pub ends_or : Reached → ℕ → Option ImportCause → Result (List Event) Refused
 ends_or reached number None = Ok (end_at reached ∷ [])
-ends_or reached number (Some why) = Err (refused number why)
+ends_or reached number (Some why) = Err (import_refused number why)
 
 -- events in front of those behind them
-abbrev pub followed : List Event → Result (List Event) Refused → Result (List Event) Refused
-followed front (Ok events) = Ok (front ++ events)
-followed front (Err refusal) = Err refusal
+abbrev pub events_followed : List Event → Result (List Event) Refused → Result (List Event) Refused
+events_followed front (Ok events) = Ok (front ++ events)
+events_followed front (Err refusal) = Err refusal
 
 -- a refusal of a line, or its events and those behind them
-abbrev pub or_refused : ℕ → Result Given ImportCause → (Reached → Result (List Event) Refused) → Result (List Event) Refused
-or_refused number (Err why) behind = Err (refused number why)
-or_refused number (Ok given) behind = followed given.events (behind given.reached)
+abbrev pub or_refused_line : ℕ → Result GivenLine ImportCause → (Reached → Result (List Event) Refused) → Result (List Event) Refused
+or_refused_line number (Err why) behind = Err (import_refused number why)
+or_refused_line number (Ok given) behind = events_followed given.events (behind given.reached)
 
--- The events of these parts of a text between newlines, of which the first is the line with this number and the last is what
--- stands behind the last newline; or the first refused line.
+-- The events of these parts of a text between newlines, of which the first is the line with this
+-- number and the last is what stands behind the last newline; or the first refused line.
 unfoldable pub import_from : ℕ → Reached → ℕ → List (List ℕ) → Result (List Event) Refused
 import_from cpus reached number [] = Ok (end_at reached ∷ [])
-import_from cpus reached number (rest ∷ []) = ends_or reached number (rest_cause number rest)
+import_from cpus reached number (rest ∷ []) = ends_or reached number (tail_cause number rest)
 import_from cpus reached number (line ∷ next ∷ parts) =
-    or_refused number (line_given cpus reached number line)
+    or_refused_line number (line_given cpus reached number line)
     (λ behind. import_from cpus behind (number + 1) (next ∷ parts))
 
--- the events of a text, the end among them, on a machine with so many processors; or the first refused line
+-- the events of a text, the end among them, on a machine with so many processors; or the first
+-- refused line
 unfoldable pub import_of : ℕ → List ℕ → Result (List Event) Refused
 import_of cpus bytes = import_from cpus unreached 1 (parts_at 10 bytes)
 

@@ -10,7 +10,7 @@ use Rattle.import_spec.specs.declared.seen.LineKind.TheVariants as kind
 use Rattle.import_spec.specs.declared.seen.Seen.{Seen}
 use Rattle.import_spec.specs.declared.seen.Seen.TheVariants as seen
 use Rattle.import_spec.specs.declared.seen.Sighting.{Sighting}
-use Rattle.import_spec.specs.Places.{◌>>=◌, begins, behind_last, first_place, last_place}
+use Rattle.import_spec.specs.Places.{◌>>=◌, begins_with, behind_last, first_place, last_place}
 use Rattle.import_spec.specs.Tails.{cpu_in, field_in, how_in, pid_in, time_in}
 
 -- ---- marks
@@ -34,7 +34,7 @@ marks =
 
 -- the mark with which bytes begin, if they begin with one
 unfoldable pub mark_of : List ℕ → Option Mark
-mark_of bytes = find (λ (each : Mark). begins each.text bytes) marks
+mark_of bytes = find (λ (each : Mark). begins_with each.text bytes) marks
 
 -- bytes begin with a mark
 abbrev pub begins_marked : List ℕ → Bool
@@ -48,7 +48,7 @@ pub record Marked : Type 0 where
 
 -- A line as it is marked, by its leftmost mark; no line is that begins with `#`.
 unfoldable pub marked_of : List ℕ → Option Marked
-marked_of line = if begins (codes "#") line then None else do
+marked_of line = if begins_with (codes "#") line then None else do
   at ← first_place begins_marked line
   found ← mark_of (drop at line)
   Some (record { kind = found.kind; head = take at line; tail = drop (at + length found.text) line })
@@ -58,7 +58,7 @@ marked_of line = if begins (codes "#") line then None else do
 -- a switch on a processor, by its tail: its parts stand on both sides of the last arrow
 unfoldable pub switch_in : ℕ → List ℕ → Option Seen
 switch_in cpu tail = do
-  arrow ← last_place (begins (codes " ==> ")) tail
+  arrow ← last_place (begins_with (codes " ==> ")) tail
   previous ← field_in (codes " prev_pid=") (take arrow tail)
   state ← behind_last (codes " prev_state=") (take arrow tail)
   how ← how_in state
@@ -95,7 +95,8 @@ sighting_of line = do
   what ← seen_in line.kind cpu line.tail
   Some (record { at = time; seen = what })
 
--- what a line tells and when, if it is marked and of the form; nothing where it isn't marked; or that it isn't of the form
+-- what a line tells and when, if it is marked and of the form; nothing where it isn't marked; or
+-- that it isn't of the form
 abbrev pub if_formed : Option Sighting → Result (Option Sighting) ImportCause
 if_formed None = Err cause.BadLine
 if_formed (Some sighting) = Ok (Some sighting)

@@ -1,4 +1,5 @@
--- Where something stands in bytes. Places are counted from 0, and a test is asked of all that stands from a place on.
+-- Where something stands in bytes. Places are counted from 0, and a test is asked of all that
+-- stands from a place on.
 use Rattle.std.specs.Prelude.{ℕ, ◌+◌, List, [], ◌∷◌, length, drop, nat_eq, Bool, if◌then◌else◌, Option, None, Some, option_map}
 use Rattle.std.specs.List.{starts_with}
 
@@ -24,11 +25,11 @@ last_place test [] = None
 last_place test (byte ∷ bytes) = or_here (last_place test bytes) (test (byte ∷ bytes))
 
 -- bytes begin with a text
-abbrev pub begins : List ℕ → List ℕ → Bool
-begins text bytes = starts_with nat_eq bytes text
+abbrev pub begins_with : List ℕ → List ℕ → Bool
+begins_with text bytes = starts_with nat_eq bytes text
 
 -- what stands behind the last occurrence of a text, where it occurs
 abbrev pub behind_last : List ℕ → List ℕ → Option (List ℕ)
 behind_last text bytes = do
-  at ← last_place (begins text) bytes
+  at ← last_place (begins_with text) bytes
   Some (drop (at + length text) bytes)

@@ -1,4 +1,5 @@
--- The parts of a marked line: numbers, the time and the processor of its head, and the fields of its tail.
+-- The parts of a marked line: numbers, the time and the processor of its head, and the fields of
+-- its tail.
 use Rattle.std.specs.Prelude.{ℕ, ◌+◌, ◌-◌, ◌*◌, ◌^◌, List, [], ◌∷◌, take, drop, length, nat_lt, nat_le, ◌==◌, ◌&&◌, ◌||◌, Bool, if◌then◌else◌, codes, Option, None, Some}
 use Rattle.std.specs.List.{after_first, before_first, prefix_len}
 use Rattle.std.specs.Char.{is_ascii_digit}
@@ -7,7 +8,7 @@ use Rattle.psi_base.specs.declared.event.Pid.{Pid}
 use Rattle.psi_base.specs.declared.event.Cpu.{Cpu}
 use Rattle.psi_base.specs.declared.event.How.{How}
 use Rattle.psi_base.specs.declared.event.How.TheVariants.{Preempt, Sleep, IoWait, Exit}
-use Rattle.import_spec.specs.Places.{◌>>=◌, begins, behind_last, last_place}
+use Rattle.import_spec.specs.Places.{◌>>=◌, begins_with, behind_last, last_place}
 
 -- ---- numbers
 
@@ -19,9 +20,10 @@ is_space byte = byte == 32
 abbrev pub is_point : ℕ → Bool
 is_point byte = byte == 46
 
--- the number that one digit or more write, of which there are at most so many; zeros may stand in front
-abbrev pub number_in : ℕ → List ℕ → Option ℕ
-number_in most digits = if nat_lt 0 (length digits) && nat_le (length digits) most then digits_of digits else None
+-- the number that one digit or more write, of which there are at most so many; zeros may stand in
+-- front
+abbrev pub short_number : ℕ → List ℕ → Option ℕ
+short_number most digits = if nat_lt 0 (length digits) && nat_le (length digits) most then digits_of digits else None
 
 -- a number, where it is below 2^32
 abbrev pub if_small : ℕ → Option ℕ
@@ -32,8 +34,8 @@ if_small number = if nat_lt number (2 ^ 32) then Some number else None
 -- the time (ns) of a word: seconds of 1 to 10 digits, a point, and 1 to 9 digits of their fraction
 unfoldable pub time_of : List ℕ → Option ℕ
 time_of word = do
-  seconds ← number_in 10 (before_first is_point word)
-  fraction ← number_in 9 (after_first is_point word)
+  seconds ← short_number 10 (before_first is_point word)
+  fraction ← short_number 9 (after_first is_point word)
   Some (seconds * 10 ^ 9 + fraction * 10 ^ (9 - length (after_first is_point word)))
 
 -- the time (ns) of a head: the word behind its last space
@@ -49,30 +51,31 @@ digit_count bytes = prefix_len is_ascii_digit bytes
 -- bytes begin with `[`, one digit or more, and `]`
 unfoldable pub is_bracketed : List ℕ → Bool
 is_bracketed bytes =
-    begins (codes "[") bytes && nat_lt 0 (digit_count (drop 1 bytes))
-    && begins (codes "]") (drop (digit_count (drop 1 bytes)) (drop 1 bytes))
+    begins_with (codes "[") bytes && nat_lt 0 (digit_count (drop 1 bytes))
+    && begins_with (codes "]") (drop (digit_count (drop 1 bytes)) (drop 1 bytes))
 
 -- the processor of a head: the last number in brackets, of at most 3 digits
 unfoldable pub cpu_in : List ℕ → Option ℕ
 cpu_in head = do
   at ← last_place is_bracketed head
-  number_in 3 (take (digit_count (drop (at + 1) head)) (drop (at + 1) head))
+  short_number 3 (take (digit_count (drop (at + 1) head)) (drop (at + 1) head))
 
 -- ---- the tail
 
--- the number of a field: the digits behind the last occurrence of its key, up to a space or the end, of which there are 1 to 10
+-- the number of a field: the digits behind the last occurrence of its key, up to a space or the
+-- end, of which there are 1 to 10
 unfoldable pub field_in : List ℕ → List ℕ → Option ℕ
 field_in key part = do
   rest ← behind_last key part
-  number ← number_in 10 (before_first is_space rest)
+  number ← short_number 10 (before_first is_space rest)
   if_small number
 
 -- a task's number, where it isn't 0
 abbrev pub pid_in : ℕ → Option Pid
 pid_in number = if number == 0 then None else Some (record { 0 = number })
 
--- how a task leaves, by the first byte of its state: `R` (82) is ready, `D` (68) waits for IO, `X` (88) and `Z` (90) are gone, and
--- in each other state it sleeps
+-- how a task leaves, by the first byte of its state: `R` (82) is ready, `D` (68) waits for IO, `X`
+-- (88) and `Z` (90) are gone, and in each other state it sleeps
 unfoldable pub how_in : List ℕ → Option How
 how_in [] = None
 how_in (first ∷ rest) =

@@ -1,6 +1,7 @@
 //! Why a text of ftrace is refused.
 
-/// Why a line is refused, in the order in which causes are asked for; but `TooManyLines` comes ahead of the others.
+/// Why a line is refused, in the order in which causes are asked for; but `TooManyLines` comes
+/// ahead of the others.
 #[derive(Clone, Copy, Debug, PartialEq, Eq)]
 pub enum ImportCause {
     /// A line has more than 512 bytes before its newline.

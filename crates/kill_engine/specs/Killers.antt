@@ -45,8 +45,8 @@ newest_kills lives rules [] = []
 newest_kills lives rules (now ∷ past) = kills lives rules now past
 
 -- A killer with rules stands for readings of groups, the newest first: it has a place for each
--- group, each ruleset stands for them and so does the past, it has the moment of the newest, and the
--- kills at it.
+-- group, each ruleset stands for them and so does the past, it has the moment of the newest, and
+-- the kills at it.
 pub record StandsFor (killer : KillerView) (lives : List GroupLife) (rules : List Rule)
     (history : List Reading) : Type 0 where
   pub slots : killer_slots killer ≡ length lives

@@ -132,8 +132,8 @@ ruleset_of groups actions tables rests_until =
     record { groups = groups; actions = actions; tables = tables; rests_until = rests_until }
 
 -- A ruleset stands for readings, the newest first, as the one with a number: its detectors do, it
--- has the actions and knows which of the groups they match, and it rests until its last chain-ending kill at these readings is as long ago as
--- the delay of the action that gave it.
+-- has the actions and knows which of the groups they match, and it rests until its last
+-- chain-ending kill at these readings is as long ago as the delay of the action that gave it.
 pub record RulesetStands (lives : List GroupLife) (history : List Reading) (number : ℕ)
     (state : RulesetView) (rule : Rule) : Type 0 where
   pub groups : GroupsStand lives history state.groups rule.groups

@@ -69,8 +69,9 @@ fn put(found: &mut Vec<Kill>, kill: Kill)
     }
 }
 
-/// Takes the actions of a ruleset in turn, and puts their kills behind others, up to the first by an action that
-/// doesn't always continue: then it gives the moment (ns) until which the ruleset rests. Takes no memory.
+/// Takes the actions of a ruleset in turn, and puts their kills behind others, up to the first by
+/// an action that doesn't always continue: then it gives the moment (ns) until which the ruleset
+/// rests. Takes no memory.
 pub(crate) fn take_chain(
     actions: &[Action],
     tables: &[MatchTable],

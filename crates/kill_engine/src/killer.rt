@@ -81,8 +81,8 @@ fn evaluate_all(rulesets: &mut [RuleState], reading: &Reading, past: &Past, foun
 }
 
 impl Killer {
-    /// A killer by these rules of groups with these lives, by slot, before the first reading. Takes all memory that it
-    /// will need.
+    /// A killer by these rules of groups with these lives, by slot, before the first reading. Takes
+    /// all memory that it will need.
     pub fn make(alloc: Global, rules: Rules, lives: &[GroupLife]) -> Result<Killer, NoMemory>
         requires { length lives.now ≤ most_groups }
         ensures { IfOk result (λ killer. StandsFor killer lives.now rules.rules []) }
@@ -95,8 +95,8 @@ impl Killer {
         })
     }
 
-    /// The next reading, later than the last: each ruleset that fires at it, and doesn't rest, takes its actions in turn.
-    /// [`Killer::kills`] has the kills then. Takes no memory.
+    /// The next reading, later than the last: each ruleset that fires at it, and doesn't rest,
+    /// takes its actions in turn. [`Killer::kills`] has the kills then. Takes no memory.
     pub fn evaluate(&mut self, reading: &Reading)
         requires later { IsAfter self.old.last reading.now.seen.at }
         requires stands { IsStanding self.old reading.now.lives }

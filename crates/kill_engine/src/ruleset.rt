@@ -22,7 +22,8 @@ pub(crate) struct RuleState {
     actions: ActionList,
     /// Which groups each action matches.
     tables: Vec<MatchTable>,
-    /// The moment (ns) until which it rests: 0 where no kill ended its chain. It may be later than any of 64 bits.
+    /// The moment (ns) until which it rests: 0 where no kill ended its chain. It may be later than
+    /// any of 64 bits.
     rests_until: u128,
 }
 
@@ -51,7 +52,8 @@ fn groups_of(
     Ok(groups)
 }
 
-/// Which groups the actions of a ruleset match, so that patterns are matched once, and not at each evaluation.
+/// Which groups the actions of a ruleset match, so that patterns are matched once, and not at each
+/// evaluation.
 fn tables_of(
     alloc: Global,
     actions: &[Action],
@@ -119,7 +121,8 @@ impl RuleState {
         u128::from(at) < self.rests_until
     }
 
-    /// The next reading: puts its kills behind others, as the ruleset with this number. Takes no memory.
+    /// The next reading: puts its kills behind others, as the ruleset with this number. Takes no
+    /// memory.
     pub(crate) fn evaluate(
         &mut self,
         number: u32,

@@ -1,4 +1,5 @@
--- How kills follow from chains: whose victim each is, and how far apart those stand that end a chain.
+-- How kills follow from chains: whose victim each is, and how far apart those stand that end a
+-- chain.
 use Rattle.std.proofs.Common.{◌≡◌, ℕ, zero, suc, ◌+◌, ◌≤◌, List, [], ◌∷◌, refl, sym, ap, subst, Bool, true, false, None, Some, arith, ◌⊎◌, ⊎_elim, inl, inr}
 use Rattle.std.specs.Prelude.{find, ◌&&◌, not, slice_get, Contains, if◌then◌else◌}
 use Rattle.psi_spec.specs.declared.machine.GroupLife.{GroupLife}

@@ -52,7 +52,8 @@ abbrev pub is_pressed : List GroupLife → List Pattern → Res → ℕ → ℕ 
 is_pressed lives patterns resource window threshold reading =
     nat_lt (threshold * 2048) (greatest_full lives patterns resource window reading)
 
--- memory in use (bytes) is above a size: of so many bytes, or of so many percent of the host's memory
+-- memory in use (bytes) is above a size: of so many bytes, or of so many percent of the host's
+-- memory
 abbrev pub is_above : Size → HostReading → ℕ → Bool
 is_above (size.Bytes n) host current = nat_lt n current
 is_above (size.Percent n) host current = nat_lt (n * host.mem_total) (current * 100)
@@ -73,8 +74,8 @@ abbrev pub greatest_before : List GroupLife → List Pattern → Res → List Re
 greatest_before lives patterns resource [] = 0
 greatest_before lives patterns resource (before ∷ past) = greatest_full lives patterns resource ten_seconds before
 
--- the greatest full average over 10 s hasn't fallen below a part (thousandths) of that at the reading
--- before
+-- the greatest full average over 10 s hasn't fallen below a part (thousandths) of that at the
+-- reading before
 abbrev pub keeps_up : List GroupLife → List Pattern → Res → ℕ → Reading → List Reading → Bool
 keeps_up lives patterns resource ratio now past =
     nat_le (ratio * greatest_before lives patterns resource past) (greatest_full lives patterns resource ten_seconds now * 1000)
@@ -84,8 +85,8 @@ abbrev pub is_scanned : List GroupLife → List Pattern → Reading → List Rea
 is_scanned lives patterns now past =
     list_any (λ (group : GroupReading). nat_lt 0 (rise past group)) (matches lives patterns now)
 
--- at some reading at most so long (ns) before a moment (ns), pages had been scanned for some match since
--- the reading before it
+-- at some reading at most so long (ns) before a moment (ns), pages had been scanned for some match
+-- since the reading before it
 abbrev pub is_scanned_within : List GroupLife → List Pattern → ℕ → ℕ → List Reading → Bool
 is_scanned_within lives patterns duration at [] = false
 is_scanned_within lives patterns duration at (reading ∷ past) =

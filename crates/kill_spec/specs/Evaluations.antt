@@ -34,8 +34,8 @@ pub record MemorySample : Type 0 where
   pub scan : ℕ
 
 -- the memory of a group of which there is no sample
-abbrev pub no_memory : MemorySample
-no_memory = record { current = 0; swap = 0; scan = 0 }
+abbrev pub no_memory_sample : MemorySample
+no_memory_sample = record { current = 0; swap = 0; scan = 0 }
 
 -- the sample that an act tells of the group in a slot, if it tells one
 abbrev pub memory_told : ℕ → List GroupLife → Act → List MemorySample
@@ -46,7 +46,7 @@ memory_told slot groups _ = []
 -- the last sample of the memory of the group in a slot, and zeros where there is none
 abbrev pub memory_of : ℕ → List Event → MemorySample
 memory_of slot events =
-    last_or no_memory (told_from (λ (w : World) (event : Event). memory_told slot w.groups event.act) first_world events)
+    last_or no_memory_sample (told_from (λ (w : World) (event : Event). memory_told slot w.groups event.act) first_world events)
 
 -- the preference that an act tells of the group in a slot, if it tells one
 abbrev pub preference_told : ℕ → List GroupLife → Act → List Preference
@@ -89,14 +89,16 @@ group_seen events averages slot = record {
   populated = is_populated (after events) slot;
 }
 
--- the averages of the group in a slot after the tick with a number, of a trace with so many processors and
--- ticks of a length (ns): those of states alone, so interrupt time, which is the last quantity, decides nothing
+-- the averages of the group in a slot after the tick with a number, of a trace with so many
+-- processors and ticks of a length (ns): those of states alone, so interrupt time, which is the
+-- last quantity, decides nothing
 abbrev pub averages_at : ℕ → List Event → ℕ → ℕ → ℕ → List (List ℕ)
 averages_at cpus events length i slot =
     take irq_quantity
     (group_averages cpus (after events).groups (ticks_of cpus events length i) slot).averages
 
--- the reading at the tick with a number: of the groups that are live then, in the byte order of their paths
+-- the reading at the tick with a number: of the groups that are live then, in the byte order of
+-- their paths
 unfoldable pub reading_at : ℕ → List Event → ℕ → ℕ → Reading
 reading_at cpus events length i = record {
   at = tick_moment length i;
@@ -106,8 +108,8 @@ reading_at cpus events length i = record {
       (live_groups (after (up_to events (tick_moment length i))).groups);
 }
 
--- the evaluations among the first so many ticks, by their numbers, the newest first: those at which the
--- interval (ns) is due
+-- the evaluations among the first so many ticks, by their numbers, the newest first: those at which
+-- the interval (ns) is due
 abbrev pub evaluations : ℕ → ℕ → ℕ → List ℕ
 evaluations interval length zero = []
 evaluations interval length (suc i) =

@@ -17,8 +17,8 @@ use Rattle.kill_spec.specs.Victims.{◌or_else◌, after_of, victim}
 abbrev pub kill_of : ℕ → ℕ → ℕ → GroupReading → Kill
 kill_of at rule act group = record { at = at; rule = rule; action = act; victim = group.slot }
 
--- what an action's turn in a chain gives: where it has no victim, what the rest of the chain gives; else
--- its kill, and behind it that of the rest where the chain goes on all the same
+-- what an action's turn in a chain gives: where it has no victim, what the rest of the chain gives;
+-- else its kill, and behind it that of the rest where the chain goes on all the same
 abbrev pub and_then : Bool → Option Kill → List Kill → List Kill
 and_then goes_on None rest = rest
 and_then goes_on (Some kill) rest = kill ∷ (if goes_on then rest else [])
@@ -28,9 +28,9 @@ abbrev pub kill_by : ℕ → ℕ → Reading → Option GroupReading → Option 
 kill_by rule act now None = None
 kill_by rule act now (Some group) = Some (kill_of now.at rule act group)
 
--- The kills of a chain of actions at a reading, after others: the actions are taken in order, each with a
--- victim kills it, and the first of these that doesn't always continue ends the chain. The ruleset has
--- this number, and the first action this one.
+-- The kills of a chain of actions at a reading, after others: the actions are taken in order, each
+-- with a victim kills it, and the first of these that doesn't always continue ends the chain. The
+-- ruleset has this number, and the first action this one.
 abbrev pub chain : List GroupLife → ℕ → ℕ → List Action → Reading → List Reading → List Kill
 chain lives rule act [] now past = []
 chain lives rule act (first ∷ rest) now past =
@@ -60,8 +60,8 @@ is_resting actions at (Some kill) = nat_lt at (kill.at + delay_of (slice_get act
 
 -- ---- kills
 
--- the kills of a ruleset at a reading, after others with these kills: those of its chain, where it fires
--- and doesn't rest
+-- the kills of a ruleset at a reading, after others with these kills: those of its chain, where it
+-- fires and doesn't rest
 abbrev pub kills_at : List GroupLife → ℕ → Rule → Reading → List Reading → List (List Kill) → List Kill
 kills_at lives number rule now past earlier =
     if ruleset_fires lives rule now past && not (is_resting rule.actions now.at (last_ending rule.actions earlier))
@@ -74,8 +74,8 @@ kills_of lives number rule [] = []
 kills_of lives number rule (now ∷ past) =
     kills_at lives number rule now past (kills_of lives number rule past) ∷ kills_of lives number rule past
 
--- the kills of rulesets at a reading, after others, by ruleset and action; the first ruleset has this
--- number
+-- the kills of rulesets at a reading, after others, by ruleset and action; the first ruleset has
+-- this number
 abbrev pub kills_from : List GroupLife → ℕ → List Rule → Reading → List Reading → List Kill
 kills_from lives number [] now past = []
 kills_from lives number (rule ∷ rules) now past =

@@ -15,8 +15,8 @@ use Rattle.kill_spec.specs.Kills.{delay_of, ends_chain, kills, kills_at, kills_o
 
 -- ---- detectors
 
--- Readings, the newest first, in which a condition has held for a duration (ns) up to a moment (ns):
--- it holds at some reading that is at least so long ago, and at each one since.
+-- Readings, the newest first, in which a condition has held for a duration (ns) up to a moment
+-- (ns): it holds at some reading that is at least so long ago, and at each one since.
 pub record HeldFor (condition : Reading → Bool) (duration at : ℕ) (readings : List Reading) : Type 0 where
   pub since : List Reading
   pub first : Reading
@@ -54,7 +54,8 @@ LongerIsLater = (condition : Reading → Bool) (shorter_s longer_s : ℕ) (now :
 abbrev pub IsPopulatedIn : Reading → GroupReading → Type 0
 IsPopulatedIn reading group = Contains reading.groups group × (group.populated ≡ true)
 
--- The victim of an action is populated; and it matches the action's patterns, unless the action is recursive.
+-- The victim of an action is populated; and it matches the action's patterns, unless the action is
+-- recursive.
 abbrev pub VictimsMatch : Type 0
 VictimsMatch = (lives : List GroupLife) (act : Action) (now : Reading) (past : List Reading) (group : GroupReading) →
     victim lives act now past ≡ Some group →
@@ -68,13 +69,14 @@ DescentEnds = (lives : List GroupLife) (act : Action) (now : Reading) (past : Li
 
 -- ---- kills
 
--- A kill ended the chain of a ruleset at a moment: it is among the ruleset's kills at some of these readings.
+-- A kill ended the chain of a ruleset at a moment: it is among the ruleset's kills at some of these
+-- readings.
 abbrev pub EndedBy : List GroupLife → ℕ → Rule → List Reading → Kill → Type 0
 EndedBy lives number rule readings kill =
     Any (λ kills. Contains kills kill) (kills_of lives number rule readings) × (ends_chain rule.actions kill ≡ true)
 
--- A ruleset never has two chain-ending kills closer than the delay of the first: the later of two comes no sooner than the
--- earlier's action allows.
+-- A ruleset never has two chain-ending kills closer than the delay of the first: the later of two
+-- comes no sooner than the earlier's action allows.
 abbrev pub EndingsApart : Type 0
 EndingsApart = (lives : List GroupLife) (number : ℕ) (rule : Rule) (now : Reading) (past : List Reading) (first second : Kill) →
     AreReadings lives (now ∷ past) →
@@ -102,7 +104,8 @@ pub record IsKillOf (lives : List GroupLife) (number : ℕ) (rule : Rule) (now :
   pub slot : kill.victim ≡ group.slot
   pub fired : ruleset_fires lives rule now past ≡ true
 
--- Each kill of a ruleset is so: no group is killed but as the victim of an action of a ruleset that fires.
+-- Each kill of a ruleset is so: no group is killed but as the victim of an action of a ruleset that
+-- fires.
 abbrev pub KillsAreOfActions : Type 0
 KillsAreOfActions = (lives : List GroupLife) (number : ℕ) (rule : Rule) (now : Reading) (past : List Reading) (kill : Kill) →
     Contains (kills_at lives number rule now past (kills_of lives number rule past)) kill →

@@ -1,6 +1,6 @@
 -- What rules see at an evaluation: the live groups with their pressure, their memory and their
--- preference and whether a task lives there, and the memory of the host. Readings are listed with the
--- newest first.
+-- preference and whether a task lives there, and the memory of the host. Readings are listed with
+-- the newest first.
 use Rattle.std.specs.Prelude.{◌≡◌, ℕ, ◌-◌, ◌^◌, ◌≤◌, ◌<◌, List, [], ◌∷◌, length, map, slice_index, slice_index_or}
 use Rattle.std.specs.Prelude.{find, ◌==◌, All, Option, None, Some}
 use Rattle.std.specs.Ordering.{nat_cmp}

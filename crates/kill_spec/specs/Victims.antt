@@ -91,8 +91,8 @@ is_greater_by lives measure first second =
     nat_lt (measure second) (measure first)
     || (measure first == measure second && has_path_before lives first second)
 
--- a group beats another: its preference is better, or the same and its measure is greater, or both are
--- the same and its path comes first
+-- a group beats another: its preference is better, or the same and its measure is greater, or both
+-- are the same and its path comes first
 abbrev pub beats_by : List GroupLife → (GroupReading → ℕ) → GroupReading → GroupReading → Bool
 beats_by lives measure first second =
     nat_lt (rank_of second) (rank_of first)
@@ -100,7 +100,8 @@ beats_by lives measure first second =
 
 -- ---- swap, pressure and scans
 
--- swap in use (bytes) is at least a size: of so many bytes, or of so many percent of the host's swap
+-- swap in use (bytes) is at least a size: of so many bytes, or of so many percent of the host's
+-- swap
 abbrev pub is_at_least : Size → HostReading → ℕ → Bool
 is_at_least (size.Bytes n) host swap = nat_le n swap
 is_at_least (size.Percent n) host swap = nat_le (n * host.swap_total) (swap * 100)
@@ -164,20 +165,20 @@ sizes_in slot (reading ∷ past) = size_at (group_in reading slot) ++ sizes_in s
 abbrev pub past_of : List Reading → GroupReading → List ℕ
 past_of past group = take 4 (sizes_in group.slot.0 past)
 
--- a group is growing: it has a past with memory in use, and its size is at least so many thousandths of
--- the mean of its past
+-- a group is growing: it has a past with memory in use, and its size is at least so many
+-- thousandths of the mean of its past
 abbrev pub is_growing : ℕ → List Reading → GroupReading → Bool
 is_growing ratio past group =
     nat_lt 0 (sum (past_of past group))
     && nat_le (ratio * sum (past_of past group)) (memory_in_use group * length (past_of past group) * 1000)
 
--- a group's size over the mean of its past, times the sums of its own past and another's: compared with
--- the same of the other it tells which quotient is greater
+-- a group's size over the mean of its past, times the sums of its own past and another's: compared
+-- with the same of the other it tells which quotient is greater
 abbrev pub growth_by : List Reading → GroupReading → GroupReading → ℕ
 growth_by past group other = memory_in_use group * length (past_of past group) * sum (past_of past other)
 
--- A group has grown more than another: the quotient of its size and the mean of its past is greater, as
--- an exact fraction, or the same and the group is larger.
+-- A group has grown more than another: the quotient of its size and the mean of its past is
+-- greater, as an exact fraction, or the same and the group is larger.
 abbrev pub has_grown_more : List GroupLife → List Reading → GroupReading → GroupReading → Bool
 has_grown_more lives past first second =
     nat_lt (growth_by past second first) (growth_by past first second)
@@ -223,10 +224,10 @@ descended lives act now past zero group = group
 descended lives act now past (suc n) group =
     below (choice lives act now past (children lives group.slot.0 now)) group (descended lives act now past n)
 
--- The victim of an action at a reading, after others, if it has one: its choice among the candidates.
--- Where the action is recursive, the choice is made again among the children of the one that was chosen,
--- until no child is; a group's slot is smaller than its children's, so there are no more such choices
--- than groups.
+-- The victim of an action at a reading, after others, if it has one: its choice among the
+-- candidates. Where the action is recursive, the choice is made again among the children of the one
+-- that was chosen, until no child is; a group's slot is smaller than its children's, so there are
+-- no more such choices than groups.
 unfoldable pub victim : List GroupLife → Action → Reading → List Reading → Option GroupReading
 victim lives act now past =
     if (after_of act).recursive

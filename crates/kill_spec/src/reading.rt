@@ -7,8 +7,9 @@ use psi_base::{Preference, Slot};
 pub struct GroupReading {
     /// Its slot.
     pub slot: Slot,
-    /// Its averages after the tick, over 10, 60 and 300 seconds, of each state but nonidle: in fixed point, at most
-    /// 204,800, which is 100 percent. Those of interrupt time are left out, since no rule looks at them.
+    /// Its averages after the tick, over 10, 60 and 300 seconds, of each state but nonidle: in
+    /// fixed point, at most 204,800, which is 100 percent. Those of interrupt time are left out,
+    /// since no rule looks at them.
     pub averages: [[u64; 3]; QUANTITIES - 1],
     /// Memory in use by its last sample, in bytes, at most 2^60; 0 without one.
     pub current: u64,

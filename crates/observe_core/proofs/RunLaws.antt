@@ -3,28 +3,28 @@ use Rattle.std.proofs.Common.{◌≡◌, ◌≢◌, ◌⊎◌, inl, inr, ℕ, �
 use Rattle.std.specs.Prelude.{IsErrOf, Result}
 use Rattle.std.specs.Io.KnownBytes.{Appends, Keeps}
 use Rattle.psi_base.specs.Gives.{no_memory}
-use Rattle.psi_base.specs.Outside.{Files, Lacks, Rose, told}
+use Rattle.outside.specs.Outside.{Files, Lacks, Rose, told}
 use Rattle.psi_base.specs.declared.event.Refusal.{Refusal}
 use Rattle.psi_spec.specs.Grammar.{versions}
 use Rattle.psi_spec.specs.Trace.{Trace, last_moment, limits_of, trace_of}
 use Rattle.plan_laws.proofs.PlanStates.{legal_after}
 use Rattle.proc_plan.specs.Plans.{PlansView}
 use Rattle.run_spec.specs.Run.{RisesWhere, RunCounts}
-use Rattle.replay_core.specs.Reads.{CausesTraceFault, PlansRead, RefusalOf, TellsNothing}
-use Rattle.replay_core.specs.declared.trace.TraceFault.{TraceFault}
-use Rattle.replay_core.specs.declared.trace.TraceFault.TheVariants as fault
-use Rattle.replay_core.proofs.RunLaws.{keeps_same, stays}
+use Rattle.trace_file.specs.Reads.{CausesTraceFault, PlansRead, RefusalOf, TellsNothing}
+use Rattle.trace_file.specs.declared.trace.TraceFault.{TraceFault}
+use Rattle.trace_file.specs.declared.trace.TraceFault.TheVariants as fault
+use Rattle.run_outcomes.proofs.RunLaws.{keeps_same, stays}
 use Rattle.observe_spec.specs.declared.status.ObserveStatus.{ObserveStatus}
 use Rattle.observe_spec.specs.declared.status.ObserveStatus.TheVariants as status
 use Rattle.observe_spec.specs.Observed.{IsObservedText}
-use Rattle.observe_spec.specs.Run.{Ends, FailuresAreCounted, Runs, TakesTrace, accepts, most_samples, pace_on, samples_asked, tick_length}
+use Rattle.observe_spec.specs.Run.{ObservingEnds, ObserverFailuresAreCounted, Observes, TakesAskedTrace, accepts, most_samples, pace_on, samples_asked, observed_tick_length}
 use Rattle.observe_spec.specs.Words.{Request}
 use Rattle.observe_core.specs.Results.{IsPlannedFor, IsStatusOf, WritesObserved}
 
 -- ---- a trace that was read
 
 -- it is planned for
-pub planned_for : (plans : PlansView) (number : ℕ) (path : List ℕ) (known : Option (List ℕ)) → (read : PlansRead plans number tick_length known) → IsPlannedFor plans read.trace number path
+pub planned_for : (plans : PlansView) (number : ℕ) (path : List ℕ) (known : Option (List ℕ)) → (read : PlansRead plans number observed_tick_length known) → IsPlannedFor plans read.trace number path
 planned_for plans number path known read = record {
   numbered = read.numbered;
   version = read.version;
@@ -39,7 +39,7 @@ planned_for plans number path known read = record {
 }
 
 -- and taken
-pub takes_trace : (request : Request) (files : Option Files) (plans : PlansView) (number : ℕ) → (read : PlansRead plans number tick_length (told files request.trace)) → TakesTrace request files read.trace
+pub takes_trace : (request : Request) (files : Option Files) (plans : PlansView) (number : ℕ) → (read : PlansRead plans number observed_tick_length (told files request.trace)) → TakesAskedTrace request files read.trace
 takes_trace request files plans number read = record {
   cpus = read.counted;
   known = read.known_verbs;
@@ -50,14 +50,14 @@ takes_trace request files plans number read = record {
 -- its end is no later than the last moment
 pub finish_early : (plans : PlansView) (trace : Trace) (number : ℕ) (path : List ℕ) → IsPlannedFor plans trace number path → plans.finish ≤ last_moment
 finish_early plans trace number path is =
-    let legal = legal_after (limits_of tick_length trace.cpus) trace.events is.planned.accepted.legal in
+    let legal = legal_after (limits_of observed_tick_length trace.cpus) trace.events is.planned.accepted.legal in
     omega (arith, is.planned.stand.finish, legal.early)
 
 -- ---- counts
 
 -- the counts of a shelf stay where nothing failed there
 counts_same : (before now : RunCounts) (result : ObserveStatus) → now.shelf.faults ≡ before.shelf.faults → now.shelf.absent ≡ before.shelf.absent
-    → (result ≡ status.ReadFault → ⊥) → (result ≡ status.NoFile → ⊥) → RisesWhere (result ≡ status.WriteFault) before.writes now.writes → FailuresAreCounted before now result
+    → (result ≡ status.ReadFault → ⊥) → (result ≡ status.NoFile → ⊥) → RisesWhere (result ≡ status.WriteFault) before.writes now.writes → ObserverFailuresAreCounted before now result
 counts_same before now result faults absent no_read no_file writes = record {
   faults = stays (result ≡ status.ReadFault) before.shelf.faults now.shelf.faults no_read faults;
   absent = stays (result ≡ status.NoFile) before.shelf.absent now.shelf.absent no_file absent;
@@ -65,13 +65,13 @@ counts_same before now result faults absent no_read no_file writes = record {
 }
 
 -- all stay where nothing was done
-pub none_counted : (counts : RunCounts) (result : ObserveStatus) → (result ≡ status.ReadFault → ⊥) → (result ≡ status.NoFile → ⊥) → (result ≡ status.WriteFault → ⊥) → FailuresAreCounted counts counts result
+pub none_counted : (counts : RunCounts) (result : ObserveStatus) → (result ≡ status.ReadFault → ⊥) → (result ≡ status.NoFile → ⊥) → (result ≡ status.WriteFault → ⊥) → ObserverFailuresAreCounted counts counts result
 none_counted counts result no_read no_file no_write = counts_same counts counts result refl refl no_read no_file (stays (result ≡ status.WriteFault) counts.writes counts.writes no_write refl)
 
 -- ---- a trace that was observed
 
-pub runs_observed : (request : Request) (files : Option Files) (before now : RunCounts) (had has : Option (List ℕ)) (trace : Trace) (result : ObserveStatus) → TakesTrace request files trace → (Lacks files request.trace → ⊥)
-    → now.shelf.faults ≡ before.shelf.faults → now.shelf.absent ≡ before.shelf.absent → WritesObserved request trace before.writes now.writes had has result → Runs request files before now had has result
+pub runs_observed : (request : Request) (files : Option Files) (before now : RunCounts) (had has : Option (List ℕ)) (trace : Trace) (result : ObserveStatus) → TakesAskedTrace request files trace → (Lacks files request.trace → ⊥)
+    → now.shelf.faults ≡ before.shelf.faults → now.shelf.absent ≡ before.shelf.absent → WritesObserved request trace before.writes now.writes had has result → Observes request files before now had has result
 runs_observed request files before now had has trace status.Done takes held faults absent wrote = record {
   ends = (trace, takes, held, wrote.0, (wrote.1.0, wrote.1.1, wrote.1.2.0));
   counts = counts_same before now status.Done faults absent (λ is. cc is) (λ is. cc is) (stays _ before.writes now.writes (λ is. cc is) wrote.1.2.1);
@@ -98,14 +98,14 @@ runs_observed request files before now had has trace (status.Trace line why) tak
 pub runs_refused : {T : Type 0} → (request : Request) (files : Option Files) (before now : RunCounts) (had : Option (List ℕ)) (found : TraceFault) (result : ObserveStatus)
     → ((bytes : List ℕ) → told files request.trace ≡ Some bytes → RefusalOf found (trace_of accepts bytes)) → (Lacks files request.trace → TellsNothing {A = Unit {0}} (Err found))
     → (IsErrOf {T = T} (Err found) fault.NoFile → told files request.trace ≡ None) → CausesTraceFault {A = T} before.shelf now.shelf (Err found) → now.writes ≡ before.writes
-    → IsStatusOf found result → Runs request files before now had had result
+    → IsStatusOf found result → Observes request files before now had had result
 runs_refused request files before now had (fault.Refused refusal) result refused lacking missed causes writes is =
-    subst (Runs request files before now had had) (sym is) (record {
+    subst (Observes request files before now had had) (sym is) (record {
       ends = (keeps_same had, lacking, refused);
       counts = counts_same before now (status.Trace refusal.line refusal.cause) (causes.faults_same (λ e. cc e)) (causes.absent_same (λ e. cc e)) (λ e. cc e) (λ e. cc e) (stays _ before.writes now.writes (λ e. cc e) writes);
     })
 runs_refused request files before now had fault.NoFile result refused lacking missed causes writes is =
-    subst (Runs request files before now had had) (sym is) (record {
+    subst (Observes request files before now had had) (sym is) (record {
       ends = (keeps_same had, missed refl);
       counts = record {
         faults = stays _ before.shelf.faults now.shelf.faults (λ e. cc e) (causes.faults_same (λ e. cc e));
@@ -114,7 +114,7 @@ runs_refused request files before now had fault.NoFile result refused lacking mi
       };
     })
 runs_refused request files before now had fault.ReadFault result refused lacking missed causes writes is =
-    subst (Runs request files before now had had) (sym is) (record {
+    subst (Observes request files before now had had) (sym is) (record {
       ends = keeps_same had;
       counts = record {
         faults = record { rose = λ _. causes.failed refl; same = λ not. absurd (not refl) };
@@ -123,13 +123,13 @@ runs_refused request files before now had fault.ReadFault result refused lacking
       };
     })
 runs_refused request files before now had (fault.NoMemory _) result refused lacking missed causes writes is =
-    subst (Runs request files before now had had) (sym is) (record {
+    subst (Observes request files before now had had) (sym is) (record {
       ends = keeps_same had;
       counts = counts_same before now (status.NoMemory no_memory) (causes.faults_same (λ e. cc e)) (causes.absent_same (λ e. cc e)) (λ e. cc e) (λ e. cc e) (stays _ before.writes now.writes (λ e. cc e) writes);
     })
 
 -- nothing was done, for want of memory
-pub runs_lacking : (request : Request) (files : Option Files) (counts : RunCounts) (had : Option (List ℕ)) → Runs request files counts counts had had (status.NoMemory no_memory)
+pub runs_lacking : (request : Request) (files : Option Files) (counts : RunCounts) (had : Option (List ℕ)) → Observes request files counts counts had had (status.NoMemory no_memory)
 runs_lacking request files counts had = record {
   ends = keeps_same had;
   counts = none_counted counts (status.NoMemory no_memory) (λ e. cc e) (λ e. cc e) (λ e. cc e);
@@ -138,19 +138,19 @@ runs_lacking request files counts had = record {
 -- ---- what a status tells
 
 -- words that ask for something aren't those of Usage
-pub not_usage : (request : Request) (files : Option Files) (old new : Option (List ℕ)) (result : ObserveStatus) → Ends request files old new result → result ≡ status.Usage → ⊥
-not_usage request files old new result ends is = subst (Ends request files old new) is ends
+pub not_usage : (request : Request) (files : Option Files) (old new : Option (List ℕ)) (result : ObserveStatus) → ObservingEnds request files old new result → result ≡ status.Usage → ⊥
+not_usage request files old new result ends is = subst (ObservingEnds request files old new) is ends
 
 -- a text of the trace was written
-pub observed : (request : Request) (files : Option Files) (old new : Option (List ℕ)) (bytes : List ℕ) → told files request.trace ≡ Some bytes → Ends request files old new status.Done
+pub observed : (request : Request) (files : Option Files) (old new : Option (List ℕ)) (bytes : List ℕ) → told files request.trace ≡ Some bytes → ObservingEnds request files old new status.Done
     → (trace : Trace) × (trace_of accepts bytes ≡ Ok trace) × ((text : List ℕ) × IsObservedText trace (pace_on request.path) request.path request.observers text × Appends old new text)
 observed request files old new bytes tells ends = (ends.0, ends.1.read bytes tells, ends.4)
 
 -- the trace that was taken is the one that the bytes are
-same_trace : (request : Request) (files : Option Files) (bytes : List ℕ) (one other : Trace) → told files request.trace ≡ Some bytes → TakesTrace request files one → trace_of accepts bytes ≡ Ok other → one ≡ other
+same_trace : (request : Request) (files : Option Files) (bytes : List ℕ) (one other : Trace) → told files request.trace ≡ Some bytes → TakesAskedTrace request files one → trace_of accepts bytes ≡ Ok other → one ≡ other
 same_trace request files bytes one other tells takes read = let both : Ok one ≡ Ok other = sym (takes.read bytes tells) ∙ read in cc both
 
-pub completes : (request : Request) (files : Option Files) (before now : RunCounts) (old new : Option (List ℕ)) (result : ObserveStatus) (bytes : List ℕ) (trace : Trace) → Runs request files before now old new result
+pub completes : (request : Request) (files : Option Files) (before now : RunCounts) (old new : Option (List ℕ)) (result : ObserveStatus) (bytes : List ℕ) (trace : Trace) → Observes request files before now old new result
     → told files request.trace ≡ Some bytes → trace_of accepts bytes ≡ Ok trace → samples_asked request trace ≤ most_samples → (Rose before.shelf.faults now.shelf.faults → ⊥) → (Rose before.writes now.writes → ⊥)
     → (result ≡ status.Done) ⊎ (result ≡ status.NoMemory no_memory)
 completes request files before now old new status.Done bytes trace runs tells read few no_read no_write = inl refl
@@ -167,7 +167,7 @@ completes request files before now old new (status.TooManySamples samples) bytes
     absurd (let no : ⊥ = omega (arith, same, is, many, few) in no)
 completes request files before now old new status.Usage bytes trace runs tells read few no_read no_write = absurd runs.ends
 
-pub too_many : (request : Request) (files : Option Files) (before now : RunCounts) (old new : Option (List ℕ)) (result : ObserveStatus) (bytes : List ℕ) (trace : Trace) → Runs request files before now old new result
+pub too_many : (request : Request) (files : Option Files) (before now : RunCounts) (old new : Option (List ℕ)) (result : ObserveStatus) (bytes : List ℕ) (trace : Trace) → Observes request files before now old new result
     → told files request.trace ≡ Some bytes → trace_of accepts bytes ≡ Ok trace → most_samples < samples_asked request trace → (Rose before.shelf.faults now.shelf.faults → ⊥)
     → (result ≡ status.TooManySamples (samples_asked request trace)) ⊎ (result ≡ status.NoMemory no_memory)
 too_many request files before now old new (status.TooManySamples samples) bytes trace runs tells read many no_read =
@@ -188,7 +188,7 @@ too_many request files before now old new status.NoFile bytes trace runs tells r
 too_many request files before now old new (status.Trace line why) bytes trace runs tells read many no_read = absurd (let refused = runs.ends.2 bytes tells in let no : ⊥ = cc (read, refused) in no)
 too_many request files before now old new status.Usage bytes trace runs tells read many no_read = absurd runs.ends
 
-pub refuses : (request : Request) (files : Option Files) (before now : RunCounts) (old new : Option (List ℕ)) (result : ObserveStatus) (bytes : List ℕ) (refusal : Refusal) → Runs request files before now old new result
+pub refuses : (request : Request) (files : Option Files) (before now : RunCounts) (old new : Option (List ℕ)) (result : ObserveStatus) (bytes : List ℕ) (refusal : Refusal) → Observes request files before now old new result
     → told files request.trace ≡ Some bytes → trace_of accepts bytes ≡ Err refusal → (Rose before.shelf.faults now.shelf.faults → ⊥)
     → (result ≡ status.Trace refusal.line refusal.cause) ⊎ (result ≡ status.NoMemory no_memory)
 refuses request files before now old new (status.Trace line why) bytes refusal runs tells read no_read =
@@ -204,7 +204,7 @@ refuses request files before now old new status.ReadFault bytes refusal runs tel
 refuses request files before now old new status.NoFile bytes refusal runs tells read no_read = absurd (let none = runs.ends.1 in let no : ⊥ = cc (tells, none) in no)
 refuses request files before now old new status.Usage bytes refusal runs tells read no_read = absurd runs.ends
 
-pub quiet : (request : Request) (files : Option Files) (old new : Option (List ℕ)) (result : ObserveStatus) → Ends request files old new result → result ≢ status.Done → result ≢ status.WriteFault → Keeps old new
+pub quiet : (request : Request) (files : Option Files) (old new : Option (List ℕ)) (result : ObserveStatus) → ObservingEnds request files old new result → result ≢ status.Done → result ≢ status.WriteFault → Keeps old new
 quiet request files old new status.Done ends not_done no_fault = absurd (not_done refl)
 quiet request files old new status.WriteFault ends not_done no_fault = absurd (no_fault refl)
 quiet request files old new (status.Trace line why) ends not_done no_fault = ends.0

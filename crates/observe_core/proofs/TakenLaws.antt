@@ -161,7 +161,8 @@ from_one observer plans slot lasts cpu k (entry ∷ taken) found from (suc j) pl
         ap (λ b. map (λ (look : Look). look.count) (cond b (look_of entry ∷ filter (is_of observer cpu) (looks_of taken)) (filter (is_of observer cpu) (looks_of taken)))) is
         ∙ rest
 
--- What a watcher took in an interval, between two of its states: readied it was for the processors of the setting, and looked at all.
+-- What a watcher took in an interval, between two of its states: readied it was for the processors
+-- of the setting, and looked at all.
 pub record Took (set : Setting) (slot number : ℕ) (made : ℕ → ℕ) (lasts : List Sample) (old mid new : WatcherView) : Type 0 where
   pub number_is : old.observer ≡ number
   pub plans_are : old.plans ≡ set.plans

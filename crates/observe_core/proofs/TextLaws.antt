@@ -17,7 +17,7 @@ use Rattle.run_spec.specs.Text.{end_of}
 use Rattle.proc_plan.specs.Plans.{PlansView, plan_at, plans_view}
 use Rattle.proc_plan.proofs.Finishing.{standing_plans}
 use Rattle.replay_rules.specs.Planned.{IsPlanned}
-use Rattle.observe_spec.specs.Observed.{IsObservedText, board_line, last_line, moment_after, moment_at, observed_text, sample_line, times_of}
+use Rattle.observe_spec.specs.Observed.{IsObservedText, board_line, observed_last_line, moment_after, moment_at, observed_text, sample_line, times_of}
 use Rattle.observe_spec.specs.Samples.{AreDone, AreObserved, Look, all_due, counts_by, is_of, looks_by}
 use Rattle.observer_log.specs.declared.board.BoardState.{BoardState}
 use Rattle.observer_log.specs.declared.entry.Entry.{Entry}

@@ -11,7 +11,8 @@ use Rattle.observe_core.specs.declared.words.BadWords.{BadWords}
 abbrev pub request_in : Request → spec.Request
 request_in request = record { trace = request.trace.now; observers = request.observers; path = request.path }
 
--- words are refused where they ask for nothing, and memory is wanting only where they ask for something
+-- words are refused where they ask for nothing, and memory is wanting only where they ask for
+-- something
 abbrev pub RefusesWords : Fault BadWords → Option spec.Request → Type 0
 RefusesWords (Refused why) asked = asked ≡ None
 RefusesWords (NoMemory _) asked = IsSome asked

@@ -1,4 +1,5 @@
--- Observers beside a replay: how they are readied for an interval, and what they have seen after some ticks.
+-- Observers beside a replay: how they are readied for an interval, and what they have seen after
+-- some ticks.
 use Rattle.std.specs.Prelude.{◌≡◌, ℕ, ◌+◌, ◌<◌, ◌≤◌, false, List, [], ◌∷◌, length, map, slice_get, slice_index_or, Option, Some}
 use Rattle.std.specs.List.{All, flat_map, range_with_len}
 use Rattle.ruleset_json.specs.declared.types.Rule.{Rule}
@@ -25,7 +26,8 @@ use Rattle.observe_core.specs.Observing.{ObserverView, last_at}
 
 -- ---- the start
 
--- A watcher of all processors that an observer with a number begins with, beside a replay: it has no entry.
+-- A watcher of all processors that an observer with a number begins with, beside a replay: it has
+-- no entry.
 pub record IsNewWatcher (number : ℕ) (replay : ReplayView) (watcher : WatcherView) : Type 0 where
   pub number_is : watcher.observer ≡ number
   pub plans_are : watcher.plans ≡ replay.plans
@@ -35,8 +37,8 @@ pub record IsNewWatcher (number : ℕ) (replay : ReplayView) (watcher : WatcherV
 
 -- ---- before an interval
 
--- A watcher with these last samples may be readied for a slot by a replay: they are of the same plans, and its readers are of the
--- rows of the replay's clocks.
+-- A watcher with these last samples may be readied for a slot by a replay: they are of the same
+-- plans, and its readers are of the rows of the replay's clocks.
 pub record MayReady (replay : ReplayView) (slot : ℕ) (watcher : WatcherView) (lasts : List Sample) : Type 0 where
   pub some : IsSomeReplay replay
   pub few : length replay.plans.plans ≤ 64
@@ -50,7 +52,8 @@ pub record MayReady (replay : ReplayView) (slot : ℕ) (watcher : WatcherView) (
 abbrev pub made_by : CrewView → ℕ → ℕ
 made_by crew cpu = (clocks_at crew.clocks cpu).made
 
--- The clocks of a processor met the reader of a watcher there: it has seen what they made, which isn't less than it saw before.
+-- The clocks of a processor met the reader of a watcher there: it has seen what they made, which
+-- isn't less than it saw before.
 pub record HasMet (cpu made : ℕ) (old new : WatcherView) : Type 0 where
   pub reader : ReaderEnd
   pub are : new ≡ with_reader old cpu reader
@@ -58,8 +61,8 @@ pub record HasMet (cpu made : ℕ) (old new : WatcherView) : Type 0 where
   pub knows : reader.knows ≡ count_shown made (reader_at old.readers cpu).knows
   pub before : (reader_at old.readers cpu).knows.seen ≤ made
 
--- A watcher is readied on the first of the processors: its readers there have seen what was made, which isn't less than they saw
--- before. Nothing else of it changed.
+-- A watcher is readied on the first of the processors: its readers there have seen what was made,
+-- which isn't less than they saw before. Nothing else of it changed.
 pub record IsReadied (made : ℕ → ℕ) (cpus : ℕ) (old new : WatcherView) : Type 0 where
   pub observer_is : new.observer ≡ old.observer
   pub plans_are : new.plans ≡ old.plans
@@ -88,7 +91,8 @@ pub record IsReady (plans : PlansView) (slot : ℕ) (made : ℕ → ℕ) (old ne
 -- so are all
 pub record AreReady (plans : PlansView) (slot : ℕ) (made : ℕ → ℕ) (old new : List ObserverView) : Type 0 where
   pub many : length new ≡ length old
-  pub each : (number : ℕ) (d : ObserverView) → number < length old → IsReady plans slot made (slice_index_or old number d) (slice_index_or new number d)
+  pub each : (number : ℕ) (d : ObserverView) → number < length old
+      → IsReady plans slot made (slice_index_or old number d) (slice_index_or new number d)
 
 -- ---- after some ticks
 
@@ -110,8 +114,8 @@ abbrev pub AreOn : PlansView → List Entry → Type 0
 AreOn plans [] = Unit {0}
 AreOn plans (entry ∷ entries) = IsOn plans entry × AreOn plans entries
 
--- What stays the same while a trace is replayed beside observers: the plans, the rows of all processors, the board, the trace, its
--- pace, and the path that is observed.
+-- What stays the same while a trace is replayed beside observers: the plans, the rows of all
+-- processors, the board, the trace, its pace, and the path that is observed.
 pub record Setting : Type 0 where
   pub plans : PlansView
   pub rows : List (Option TableId)
@@ -132,8 +136,9 @@ due_in set i = due_at set.trace set.pace.length i (slot_in set i)
 abbrev pub due_until : Setting → ℕ → List Due
 due_until set count = flat_map (due_in set) (range_with_len 1 count)
 
--- What holds of each observer, by its number: it is of the plans and of the board, its readers are of the rows, and it has a place
--- for the last sample of each processor, and one part of the journal's ledger. Memory wasn't wanting.
+-- What holds of each observer, by its number: it is of the plans and of the board, its readers are
+-- of the rows, and it has a place for the last sample of each processor, and one part of the
+-- journal's ledger. Memory wasn't wanting.
 pub record IsPlaced (set : Setting) (number : ℕ) (observer : ObserverView) : Type 0 where
   pub number_is : observer.watcher.observer ≡ number
   pub plans_are : observer.watcher.plans ≡ set.plans
@@ -144,8 +149,8 @@ pub record IsPlaced (set : Setting) (number : ℕ) (observer : ObserverView) : T
   pub backed : observer.parts ≡ 1
   pub whole : observer.failed ≡ false
 
--- A list has the samples of an observer, by its number, that were due at the first so many ticks; and their counts on a processor
--- never fall, up to what its reader has seen.
+-- A list has the samples of an observer, by its number, that were due at the first so many ticks;
+-- and their counts on a processor never fall, up to what its reader has seen.
 pub record HasTaken (set : Setting) (i number : ℕ) (readers : List ReaderEnd) (own : List Entry) : Type 0 where
   pub by : AreBy number own
   pub on : AreOn set.plans own

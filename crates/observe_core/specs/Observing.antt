@@ -19,23 +19,26 @@ no_sample = record { count = 0; clock = zero_clock }
 abbrev pub last_at : List Sample → ℕ → Sample
 last_at lasts cpu = slice_index_or lasts cpu no_sample
 
--- A watcher may look at a slot on each processor: it has a reader and a last sample of each, which is the slot's clock after as
--- many changes as the reader has seen.
+-- A watcher may look at a slot on each processor: it has a reader and a last sample of each, which
+-- is the slot's clock after as many changes as the reader has seen.
 pub record CanLook (slot : ℕ) (lasts : List Sample) (watcher : WatcherView) : Type 0 where
   pub few : length watcher.plans.plans ≤ 64
   pub lasts_are : length lasts ≡ length watcher.plans.plans
   pub readers_are : AreReaders watcher.plans watcher.readers
   pub slots : (cpu : ℕ) → cpu < length watcher.plans.plans → slot < length (plan_at watcher.plans cpu).parents
-  pub clocks : (cpu : ℕ) → cpu < length watcher.plans.plans → IsClock (last_at lasts cpu).clock (plan_at watcher.plans cpu) slot (last_at lasts cpu).count
+  pub clocks : (cpu : ℕ) → cpu < length watcher.plans.plans
+      → IsClock (last_at lasts cpu).clock (plan_at watcher.plans cpu) slot (last_at lasts cpu).count
   pub seen : (cpu : ℕ) → cpu < length watcher.plans.plans → (last_at lasts cpu).count ≡ (reader_at watcher.readers cpu).knows.seen
 
--- These entries are one of each of the first processors, in their order, none earlier than the last sample there.
+-- These entries are one of each of the first processors, in their order, none earlier than the last
+-- sample there.
 pub record AreTaken (observer : ℕ) (plans : PlansView) (slot : ℕ) (lasts : List Sample) (cpus : ℕ) (taken : List Entry) : Type 0 where
   pub many : length taken ≡ cpus
-  pub each : (cpu : ℕ) (entry : Entry) → slice_get taken cpu ≡ Some entry → IsTakenBy observer plans cpu slot (last_at lasts cpu).count entry
+  pub each : (cpu : ℕ) (entry : Entry) → slice_get taken cpu ≡ Some entry
+      → IsTakenBy observer plans cpu slot (last_at lasts cpu).count entry
 
--- A watcher looked at a slot on each of the first processors: the entries stand at the end of its list, and each of these
--- readers has seen as many changes as its entry is after.
+-- A watcher looked at a slot on each of the first processors: the entries stand at the end of its
+-- list, and each of these readers has seen as many changes as its entry is after.
 pub record HaveLooked (slot : ℕ) (lasts : List Sample) (cpus : ℕ) (old new : WatcherView) : Type 0 where
   pub observer_is : new.observer ≡ old.observer
   pub plans_are : new.plans ≡ old.plans
@@ -50,8 +53,8 @@ pub record HaveLooked (slot : ℕ) (lasts : List Sample) (cpus : ℕ) (old new :
 
 -- ---- observers
 
--- An observer: its watcher, its pass of the board, the parts of its share of the journal, its last sample on each processor, and
--- whether memory was wanting for an entry.
+-- An observer: its watcher, its pass of the board, the parts of its share of the journal, its last
+-- sample on each processor, and whether memory was wanting for an entry.
 pub record ObserverView : Type 0 where
   pub watcher : WatcherView
   pub pass : BoardEnd
@@ -65,7 +68,8 @@ pub record CanWatch (board : TableId) (slot : ℕ) (observer : ObserverView) : T
   pub backed : 0 < observer.parts
   pub can : CanLook slot observer.lasts observer.watcher
 
--- An observer watched a slot: it read the board once, and looked at the slot on each processor, unless memory was wanting.
+-- An observer watched a slot: it read the board once, and looked at the slot on each processor,
+-- unless memory was wanting.
 pub record HasWatched (slot : ℕ) (old new : ObserverView) : Type 0 where
   pub board_is : new.pass.board ≡ old.pass.board
   pub parts_are : new.parts ≡ old.parts
@@ -79,4 +83,5 @@ pub record HasWatched (slot : ℕ) (old new : ObserverView) : Type 0 where
 -- All observers watched a slot.
 pub record HaveAllWatched (slot : ℕ) (old new : List ObserverView) : Type 0 where
   pub many : length new ≡ length old
-  pub each : (number : ℕ) (d : ObserverView) → number < length old → HasWatched slot (slice_index_or old number d) (slice_index_or new number d)
+  pub each : (number : ℕ) (d : ObserverView) → number < length old
+      → HasWatched slot (slice_index_or old number d) (slice_index_or new number d)

@@ -1,12 +1,12 @@
 -- What reading a trace, observing it and writing come to as the status of a run.
 use Rattle.std.specs.Prelude.{◌≡◌, ℕ, ◌<◌, ◌≤◌, List, Option}
 use Rattle.std.specs.Io.KnownBytes.{Appends, Keeps}
-use Rattle.psi_base.specs.Outside.{AppendsFront, Rose}
+use Rattle.outside.specs.Outside.{AppendsFront, Rose}
 use Rattle.psi_spec.specs.Grammar.{IsVersion, version_of}
 use Rattle.psi_spec.specs.Trace.{Trace}
 use Rattle.proc_plan.specs.Plans.{PlansView}
-use Rattle.replay_core.specs.declared.trace.TraceFault.{TraceFault}
-use Rattle.replay_core.specs.declared.trace.TraceFault.TheVariants as fault
+use Rattle.trace_file.specs.declared.trace.TraceFault.{TraceFault}
+use Rattle.trace_file.specs.declared.trace.TraceFault.TheVariants as fault
 use Rattle.replay_rules.specs.Planned.{IsPlanned}
 use Rattle.observe_spec.specs.declared.status.ObserveStatus.{ObserveStatus}
 use Rattle.observe_spec.specs.declared.status.ObserveStatus.TheVariants as status
@@ -14,7 +14,8 @@ use Rattle.observe_spec.specs.Observed.{IsObservedText}
 use Rattle.observe_spec.specs.Run.{most_samples, pace_on, samples_asked}
 use Rattle.observe_spec.specs.Words.{Request}
 
--- plans stand for an accepted trace of the version with a number, which is to be replayed beside observers of a path
+-- plans stand for an accepted trace of the version with a number, which is to be replayed beside
+-- observers of a path
 pub record IsPlannedFor (plans : PlansView) (trace : Trace) (number : ℕ) (path : List ℕ) : Type 0 where
   pub numbered : IsVersion number
   pub version : version_of number ≡ trace.version
@@ -27,15 +28,16 @@ IsStatusOf fault.NoFile result = result ≡ status.NoFile
 IsStatusOf fault.ReadFault result = result ≡ status.ReadFault
 IsStatusOf (fault.NoMemory none) result = result ≡ status.NoMemory none
 
--- What writing a text gave: all of it, or a front of it where a write failed. The count of failed writes rose where one failed, and
--- else is as it was.
+-- What writing a text gave: all of it, or a front of it where a write failed. The count of failed
+-- writes rose where one failed, and else is as it was.
 abbrev pub WritesText : List ℕ → ℕ → ℕ → Option (List ℕ) → Option (List ℕ) → ObserveStatus → Type 0
 WritesText text before now had has status.Done = Appends had has text × (now ≡ before)
 WritesText text before now had has status.WriteFault = AppendsFront had has text × Rose before now
 WritesText text before now had has _ = ⊥
 
--- What observing a trace as it is asked for, and writing what was observed, gave: so for a text of it, which has no more samples than
--- there may be; or nothing was written, since there would be more, or for want of memory.
+-- What observing a trace as it is asked for, and writing what was observed, gave: so for a text of
+-- it, which has no more samples than there may be; or nothing was written, since there would be
+-- more, or for want of memory.
 abbrev pub WritesObserved : Request → Trace → ℕ → ℕ → Option (List ℕ) → Option (List ℕ) → ObserveStatus → Type 0
 WritesObserved request trace before now had has (status.TooManySamples samples) =
     Keeps had has × (now ≡ before) × (samples ≡ samples_asked request trace) × (most_samples < samples)

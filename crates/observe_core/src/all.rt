@@ -4,13 +4,15 @@ ghost use Rattle.observe_core.specs.Observing.{CanWatch, HasWatched, HaveAllWatc
 
 use crate::observer::Observer;
 use observer_log::Board;
-use psi_base::{Gate, Slot};
+use outside::Gate;
+use psi_base::Slot;
 use std::sync::Wait;
 use std::sync::ledger::Ledger;
 use std::thread;
 use std::thread::Threads;
 
-/// Each observer watches a slot in a thread of its own, or in the caller's where none can be started.
+/// Each observer watches a slot in a thread of its own, or in the caller's where none can be
+/// started.
 pub(crate) fn watch_all<L: Ledger + Send + Sync, R: Threads + Wait + Sync, G: Gate>(
     rt: &R,
     observers: &mut Vec<Observer<'_, '_, L>>,

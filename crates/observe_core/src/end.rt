@@ -21,7 +21,8 @@ pub(crate) struct Ended<'a> {
     pub(crate) states: Vec<BoardState>,
 }
 
-/// Ends all observers, one after the other. Their shares go to the others. NoMemory where there was none for an entry.
+/// Ends all observers, one after the other. Their shares go to the others. NoMemory where there was
+/// none for an entry.
 pub(crate) fn end_all<'a, L: Ledger, R: Wait>(
     rt: &R,
     alloc: Global,

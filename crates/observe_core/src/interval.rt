@@ -11,7 +11,8 @@ use crate::all::watch_all;
 use crate::observer::Observer;
 use crate::ready::ready_all;
 use observer_log::Board;
-use psi_base::{Gate, Slot};
+use outside::Gate;
+use psi_base::Slot;
 use replay_ticks::Replay;
 use std::sync::Wait;
 use std::sync::ledger::Ledger;
@@ -47,8 +48,8 @@ fn interval<'j, 'a, L: Ledger + Send + Sync, R: Threads + Wait + Sync, G: Gate>(
     (replay, observers)
 }
 
-/// A replay after its next tick, and its observers. Where the path is live at the tick, each of them watched its slot beside the
-/// changes up to it.
+/// A replay after its next tick, and its observers. Where the path is live at the tick, each of
+/// them watched its slot beside the changes up to it.
 pub(crate) fn tick<'j, 'a, L: Ledger + Send + Sync, R: Threads + Wait + Sync, G: Gate>(
     rt: &R,
     mut replay: Replay<'a>,

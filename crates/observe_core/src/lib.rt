@@ -1,5 +1,5 @@
-//! Observers of a trace that is replayed: the one public call [`observe`] reads the words, replays the trace tick by tick beside
-//! observers in threads of their own, and prints what they saw.
+//! Observers of a trace that is replayed: the one public call [`observe`] reads the words, replays
+//! the trace tick by tick beside observers in threads of their own, and prints what they saw.
 #![tactic(auto)]
 
 mod all;

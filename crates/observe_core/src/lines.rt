@@ -1,15 +1,16 @@
 //! The lines that are printed.
 ghost use Rattle.std.specs.Prelude.{◌≤◌, length};
 ghost use Rattle.std.specs.List.{flat_map};
-ghost use Rattle.psi_base.specs.Outside.{HasCause, PutsAll, StaysOver};
+ghost use Rattle.outside.specs.Outside.{HasCause, PutsAll, StaysOver};
 ghost use Rattle.observe_core.specs.Printed.{end_line, entry_line, printed, state_line, states_text};
 
 use observer_log::{BoardState, Entry};
+use outside::{Sink, WriteFailed};
 use pressure_text::{Piece, put_pieces, put_timed};
-use psi_base::{Ns, Sink, WriteFailed};
+use psi_base::Ns;
 
-// Writes the line of a sample: its observer and processor, after how many changes it is, at which moment (ns), and its times (ns)
-// in the seven states, in their order.
+// Writes the line of a sample: its observer and processor, after how many changes it is, at which
+// moment (ns), and its times (ns) in the seven states, in their order.
 #[tactic(auto, using(pressure_text::proofs::Puts::times))]
 fn put_entry<K: Sink>(out: &mut K, entry: &Entry<'_>) -> Result<(), WriteFailed>
     ensures bytes { PutsAll (K.has out.old) (K.has out.new) result (entry_line entry.now) }
@@ -33,7 +34,7 @@ fn put_entry<K: Sink>(out: &mut K, entry: &Entry<'_>) -> Result<(), WriteFailed>
 }
 
 // Writes the line of what an observer read of the board.
-#[tactic(auto, using(psi_base::proofs::Grows::chain))]
+#[tactic(auto, using(outside::proofs::Grows::chain))]
 fn put_state<K: Sink>(out: &mut K, observer: u32, state: &BoardState) -> Result<(), WriteFailed>
     ensures bytes { PutsAll (K.has out.old) (K.has out.new) result
         (state_line observer state.now) }
@@ -57,7 +58,7 @@ fn put_state<K: Sink>(out: &mut K, observer: u32, state: &BoardState) -> Result<
 }
 
 // Writes the last line: the end moment (ns), and how many samples there were.
-#[tactic(auto, using(psi_base::proofs::Grows::chain))]
+#[tactic(auto, using(outside::proofs::Grows::chain))]
 fn put_end<K: Sink>(out: &mut K, finish: Ns, samples: u64) -> Result<(), WriteFailed>
     ensures bytes { PutsAll (K.has out.old) (K.has out.new) result (end_line finish samples) }
     ensures cause { HasCause (K.faults out.old) (K.faults out.new) result }
@@ -76,7 +77,7 @@ fn put_end<K: Sink>(out: &mut K, finish: Ns, samples: u64) -> Result<(), WriteFa
 }
 
 // Writes the lines of samples.
-#[tactic(auto, using(psi_base::proofs::Grows::growth))]
+#[tactic(auto, using(outside::proofs::Grows::growth))]
 fn put_entries<K: Sink>(out: &mut K, entries: &[Entry<'_>]) -> Result<(), WriteFailed>
     ensures bytes { PutsAll (K.has out.old) (K.has out.new) result
         (flat_map entry_line entries.now) }
@@ -90,7 +91,7 @@ fn put_entries<K: Sink>(out: &mut K, entries: &[Entry<'_>]) -> Result<(), WriteF
 }
 
 // Writes the lines of what each observer read of the board, by their numbers.
-#[tactic(auto, using(psi_base::proofs::Grows::growth))]
+#[tactic(auto, using(outside::proofs::Grows::growth))]
 fn put_states<K: Sink>(out: &mut K, states: &[BoardState]) -> Result<(), WriteFailed>
     requires { length states.now ≤ 8 }
     ensures bytes { PutsAll (K.has out.old) (K.has out.new) result (states_text 0 states.now) }
@@ -103,8 +104,9 @@ fn put_states<K: Sink>(out: &mut K, states: &[BoardState]) -> Result<(), WriteFa
     Ok(())
 }
 
-/// Writes all lines: those of the samples in this order, of what each observer read of the board last, and of the end (ns).
-#[tactic(auto, using(psi_base::proofs::Grows::chain))]
+/// Writes all lines: those of the samples in this order, of what each observer read of the board
+/// last, and of the end (ns).
+#[tactic(auto, using(outside::proofs::Grows::chain))]
 pub(crate) fn put_observed<K: Sink>(
     out: &mut K,
     entries: &[Entry<'_>],

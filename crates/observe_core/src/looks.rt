@@ -4,12 +4,13 @@ ghost use Rattle.observe_core.specs.Observing.{CanLook, HaveLooked};
 
 use clock_row::Sample;
 use observer_log::{AddFault, Journal, Watcher};
-use psi_base::{Cpu, Gate, NoMemory, Slot};
+use outside::Gate;
+use psi_base::{Cpu, NoMemory, Slot};
 use std::sync::ledger::{Ledger, Share};
 use std::sync::{Mutex, Wait};
 
-/// Looks at a slot on each processor, after the last sample there, and adds each entry to the journal: one that falls stays out
-/// of it. Tells the gate once an entry was added.
+/// Looks at a slot on each processor, after the last sample there, and adds each entry to the
+/// journal: one that falls stays out of it. Tells the gate once an entry was added.
 pub(crate) fn look_at_all<'a, L: Ledger, R: Wait, G: Gate>(
     rt: &R,
     journal: &Mutex<Journal<'a, L>>,

@@ -1,13 +1,13 @@
 //! What tells of a status.
 ghost use Rattle.std.specs.Prelude.{◌≡◌};
-ghost use Rattle.psi_base.specs.Outside.{HasCause, PutsAll};
-ghost use Rattle.observe_spec.specs.Status.{status_text, trace_text};
+ghost use Rattle.outside.specs.Outside.{HasCause, PutsAll};
+ghost use Rattle.observe_spec.specs.Status.{observe_status_text, trace_text};
 ghost use Rattle.observe_core.specs.Asked.{asked_in};
 
 use crate::words::Request;
 use observe_spec::ObserveStatus;
-use psi_base::{Sink, WriteFailed, put_all, put_each};
-use replay_core::put_refusal;
+use outside::{Sink, WriteFailed, put_all, put_each};
+use trace_file::put_refusal;
 
 // The name of the trace's file, where one is asked for.
 fn trace_name<'a>(request: Option<&Request<'a>>) -> &'a [u8]
@@ -26,7 +26,7 @@ pub(crate) fn put_status<N: Sink>(
     status: ObserveStatus,
 ) -> Result<(), WriteFailed>
     ensures bytes { PutsAll (N.has note.old) (N.has note.new) result
-        (status_text (asked_in request.entry) status) }
+        (observe_status_text (asked_in request.entry) status) }
     ensures cause { HasCause (N.faults note.old) (N.faults note.new) result }
 {
     match status {

@@ -1,7 +1,12 @@
 //! A trace that was taken apart is replayed, and observed beside the replay.
-ghost use Rattle.std.specs.Prelude.{◌≡◌, Some, IfOk, length};
+ghost use Rattle.std.specs.Prelude.{◌≡◌, [], Some, IfOk, length};
+ghost use Rattle.psi_spec.specs.Grammar.{version_of};
 ghost use Rattle.psi_spec.specs.Trace.{Trace};
+ghost use Rattle.run_spec.specs.Outputs.{pace_of};
 ghost use Rattle.run_spec.specs.Words.{IsWithin};
+ghost use Rattle.replay_rules.specs.Planned.{IsPlanned};
+ghost use Rattle.replay_ticks.specs.Replays.{IsReplay};
+ghost use Rattle.replay_workers.specs.Crew.{AreInRows};
 ghost use Rattle.observe_spec.specs.Observed.{IsObservedText};
 ghost use Rattle.observe_spec.specs.Run.{options_on, pace_on};
 ghost use Rattle.observe_core.specs.Printed.{printed};
@@ -12,9 +17,10 @@ use crate::start::make_observers;
 use crate::ticks::all_ticks;
 use crate::words::Request;
 use observer_log::{Board, BoardState, Entry, Journal};
+use outside::Gate;
 use proc_plan::Plans;
-use psi_base::{Gate, NoMemory, Path};
-use replay_ticks::prepare;
+use psi_base::{NoMemory, Path};
+use replay_ticks::{Replay, prepare};
 use run_spec::Options;
 use std::alloc::Global;
 use std::sync::ledger::{Blank, Ledger};
@@ -46,8 +52,27 @@ fn options(alloc: Global, path: &Path) -> Result<Options, NoMemory>
     })
 }
 
-/// What so many observers observe of a trace of a version that was taken apart, each in a thread of its own where one can be
-/// started. The blank ledger has a part for each.
+// A replay of a trace of a version beside observers of a path, before its first tick.
+fn prepared<'a>(
+    alloc: Global,
+    version: u32,
+    plans: &'a Plans,
+    path: &Path,
+) -> Result<Replay<'a>, NoMemory>
+    requires { (trace : Trace) × IsPlannedFor plans.now trace version path.now }
+    ensures replay { IfOk result (λ replay. (trace : Trace) →
+        IsPlanned plans.now trace (pace_of (options_on (Some path.now))) →
+        version_of version ≡ trace.version →
+        IsReplay replay trace (pace_of (options_on (Some path.now))) [] 0) }
+    ensures plans { IfOk result (λ replay. replay.plans ≡ plans.now) }
+    ensures rows { IfOk result (λ replay. AreInRows replay.plans replay.crew.rows) }
+{
+    let options = options(alloc, path)?;
+    prepare(alloc, version, plans, None, &options)
+}
+
+/// What so many observers observe of a trace of a version that was taken apart, each in a thread of
+/// its own where one can be started. The blank ledger has a part for each.
 pub(crate) fn observe_trace<'a, L: Ledger + Send + Sync, R: Threads + Wait + Sync, G: Gate>(
     rt: &R,
     alloc: Global,
@@ -68,11 +93,10 @@ pub(crate) fn observe_trace<'a, L: Ledger + Send + Sync, R: Threads + Wait + Syn
         IsObservedText trace (pace_on request.now.path) request.now.path request.now.observers
         (printed observed.entries.items observed.states.items plans.now.finish)) }
 {
-    let options = options(alloc, &request.path)?;
-    let mut replay = prepare(alloc, version, plans, None, &options)?;
+    let (board, mut driver) = Board::make(alloc)?;
+    let mut replay = prepared(alloc, version, plans, &request.path)?;
     let (book, mut all) = blank.open::<L>();
     let journal = Mutex::new(Journal::make(alloc, book));
-    let (board, mut driver) = Board::make(alloc)?;
     let observers = make_observers(
         rt,
         alloc,

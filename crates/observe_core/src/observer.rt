@@ -6,13 +6,14 @@ ghost use Rattle.observe_core.specs.Observing.{CanWatch, HasWatched};
 use crate::looks::look_at_all;
 use clock_row::Sample;
 use observer_log::{Board, BoardPass, BoardState, DriverPass, Journal, Own, Watcher};
-use psi_base::{Gate, NoMemory, Slot};
+use outside::Gate;
+use psi_base::{NoMemory, Slot};
 use std::marker::Model;
 use std::sync::ledger::{Ledger, Share};
 use std::sync::{Mutex, Wait};
 
-/// One observer. It may go to another thread. Contracts see its watcher, its pass of the board, the parts of its share of the
-/// journal, its last samples, and whether memory was wanting.
+/// One observer. It may go to another thread. Contracts see its watcher, its pass of the board, the
+/// parts of its share of the journal, its last samples, and whether memory was wanting.
 #[derive(Drop)]
 pub struct Observer<'j, 'a, L: Ledger> {
     pub(crate) journal: &'j Mutex<Journal<'a, L>>,
@@ -92,8 +93,9 @@ impl<'j, 'a, L: Ledger> Observer<'j, 'a, L> {
         self.failed
     }
 
-    /// Ends an observer: it is told all that was published, reads the board for the last time, and is told again. Its list and
-    /// what it read come back, and its share goes to the others. NoMemory where there was none for an entry.
+    /// Ends an observer: it is told all that was published, reads the board for the last time, and
+    /// is told again. Its list and what it read come back, and its share goes to the others.
+    /// NoMemory where there was none for an entry.
     pub fn end<R: Wait>(
         self,
         rt: &R,

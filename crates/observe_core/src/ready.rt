@@ -1,5 +1,5 @@
-//! Observers are readied for an interval: their readers learn how many changes were made, and their last samples are the clocks
-//! themselves.
+//! Observers are readied for an interval: their readers learn how many changes were made, and their
+//! last samples are the clocks themselves.
 ghost use Rattle.std.specs.Prelude.{◌≡◌, ◌<◌, Some, length};
 ghost use Rattle.std.specs.List.{All};
 ghost use Rattle.replay_ticks.specs.Replays.{IsSomeReplay};
@@ -15,7 +15,8 @@ use psi_base::{Cpu, Slot};
 use replay_ticks::Replay;
 use std::sync::ledger::Ledger;
 
-// The clocks of a processor learn what a watcher's reader has seen there, and tell it how many changes they made.
+// The clocks of a processor learn what a watcher's reader has seen there, and tell it how many
+// changes they made.
 fn meet(replay: &mut Replay<'_>, watcher: &mut Watcher<'_>, cpu: Cpu)
     requires replay { IsSomeReplay replay.old }
     requires cpu { cpu.0 < length replay.old.plans.plans }

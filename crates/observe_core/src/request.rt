@@ -1,11 +1,11 @@
 //! What is asked for is observed, and written.
 ghost use Rattle.std.specs.Prelude.{◌≡◌, ◌+◌, ◌*◌, ◌/◌, ◌≤◌, ◌<◌, [], length};
-ghost use Rattle.psi_base.specs.Outside.{HasCause, PutsAll};
+ghost use Rattle.outside.specs.Outside.{HasCause, PutsAll};
 ghost use Rattle.psi_spec.specs.Trace.{Trace, last_moment};
 ghost use Rattle.run_spec.specs.MostRead.{most_of_trace};
 ghost use Rattle.run_spec.specs.Run.{run_counts};
 ghost use Rattle.run_spec.specs.Words.{IsWithin};
-ghost use Rattle.observe_spec.specs.Run.{Runs};
+ghost use Rattle.observe_spec.specs.Run.{Observes};
 ghost use Rattle.observe_core.specs.Asked.{request_in};
 ghost use Rattle.observe_core.specs.Printed.{printed};
 ghost use Rattle.observe_core.specs.Results.{IsPlannedFor, IsStatusOf, WritesObserved, WritesText};
@@ -15,14 +15,15 @@ use crate::observed::{Observed, observe_trace};
 use crate::words::Request;
 use observe_spec::ObserveStatus;
 use observer_log::{BoardState, Entry};
+use outside::{BufferedSink, Gate, Pending, Shelf, Sink, WriteFailed};
 use proc_plan::Plans;
-use psi_base::{BufferedSink, Gate, Ns, Pending, Shelf, Sink, WriteFailed};
-use replay_core::{TraceFault, read_plans};
+use psi_base::Ns;
 use std::alloc::Global;
 use std::marker::Brand;
 use std::sync::Wait;
 use std::sync::ledger::Blank;
 use std::thread::Threads;
+use trace_file::{TraceFault, read_plans};
 
 /// The length of a tick (ns).
 const TICK: Ns = 2_000_000_000;
@@ -45,7 +46,8 @@ fn fault_status(fault: TraceFault) -> ObserveStatus
     }
 }
 
-// How many samples so many observers of a trace take at most: one at each tick, of each observer, on each processor.
+// How many samples so many observers of a trace take at most: one at each tick, of each observer,
+// on each processor.
 fn samples_asked(plans: &Plans, observers: u32) -> u64
     requires early { plans.now.finish ≤ last_moment }
     requires few { length plans.now.plans ≤ 64 }
@@ -95,8 +97,8 @@ fn write<K: Sink>(
     }
 }
 
-// Observes a trace of a version that was taken apart, and writes what was observed. Where there would be too many samples, or memory
-// is wanting, nothing is written.
+// Observes a trace of a version that was taken apart, and writes what was observed. Where there
+// would be too many samples, or memory is wanting, nothing is written.
 fn write_observed<R: Threads + Wait + Sync, K: Sink, G: Gate>(
     rt: &R,
     alloc: Global,
@@ -138,7 +140,7 @@ pub(crate) fn run_request<R: Threads + Wait + Sync, S: Shelf, K: Sink, G: Gate>(
 ) -> ObserveStatus
     requires within { IsWithin 1 8 request.now.observers }
     ensures kept { S.holds shelf.new ≡ S.holds shelf.old }
-    ensures runs { Runs (request_in request.now) (S.holds shelf.old)
+    ensures runs { Observes (request_in request.now) (S.holds shelf.old)
         (run_counts (S.faults shelf.old) (S.absent shelf.old) (K.faults out.old))
         (run_counts (S.faults shelf.new) (S.absent shelf.new) (K.faults out.new))
         (K.has out.old) (K.has out.new) result }

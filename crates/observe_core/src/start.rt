@@ -89,7 +89,8 @@ fn observer_of<'j, 'a, L: Ledger>(
     Ok(Observer::new(journal, watcher, pass, share, lasts))
 }
 
-/// So many observers, 1 to 8, before the first tick of a replay. Each gets one part of the journal's ledger.
+/// So many observers, 1 to 8, before the first tick of a replay. Each gets one part of the
+/// journal's ledger.
 pub(crate) fn make_observers<'j, 'a, L: Ledger, R: Wait>(
     rt: &R,
     alloc: Global,

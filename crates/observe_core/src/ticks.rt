@@ -7,7 +7,8 @@ ghost use Rattle.observe_core.specs.Driving.{AreShown, AreWhole, HaveObserved, I
 use crate::interval::tick;
 use crate::observer::Observer;
 use observer_log::{Board, BoardState, DriverPass};
-use psi_base::{Gate, NoMemory};
+use outside::Gate;
+use psi_base::NoMemory;
 use replay_ticks::Replay;
 use std::sync::Wait;
 use std::sync::ledger::Ledger;

@@ -45,8 +45,8 @@ fn observers_in(word: &str) -> Option<u32>
     }
 }
 
-/// What the words ask for, the program's name not among them. Only for a path memory is wanted, so refused are exactly the words
-/// that ask for nothing.
+/// What the words ask for, the program's name not among them. Only for a path memory is wanted, so
+/// refused are exactly the words that ask for nothing.
 #[tactic(auto, unfolding(observe_spec::specs::Words::request_of))]
 pub(crate) fn read_request(alloc: Global, words: &[String]) -> Result<Request<'_>, Fault<BadWords>>
     ensures exact { MatchResult result

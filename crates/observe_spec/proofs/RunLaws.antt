@@ -2,12 +2,12 @@
 use Rattle.std.proofs.Common.{◌≡◌, ◌⊎◌, inl, inr, ℕ, Bool, true, false, true≢false, List, [], ◌∷◌, refl, sym, ◌∙◌, Option, None, Some}
 use Rattle.std.specs.Prelude.{codes, ◌==◌, ◌&&◌, not}
 use Rattle.psi_base.specs.Gives.{no_memory}
-use Rattle.psi_base.specs.Outside.{Files, Lacks}
+use Rattle.outside.specs.Outside.{Files, Lacks}
 use Rattle.run_spec.specs.declared.command.Command.TheVariants.{Replay}
 use Rattle.run_spec.specs.Words.{command_of, is_name, options_of, replay_of}
 use Rattle.observe_spec.specs.declared.status.ObserveStatus.{ObserveStatus}
 use Rattle.observe_spec.specs.declared.status.ObserveStatus.TheVariants as status
-use Rattle.observe_spec.specs.Run.{Ends, options_on}
+use Rattle.observe_spec.specs.Run.{ObservingEnds, options_on}
 use Rattle.observe_spec.specs.Laws.{MissingTraceTells, ReplayHasThese, TracesAreThoseOfReplay}
 
 pub missing_trace_tells : MissingTraceTells

@@ -4,14 +4,14 @@ use Rattle.psi_spec.specs.Changes.{changes_of}
 use Rattle.psi_spec.specs.Trace.{Trace, trace_of}
 use Rattle.run_spec.specs.Replay.{Pace}
 use Rattle.psi_base.specs.Gives.{no_memory}
-use Rattle.psi_base.specs.Outside.{Files, Lacks}
+use Rattle.outside.specs.Outside.{Files, Lacks}
 use Rattle.run_spec.specs.declared.command.Command.TheVariants.{Replay}
-use Rattle.run_spec.specs.Outputs.{or_refused, taken_of}
+use Rattle.run_spec.specs.Outputs.{or_refused_trace, taken_of}
 use Rattle.run_spec.specs.Words.{command_of}
 use Rattle.observe_spec.specs.declared.status.ObserveStatus.{ObserveStatus}
 use Rattle.observe_spec.specs.Words.{Request, is_trace_name}
 use Rattle.observe_spec.specs.Samples.{AreObserved, Look, all_due, looks_by}
-use Rattle.observe_spec.specs.Run.{Ends, accepts, options_on}
+use Rattle.observe_spec.specs.Run.{ObservingEnds, accepts, options_on}
 use Rattle.observe_spec.specs.declared.status.ObserveStatus.TheVariants as status
 
 -- ---- samples
@@ -37,10 +37,10 @@ ReplayHasThese = (name : List ℕ) → is_trace_name name ≡ true →
 
 -- The trace is the one that `replay` takes with no option, and refused where and as it is there.
 abbrev pub TracesAreThoseOfReplay : Type 0
-TracesAreThoseOfReplay = (name bytes : List ℕ) → or_refused (trace_of accepts bytes) ≡ taken_of (Replay name (options_on None)) bytes
+TracesAreThoseOfReplay = (name bytes : List ℕ) → or_refused_trace (trace_of accepts bytes) ≡ taken_of (Replay name (options_on None)) bytes
 
 -- Where the trace's file is told to be missing, a run says that it is, or tells of a failure.
 abbrev pub MissingTraceTells : Type 0
 MissingTraceTells = (request : Request) (files : Option Files) (old new : Option (List ℕ)) (result : ObserveStatus) →
-    Ends request files old new result → Lacks files request.trace →
+    ObservingEnds request files old new result → Lacks files request.trace →
     (result ≡ status.NoFile) ⊎ (result ≡ status.ReadFault) ⊎ (result ≡ status.NoMemory no_memory)

@@ -1,7 +1,8 @@
--- What a run of psi_observe promises: what each status says of the trace and of the output, and which counts of failures rose.
+-- What a run of psi_observe promises: what each status says of the trace and of the output, and
+-- which counts of failures rose.
 use Rattle.std.specs.Prelude.{◌≡◌, ℕ, ◌*◌, ◌<◌, ◌≤◌, List, Option, None, Some, Ok, Err}
 use Rattle.std.specs.Io.KnownBytes.{Appends, Keeps}
-use Rattle.psi_base.specs.Outside.{AppendsFront, Files, Lacks, told}
+use Rattle.outside.specs.Outside.{AppendsFront, Files, Lacks, told}
 use Rattle.psi_spec.specs.Grammar.{verbs_of, versions}
 use Rattle.psi_spec.specs.Trace.{Accepts, AreKnown, IsAccepted, IsCpuCount, Trace, accepts_with, limits_of, trace_of}
 use Rattle.run_spec.specs.declared.command.Options.{Options}
@@ -33,19 +34,19 @@ abbrev pub pace_on : List ℕ → Pace
 pace_on path = pace_of (options_on (Some path))
 
 -- the length of its ticks (ns), and so the latest moment of a trace, which is a million ticks
-abbrev pub tick_length : ℕ
-tick_length = 2000000000
+abbrev pub observed_tick_length : ℕ
+observed_tick_length = 2000000000
 
 -- what is accepted of a trace: one of any version, at the length of these ticks
 abbrev pub accepts : Accepts
-accepts = accepts_with versions tick_length
+accepts = accepts_with versions observed_tick_length
 
--- A trace is taken as it is asked for: its verbs are those of its version, its events make up a trace, and it is the one that the
--- bytes of the file are, where these are told.
-pub record TakesTrace (request : Request) (files : Option Files) (trace : Trace) : Type 0 where
+-- A trace is taken as it is asked for: its verbs are those of its version, its events make up a
+-- trace, and it is the one that the bytes of the file are, where these are told.
+pub record TakesAskedTrace (request : Request) (files : Option Files) (trace : Trace) : Type 0 where
   pub cpus : IsCpuCount trace.cpus
   pub known : AreKnown (verbs_of trace.version) trace.events
-  pub accepted : IsAccepted (limits_of tick_length trace.cpus) trace.events
+  pub accepted : IsAccepted (limits_of observed_tick_length trace.cpus) trace.events
   pub read : (bytes : List ℕ) → told files request.trace ≡ Some bytes → trace_of accepts bytes ≡ Ok trace
 
 -- ---- how many samples there may be
@@ -61,40 +62,43 @@ samples_asked request trace = tick_count trace (pace_on request.path) * request.
 -- ---- statuses
 
 -- the trace's file isn't told to be missing
-abbrev pub IsThere : Request → Option Files → Type 0
-IsThere request files = Lacks files request.trace → ⊥
+abbrev pub IsTraceThere : Request → Option Files → Type 0
+IsTraceThere request files = Lacks files request.trace → ⊥
 
--- The whole output has some property: it is of samples that the observers may have taken of an accepted trace, which aren't too
--- many. The file isn't missing.
-abbrev pub HasOutput : Request → Option Files → (List ℕ → Type 0) → Type 0
-HasOutput request files IsSo =
-    (trace : Trace) × TakesTrace request files trace × IsThere request files × (samples_asked request trace ≤ most_samples)
+-- The whole output has some property: it is of samples that the observers may have taken of an
+-- accepted trace, which aren't too many. The file isn't missing.
+abbrev pub HasObservedOutput : Request → Option Files → (List ℕ → Type 0) → Type 0
+HasObservedOutput request files IsSo =
+    (trace : Trace) × TakesAskedTrace request files trace × IsTraceThere request files × (samples_asked request trace ≤ most_samples)
     × ((text : List ℕ) × IsObservedText trace (pace_on request.path) request.path request.observers text × IsSo text)
 
--- What a status says of what was asked for, where the shelf may tell files, and of what the sink held before and holds now: the
--- whole output or a front of it; the first refused line of the trace; that its samples would be too many, and how many; or that
--- the file isn't there. Where it isn't Done or WriteFault, the sink is as it was.
-abbrev pub Ends : Request → Option Files → Option (List ℕ) → Option (List ℕ) → ObserveStatus → Type 0
-Ends request files old new status.Done = HasOutput request files (λ text. Appends old new text)
-Ends request files old new status.WriteFault = HasOutput request files (λ text. AppendsFront old new text)
-Ends request files old new (status.Trace line why) =
-    Keeps old new × IsThere request files
+-- What a status says of what was asked for, where the shelf may tell files, and of what the sink
+-- held before and holds now: the whole output or a front of it; the first refused line of the
+-- trace; that its samples would be too many, and how many; or that the file isn't there. Where it
+-- isn't Done or WriteFault, the sink is as it was.
+abbrev pub ObservingEnds : Request → Option Files → Option (List ℕ) → Option (List ℕ) → ObserveStatus → Type 0
+ObservingEnds request files old new status.Done = HasObservedOutput request files (λ text. Appends old new text)
+ObservingEnds request files old new status.WriteFault = HasObservedOutput request files (λ text. AppendsFront old new text)
+ObservingEnds request files old new (status.Trace line why) =
+    Keeps old new × IsTraceThere request files
     × ((bytes : List ℕ) → told files request.trace ≡ Some bytes → trace_of accepts bytes ≡ Err (record { line = line; cause = why }))
-Ends request files old new (status.TooManySamples samples) =
-    Keeps old new × IsThere request files
-    × ((trace : Trace) × TakesTrace request files trace × (samples ≡ samples_asked request trace) × (most_samples < samples))
-Ends request files old new status.NoFile = Keeps old new × (told files request.trace ≡ None)
-Ends request files old new status.ReadFault = Keeps old new
-Ends request files old new (status.NoMemory _) = Keeps old new
-Ends request files old new status.Usage = ⊥
+ObservingEnds request files old new (status.TooManySamples samples) =
+    Keeps old new × IsTraceThere request files
+    × ((trace : Trace) × TakesAskedTrace request files trace × (samples ≡ samples_asked request trace) × (most_samples < samples))
+ObservingEnds request files old new status.NoFile = Keeps old new × (told files request.trace ≡ None)
+ObservingEnds request files old new status.ReadFault = Keeps old new
+ObservingEnds request files old new (status.NoMemory _) = Keeps old new
+ObservingEnds request files old new status.Usage = ⊥
 
--- Each count rose exactly where the status tells of its failure: so no failure is passed over in silence.
-pub record FailuresAreCounted (before now : RunCounts) (result : ObserveStatus) : Type 0 where
+-- Each count rose exactly where the status tells of its failure: so no failure is passed over in
+-- silence.
+pub record ObserverFailuresAreCounted (before now : RunCounts) (result : ObserveStatus) : Type 0 where
   pub faults : RisesWhere (result ≡ status.ReadFault) before.shelf.faults now.shelf.faults
   pub absent : RisesWhere (result ≡ status.NoFile) before.shelf.absent now.shelf.absent
   pub writes : RisesWhere (result ≡ status.WriteFault) before.writes now.writes
 
 -- A run of what was asked for: what its status says, and the counts.
-pub record Runs (request : Request) (files : Option Files) (before now : RunCounts) (old new : Option (List ℕ)) (result : ObserveStatus) : Type 0 where
-  pub ends : Ends request files old new result
-  pub counts : FailuresAreCounted before now result
+pub record Observes (request : Request) (files : Option Files) (before now : RunCounts) (old new : Option (List ℕ))
+    (result : ObserveStatus) : Type 0 where
+  pub ends : ObservingEnds request files old new result
+  pub counts : ObserverFailuresAreCounted before now result

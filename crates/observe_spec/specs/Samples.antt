@@ -1,4 +1,5 @@
--- The samples that observers of one group take of a trace: who takes them, when they are due, and after how many changes.
+-- The samples that observers of one group take of a trace: who takes them, when they are due, and
+-- after how many changes.
 use Rattle.std.specs.Prelude.{◌≡◌, ℕ, ◌-◌, ◌<◌, ◌≤◌, Bool, ◌&&◌, ◌==◌, List, [], ◌∷◌, length, map, filter, Option, None, Some}
 use Rattle.std.specs.List.{flat_map, range_with_len}
 use Rattle.psi_spec.specs.Changes.{RiseWithin, changes_of}
@@ -7,7 +8,8 @@ use Rattle.pressure_spec.specs.Ticks.{tick_moment}
 use Rattle.run_spec.specs.Live.{changes_until, live_slot_at}
 use Rattle.run_spec.specs.Replay.{Pace, tick_count}
 
--- a sample: the number of the observer that took it, the processor, the slot, and after how many changes of the processor
+-- a sample: the number of the observer that took it, the processor, the slot, and after how many
+-- changes of the processor
 pub record Look : Type 0 where
   pub observer : ℕ
   pub cpu : ℕ
@@ -28,20 +30,22 @@ counts_by observer cpu looks = map (λ (look : Look). look.count) (filter (is_of
 
 -- ---- when they are due
 
--- a sample that is due of each observer: its processor, its slot, and after how many changes it is at least
+-- a sample that is due of each observer: its processor, its slot, and after how many changes it is
+-- at least
 pub record Due : Type 0 where
   pub cpu : ℕ
   pub slot : ℕ
   pub least : ℕ
 
--- The samples of the interval that ends with a tick (ns its length), where the path has this slot then: one on each processor, no
--- earlier than after the changes up to the tick before.
+-- The samples of the interval that ends with a tick (ns its length), where the path has this slot
+-- then: one on each processor, no earlier than after the changes up to the tick before.
 abbrev pub due_at : Trace → ℕ → ℕ → Option ℕ → List Due
 due_at trace tick i None = []
 due_at trace tick i (Some slot) =
     map (λ cpu. record { cpu = cpu; slot = slot; least = changes_until trace tick cpu (i - 1) }) (range_with_len 0 trace.cpus)
 
--- all samples that are due of each observer: those of a tick at which the path is live, tick by tick
+-- all samples that are due of each observer: those of a tick at which the path is live, tick by
+-- tick
 abbrev pub all_due : Trace → Pace → List ℕ → List Due
 all_due trace pace path =
     flat_map (λ i. due_at trace pace.length i (live_slot_at trace.events path (tick_moment pace.length i)))
@@ -55,9 +59,10 @@ AreDone (due ∷ dues) [] = ⊥
 AreDone (due ∷ dues) (look ∷ looks) =
     (look.cpu ≡ due.cpu) × (look.slot ≡ due.slot) × (due.least ≤ look.count) × AreDone dues looks
 
--- Samples that so many observers may have taken. Each took those that were due of it, in their order, and there are no others. The
--- counts of an observer's samples of a processor never fall, and are at most the processor's changes. In which order samples of
--- different observers stand, and after which changes they are, is open.
+-- Samples that so many observers may have taken. Each took those that were due of it, in their
+-- order, and there are no others. The counts of an observer's samples of a processor never fall,
+-- and are at most the processor's changes. In which order samples of different observers stand, and
+-- after which changes they are, is open.
 pub record AreObserved (trace : Trace) (pace : Pace) (path : List ℕ) (observers : ℕ) (looks : List Look) : Type 0 where
   pub done : (observer : ℕ) → observer < observers → AreDone (all_due trace pace path) (looks_by observer looks)
   pub none : (observer : ℕ) → observers ≤ observer → looks_by observer looks ≡ []

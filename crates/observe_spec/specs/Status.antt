@@ -22,12 +22,12 @@ trace_text None = []
 trace_text (Some request) = request.trace
 
 -- the line that tells of a status, with its newline; of Done nothing is told
-abbrev pub status_text : Option Request → ObserveStatus → List ℕ
-status_text request status.Done = []
-status_text request status.Usage = codes "usage: psi_observe TRACE OBSERVERS PATH\n"
-status_text request (status.Trace line why) = refusal_text line why
-status_text request status.NoFile = codes "no file: " ++ (trace_text request ++ codes "\n")
-status_text request status.ReadFault = codes "read fault\n"
-status_text request status.WriteFault = codes "write fault\n"
-status_text request (status.NoMemory _) = codes "out of memory\n"
-status_text request (status.TooManySamples samples) = codes "too many samples\n"
+abbrev pub observe_status_text : Option Request → ObserveStatus → List ℕ
+observe_status_text request status.Done = []
+observe_status_text request status.Usage = codes "usage: psi_observe TRACE OBSERVERS PATH\n"
+observe_status_text request (status.Trace line why) = refusal_text line why
+observe_status_text request status.NoFile = codes "no file: " ++ (trace_text request ++ codes "\n")
+observe_status_text request status.ReadFault = codes "read fault\n"
+observe_status_text request status.WriteFault = codes "write fault\n"
+observe_status_text request (status.NoMemory _) = codes "out of memory\n"
+observe_status_text request (status.TooManySamples samples) = codes "too many samples\n"

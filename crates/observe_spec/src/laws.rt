@@ -7,7 +7,8 @@ pub fn law_observed()
     ensures share { EachTakesItsShare }
 {}
 
-/// A trace is replayed as `replay` does with no option: it is the one that `replay` takes, and refused where and as it is there.
+/// A trace is replayed as `replay` does with no option: it is the one that `replay` takes, and
+/// refused where and as it is there.
 pub fn law_as_replay()
     ensures options { ReplayHasThese }
     ensures traces { TracesAreThoseOfReplay }

@@ -2,7 +2,8 @@
 
 use crate::runs::{Failing, NO_FAULT, NONE, is_run, prints_nothing, run_over};
 use observe_core::ObserveStatus;
-use psi_base::{Cause, OpenGate};
+use outside::OpenGate;
+use psi_base::Cause;
 use std::sync::Wait;
 use std::test::Fail;
 use std::thread::Threads;
@@ -15,7 +16,8 @@ const PRINTED: &str = "board observer=0 tick=2 events=0 kills=0\n\
     board observer=1 tick=2 events=0 kills=0\n\
     end 4000000000 samples=0\n";
 
-/// How many bytes the trace has, each of which is read by a call of its own, and one call more looks behind it.
+/// How many bytes the trace has, each of which is read by a call of its own, and one call more
+/// looks behind it.
 const READS: u64 = 54;
 
 /// How many bytes the output has.
@@ -39,8 +41,8 @@ fn traces_that_are_refused(rt: HostRuntime) -> Result<(), Fail> {
     Ok(())
 }
 
-/// Whether words over the trace end with this status and note, where some calls fail and one byte moves at each, and print a front
-/// of the output: the whole, where they are done.
+/// Whether words over the trace end with this status and note, where some calls fail and one byte
+/// moves at each, and print a front of the output: the whole, where they are done.
 fn is_front<R: Threads + Wait + AllocGlobal + Sync>(
     rt: &R,
     failing: Failing,

@@ -1,8 +1,10 @@
-//! Observers and the threads of the replay at a gate that holds each of them until it has met another.
+//! Observers and the threads of the replay at a gate that holds each of them until it has met
+//! another.
 
 use crate::runs::{is_run, line_of, run_gated};
 use observe_core::ObserveStatus;
-use psi_base::{Cpu, Gate};
+use outside::Gate;
+use psi_base::Cpu;
 use std::sync::atomic::AtomicBool;
 use std::sync::atomic::Ordering::SeqCst;
 use std::test::Fail;
@@ -23,7 +25,8 @@ const AFTER_THREE: &str = "sample observer=0 cpu=0 count=3 at=500000000 0 0 0 0 
     board observer=0 tick=1 events=0 kills=0\n\
     end 2000000000 samples=1\n";
 
-/// A group whose task runs, waits for IO for a second and is ready; it goes once the task has left it, and comes again.
+/// A group whose task runs, waits for IO for a second and is ready; it goes once the task has left
+/// it, and comes again.
 const COMES_AGAIN: &str = "psitrace 1 cpus=1\n\
     0 group /a\n\
     0 fork 1 /a 0\n\
@@ -35,8 +38,8 @@ const COMES_AGAIN: &str = "psitrace 1 cpus=1\n\
     6500000000 group /a\n\
     8000000000 end\n";
 
-/// What one observer prints of it that first samples after the third change. At the third tick the group isn't live, and at the
-/// fourth it is another one, in which no time has passed.
+/// What one observer prints of it that first samples after the third change. At the third tick the
+/// group isn't live, and at the fourth it is another one, in which no time has passed.
 const BOTH_LIVES: &str = "sample observer=0 cpu=0 count=3 at=500000000 0 0 0 0 0 0 500000000\n\
     sample observer=0 cpu=0 count=4 at=1500000000 1000000000 1000000000 0 0 0 0 1500000000\n\
     sample observer=0 cpu=0 count=5 at=4500000000 0 0 0 0 0 0 0\n\
@@ -53,8 +56,9 @@ fn wait_for(other: &AtomicBool, is_missed: &AtomicBool) {
     is_missed.store(true, SeqCst);
 }
 
-/// A gate at which the third change of processor 0 and observer 0's first sample there wait for one another: the sample is taken
-/// once the change is made, and the next change is made once it is taken.
+/// A gate at which the third change of processor 0 and observer 0's first sample there wait for one
+/// another: the sample is taken once the change is made, and the next change is made once it is
+/// taken.
 #[derive(Drop)]
 struct AfterThird {
     is_moved: AtomicBool,
@@ -135,7 +139,8 @@ impl Gate for OtherFirst {
     }
 }
 
-// The samples stand in the order of the journal, and the states of the board in that of the observers.
+// The samples stand in the order of the journal, and the states of the board in that of the
+// observers.
 #[test]
 fn observers_in_the_order_of_the_journal(rt: HostRuntime) -> Result<(), Fail> {
     let gate = OtherFirst {

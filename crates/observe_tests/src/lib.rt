@@ -1,5 +1,6 @@
-//! Tests of the top call of psi_observe over shelves and sinks in memory: observers whose threads are held at gates, groups that
-//! come and go, words, faults at each call, and how many samples there may be.
+//! Tests of the top call of psi_observe over shelves and sinks in memory: observers whose threads
+//! are held at gates, groups that come and go, words, faults at each call, and how many samples
+//! there may be.
 #![tactic(auto)]
 
 #[cfg(test)]

@@ -13,7 +13,8 @@ const BETWEEN_TICKS: &str = "psitrace 1 cpus=2\n\
     3500000000 rmgroup /a\n\
     4100000000 end\n";
 
-/// A task of a group waits for IO for three seconds, of which the group's trigger signals at both ticks.
+/// A task of a group waits for IO for three seconds, of which the group's trigger signals at both
+/// ticks.
 const SIGNALS: &str = "psitrace 1 cpus=1\n\
     0 group /web\n\
     0 fork 1 /web 0\n\

@@ -1,7 +1,9 @@
 //! Running words over one trace in memory.
 
 use observe_core::{ObserveStatus, observe};
-use psi_base::{Gate, MemShelf, MemSink, OpenGate, Text};
+use outside::{Gate, OpenGate};
+use outside_fakes::{MemShelf, MemSink};
+use psi_base::Text;
 use std::sync::Wait;
 use std::test::Fail;
 use std::thread::Threads;
@@ -45,8 +47,8 @@ fn words_of<R: AllocGlobal>(rt: &R, line: &str) -> Result<Vec<String>, Fail> {
     Ok(words)
 }
 
-/// Runs a command line over a shelf that holds this trace by the name `t`, where some calls fail, and threads are held by a gate.
-/// The shelf and both sinks move at most so many bytes a call.
+/// Runs a command line over a shelf that holds this trace by the name `t`, where some calls fail,
+/// and threads are held by a gate. The shelf and both sinks move at most so many bytes a call.
 pub fn run_over<R: Threads + Wait + AllocGlobal + Sync, G: Gate>(
     rt: &R,
     line: &str,

@@ -67,7 +67,8 @@ fn a_sample_of_each_observer(rt: HostRuntime) -> Result<(), Fail> {
     Ok(())
 }
 
-/// Whether an observer has a line of each processor at each of three ticks, by tick, of which the last four are settled.
+/// Whether an observer has a line of each processor at each of three ticks, by tick, of which the
+/// last four are settled.
 fn is_settled(output: &[u8], observer: u8) -> bool {
     let lines = output.split(|byte| *byte == b'\n');
     let count = lines.filter_map(|line| look_of(line, observer)).count();

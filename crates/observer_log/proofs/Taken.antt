@@ -118,7 +118,8 @@ taken_push journal lists places taken j e x is own inside at there short next sa
 so_far : (journal : List Entry) (lists : List (List Entry)) (places : List ℕ) (taken : List Entry) → IsTaken journal lists places taken → (o : ℕ) → map said (by o journal) ≡ map said (take (place_of places o) (list_of lists o))
 so_far journal lists places taken is o = by_said o journal ∙ (ap (said_by o) (sym is.same) ∙ (sym (by_said o taken) ∙ ap (map said) (is.own o)))
 
--- where the journal agrees with the lists, what it says next is what the list of the observer says next
+-- where the journal agrees with the lists, what it says next is what the list of the observer says
+-- next
 pub agreed_next : (journal : List Entry) (lists : List (List Entry)) (places : List ℕ) (taken : List Entry) (j : ℕ) (e : Entry) → IsTaken (take j journal) lists places taken → j < length journal → e ≡ get_or journal j e → Agrees journal lists
     → (rest : List Said) × (map said (list_of lists e.observer) ≡ map said (take (place_of places e.observer) (list_of lists e.observer)) ++ said e ∷ rest)
 agreed_next journal lists places taken j e is inside at agrees =

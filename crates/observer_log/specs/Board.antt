@@ -76,7 +76,8 @@ with_note view note = view
 
 -- ---- the rule
 
--- What a pass knows of the board, where the driver's pass has this number and published these states.
+-- What a pass knows of the board, where the driver's pass has this number and published these
+-- states.
 abbrev pub Knows : ℕ → List BoardState → ℕ → View → Type 0
 Knows seat states other Spent = Unit {0}
 Knows seat states other (Shown shown) = Begins states shown
@@ -84,8 +85,8 @@ Knows seat states other (Seen read) = ArePublished states read
 Knows seat states other (Driver driver) = (other ≡ seat) × (driver.states ≡ states) × ArePublished states driver.heard
 Knows seat states other (Observer watching) = (watching.least < length states) × ArePublished states watching.read
 
--- A board with this driver: its view is at its number, the board shows the last state published, under its tick, and each pass
--- knows of the board what its view says.
+-- A board with this driver: its view is at its number, the board shows the last state published,
+-- under its tick, and each pass knows of the board what its view says.
 pub record IsBoard (seat : ℕ) (driver : Publishing) (value : BoardState) (views : List View) : Type 0 where
   pub here : get_elem? views seat ≡ some (Driver driver)
   pub last : length driver.states ≡ value.tick + 1
@@ -100,15 +101,18 @@ HoldsBoard value views = (seat : ℕ) × (driver : Publishing) × IsBoard seat d
 
 -- the driver published one state more
 abbrev pub HasPublished : View → BoardState → BoardState → View → Type 0
-HasPublished before old new after = (driver : Publishing) → before ≡ Driver driver → after ≡ Driver (record { states = driver.states ++ new ∷ []; heard = driver.heard })
+HasPublished before old new after =
+    (driver : Publishing) → before ≡ Driver driver → after ≡ Driver (record { states = driver.states ++ new ∷ []; heard = driver.heard })
 
 -- an observer read the state of a tick that isn't before the least
 abbrev pub HasRead : View → BoardState → BoardState → View → Type 0
-HasRead before old new after = (watching : Watching) → before ≡ Observer watching → (after ≡ Observer (after_read new watching)) × (watching.least ≤ new.tick)
+HasRead before old new after =
+    (watching : Watching) → before ≡ Observer watching → (after ≡ Observer (after_read new watching)) × (watching.least ≤ new.tick)
 
 -- what the driver heard of is what it published
 abbrev pub HasCompared : View → BoardState → BoardState → View → Type 0
-HasCompared before old new after = (driver : Publishing) → before ≡ Driver driver → (after ≡ before) × ArePublished driver.states driver.heard
+HasCompared before old new after =
+    (driver : Publishing) → before ≡ Driver driver → (after ≡ before) × ArePublished driver.states driver.heard
 
 -- ---- the ends
 
@@ -149,7 +153,8 @@ IsObserver seat = cell_view seat ≡ Observer (as_observer (cell_view seat))
 
 -- ---- a law
 
--- Whoever was told all that was published, then read a state, and was then told all again, has read the last one.
+-- Whoever was told all that was published, then read a state, and was then told all again, has read
+-- the last one.
 abbrev pub LastReadIsLast : Type 0
 LastReadIsLast = (states : List BoardState) (state : BoardState) (before : Watching) → (after_told states before).least ≤ state.tick →
     ArePublished states (after_read state (after_told states before)).read → IsLast states state

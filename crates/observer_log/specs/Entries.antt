@@ -1,4 +1,5 @@
--- Entries, and the lists in which observers keep their own. That an entry is a right sample of its plan stands in its type.
+-- Entries, and the lists in which observers keep their own. That an entry is a right sample of its
+-- plan stands in its type.
 use Rattle.std.specs.Prelude.{◌≡◌, ℕ, Bool, ◌&&◌, nat_eq, List, [], ◌∷◌, map, filter, slice_index_or}
 use Rattle.observer_log.specs.declared.entry.Entry.{Entry}
 
@@ -12,7 +13,8 @@ pub record Said : Type 0 where
   pub seven : List ℕ
 
 abbrev pub said : Entry → Said
-said entry = record { observer = entry.observer; cpu = entry.cpu.0; slot = entry.slot.0; count = entry.count; at = entry.at; seven = entry.seven }
+said entry =
+    record { observer = entry.observer; cpu = entry.cpu.0; slot = entry.slot.0; count = entry.count; at = entry.at; seven = entry.seven }
 
 -- the entry is an observer's
 abbrev pub is_by : ℕ → Entry → Bool

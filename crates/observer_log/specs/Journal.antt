@@ -1,4 +1,5 @@
--- The journal of all observers: when it is good, what may be added, and when it agrees with the lists of their own.
+-- The journal of all observers: when it is good, what may be added, and when it agrees with the
+-- lists of their own.
 use Rattle.std.specs.Prelude.{◌≡◌, ℕ, ◌<◌, ◌≤◌, List, [], ◌∷◌, ◌++◌, length, map, take, slice_index, Option, None, Some}
 use Rattle.observer_log.specs.declared.entry.Entry.{Entry}
 use Rattle.observer_log.specs.Entries.{by, counts_of, list_of, said}
@@ -8,7 +9,8 @@ abbrev pub RiseFrom : ℕ → List ℕ → Type 0
 RiseFrom low [] = Unit {0}
 RiseFrom low (number ∷ numbers) = (low ≤ number) × RiseFrom number numbers
 
--- The counts never fall, for each observer and processor. That each entry has its plan's times is in the entry.
+-- The counts never fall, for each observer and processor. That each entry has its plan's times is
+-- in the entry.
 abbrev pub IsGood : List Entry → Type 0
 IsGood entries = (observer cpu : ℕ) → RiseFrom 0 (counts_of observer cpu entries)
 
@@ -30,8 +32,8 @@ IsNotBefore entries entry = (last : ℕ) → last_of (counts_of entry.observer e
 
 -- ---- the order of the journal
 
--- A journal agrees with lists, one for each observer: its entries of each observer are, but for the plan, that observer's list.
--- So it has none of an observer without a list.
+-- A journal agrees with lists, one for each observer: its entries of each observer are, but for the
+-- plan, that observer's list. So it has none of an observer without a list.
 abbrev pub Agrees : List Entry → List (List Entry) → Type 0
 Agrees entries lists = (observer : ℕ) → map said (by observer entries) ≡ map said (list_of lists observer)
 
@@ -40,8 +42,8 @@ abbrev pub joined : List (List Entry) → List Entry
 joined [] = []
 joined (list ∷ lists) = list ++ joined lists
 
--- The entries of the lists in the order of a journal that agrees with them: each is, but for the plan, the journal's at its
--- place, and those of each observer are that observer's list.
+-- The entries of the lists in the order of a journal that agrees with them: each is, but for the
+-- plan, the journal's at its place, and those of each observer are that observer's list.
 pub record AreInOrder (journal : List Entry) (lists : List (List Entry)) (entries : List Entry) : Type 0 where
   pub agrees : Agrees journal lists
   pub places : map said entries ≡ map said journal
@@ -51,7 +53,8 @@ pub record AreInOrder (journal : List Entry) (lists : List (List Entry)) (entrie
 abbrev pub place_of : List ℕ → ℕ → ℕ
 place_of places observer = slice_index places observer
 
--- So far entries of the lists were taken in the order of the journal: of each list the first ones, as many as its place says.
+-- So far entries of the lists were taken in the order of the journal: of each list the first ones,
+-- as many as its place says.
 pub record IsTaken (journal : List Entry) (lists : List (List Entry)) (places : List ℕ) (taken : List Entry) : Type 0 where
   pub all : length places ≡ length lists
   pub same : map said taken ≡ map said journal

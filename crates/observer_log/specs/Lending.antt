@@ -13,4 +13,5 @@ with_reader watcher cpu reader = record watcher { readers = slice_set watcher.re
 
 -- A watcher ends with what is left behind the reader of a processor that it lends.
 abbrev pub LendsReader : MutBor WatcherView → ℕ → MutBor ReaderEnd → Fml
-LendsReader watcher cpu reader = Lends (Watcher.the_row (record { mir = named 1; lft = [] })) ClockReader.the_row watcher reader (with_reader watcher.now cpu)
+LendsReader watcher cpu reader =
+    Lends (Watcher.the_row (record { mir = named 1; lft = [] })) ClockReader.the_row watcher reader (with_reader watcher.now cpu)

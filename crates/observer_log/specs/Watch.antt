@@ -31,7 +31,8 @@ pub record AreReaders (plans : PlansView) (readers : List ReaderEnd) : Type 0 wh
 
 -- ---- watchers
 
--- A watcher: the number of its observer, the plans of all processors, a reader of each, and its own entries.
+-- A watcher: the number of its observer, the plans of all processors, a reader of each, and its own
+-- entries.
 pub record WatcherView : Type 0 where
   pub observer : ℕ
   pub plans : PlansView
@@ -44,7 +45,8 @@ new_watcher observer plans readers = record { observer = observer; plans = plans
 
 -- ---- looks
 
--- An entry is one that an observer took of a slot on a processor, no earlier than after so many changes.
+-- An entry is one that an observer took of a slot on a processor, no earlier than after so many
+-- changes.
 pub record IsTakenBy (observer : ℕ) (plans : PlansView) (cpu slot least : ℕ) (entry : Entry) : Type 0 where
   pub observer_is : entry.observer ≡ observer
   pub plan_is : entry.plan.now ≡ plan_at plans cpu
@@ -52,8 +54,8 @@ pub record IsTakenBy (observer : ℕ) (plans : PlansView) (cpu slot least : ℕ)
   pub slot_is : entry.slot.0 ≡ slot
   pub later : least ≤ entry.count
 
--- The reader of a processor took a sample of a count, after the last one, by its own tries, eight at most. The other readers did
--- nothing.
+-- The reader of a processor took a sample of a count, after the last one, by its own tries, eight
+-- at most. The other readers did nothing.
 pub record HasSampled (cpu last count : ℕ) (old new : List ReaderEnd) : Type 0 where
   pub reader : ReaderEnd
   pub are : new ≡ slice_set old cpu reader
@@ -63,8 +65,8 @@ pub record HasSampled (cpu last count : ℕ) (old new : List ReaderEnd) : Type 0
   pub tried : IsTried (count ∷ []) last (reader_at old cpu).knows reader.knows
   pub few : tries_of reader.knows ≤ tries_of (reader_at old cpu).knows + 8
 
--- A watcher looked at a slot on a processor: the processor's reader took a sample after the last one, whose entry stands at the
--- end of the list.
+-- A watcher looked at a slot on a processor: the processor's reader took a sample after the last
+-- one, whose entry stands at the end of the list.
 pub record HasLooked (cpu slot last : ℕ) (old new : WatcherView) : Type 0 where
   pub observer_is : new.observer ≡ old.observer
   pub plans_are : new.plans ≡ old.plans

@@ -156,7 +156,8 @@ impl Model for Board {
     ghost view = { λ board. board.cell.table.shared.table_id };
 }
 
-/// The driver's pass of a board. Contracts see which board it is, and the states that were published on it.
+/// The driver's pass of a board. Contracts see which board it is, and the states that were
+/// published on it.
 #[derive(Drop)]
 pub struct DriverPass {
     seat: Seat,
@@ -172,7 +173,8 @@ impl Model for DriverPass {
     ghost invariant = { λ pass. IsDriver pass.seat };
 }
 
-/// An observer's pass of a board. It may go to another thread. Contracts see which board it is, and what it knows.
+/// An observer's pass of a board. It may go to another thread. Contracts see which board it is, and
+/// what it knows.
 #[derive(Drop)]
 pub struct BoardPass {
     seat: Seat,
@@ -236,7 +238,8 @@ impl Board {
         self.cell.load_as::<Reads, R>(rt, &mut pass.seat)
     }
 
-    /// Tells a pass all that was published: each state that it read is the one that was published under its tick.
+    /// Tells a pass all that was published: each state that it read is the one that was published
+    /// under its tick.
     pub fn tell<R: Wait>(
         &self,
         rt: &R,

@@ -6,8 +6,9 @@ use clock_row::Sample;
 use proc_plan::Plan;
 use psi_base::{Cpu, Ns, Slot};
 
-/// A sample that an observer took: the times of a slot on a processor after `count` changes of its plan, at the moment of the
-/// last of them. That they are so stands in the type: an entry with other numbers can't be made.
+/// A sample that an observer took: the times of a slot on a processor after `count` changes of its
+/// plan, at the moment of the last of them. That they are so stands in the type: an entry with
+/// other numbers can't be made.
 #[derive(Clone, Copy)]
 pub struct Entry<'a> {
     /// The number of the observer, from 0.

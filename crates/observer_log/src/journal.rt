@@ -26,8 +26,9 @@ impl From<NoMemory> for AddFault {
     }
 }
 
-/// The entries of all observers, in the order in which they were added, with a ledger of how many were. It is good by its type:
-/// each entry is, and for each observer and processor the counts never fall. Contracts see the list.
+/// The entries of all observers, in the order in which they were added, with a ledger of how many
+/// were. It is good by its type: each entry is, and for each observer and processor the counts
+/// never fall. Contracts see the list.
 #[derive(Drop)]
 pub struct Journal<'a, L: Ledger> {
     entries: Vec<Entry<'a>>,
@@ -62,7 +63,8 @@ fn last_count(entries: &[Entry<'_>], observer: u32, cpu: Cpu) -> Option<u64>
     None
 }
 
-// The count of the last entry of an entry's observer and processor, if it is greater than the entry's.
+// The count of the last entry of an entry's observer and processor, if it is greater than the
+// entry's.
 fn greater_last(entries: &[Entry<'_>], entry: &Entry<'_>) -> Option<u64>
     ensures falls { (last : ℕ) →
         (result ≡ Some last) ↔ IsBefore entries.now entry.now last }
@@ -87,8 +89,9 @@ impl<'a, L: Ledger> Journal<'a, L> {
         }
     }
 
-    /// Adds an entry at the end, and one to the share of who adds it. Falls comes exactly where the last entry of its observer and
-    /// processor has the greater count. What is refused leaves all as it was.
+    /// Adds an entry at the end, and one to the share of who adds it. Falls comes exactly where the
+    /// last entry of its observer and processor has the greater count. What is refused leaves all
+    /// as it was.
     pub fn add(&mut self, entry: Entry<'a>, share: &mut Share<L>) -> Result<(), AddFault>
         requires { 0 < share.old.parts }
         ensures added { IfOk result (λ _. self.new ≡ self.old ++ entry.entry ∷ []) }
@@ -111,7 +114,8 @@ impl<'a, L: Ledger> Journal<'a, L> {
         }
     }
 
-    /// The entries, in the order in which they were added. For each observer and processor the counts never fall.
+    /// The entries, in the order in which they were added. For each observer and processor the
+    /// counts never fall.
     pub fn entries(&self) -> &[Entry<'a>]
         ensures entries { result.now ≡ self.now }
         ensures good { IsGood self.now }
@@ -119,8 +123,8 @@ impl<'a, L: Ledger> Journal<'a, L> {
         &self.entries
     }
 
-    /// The entries of the observers' own lists: in the journal's order where it agrees with them, else list after list. The
-    /// list at place `i` is that of observer `i`.
+    /// The entries of the observers' own lists: in the journal's order where it agrees with them,
+    /// else list after list. The list at place `i` is that of observer `i`.
     pub fn order(&self, own: &[Own<'a>]) -> Result<Vec<Entry<'a>>, NoMemory>
         requires { AreOwn own.now }
         ensures agrees { Agrees self.now own.now →

@@ -20,8 +20,8 @@ fn say_same(one: &Entry<'_>, other: &Entry<'_>) -> bool
         && one.seven == other.seven
 }
 
-/// The entries of the lists in the order of the journal, each for the journal's own at its place. None where the two don't
-/// agree.
+/// The entries of the lists in the order of the journal, each for the journal's own at its place.
+/// None where the two don't agree.
 pub(crate) fn in_order<'a>(
     alloc: Global,
     journal: &[Entry<'_>],

@@ -9,13 +9,15 @@ ghost use Rattle.proc_plan.specs.Plans.{plan_at};
 use crate::entry::Entry;
 use crate::own::Own;
 use clock_row::{ClockReader, Sample};
+use outside::Gate;
 use proc_plan::Plans;
-use psi_base::{Cpu, Gate, NoMemory, Slot};
+use psi_base::{Cpu, NoMemory, Slot};
 use std::alloc::Global;
 use std::marker::Model;
 
-/// Takes samples of all processors for one observer, with a reader for each, and keeps the entries. It may go to another thread.
-/// Contracts see the observer, the plans, what the readers know, and the entries.
+/// Takes samples of all processors for one observer, with a reader for each, and keeps the entries.
+/// It may go to another thread. Contracts see the observer, the plans, what the readers know, and
+/// the entries.
 #[derive(Drop)]
 pub struct Watcher<'a> {
     observer: u32,
@@ -68,7 +70,8 @@ fn take_one<'a, G: Gate>(
 }
 
 impl<'a> Watcher<'a> {
-    /// A watcher with no entry. There is one reader for each processor, in their order. It takes no memory.
+    /// A watcher with no entry. There is one reader for each processor, in their order. It takes no
+    /// memory.
     pub fn make(
         alloc: Global,
         observer: u32,
@@ -86,8 +89,9 @@ impl<'a> Watcher<'a> {
         }
     }
 
-    /// Takes one sample of a slot on a processor, after at least as many changes as the last one, and adds its entry to the list.
-    /// Before it calls the gate, with the number of the observer. NoMemory comes before the call, and leaves all as it was.
+    /// Takes one sample of a slot on a processor, after at least as many changes as the last one,
+    /// and adds its entry to the list. Before it calls the gate, with the number of the observer.
+    /// NoMemory comes before the call, and leaves all as it was.
     pub fn look<G: Gate>(
         &mut self,
         cpu: Cpu,
@@ -121,7 +125,8 @@ impl<'a> Watcher<'a> {
         Ok(())
     }
 
-    /// The reader of a processor, which the writer of its row may meet and settle with. The list stays.
+    /// The reader of a processor, which the writer of its row may meet and settle with. The list
+    /// stays.
     pub fn reader(&mut self, cpu: Cpu) -> &mut ClockReader
         requires { cpu.0 < length self.old.plans.plans }
         ensures* writes_back { sem 𝓛 (LendsReader self.entry cpu.0 result) }

@@ -1,9 +1,9 @@
 -- The text of patterns, one after another.
-use Rattle.std.proofs.Common.{◌≡◌, ℕ, List, [], ◌∷◌, ◌++◌, Bool, true, false, refl, sym, ap, ◌∙◌, append_assoc}
+use Rattle.std.proofs.Common.{◌≡◌, ◌≤◌, ℕ, arith, length, take, List, [], ◌∷◌, ◌++◌, Bool, true, false, refl, sym, ap, ◌∙◌, append_assoc}
 use Rattle.std.specs.Prelude.{codes, if◌then◌else◌, map}
 use Rattle.std.specs.List.{join_with_byte}
 use Rattle.std.specs.Str.{bytes_eq}
-use Rattle.std.proofs.lemmas.List.{append-nil}
+use Rattle.std.proofs.lemmas.List.{append-nil, length-take, take-append-le}
 use Rattle.std.proofs.lemmas.Slice.Eq.{bytes_eq-Decides}
 use Rattle.psi_base.specs.Path.{parts_at}
 use Rattle.path_match.specs.Match.{components, behind_slash, pattern_text, patterns_text}
@@ -35,3 +35,9 @@ text_from part (next ∷ parts) = ap (λ rest. pattern_text (components part) ++
 pub text_began : (whole parts : List (List ℕ)) (first before now piece : List ℕ) → whole ≡ first ∷ parts → piece ≡ pattern_text (components first) → now ≡ before ++ piece
     → now ++ behind parts ≡ before ++ patterns_text (map components whole)
 text_began whole parts first before now piece is text put = rw (put, is, text, text_from first parts) (append_assoc before (pattern_text (components first)) (behind parts))
+
+-- what stands in front stays there when more is written
+pub front_more : (front text more : List ℕ) → take (length front) text ≡ front → take (length front) (text ++ more) ≡ front
+front_more front text more is =
+    let long : length front ≤ length text = grind (arith, length-take (length front) text, ap length is) in
+    take-append-le (length front) text more long ∙ is

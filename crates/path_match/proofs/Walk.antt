@@ -1,4 +1,5 @@
--- The walk over a component of a pattern: at each moment what is left of it says whether the whole matches.
+-- The walk over a component of a pattern: at each moment what is left of it says whether the whole
+-- matches.
 use Rattle.std.proofs.Common.{◌≡◌, ◌≢◌, ℕ, zero, suc, ◌+◌, ◌-◌, ◌<◌, ◌≤◌, List, [], ◌∷◌, length, drop, get_or, refl, sym, ap, ◌∙◌, arith, Bool, true, false, ⊎_elim, add-one}
 use Rattle.std.specs.Prelude.{Option, None, Some, ◌==◌, ◌&&◌, ◌||◌, if◌then◌else◌}
 use Rattle.std.specs.List.{list_all}
@@ -65,7 +66,8 @@ passed (suc n) (c ∷ pattern) (byte ∷ bytes) inside none matched =
     let rest = passed n pattern bytes (omega arith) (λ k below. none (suc k) (omega arith)) both.1 in
     (omega (arith, rest.0), rest.1)
 
--- where a pattern matches some end of the bytes, what is behind its front matches some end of what is behind as many bytes
+-- where a pattern matches some end of the bytes, what is behind its front matches some end of what
+-- is behind as many bytes
 some_passed : (n : ℕ) (pattern bytes : List ℕ) → n ≤ length pattern → HasNoStar n pattern → some_end (is_component_match pattern) bytes ≡ true →
     some_end (is_component_match (drop n pattern)) (drop n bytes) ≡ true
 some_passed n pattern [] inside none matched =
@@ -82,8 +84,9 @@ some_passed n pattern (byte ∷ bytes) inside none matched =
 
 -- ---- the steps
 
--- Behind a star that was passed: the bytes of the pattern from there on are no stars and stand for as many bytes behind
--- the star's run, and the whole matches where the rest does, or where the run is longer.
+-- Behind a star that was passed: the bytes of the pattern from there on are no stars and stand for
+-- as many bytes behind the star's run, and the whole matches where the rest does, or where the run
+-- is longer.
 pub record AfterStar (pattern bytes : List ℕ) (at next behind end : ℕ) : Type 0 where
   pub inside : behind ≤ at
   pub as_many : end + (at - behind) ≡ next

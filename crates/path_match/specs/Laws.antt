@@ -24,7 +24,8 @@ StarMatchesAny = (bytes : List ℕ) → MatchesComponent (codes "*") bytes
 
 -- ---- reading
 
--- a text spells a pattern: it is the pattern's own, or that behind a slash where the pattern isn't the root's
+-- a text spells a pattern: it is the pattern's own, or that behind a slash where the pattern isn't
+-- the root's
 abbrev pub SpellsPattern : List ℕ → Pattern → Type 0
 SpellsPattern text pattern = (text ≡ pattern_text pattern) ⊎ ((pattern ≢ []) × (text ≡ 47 ∷ pattern_text pattern))
 
@@ -35,9 +36,11 @@ pub record SpellsEach (text : List ℕ) (patterns : List Pattern) : Type 0 where
   pub as_many : length parts ≡ length patterns
   pub each : All (λ pair. SpellsPattern pair.0 pair.1) (zip parts patterns)
 
--- Patterns are read from a text exactly where it spells them, and they are one to 16, each well formed.
+-- Patterns are read from a text exactly where it spells them, and they are one to 16, each well
+-- formed.
 abbrev pub ReadsPatterns : Type 0
-ReadsPatterns = (text : List ℕ) (patterns : List Pattern) → (patterns_of text ≡ Ok patterns) ↔ (ArePatterns patterns × SpellsEach text patterns)
+ReadsPatterns =
+    (text : List ℕ) (patterns : List Pattern) → (patterns_of text ≡ Ok patterns) ↔ (ArePatterns patterns × SpellsEach text patterns)
 
 -- Patterns are read again from their text.
 abbrev pub ReadAgain : Type 0

@@ -25,18 +25,22 @@ is_pattern_byte c = is_path_byte c || c == 42
 
 -- one or more such bytes, and neither `.` nor `..`
 abbrev pub is_pattern_component : List ℕ → Bool
-is_pattern_component part = nat_lt 0 (length part) && list_all is_pattern_byte part && not (bytes_eq part (codes ".")) && not (bytes_eq part (codes ".."))
+is_pattern_component part =
+    nat_lt 0 (length part) && list_all is_pattern_byte part && not (bytes_eq part (codes ".")) && not (bytes_eq part (codes ".."))
 
 -- a text is a pattern: the root, or components, with or without a slash before the first
 abbrev pub is_pattern : List ℕ → Bool
 is_pattern text = list_all is_pattern_component (components text)
 
--- the patterns of a text, each by its components: those of the parts between commas, where all parts are patterns and
--- there are at most 16
+-- the patterns of a text, each by its components: those of the parts between commas, where all
+-- parts are patterns and there are at most 16
 unfoldable pub patterns_of : List ℕ → Result (List Pattern) PatternFault
-patterns_of text = if list_all is_pattern (parts_at 44 text) then (if nat_le (length (parts_at 44 text)) 16 then Ok (map components (parts_at 44 text)) else Err TooMany) else Err BadPattern
+patterns_of text =
+    if list_all is_pattern (parts_at 44 text) then (if nat_le (length (parts_at 44 text)) 16
+    then Ok (map components (parts_at 44 text)) else Err TooMany) else Err BadPattern
 
--- a component of a pattern matches one of a path: a star any run of bytes, the empty one too, and any other byte itself
+-- a component of a pattern matches one of a path: a star any run of bytes, the empty one too, and
+-- any other byte itself
 abbrev pub MatchesComponent : List ℕ → List ℕ → Type 0
 MatchesComponent [] bytes = bytes ≡ []
 MatchesComponent (c ∷ pattern) bytes = MatchBool (c == 42)
@@ -74,7 +78,8 @@ begins c test (byte ∷ bytes) = c == byte && test bytes
 abbrev pub is_component_match : List ℕ → List ℕ → Bool
 is_component_match [] [] = true
 is_component_match [] (byte ∷ bytes) = false
-is_component_match (c ∷ pattern) bytes = if c == 42 then some_end (is_component_match pattern) bytes else begins c (is_component_match pattern) bytes
+is_component_match (c ∷ pattern) bytes =
+    if c == 42 then some_end (is_component_match pattern) bytes else begins c (is_component_match pattern) bytes
 
 -- whether components of a pattern match those of a path
 abbrev pub are_matches : Pattern → List (List ℕ) → Bool
@@ -83,8 +88,9 @@ are_matches [] (part ∷ parts) = false
 are_matches (component ∷ pattern) [] = false
 are_matches (component ∷ pattern) (part ∷ parts) = is_component_match component part && are_matches pattern parts
 
--- Whether some pattern matches a path, as a search. It is this one that decides: detectors and actions ask it. The law `TestTells`
--- ties it to `Matches`: it is true exactly where `MatchesSome` holds.
+-- Whether some pattern matches a path, as a search. It is this one that decides: detectors and
+-- actions ask it. The law `TestTells` ties it to `Matches`: it is true exactly where `MatchesSome`
+-- holds.
 unfoldable pub is_match : List Pattern → List ℕ → Bool
 is_match patterns path = list_any (λ pattern. are_matches pattern (components path)) patterns
 

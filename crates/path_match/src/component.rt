@@ -16,9 +16,10 @@ struct LastStar {
     end: usize,
 }
 
-// Whether a component of a pattern matches one of a path: a star any run of bytes, any other byte itself. Where what
-// follows the last star doesn't match, its run takes one byte more. The runs before it stay as short as they are, since
-// longer ones would only leave less to the last. So the steps are at most about the product of the two lengths.
+// Whether a component of a pattern matches one of a path: a star any run of bytes, any other byte
+// itself. Where what follows the last star doesn't match, its run takes one byte more. The runs
+// before it stay as short as they are, since longer ones would only leave less to the last. So the
+// steps are at most about the product of the two lengths.
 fn matches_component(pattern: &[u8], bytes: &[u8]) -> bool
     ensures { result ≡ is_component_match pattern.now bytes.now }
 {

@@ -1,5 +1,5 @@
 //! Lists of patterns.
-ghost use Rattle.std.specs.Prelude.{◌≡◌, ◌↔◌, ◌++◌, Err, IsTrue, IsOk, IfOk, OnOk, map};
+ghost use Rattle.std.specs.Prelude.{◌≡◌, ◌↔◌, ◌++◌, Err, IsTrue, IsOk, IfOk, OnErr, OnOk, map};
 ghost use Rattle.psi_base.specs.Path.{parts_at};
 ghost use Rattle.path_match.specs.Match.{ArePatterns, MatchesSome, components, is_match, patterns_of, patterns_text};
 ghost use Rattle.psi_base.specs.Gives.{Gives, lacks_memory};
@@ -12,9 +12,9 @@ use psi_base::{Fault, NoMemory, Parts, Path, Text};
 use std::alloc::Global;
 use std::marker::Model;
 
-/// One to 16 patterns of paths. Contracts see a list of patterns, each of them the list of its components: none for
-/// the root. A component has one or more letters, digits, stars and signs of `_.@:-\`, and is neither `.` nor `..`;
-/// its length and their number have no limit.
+/// One to 16 patterns of paths. Contracts see a list of patterns, each of them the list of its
+/// components: none for the root. A component has one or more letters, digits, stars and signs of
+/// `_.@:-\`, and is neither `.` nor `..`; its length and their number have no limit.
 #[derive(Drop)]
 pub struct Patterns {
     /// The patterns with a comma between them, as they were read.
@@ -48,9 +48,10 @@ fn some_matches(text: &[u8], path: &[u8]) -> bool
 }
 
 impl Patterns {
-    /// The patterns of a text, which stand between commas. A pattern is `/`, which is the root, or components with `/`
-    /// between them, with or without one `/` before the first. `BadPattern` exactly where some part between commas is
-    /// no pattern, else `TooMany` exactly where there are more than 16. `NoMemory` comes only where there are patterns.
+    /// The patterns of a text, which stand between commas. A pattern is `/`, which is the root, or
+    /// components with `/` between them, with or without one `/` before the first. `BadPattern`
+    /// exactly where some part between commas is no pattern, else `TooMany` exactly where there are
+    /// more than 16. `NoMemory` comes only where there are patterns.
     #[tactic(auto, unfolding(crate::specs::Match::patterns_of))]
     pub fn read(alloc: Global, text: &str) -> Result<Patterns, Fault<PatternFault>>
         ensures exact { Gives result (patterns_of text.now) }
@@ -67,8 +68,8 @@ impl Patterns {
         Ok(Patterns { text })
     }
 
-    /// Whether some pattern matches the path: one with equally many components, each matched, where a star stands for
-    /// any run of bytes of one component, the empty one too.
+    /// Whether some pattern matches the path: one with equally many components, each matched, where
+    /// a star stands for any run of bytes of one component, the empty one too.
     pub fn matches(&self, path: &Path) -> bool
         ensures relation { IsTrue result ↔ MatchesSome self.now path.now }
         ensures test { result ≡ is_match self.now path.now }
@@ -85,10 +86,11 @@ impl Patterns {
         Ok(Patterns { text })
     }
 
-    /// Appends the text of the patterns: a comma between them, `/` for the root, and no slash before the first
-    /// component of another.
+    /// Appends the text of the patterns: a comma between them, `/` for the root, and no slash
+    /// before the first component of another. `NoMemory` leaves the bytes as they were.
     pub fn write(&self, to: &mut Vec<u8>) -> Result<(), NoMemory>
         ensures text { OnOk result (to.new.items ≡ to.old.items ++ patterns_text self.now) }
+        ensures kept { OnErr result (to.new.items ≡ to.old.items) }
         ensures patterns { ArePatterns self.now }
     {
         write_patterns(self.text.bytes(), to)

@@ -1,5 +1,5 @@
 //! The text of patterns.
-ghost use Rattle.std.specs.Prelude.{◌≡◌, ◌++◌, map, OnOk};
+ghost use Rattle.std.specs.Prelude.{◌≡◌, ◌++◌, length, map, take, OnErr, OnOk};
 ghost use Rattle.psi_base.specs.Path.{parts_at};
 ghost use Rattle.path_match.specs.Match.{components, pattern_text, patterns_text};
 
@@ -17,10 +17,13 @@ fn slashless(pattern: &[u8]) -> &[u8]
     behind_slash(pattern)
 }
 
-/// Appends the text of the patterns that stand between the commas of a text.
-pub fn write_patterns(text: &[u8], to: &mut Vec<u8>) -> Result<(), NoMemory>
-    ensures { OnOk result (to.new.items
+// Appends the text of the patterns that stand between the commas of a text. A part of it stays
+// where memory was wanting.
+#[tactic(auto, using(crate::proofs::Texts::front_more))]
+fn put_patterns(text: &[u8], to: &mut Vec<u8>) -> Result<(), NoMemory>
+    ensures text { OnOk result (to.new.items
         ≡ to.old.items ++ patterns_text (map components (parts_at 44 text.now))) }
+    ensures front { take (length to.old.items) to.new.items ≡ to.old.items }
 {
     let mut parts: Parts<'_, b','> = Parts::new(text);
     let Some(first) = parts.next_part() else {
@@ -32,4 +35,18 @@ pub fn write_patterns(text: &[u8], to: &mut Vec<u8>) -> Result<(), NoMemory>
         to.extend_from_slice(slashless(pattern))?;
     }
     Ok(())
+}
+
+/// Appends the text of the patterns that stand between the commas of a text, or nothing of it.
+pub fn write_patterns(text: &[u8], to: &mut Vec<u8>) -> Result<(), NoMemory>
+    ensures text { OnOk result (to.new.items
+        ≡ to.old.items ++ patterns_text (map components (parts_at 44 text.now))) }
+    ensures kept { OnErr result (to.new.items ≡ to.old.items) }
+{
+    let held = to.len();
+    let written = put_patterns(text, to);
+    if written.is_err() {
+        to.truncate(held);
+    }
+    written
 }

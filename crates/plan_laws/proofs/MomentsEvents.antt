@@ -13,7 +13,8 @@ use Rattle.plan_laws.proofs.PlanStalls.{in_turn}
 
 -- ---- legal events, one by one
 
--- what holds of no events, and of legal events with each that is legal behind them, holds of all legal ones
+-- what holds of no events, and of legal events with each that is legal behind them, holds of all
+-- legal ones
 pub by_legal : (limits : Limits) (P : List Event → Type 0) → P [] → ((es : List Event) (event : Event) → AreLegal limits first_world (es ++ event ∷ []) → P es → P (es ++ event ∷ [])) → (events : List Event) → AreLegal limits first_world events → P events
 by_legal limits P none step events =
     by_last (λ es. AreLegal limits first_world es → P es) (λ _. none) (λ es event before legal. step es event legal (before (legal_front limits first_world es (event ∷ []) legal))) events
@@ -50,7 +51,8 @@ up_to_all limits events legal = by_legal limits (λ es. (at : ℕ) → (after es
     up_to-push es event at ∙ rw (come at event.at here, others) refl)
     events legal
 
--- the last event has come by a moment, and so have all, or it hasn't, and those that have are among the others
+-- the last event has come by a moment, and so have all, or it hasn't, and those that have are among
+-- the others
 pub record HaveAllCome (events : List Event) (event : Event) (at : ℕ) : Type 0 where
   pub early : event.at ≤ at
   pub all : up_to (events ++ event ∷ []) at ≡ events ++ event ∷ []

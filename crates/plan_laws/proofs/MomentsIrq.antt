@@ -168,7 +168,8 @@ plan_irqs_fit limits events legal few cpu k low =
 
 -- ---- from a moment to a later one
 
--- A time grew since a moment: not at all, or by what interrupts took until they ended last, and a second.
+-- A time grew since a moment: not at all, or by what interrupts took until they ended last, and a
+-- second.
 record Grew (before now at last : ℕ) : Type 0 where
   least : before ≤ now
   most : (now ≡ before) ⊎ ((at ≤ last) × (now ≤ before + longest_irq + (last - at)))

@@ -198,8 +198,8 @@ passing : (o : Option GroupLife) → is_some_and o is_live ≡ true → (life : 
 passing None on = absurd (cc on)
 passing (Some life) on = (life, refl, on)
 
--- What the groups of legal events tell of those at a moment: a live slot's path finds it, and what a path finds is a live slot
--- that has it.
+-- What the groups of legal events tell of those at a moment: a live slot's path finds it, and what
+-- a path finds is a live slot that has it.
 record TellsOf (now all : List GroupLife) (test : ℕ → Bool) : Type 0 where
   finds : (slot : ℕ) → slot < length all → test slot ≡ true → slot_of now (path_at all slot) ≡ Some slot
   found : (path : List ℕ) (slot : ℕ) → slot_of now path ≡ Some slot → (slot < length all) × (test slot ≡ true) × (path_at all slot ≡ path)

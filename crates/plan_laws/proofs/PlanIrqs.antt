@@ -11,7 +11,7 @@ use Rattle.psi_spec.specs.Refusal.{AreLegal}
 use Rattle.psi_spec.specs.Stall.{has_running, irq_told, irq_time, parents_of, runs, tasks_in}
 use Rattle.psi_spec.specs.Changes.{changes_of, count_at, until_change}
 use Rattle.psi_counts.specs.Legal.{IsLegalWorld, changes_from}
-use Rattle.psi_counts.specs.Touch.{gated, irq_in, is_current_in}
+use Rattle.psi_counts.specs.Touch.{on_with, irq_in, is_current_in}
 use Rattle.plan_laws.specs.Plan.{NoPlannedIrq, PlannedIrqByChange, PlannedIrqFits, PlannedIrqIsIrq, PlannedIrqUntil, irq_over, on_from, plan_of, planned_irq}
 use Rattle.psi_spec.proofs.StallLaws.{irq_by_event}
 use Rattle.psi_counts.proofs.IrqLaws.{at_most}
@@ -38,7 +38,7 @@ over-push : (parents : List (Option ℕ)) (slot : ℕ) (on : Bool) (changes : Li
     irq_over parents slot on (changes ++ change ∷ []) ≡ irq_over parents slot on changes + (if on_from slot on changes then irq_in parents slot change else 0)
 over-push parents slot on [] change = omega arith
 over-push parents slot on (first ∷ changes) change =
-    let rest = over-push parents slot (gated slot on first.gate) changes change in
+    let rest = over-push parents slot (on_with slot on first.account) changes change in
     omega (arith, rest)
 
 -- what was taken from a group is no more than what all changes tell of
@@ -48,7 +48,7 @@ over_most parents slot on (change ∷ changes) =
     let all = sum_by-cons (λ n. n) change.irq (map (λ (c : Change). c.irq) changes) in
     let part = at_most (is_current_in parents slot change.current) change.irq change.irq (omega arith) in
     let here = at_most on (irq_in parents slot change) change.irq part in
-    let rest = over_most parents slot (gated slot on change.gate) changes in
+    let rest = over_most parents slot (on_with slot on change.account) changes in
     omega (arith, all, here, rest)
 
 none_taken : (changes : List Change) → take 0 changes ≡ []

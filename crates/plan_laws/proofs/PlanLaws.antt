@@ -9,7 +9,7 @@ use Rattle.psi_base.specs.declared.event.Event.{Event}
 use Rattle.psi_counts.specs.declared.changes.Change.{Change}
 use Rattle.psi_spec.specs.World.{World, after, after_event, after_from, first_world, tasks_after}
 use Rattle.psi_spec.specs.Stall.{irq_told, moment_of}
-use Rattle.psi_counts.specs.Touch.{change_of, change_on, gate_of, task_after}
+use Rattle.psi_counts.specs.Touch.{change_of, change_on, account_of, task_after}
 use Rattle.psi_spec.specs.Changes.{before, changes_of, event_of_change, is_change, touched, touches, until_change}
 use Rattle.psi_counts.specs.Legal.{changes_from, with_change}
 use Rattle.plan_laws.specs.Plan.{change_at, last_change, plan_of, ChangesAreNumbered, ChangesUntil}
@@ -106,7 +106,7 @@ pub record TouchedBy (w : World) (event : Event) (cpu : ℕ) : Type 0 where
   pub one : change_of w event cpu ≡ Some change
   pub moment : change.at ≡ event.at
   pub irq : change.irq ≡ irq_told cpu event.act
-  pub gate : change.gate ≡ gate_of w.groups event.act
+  pub account : change.account ≡ account_of w.groups event.act
 
 touch_cases : (b : Bool) (made : Change) → ((b ≡ false) × ((if b then Some made else None) ≡ None)) ⊎ ((b ≡ true) × ((if b then Some made else None) ≡ Some made))
 touch_cases true made = inr (refl, refl)
@@ -118,7 +118,7 @@ touched_or_not w event cpu =
     let made : Change = change_on w.groups event (before w.tasks event.act) (task_after w.groups w.tasks event.act) (tasks_after w.groups w.tasks event.act) cpu in
     ⊎_elim
     (λ off. inl (record { leaves = off.0; none = off.1 }))
-    (λ on. inr (record { change = made; turns = on.0; one = on.1; moment = refl; irq = refl; gate = refl }))
+    (λ on. inr (record { change = made; turns = on.0; one = on.1; moment = refl; irq = refl; account = refl }))
     (touch_cases (touched event.act (before w.tasks event.act) cpu) made)
 
 -- an event that doesn't touch the processor leaves its changes

@@ -15,13 +15,13 @@ use Rattle.psi_spec.specs.Refusal.{cause_of, AreLegal}
 use Rattle.psi_spec.specs.Stall.{holds, holds_of, is_in, parents_of, tasks_in}
 use Rattle.psi_counts.specs.Counts.{IsRunningTold, tells}
 use Rattle.psi_spec.specs.Groups.{new_parents}
-use Rattle.psi_counts.specs.Touch.{AreAtMost, Follows, gate_of, gated, is_current_in, is_current_stalled, no_counts}
+use Rattle.psi_counts.specs.Touch.{AreAtMost, Follows, account_of, on_with, is_current_in, is_current_stalled, no_counts}
 use Rattle.psi_counts.specs.Legal.{IsLegalWorld, added, changes_from, taken}
 use Rattle.plan_laws.specs.Plan.{FitsPlan, plan_of, holds_after, on_from, less, Leaves, LeavesFew, PlanTellsStates}
 use Rattle.psi_spec.specs.Changes.{event_of_change, until_change}
 use Rattle.psi_spec.proofs.Following.{after_from-append}
-use Rattle.psi_spec.proofs.GroupLaws.{parents_kept}
-use Rattle.psi_counts.proofs.GateLaws.{on_by_gate}
+use Rattle.psi_spec.proofs.GroupChanges.{parents_kept}
+use Rattle.psi_counts.proofs.AccountLaws.{on_by_account}
 use Rattle.psi_counts.proofs.LegalLaws.{counts_are_few, counts_are_sums, legal_first, legal_kept, same_tasks_later}
 use Rattle.psi_counts.proofs.MaskLaws.{counts_tell}
 use Rattle.plan_laws.proofs.PlanLaws.{after-push, as_many, by_last, changes_same, changes_grow, touched_or_not, until_is}
@@ -116,9 +116,9 @@ runs_as_told limits parents cpu slot events =
 -- ---- which accounts are on
 
 -- with a change more
-pub on_from-push : (slot : ℕ) (on : Bool) (changes : List Change) (change : Change) → on_from slot on (changes ++ change ∷ []) ≡ gated slot (on_from slot on changes) change.gate
+pub on_from-push : (slot : ℕ) (on : Bool) (changes : List Change) (change : Change) → on_from slot on (changes ++ change ∷ []) ≡ on_with slot (on_from slot on changes) change.account
 on_from-push slot on [] change = refl
-on_from-push slot on (first ∷ changes) change = on_from-push slot (gated slot on first.gate) changes change
+on_from-push slot on (first ∷ changes) change = on_from-push slot (on_with slot on first.account) changes change
 
 -- the changes of any processor tell whether an account is on
 abbrev OnAsTold : ℕ → ℕ → List Event → Type 0
@@ -134,17 +134,17 @@ on-push limits cpu slot events event before legal =
     let first = legal_front limits first_world events (event ∷ []) legal in
     let allowed = legal_last limits first_world events event legal in
     let groups : List GroupLife = (after events).groups in
-    let now : is_on (after (events ++ event ∷ [])).groups slot ≡ gated slot (is_on groups slot) (gate_of groups event.act) =
-    ap (λ (w : World). is_on w.groups slot) (after-push events event) ∙ on_by_gate limits (after events) event allowed (legal_after limits events first).groups slot in
+    let now : is_on (after (events ++ event ∷ [])).groups slot ≡ on_with slot (is_on groups slot) (account_of groups event.act) =
+    ap (λ (w : World). is_on w.groups slot) (after-push events event) ∙ on_by_account limits (after events) event allowed (legal_after limits events first).groups slot in
     ⊎_elim
     (λ off.
     let none = (stays_untouched limits (after events) event allowed cpu off.none [] slot).3 in
-    ap (on_from slot true) (changes_same cpu events event off) ∙ before first ∙ ap (gated slot (is_on groups slot)) (sym none) ∙ sym now)
+    ap (on_from slot true) (changes_same cpu events event off) ∙ before first ∙ ap (on_with slot (is_on groups slot)) (sym none) ∙ sym now)
     (λ on.
     ap (on_from slot true) (changes_grow cpu events event on)
     ∙ on_from-push slot true (changes_from cpu first_world events) on.change
-    ∙ ap (λ b. gated slot b on.change.gate) (before first)
-    ∙ ap (gated slot (is_on groups slot)) on.gate
+    ∙ ap (λ b. on_with slot b on.change.account) (before first)
+    ∙ ap (on_with slot (is_on groups slot)) on.account
     ∙ sym now)
     (touched_or_not (after events) event cpu)
 

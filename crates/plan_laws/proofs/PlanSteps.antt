@@ -9,9 +9,9 @@ use Rattle.psi_base.specs.declared.event.State.TheVariants.{IoSome, IoFull, MemS
 use Rattle.psi_counts.specs.declared.changes.Change.{Change}
 use Rattle.psi_counts.specs.declared.changes.Counts.{Counts}
 use Rattle.psi_counts.specs.Counts.{tells}
-use Rattle.psi_counts.specs.Touch.{gated, is_current_in, is_current_stalled, no_counts, on_chain}
+use Rattle.psi_counts.specs.Touch.{on_with, is_current_in, is_current_stalled, no_counts, on_chain}
 use Rattle.psi_counts.specs.Legal.{added, both_counts, taken}
-use Rattle.plan_laws.specs.Plan.{PlanView, Leaves, added_after, counts_after, current_after, holds_after, is_gate_of, is_part_in, last_change, less, on_after, on_from, taken_after, AsideStays, CountsByChange, CurrentByChange, OnAtFirst, OnByChange, PlaceOfMoment, PlanCountsAreFew}
+use Rattle.plan_laws.specs.Plan.{PlanView, Leaves, added_after, counts_after, current_after, holds_after, is_account_of, is_part_in, last_change, less, on_after, on_from, taken_after, AsideStays, CountsByChange, CurrentByChange, OnAtFirst, OnByChange, PlaceOfMoment, PlanCountsAreFew}
 use Rattle.plan_laws.proofs.PlanStates.{counts_are, on_from-push}
 
 -- ---- a list with the element behind its front
@@ -43,10 +43,10 @@ on_by_change plan slot k change is = ap (on_from slot true) (one_more plan.chang
 pub on_at_first : OnAtFirst
 on_at_first plan slot = refl
 
--- another's gate leaves an account
-pub gate_apart : (slot : ℕ) (on : Bool) (gate : Option (Slot × Bool)) → is_gate_of slot gate ≡ false → gated slot on gate ≡ on
-gate_apart slot on None off = refl
-gate_apart slot on (Some gate) off = ap (λ b. if b then gate.1 else on) off
+-- another group's account leaves this one
+pub account_apart : (slot : ℕ) (on : Bool) (account : Option (Slot × Bool)) → is_account_of slot account ≡ false → on_with slot on account ≡ on
+account_apart slot on None off = refl
+account_apart slot on (Some account) off = ap (λ b. if b then account.1 else on) off
 
 -- ---- sums with one more
 
@@ -131,7 +131,7 @@ aside_stays state plan slot k change is aside =
     let minus = taken_next plan slot k change is ∙ ap (both_counts (taken_after plan slot k)) (no_part plan.parents slot change.minus aside.minus) ∙ nothing_more (taken_after plan slot k) in
     let counts : counts_after plan slot (k + 1) ≡ counts_after plan slot k = ap (λ n. less n (taken_after plan slot (k + 1))) plus ∙ ap (less (added_after plan slot k)) minus in
     let current = ap (is_current_in plan.parents slot) ((current_by_change plan k change is).0) ∙ aside.current in
-    let on = on_by_change plan slot k change is ∙ gate_apart slot (on_after plan slot k) change.gate aside.gate in
+    let on = on_by_change plan slot k change is ∙ account_apart slot (on_after plan slot k) change.account aside.account in
     ap (λ b. b && tells state (counts_after plan slot (k + 1)) (is_current_in plan.parents slot (current_after plan (k + 1))) (is_current_stalled (current_after plan (k + 1)))) on
     ∙ ap (λ b. on_after plan slot k && b)
     (tells_same state (counts_after plan slot k) (counts_after plan slot (k + 1)) (is_current_in plan.parents slot (current_after plan k)) (is_current_in plan.parents slot (current_after plan (k + 1)))

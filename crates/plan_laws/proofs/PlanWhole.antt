@@ -31,7 +31,7 @@ slots_later change few many more below = record {
   minus = slot_later change.minus few many more below.minus;
   plus = slot_later change.plus few many more below.plus;
   current = slot_later change.current few many more below.current;
-  gate = slot_later change.gate few many more below.gate;
+  account = slot_later change.account few many more below.account;
 }
 
 -- a change of one task that names slots below a bound

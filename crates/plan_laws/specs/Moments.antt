@@ -1,5 +1,5 @@
--- What holds of a trace at a moment: how stall time and interrupt time grow from one moment to the next, which groups are live,
--- also in the order of their paths, and which triggers were set.
+-- What holds of a trace at a moment: how stall time and interrupt time grow from one moment to the
+-- next, which groups are live, also in the order of their paths, and which triggers were set.
 use Rattle.std.specs.Prelude.{◌≡◌, ℕ, ◌+◌, ◌-◌, ◌≤◌, List, length, map, take, filter, slice_get, slice_index_or, nat_le, All, IfSome, Bool, Some}
 use Rattle.std.specs.List.Sorted.{IsNonDecreasingBy}
 use Rattle.psi_base.specs.declared.event.State.{State}
@@ -15,7 +15,8 @@ use Rattle.psi_spec.specs.Told.{AreTriggersWithin, triggers_of}
 
 -- ---- stall time
 
--- Stall time never falls from a moment to a later one, and grows by no more than the time between them.
+-- Stall time never falls from a moment to a later one, and grows by no more than the time between
+-- them.
 abbrev pub StallGrows : Type 0
 StallGrows = (limits : Limits) (events : List Event) → AreLegal limits first_world events →
     (state : State) (cpu slot at later : ℕ) → at ≤ later →
@@ -34,15 +35,17 @@ NoStallAtFirst = (limits : Limits) (events : List Event) → AreLegal limits fir
 
 -- ---- interrupt time
 
--- Interrupt time never falls from a moment to a later one, and grows by no more than the time between them and a second: what an
--- event tells of may have begun a second before it, and what others tell of later begins no sooner than that event.
+-- Interrupt time never falls from a moment to a later one, and grows by no more than the time
+-- between them and a second: what an event tells of may have begun a second before it, and what
+-- others tell of later begins no sooner than that event.
 abbrev pub IrqGrows : Type 0
 IrqGrows = (limits : Limits) (events : List Event) → AreLegal limits first_world events → limits.cpus ≤ most_cpus →
     (cpu slot at later : ℕ) → at ≤ later →
     (irq_time cpu slot (up_to events at) ≤ irq_time cpu slot (up_to events later))
     × (irq_time cpu slot (up_to events later) ≤ irq_time cpu slot (up_to events at) + (later - at) + longest_irq)
 
--- Interrupt time up to a moment is no longer than the time from 0 to it, since interrupts of one processor don't overlap.
+-- Interrupt time up to a moment is no longer than the time from 0 to it, since interrupts of one
+-- processor don't overlap.
 abbrev pub IrqIsWithin : Type 0
 IrqIsWithin = (limits : Limits) (events : List Event) → AreLegal limits first_world events → limits.cpus ≤ most_cpus →
     (cpu slot at : ℕ) → irq_time cpu slot (up_to events at) ≤ at
@@ -59,8 +62,9 @@ pub record IsLife (last : ℕ) (life : GroupLife) : Type 0 where
   pub made : life.made ≤ last
   pub gone : IfSome life.gone (λ gone. (life.made ≤ gone) × (gone ≤ last))
 
--- What holds of the groups of a trace up to its last moment (ns): the first is the root, which was made at 0 and never goes;
--- they were made in the order of their slots; and each was made by then, and went by then if it went.
+-- What holds of the groups of a trace up to its last moment (ns): the first is the root, which was
+-- made at 0 and never goes; they were made in the order of their slots; and each was made by then,
+-- and went by then if it went.
 pub record AreLives (last : ℕ) (groups : List GroupLife) : Type 0 where
   pub rooted : slice_get groups 0 ≡ Some root
   pub order : IsNonDecreasingBy (λ (life : GroupLife). life.made) groups
@@ -71,14 +75,15 @@ abbrev pub LivesAreInOrder : Type 0
 LivesAreInOrder = (limits : Limits) (events : List Event) → AreLegal limits first_world events →
     AreLives (after events).last (after events).groups
 
--- The groups after all events tell which are live at a moment: a group that was made and removed at one moment isn't.
+-- The groups after all events tell which are live at a moment: a group that was made and removed at
+-- one moment isn't.
 abbrev pub LivesTellLive : Type 0
 LivesTellLive = (limits : Limits) (events : List Event) → AreLegal limits first_world events → (at slot : ℕ) →
     is_live_in (after (up_to events at)).groups slot
     ≡ is_some_and (slice_get (after events).groups slot) (λ life. is_live_at life at)
 
--- Groups keep their slots, their paths, their parents and the moments (ns) at which they were made: some groups are the first of
--- all in these.
+-- Groups keep their slots, their paths, their parents and the moments (ns) at which they were made:
+-- some groups are the first of all in these.
 pub record AreFirstOf (all some : List GroupLife) : Type 0 where
   pub few : length some ≤ length all
   pub paths : map (λ (life : GroupLife). life.path) some ≡ take (length some) (map (λ (life : GroupLife). life.path) all)
@@ -100,22 +105,27 @@ is_live_slot groups at slot = is_live_at (slice_index_or groups slot root) at
 abbrev pub with_path : List GroupLife → ℕ → List ℕ × ℕ
 with_path groups slot = (path_at groups slot, slot)
 
--- One order of all slots by path tells the live groups in the order of their paths at each moment: those in it that are live
--- then.
+-- One order of all slots by path tells the live groups in the order of their paths at each moment:
+-- those in it that are live then.
 abbrev pub OrderTellsLive : Type 0
-OrderTellsLive = (limits : Limits) (events : List Event) → AreLegal limits first_world events → (order : List ℕ) → IsPathOrder (after events).groups order → (at : ℕ) →
+OrderTellsLive =
+    (limits : Limits) (events : List Event) → AreLegal limits first_world events → (order : List ℕ)
+    → IsPathOrder (after events).groups order → (at : ℕ) →
     live_groups (after (up_to events at)).groups
     ≡ map (with_path (after events).groups) (filter (is_live_slot (after events).groups at) order)
 
 -- So it is of their slots alone.
 abbrev pub OrderTellsSlots : Type 0
-OrderTellsSlots = (limits : Limits) (events : List Event) → AreLegal limits first_world events → (order : List ℕ) → IsPathOrder (after events).groups order → (at : ℕ) →
+OrderTellsSlots =
+    (limits : Limits) (events : List Event) → AreLegal limits first_world events → (order : List ℕ)
+    → IsPathOrder (after events).groups order → (at : ℕ) →
     map (λ (pair : List ℕ × ℕ). pair.1) (live_groups (after (up_to events at)).groups)
     ≡ filter (is_live_slot (after events).groups at) order
 
 -- ---- triggers
 
--- The triggers of a trace are few, each is in its range, and the group that it watches is one that there is.
+-- The triggers of a trace are few, each is in its range, and the group that it watches is one that
+-- there is.
 abbrev pub TriggersAreWithin : Type 0
 TriggersAreWithin = (limits : Limits) (events : List Event) → AreLegal limits first_world events →
     AreTriggersWithin limits.latest (length (after events).groups) (triggers_of events)

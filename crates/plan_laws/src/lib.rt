@@ -1,8 +1,8 @@
-//! Ways to compute the same, over a whole trace: how stall time and interrupt time, which psi_spec defines over the tasks of a
-//! world, come out of the changes of one processor.
+//! Ways to compute the same, over a whole trace: how stall time and interrupt time, which psi_spec
+//! defines over the tasks of a world, come out of the changes of one processor.
 //!
-//! In `specs/`: `Plan` (the changes of one processor, and clocks that run on them), `Moments` (what holds of a trace at a
-//! moment).
+//! In `specs/`: `Plan` (the changes of one processor, and clocks that run on them), `Moments` (what
+//! holds of a trace at a moment).
 #![tactic(auto)]
 
 mod moments;

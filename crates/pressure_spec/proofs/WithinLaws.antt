@@ -1,5 +1,5 @@
--- How much totals can be: those of states are within the time that passed, that of interrupts within the processors' own
--- interrupt times.
+-- How much totals can be: those of states are within the time that passed, that of interrupts
+-- within the processors' own interrupt times.
 use Rattle.std.proofs.Common.{◌≡◌, ℕ, zero, suc, ◌+◌, ◌-◌, ◌*◌, ◌≤◌, ◌<◌, List, [], ◌∷◌, length, get_or, subst, arith, refl, true, false, ◌⊎◌, ⊎_elim}
 use Rattle.std.specs.Prelude.{All, if◌then◌else◌}
 use Rattle.std.proofs.lemmas.List.{get_or_past, get_or-replicate, length-replicate}
@@ -90,7 +90,8 @@ plus_most (x ∷ xs) [] k = omega arith
 plus_most (x ∷ xs) (y ∷ ys) zero = omega arith
 plus_most (x ∷ xs) (y ∷ ys) (suc k) = plus_most xs ys k
 
--- no total of a group is longer than what passed up to a tick: the time, or the interrupt times of the processors together
+-- no total of a group is longer than what passed up to a tick: the time, or the interrupt times of
+-- the processors together
 abbrev pub AreTotalsUntil : Tick → ℕ → List ℕ → Type 0
 AreTotalsUntil tick slot totals = AreAmountsWithin tick.at (time_sum (row_at tick slot) irq_place) totals
 

@@ -1,5 +1,6 @@
--- The averages over 10, 60 and 300 seconds: the kernel's calc_load, fixed_power_int, update_averages and calc_avgs.
--- They are fixed-point numbers with 11 fraction bits: 2048 is 1, and 204800 is 100 percent.
+-- The averages over 10, 60 and 300 seconds: the kernel's calc_load, fixed_power_int,
+-- update_averages and calc_avgs. They are fixed-point numbers with 11 fraction bits: 2048 is 1, and
+-- 204800 is 100 percent.
 use Rattle.std.specs.Prelude.{◌≡◌, ℕ, zero, suc, ◌+◌, ◌-◌, ◌*◌, ◌/◌, ◌%◌, ◌<◌, ◌≤◌, min, List, [], ◌∷◌, length, map, fold, nat_le, nat_lt, ◌==◌, if◌then◌else◌, All}
 use Rattle.pressure_spec.specs.Share.{zip_with, pressure_places}
 
@@ -7,11 +8,13 @@ use Rattle.pressure_spec.specs.Share.{zip_with, pressure_places}
 abbrev pub period : ℕ
 period = 2000000000
 
--- what is left of an average over 10, 60 and 300 seconds after a period with nothing active, in parts of 2048
+-- what is left of an average over 10, 60 and 300 seconds after a period with nothing active, in
+-- parts of 2048
 abbrev pub factors : List ℕ
 factors = 1677 ∷ 1981 ∷ 2034 ∷ []
 
--- an average that decays by a factor and is loaded with what was active, rounded up where it doesn't fall
+-- an average that decays by a factor and is loaded with what was active, rounded up where it
+-- doesn't fall
 abbrev pub load : ℕ → ℕ → ℕ → ℕ
 load average factor active = (average * factor + active * (2048 - factor) + (if nat_le average active then 2047 else 0)) / 2048
 
@@ -19,7 +22,8 @@ load average factor active = (average * factor + active * (2048 - factor) + (if 
 abbrev pub product : ℕ → ℕ → ℕ
 product x y = (x * y + 1024) / 2048
 
--- a result times x to the n, by the binary digits of n from the lowest on, of which at most so many are taken
+-- a result times x to the n, by the binary digits of n from the lowest on, of which at most so many
+-- are taken
 abbrev pub power_within : ℕ → ℕ → ℕ → ℕ → ℕ
 power_within zero result x n = result
 power_within (suc digits) result x n =
@@ -34,8 +38,9 @@ power_from result x n = power_within n result x n
 abbrev pub power : ℕ → ℕ → ℕ
 power x n = power_from 2048 x n
 
--- The averages of a group: the moment (ns) of the last update and that from which the next is due, how much (ns) of
--- the total of each pressure quantity was sampled so far, and the three averages of each.
+-- The averages of a group: the moment (ns) of the last update and that from which the next is due,
+-- how much (ns) of the total of each pressure quantity was sampled so far, and the three averages
+-- of each.
 pub record AverageState : Type 0 where
   pub last : ℕ
   pub next : ℕ
@@ -55,11 +60,13 @@ new_averages at = record {
 abbrev pub missed : AverageState → ℕ → ℕ
 missed old now = (now - old.next) / period
 
--- the time (ns) that an update at a moment samples: that since the last one, less the periods that were missed
+-- the time (ns) that an update at a moment samples: that since the last one, less the periods that
+-- were missed
 abbrev pub sampled_time : AverageState → ℕ → ℕ
 sampled_time old now = now - (old.last + missed old now * period)
 
--- what is sampled (ns) of a total: what wasn't yet, and at most the time; the rest waits for a later update
+-- what is sampled (ns) of a total: what wasn't yet, and at most the time; the rest waits for a
+-- later update
 abbrev pub sample_of : ℕ → ℕ → ℕ → ℕ
 sample_of time sampled total = min (total - sampled) time
 
@@ -67,7 +74,8 @@ sample_of time sampled total = min (total - sampled) time
 abbrev pub percent_of : ℕ → ℕ → ℕ
 percent_of time sample = sample * 100 / time
 
--- an average after an update: over the missed periods it decays with nothing active, then it is loaded with the sample
+-- an average after an update: over the missed periods it decays with nothing active, then it is
+-- loaded with the sample
 abbrev pub average_after : ℕ → ℕ → ℕ → ℕ → ℕ
 average_after missed_periods percent average factor =
     load (if nat_lt 0 missed_periods then load average (power factor missed_periods) 0 else average) factor (percent * 2048)
@@ -86,7 +94,8 @@ updated old now totals = record {
   last = now;
   next = old.next + (1 + missed old now) * period;
   sampled = zip_with (λ sampled sample. sampled + sample) old.sampled (samples_of (sampled_time old now) old.sampled totals);
-  averages = zip_with (row_after (missed old now) (sampled_time old now)) old.averages (samples_of (sampled_time old now) old.sampled totals);
+  averages =
+      zip_with (row_after (missed old now) (sampled_time old now)) old.averages (samples_of (sampled_time old now) old.sampled totals);
 }
 
 -- the averages after a tick: an update where one is due
@@ -108,8 +117,8 @@ pub record IsRow (row : List ℕ) : Type 0 where
   pub three : length row ≡ 3
   pub most : All (λ average. average ≤ 204800) row
 
--- The next update is due after the last one and at most a period after it, there are a sample and a row of three
--- averages for each pressure quantity, and no average is above 100 percent.
+-- The next update is due after the last one and at most a period after it, there are a sample and a
+-- row of three averages for each pressure quantity, and no average is above 100 percent.
 pub record IsAverageState (s : AverageState) : Type 0 where
   pub later : s.last < s.next
   pub soon : s.next ≤ s.last + period

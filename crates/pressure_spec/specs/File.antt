@@ -1,4 +1,5 @@
--- The pressure files io.pressure, memory.pressure, cpu.pressure and irq.pressure of a group, as Documentation/accounting/psi.rst has them.
+-- The pressure files io.pressure, memory.pressure, cpu.pressure and irq.pressure of a group, as
+-- Documentation/accounting/psi.rst has them.
 use Rattle.std.specs.Prelude.{◌≡◌, ℕ, ◌+◌, ◌*◌, ◌/◌, ◌%◌, ◌^◌, ◌≤◌, ◌<◌, All, length, List, [], ◌++◌, slice_index, slice_index_or, codes, decimal, ◌&&◌, Bool, true, false, if◌then◌else◌}
 use Rattle.psi_base.specs.declared.event.Res.{Res}
 use Rattle.psi_base.specs.declared.event.Res.TheVariants.{Io, Memory, Cpu}
@@ -12,7 +13,8 @@ use Rattle.pressure_spec.specs.Samples.{state_of}
 abbrev pub two_digits : ℕ → List ℕ
 two_digits n = decimal (n / 10) ++ decimal (n % 10)
 
--- what an average (2048 is 1 percent) has beyond whole percent, in hundredths of a percent, rounded down
+-- what an average (2048 is 1 percent) has beyond whole percent, in hundredths of a percent, rounded
+-- down
 abbrev pub hundredths : ℕ → ℕ
 hundredths average = (average % 2048) * 100 / 2048
 
@@ -20,7 +22,8 @@ hundredths average = (average % 2048) * 100 / 2048
 abbrev pub percent_text : ℕ → List ℕ
 percent_text average = decimal (average / 2048) ++ codes "." ++ two_digits (hundredths average)
 
--- a line of a pressure file: the three averages over 10, 60 and 300 seconds, and the total in whole microseconds, of one in ns
+-- a line of a pressure file: the three averages over 10, 60 and 300 seconds, and the total in whole
+-- microseconds, of one in ns
 abbrev pub file_line : Level → List ℕ → ℕ → List ℕ
 file_line level averages total =
     level_word level ++ codes " avg10=" ++ percent_text (slice_index averages 0)
@@ -31,7 +34,8 @@ file_line level averages total =
 -- the line of a resource on some or all tasks, by the totals (ns) and averages of the states
 abbrev pub state_line : Res → Level → List ℕ → List (List ℕ) → List ℕ
 state_line res level totals averages =
-    file_line level (slice_index_or averages (state_number (state_of res level)) []) (slice_index totals (state_number (state_of res level)))
+    file_line level (slice_index_or averages (state_number (state_of res level)) [])
+    (slice_index totals (state_number (state_of res level)))
 
 -- the resource is the processor
 abbrev pub is_cpu : Res → Bool
@@ -39,7 +43,8 @@ is_cpu Io = false
 is_cpu Memory = false
 is_cpu Cpu = true
 
--- the line of a resource on all tasks; that of the processor of the whole machine has zeros, as the kernel's has
+-- the line of a resource on all tasks; that of the processor of the whole machine has zeros, as the
+-- kernel's has
 abbrev pub full_line : Res → Bool → List ℕ → List (List ℕ) → List ℕ
 full_line res is_root totals averages =
     if is_root && is_cpu res then file_line FullStalled [] 0 else state_line res FullStalled totals averages
@@ -48,8 +53,8 @@ full_line res is_root totals averages =
 unfoldable pub file_text : Res → Bool → List ℕ → List (List ℕ) → List ℕ
 file_text res is_root totals averages = state_line res SomeStalled totals averages ++ full_line res is_root totals averages
 
--- the pressure file of interrupts, by its averages and total (ns): the line on all tasks alone, since no task runs on a processor
--- while an interrupt does
+-- the pressure file of interrupts, by its averages and total (ns): the line on all tasks alone,
+-- since no task runs on a processor while an interrupt does
 abbrev pub irq_text : List ℕ → ℕ → List ℕ
 irq_text averages total = file_line FullStalled averages total
 
@@ -63,7 +68,8 @@ in_hundredths average = average / 2048 * 100 + hundredths average
 abbrev pub hundredths_text : ℕ → List ℕ
 hundredths_text n = decimal (n / 100) ++ codes "." ++ two_digits (n % 100)
 
--- the line that tells averages over 10, 60 and 300 seconds in hundredths of a percent, and a total in us
+-- the line that tells averages over 10, 60 and 300 seconds in hundredths of a percent, and a total
+-- in us
 abbrev pub told_line : Level → List ℕ → ℕ → List ℕ
 told_line level averages total =
     level_word level ++ codes " avg10=" ++ hundredths_text (slice_index averages 0)

@@ -1,4 +1,5 @@
--- What follows from what pressure is: laws of shares, of averages and of signals, and of groups over any list of ticks.
+-- What follows from what pressure is: laws of shares, of averages and of signals, and of groups
+-- over any list of ticks.
 use Rattle.std.specs.Prelude.{◌≡◌, ℕ, ◌+◌, ◌-◌, ◌*◌, ◌≤◌, ◌<◌, List, [], ◌∷◌, ◌++◌, length, map, slice_index, sum_by, true, if◌then◌else◌, ◌/◌, ◌^◌, All, min, slice_index_or, Bool, false, Some}
 use Rattle.std.specs.List.{range_with_len}
 use Rattle.std.specs.List.Sorted.{IsNonDecreasingBy}
@@ -15,26 +16,29 @@ use Rattle.pressure_spec.specs.Signal.{TriggerState, fires, is_free, new_trigger
 
 -- ---- shares
 
--- A share is a mean: it is at most the longest time at its place on a processor, and at least the shortest where some
--- processor has weight.
+-- A share is a mean: it is at most the longest time at its place on a processor, and at least the
+-- shortest where some processor has weight.
 abbrev pub ShareIsMean : Type 0
 ShareIsMean = (rows : List (List ℕ)) (place least most : ℕ) →
     All (λ times. (least ≤ slice_index times place) × (slice_index times place ≤ most)) rows →
     (share_of rows place ≤ most) × (0 < total_weight rows → least ≤ share_of rows place)
 
--- So no share of a state is longer than an interval that no time in a state is longer than, and no share of interrupt time is
--- above what no interrupt time is above.
+-- So no share of a state is longer than an interval that no time in a state is longer than, and no
+-- share of interrupt time is above what no interrupt time is above.
 abbrev pub SharesWithin : Type 0
-SharesWithin = (rows : List (List ℕ)) (most most_irq : ℕ) → All (AreTimesWithin most most_irq) rows → AreAmountsWithin most most_irq (shares rows)
+SharesWithin =
+    (rows : List (List ℕ)) (most most_irq : ℕ) → All (AreTimesWithin most most_irq) rows → AreAmountsWithin most most_irq (shares rows)
 
 -- A share is at most the processors' times together.
 abbrev pub ShareWithinSum : Type 0
 ShareWithinSum = (rows : List (List ℕ)) (place : ℕ) → share_of rows place ≤ time_sum rows place
 
--- The sum in a share fits 64 bits: each of at most 64 processors has at most the longest tick, and of interrupts a second more,
--- and weighs at most as many timer ticks as the longest tick has.
+-- The sum in a share fits 64 bits: each of at most 64 processors has at most the longest tick, and
+-- of interrupts a second more, and weighs at most as many timer ticks as the longest tick has.
 abbrev pub ShareSumFits : Type 0
-ShareSumFits = (rows : List (List ℕ)) (place : ℕ) → length rows ≤ 64 → place ≤ irq_place → All (AreTimesWithin longest_tick (longest_tick + longest_irq)) rows →
+ShareSumFits =
+    (rows : List (List ℕ)) (place : ℕ) → length rows ≤ 64 → place ≤ irq_place
+    → All (AreTimesWithin longest_tick (longest_tick + longest_irq)) rows →
     (weighted_time rows place ≤ 64 * (longest_tick + longest_irq) * (longest_tick / 1000000)) × (weighted_time rows place < 2 ^ 64)
 
 -- Where no processor has weight, which takes a whole timer tick, there is no share.
@@ -60,25 +64,30 @@ abbrev pub NeverFalls : List ℕ → List (ℕ × List ℕ) → Type 0
 NeverFalls before [] = Unit {0}
 NeverFalls before (tick ∷ ticks) = ((place : ℕ) → slice_index before place ≤ slice_index tick.1 place) × NeverFalls tick.1 ticks
 
--- Of the powers by halves: x to the 0 is the result so far; an odd number takes one x, and a number halves as x squares.
+-- Of the powers by halves: x to the 0 is the result so far; an odd number takes one x, and a number
+-- halves as x squares.
 pub record PowerHalves : Type 0 where
   pub zero : (result x : ℕ) → power_from result x 0 ≡ result
   pub even : (result x n : ℕ) → power_from result x (2 * n) ≡ power_from result (product x x) n
   pub odd : (result x n : ℕ) → power_from result x (2 * n + 1) ≡ power_from (product result x) (product x x) n
 
--- An average goes toward what is active and never past it. It stands still only there, where the factor is below one.
+-- An average goes toward what is active and never past it. It stands still only there, where the
+-- factor is below one.
 pub record LoadApproaches : Type 0 where
-  pub up : (average factor active : ℕ) → factor ≤ 2048 → average ≤ active → (average ≤ load average factor active) × (load average factor active ≤ active)
-  pub down : (average factor active : ℕ) → factor ≤ 2048 → active ≤ average → (active ≤ load average factor active) × (load average factor active ≤ average)
+  pub up : (average factor active : ℕ) → factor ≤ 2048 → average ≤ active
+      → (average ≤ load average factor active) × (load average factor active ≤ active)
+  pub down : (average factor active : ℕ) → factor ≤ 2048 → active ≤ average
+      → (active ≤ load average factor active) × (load average factor active ≤ average)
   pub rises : (average factor active : ℕ) → factor < 2048 → average < active → average < load average factor active
   pub falls : (average factor active : ℕ) → factor < 2048 → active < average → load average factor active < average
 
--- After every list of ticks no average is above 100 percent, and the next update is due within a period.
+-- After every list of ticks no average is above 100 percent, and the next update is due within a
+-- period.
 abbrev pub AtMostHundred : Type 0
 AtMostHundred = (at : ℕ) (ticks : List (ℕ × List ℕ)) → HasTotals ticks → IsAverageState (averages_after at ticks)
 
--- An update in which no period was missed and all of the time was stalled raises each average of the quantity toward 100
--- percent, and not past it.
+-- An update in which no period was missed and all of the time was stalled raises each average of
+-- the quantity toward 100 percent, and not past it.
 abbrev pub RisesWhenStalled : Type 0
 RisesWhenStalled = (old : AverageState) (now : ℕ) (totals : List ℕ) (place factor : ℕ) →
     IsAverageState old → length totals ≡ length pressure_places → place < length pressure_places → factor < 3 →
@@ -99,11 +108,13 @@ FallsWhenFree = (old : AverageState) (now : ℕ) (totals : List ℕ) (place fact
 abbrev pub CarriesTheRest : Type 0
 CarriesTheRest = (old : AverageState) (now : ℕ) (totals : List ℕ) (place : ℕ) →
     IsAverageState old → length totals ≡ length pressure_places → place < length pressure_places → old.next ≤ now →
-    sampled_of (average_step old now totals) place ≡ sampled_of old place + min (slice_index totals place - sampled_of old place) (sampled_time old now)
+    sampled_of (average_step old now totals) place ≡ sampled_of old place
+    + min (slice_index totals place - sampled_of old place) (sampled_time old now)
 
 -- No more is sampled than there was: what was sampled and what waits are together the total.
 abbrev pub SamplesWithinTotal : Type 0
-SamplesWithinTotal = (at : ℕ) (ticks : List (ℕ × List ℕ)) (place : ℕ) → HasTotals ticks → NeverFalls [] ticks → place < length pressure_places →
+SamplesWithinTotal =
+    (at : ℕ) (ticks : List (ℕ × List ℕ)) (place : ℕ) → HasTotals ticks → NeverFalls [] ticks → place < length pressure_places →
     sampled_of (averages_after at ticks) place ≤ slice_index (last_totals [] ticks) place
 
 -- ---- signals
@@ -119,7 +130,8 @@ SignalsApart = (at value threshold_us window_us : ℕ) (before between : List (�
     fired_after (new_trigger at value threshold_us window_us) (before ++ first ∷ between) second ≡ true →
     first.0 + window_us * 1000 ≤ second.0
 
--- A pending event isn't lost: the first tick signals it that is a window after the last signal, whatever the ticks before it tell.
+-- A pending event isn't lost: the first tick signals it that is a window after the last signal,
+-- whatever the ticks before it tell.
 abbrev pub PendingIsSignalled : Type 0
 PendingIsSignalled = (trigger : TriggerState) (waits : List (ℕ × ℕ)) (tick : ℕ × ℕ) → trigger.pending ≡ true →
     All (λ (wait : ℕ × ℕ). is_free trigger.last_event trigger.size wait.0 ≡ false) waits →
@@ -143,7 +155,8 @@ QuietWhenStill = (at value threshold_us window_us now : ℕ) (moments : List ℕ
 
 -- ---- groups over ticks
 
--- the totals (ns) of a group: of each quantity the sum of its shares, over a list of samples that have a share of each
+-- the totals (ns) of a group: of each quantity the sum of its shares, over a list of samples that
+-- have a share of each
 unfoldable pub totals_of : List (List ℕ) → List ℕ
 totals_of samples = map (λ i. sum_by (λ sample. slice_index sample i) samples) (range_with_len 0 (length pressure_places))
 
@@ -152,8 +165,8 @@ abbrev pub TotalsGrow : Type 0
 TotalsGrow = (samples : List (List ℕ)) (sample : List ℕ) → length sample ≡ length pressure_places →
     totals_of (samples ++ sample ∷ []) ≡ plus (totals_of samples) sample
 
--- A group is sampled at the ticks at which it is live: each sample is the tick's moment and the group's shares (ns) of the
--- interval since the tick before, at which its times were these.
+-- A group is sampled at the ticks at which it is live: each sample is the tick's moment and the
+-- group's shares (ns) of the interval since the tick before, at which its times were these.
 abbrev pub samples_from : GroupLife → ℕ → List (List ℕ) → List Tick → List (ℕ × List ℕ)
 samples_from life slot before [] = []
 samples_from life slot before (tick ∷ ticks) =
@@ -175,29 +188,39 @@ abbrev pub TotalsNeverFall : Type 0
 TotalsNeverFall = (cpus : ℕ) (lives : List GroupLife) (ticks more : List Tick) (slot i : ℕ) →
     slice_index (totals_after cpus lives ticks slot) i ≤ slice_index (totals_after cpus lives (ticks ++ more) slot) i
 
--- No share of a state is longer than the time from one tick to the next, and that of interrupts is at most a second longer.
+-- No share of a state is longer than the time from one tick to the next, and that of interrupts is
+-- at most a second longer.
 abbrev pub NextSharesWithin : Type 0
 NextSharesWithin = (last tick : Tick) (slot : ℕ) → IsNextTick last tick →
     AreAmountsWithin (tick.at - last.at) (tick.at - last.at + longest_irq) (shares (growths (row_at last slot) (row_at tick slot)))
 
--- No total of a state is longer than the time up to the last tick, and an interrupt total is at most the interrupt times of
--- the processors together, since a share is at most what these grew by.
+-- No total of a state is longer than the time up to the last tick, and an interrupt total is at
+-- most the interrupt times of the processors together, since a share is at most what these grew by.
 abbrev pub TotalsWithin : Type 0
-TotalsWithin = (cpus : ℕ) (lives : List GroupLife) (ticks : List Tick) (slot : ℕ) → slot < length lives → AreNextTicks (no_tick cpus (length lives)) ticks →
-    AreAmountsWithin (last_tick (no_tick cpus (length lives)) ticks).at (time_sum (row_at (last_tick (no_tick cpus (length lives)) ticks) slot) irq_place)
+TotalsWithin =
+    (cpus : ℕ) (lives : List GroupLife) (ticks : List Tick) (slot : ℕ) → slot < length lives
+    → AreNextTicks (no_tick cpus (length lives)) ticks →
+    AreAmountsWithin (last_tick (no_tick cpus (length lives)) ticks).at
+    (time_sum (row_at (last_tick (no_tick cpus (length lives)) ticks) slot) irq_place)
     (totals_after cpus lives ticks slot)
 
--- So the interrupt totals of up to 64 processors have their bound, because no interrupt time is above the moment of its tick.
+-- So the interrupt totals of up to 64 processors have their bound, because no interrupt time is
+-- above the moment of its tick.
 abbrev pub IrqTotalBound : Type 0
-IrqTotalBound = (cpus : ℕ) (lives : List GroupLife) (ticks : List Tick) (slot : ℕ) → slot < length lives → AreNextTicks (no_tick cpus (length lives)) ticks →
+IrqTotalBound =
+    (cpus : ℕ) (lives : List GroupLife) (ticks : List Tick) (slot : ℕ) → slot < length lives
+    → AreNextTicks (no_tick cpus (length lives)) ticks →
     length (row_at (last_tick (no_tick cpus (length lives)) ticks) slot) ≤ 64 →
     slice_index (totals_after cpus lives ticks slot) irq_quantity ≤ most_irq_total
 
 -- After any ticks no average of a group is above 100 percent.
 abbrev pub GroupsAtMostHundred : Type 0
-GroupsAtMostHundred = (cpus : ℕ) (lives : List GroupLife) (ticks : List Tick) (slot place factor : ℕ) → average_of (group_averages cpus lives ticks slot) place factor ≤ 204800
+GroupsAtMostHundred =
+    (cpus : ℕ) (lives : List GroupLife) (ticks : List Tick) (slot place factor : ℕ)
+    → average_of (group_averages cpus lives ticks slot) place factor ≤ 204800
 
--- Two signals of one trigger are at least its window apart, whatever comes between, where the moments of ticks never fall.
+-- Two signals of one trigger are at least its window apart, whatever comes between, where the
+-- moments of ticks never fall.
 abbrev pub FiredApart : Type 0
 FiredApart = (cpus : ℕ) (lives : List GroupLife) (trigger : TriggerSpec) (before between : List Tick) (first second : Tick) →
     IsNonDecreasingBy (λ (tick : Tick). tick.at) (before ++ first ∷ between) →

@@ -1,5 +1,5 @@
--- The pressure of groups over any list of ticks: what each tick adds to a group's totals, its averages, and the signals of
--- triggers.
+-- The pressure of groups over any list of ticks: what each tick adds to a group's totals, its
+-- averages, and the signals of triggers.
 use Rattle.std.specs.Prelude.{ℕ, ◌-◌, List, [], ◌∷◌, ◌++◌, length, map, filter, slice_get, slice_index_or, nat_le, nat_lt, ◌&&◌, Bool, false, Option, None, Some, if◌then◌else◌}
 use Rattle.std.specs.List.{range_with_len}
 pub use Rattle.psi_base.specs.States.{state_of}
@@ -32,13 +32,15 @@ growths before now = zip_with (zip_with (λ time earlier. time - earlier)) now b
 abbrev pub with_shares : List ℕ → List (List ℕ) → List (List ℕ) → List ℕ
 with_shares totals before now = plus totals (shares (growths before now))
 
--- The history of a group over ticks: those at which it is live, each with its moment and the group's totals (ns) then. Such a
--- tick adds to the totals so far the shares of the interval since the tick before, at which the group's times were these.
+-- The history of a group over ticks: those at which it is live, each with its moment and the
+-- group's totals (ns) then. Such a tick adds to the totals so far the shares of the interval since
+-- the tick before, at which the group's times were these.
 abbrev pub history_from : GroupLife → ℕ → List (List ℕ) → List ℕ → List Tick → List (ℕ × List ℕ)
 history_from life slot before totals [] = []
 history_from life slot before totals (tick ∷ ticks) =
     if is_live_at life tick.at
-    then (tick.at, with_shares totals before (row_at tick slot)) ∷ history_from life slot (row_at tick slot) (with_shares totals before (row_at tick slot)) ticks
+    then (tick.at, with_shares totals before (row_at tick slot))
+    ∷ history_from life slot (row_at tick slot) (with_shares totals before (row_at tick slot)) ticks
     else history_from life slot (row_at tick slot) totals ticks
 
 -- the history of the group in a slot, from before the first tick on, with so many processors
@@ -66,25 +68,30 @@ group_averages cpus lives ticks slot = averages_after (life_of lives slot).made 
 abbrev pub watched_state : TriggerSpec → State
 watched_state trigger = state_of trigger.res trigger.level
 
--- the total (ns) with which a trigger begins: that of its state at the last tick strictly before its line, and 0 where its
--- group was sampled at none
+-- the total (ns) with which a trigger begins: that of its state at the last tick strictly before
+-- its line, and 0 where its group was sampled at none
 abbrev pub first_value : TriggerSpec → List (ℕ × List ℕ) → ℕ
-first_value trigger history = at_state (last_totals no_totals (filter (λ (at : ℕ × List ℕ). nat_lt at.0 trigger.at) history)) (watched_state trigger)
+first_value trigger history =
+    at_state (last_totals no_totals (filter (λ (at : ℕ × List ℕ). nat_lt at.0 trigger.at) history)) (watched_state trigger)
 
--- what a trigger sees: from its line on, each tick at which its group is live, with the total (ns) of its state
+-- what a trigger sees: from its line on, each tick at which its group is live, with the total (ns)
+-- of its state
 abbrev pub seen_by : TriggerSpec → List (ℕ × List ℕ) → List (ℕ × ℕ)
-seen_by trigger history = map (λ (at : ℕ × List ℕ). (at.0, at_state at.1 (watched_state trigger))) (filter (λ (at : ℕ × List ℕ). nat_le trigger.at at.0) history)
+seen_by trigger history =
+    map (λ (at : ℕ × List ℕ). (at.0, at_state at.1 (watched_state trigger))) (filter (λ (at : ℕ × List ℕ). nat_le trigger.at at.0) history)
 
 -- a trigger after ticks
 abbrev pub trigger_over : TriggerSpec → List (ℕ × List ℕ) → TriggerState
-trigger_over trigger history = trigger_after (new_trigger trigger.at (first_value trigger history) trigger.threshold_us trigger.window_us) (seen_by trigger history)
+trigger_over trigger history =
+    trigger_after (new_trigger trigger.at (first_value trigger history) trigger.threshold_us trigger.window_us) (seen_by trigger history)
 
--- A trigger signals at a tick that comes after others: its group is live there, its line isn't later, and it fires on the
--- total of its state.
+-- A trigger signals at a tick that comes after others: its group is live there, its line isn't
+-- later, and it fires on the total of its state.
 unfoldable pub has_fired : ℕ → List GroupLife → List Tick → Tick → TriggerSpec → Bool
 has_fired cpus lives ticks tick trigger =
     is_live_at (life_of lives trigger.slot.0) tick.at && nat_le trigger.at tick.at
-    && fires (trigger_over trigger (history_of cpus lives ticks trigger.slot.0)) tick.at (at_state (totals_after cpus lives (ticks ++ tick ∷ []) trigger.slot.0) (watched_state trigger))
+    && fires (trigger_over trigger (history_of cpus lives ticks trigger.slot.0)) tick.at
+    (at_state (totals_after cpus lives (ticks ++ tick ∷ []) trigger.slot.0) (watched_state trigger))
 
 -- the trigger with a number from 0 signals
 abbrev pub fires_by_number : ℕ → List GroupLife → List TriggerSpec → List Tick → Tick → ℕ → Bool

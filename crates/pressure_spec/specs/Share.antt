@@ -1,5 +1,5 @@
--- How long a group was in each state in an interval, and how long interrupts took from it, over all processors: the kernel's
--- collect_percpu_times.
+-- How long a group was in each state in an interval, and how long interrupts took from it, over all
+-- processors: the kernel's collect_percpu_times.
 use Rattle.std.specs.Prelude.{ℕ, ◌+◌, ◌*◌, ◌/◌, ◌<◌, ◌≤◌, max, List, [], ◌∷◌, map, sum_by, slice_index}
 use Rattle.psi_base.specs.declared.event.State.{State}
 use Rattle.psi_base.specs.declared.event.State.TheVariants.{Nonidle}
@@ -11,12 +11,13 @@ zip_with f [] ys = []
 zip_with f (x ∷ xs) [] = []
 zip_with f (x ∷ xs) (y ∷ ys) = f x y ∷ zip_with f xs ys
 
--- Times (ns) of a group on a processor: one in each of the seven states, in the order of their numbers, and behind them, at
--- this place, what interrupts took.
+-- Times (ns) of a group on a processor: one in each of the seven states, in the order of their
+-- numbers, and behind them, at this place, what interrupts took.
 abbrev pub irq_place : ℕ
 irq_place = 7
 
--- the quantities whose pressure is told, each by its place in a list of times: all states but nonidle, and interrupt time
+-- the quantities whose pressure is told, each by its place in a list of times: all states but
+-- nonidle, and interrupt time
 abbrev pub pressure_places : List ℕ
 pressure_places = 0 ∷ 1 ∷ 2 ∷ 3 ∷ 4 ∷ 5 ∷ irq_place ∷ []
 
@@ -24,11 +25,13 @@ pressure_places = 0 ∷ 1 ∷ 2 ∷ 3 ∷ 4 ∷ 5 ∷ irq_place ∷ []
 abbrev pub irq_quantity : ℕ
 irq_quantity = 6
 
--- the number of a state in a list that begins with one for each state, in the order of their numbers
+-- the number of a state in a list that begins with one for each state, in the order of their
+-- numbers
 abbrev pub at_state : List ℕ → State → ℕ
 at_state numbers state = slice_index numbers (state_number state)
 
--- the weight of a processor: how long it wasn't idle, in whole timer ticks of a millisecond, by its times (ns)
+-- the weight of a processor: how long it wasn't idle, in whole timer ticks of a millisecond, by its
+-- times (ns)
 abbrev pub weight : List ℕ → ℕ
 weight times = at_state times Nonidle / 1000000
 
@@ -40,7 +43,8 @@ total_weight rows = sum_by weight rows
 abbrev pub weighted_time : List (List ℕ) → ℕ → ℕ
 weighted_time rows place = sum_by (λ times. slice_index times place * weight times) rows
 
--- the share (ns) of a quantity, by its place: the mean of the processors' times by their weights, whole
+-- the share (ns) of a quantity, by its place: the mean of the processors' times by their weights,
+-- whole
 abbrev pub share_of : List (List ℕ) → ℕ → ℕ
 share_of rows place = weighted_time rows place / max (total_weight rows) 1
 
@@ -62,17 +66,19 @@ time_sum rows place = sum_by (λ times. slice_index times place) rows
 
 -- ---- bounds
 
--- No interrupt total (ns) is above this: it is at most the interrupt times of the processors together, which are at most 64,
--- each of them at most the last moment that a trace may reach.
+-- No interrupt total (ns) is above this: it is at most the interrupt times of the processors
+-- together, which are at most 64, each of them at most the last moment that a trace may reach.
 abbrev pub most_irq_total : ℕ
 most_irq_total = 4000000000000000000
 
--- times (ns) on a processor: none in a state is above the first bound, and what interrupts took isn't above the second
+-- times (ns) on a processor: none in a state is above the first bound, and what interrupts took
+-- isn't above the second
 pub record AreTimesWithin (most most_irq : ℕ) (times : List ℕ) : Type 0 where
   pub states : (place : ℕ) → place < irq_place → slice_index times place ≤ most
   pub irq : slice_index times irq_place ≤ most_irq
 
--- shares or totals (ns): none of a state is above the first bound, and that of interrupt time isn't above the second
+-- shares or totals (ns): none of a state is above the first bound, and that of interrupt time isn't
+-- above the second
 pub record AreAmountsWithin (most most_irq : ℕ) (amounts : List ℕ) : Type 0 where
   pub states : (quantity : ℕ) → quantity < irq_quantity → slice_index amounts quantity ≤ most
   pub irq : slice_index amounts irq_quantity ≤ most_irq

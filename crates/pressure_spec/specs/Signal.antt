@@ -1,9 +1,9 @@
 -- When a trigger signals: the kernel's window_update and update_triggers, in this profile.
 use Rattle.std.specs.Prelude.{ℕ, ◌+◌, ◌-◌, ◌*◌, ◌/◌, List, fold, nat_le, nat_lt, ◌==◌, ◌&&◌, ◌||◌, Bool, true, false, if◌then◌else◌, Option, None, Some}
 
--- A trigger: its threshold and its window's size (ns); the moment at which its window began and the total (ns) then;
--- the total at the last tick; the growth in the window before; whether an event is pending; and the moment of the last
--- event that was signalled, if there was one.
+-- A trigger: its threshold and its window's size (ns); the moment at which its window began and the
+-- total (ns) then; the total at the last tick; the growth in the window before; whether an event is
+-- pending; and the moment of the last event that was signalled, if there was one.
 pub record TriggerState : Type 0 where
   pub threshold : ℕ
   pub size : ℕ
@@ -31,13 +31,14 @@ new_trigger at value threshold_us window_us = record {
 abbrev pub is_over : TriggerState → ℕ → Bool
 is_over old now = nat_lt old.size (now - old.start)
 
--- how much (ns) the total grew in the window, which slides: where it isn't over, the growth of the window before counts
--- for the part of it that the window hasn't reached yet
+-- how much (ns) the total grew in the window, which slides: where it isn't over, the growth of the
+-- window before counts for the part of it that the window hasn't reached yet
 abbrev pub growth : TriggerState → ℕ → ℕ → ℕ
 growth old now value =
     (value - old.start_value) + (if is_over old now then 0 else old.previous * (old.size - (now - old.start)) / old.size)
 
--- a trigger after its total changed: a window that is over begins anew, and growth that reaches the threshold is an event
+-- a trigger after its total changed: a window that is over begins anew, and growth that reaches the
+-- threshold is an event
 abbrev pub grown : TriggerState → ℕ → ℕ → TriggerState
 grown old now value = record {
   threshold = old.threshold;

@@ -1,5 +1,6 @@
--- The moments at which pressure is sampled, and the tables of times that a trace gives at them. All groups are sampled on one
--- grid of moments, which is this profile's; the kernel samples each group by a timer of its own.
+-- The moments at which pressure is sampled, and the tables of times that a trace gives at them. All
+-- groups are sampled on one grid of moments, which is this profile's; the kernel samples each group
+-- by a timer of its own.
 use Rattle.std.specs.Prelude.{ℕ, ◌+◌, ◌++◌, ◌-◌, ◌*◌, ◌/◌, ◌<◌, ◌≤◌, List, [], ◌∷◌, length, map, replicate, slice_index, slice_index_or, nat_lt, ◌==◌, ◌&&◌, ◌||◌, Bool}
 use Rattle.std.specs.List.{range_with_len}
 use Rattle.psi_base.specs.declared.event.Event.{Event}
@@ -27,19 +28,21 @@ is_due period length i = nat_lt (tick_moment length (i - 1) / period) (tick_mome
 abbrev pub is_evaluation : ℕ → ℕ → ℕ → Bool
 is_evaluation interval length i = is_due interval length i
 
--- a tick is reported where the period (ns) of reports is due, if there is one; the last tick always is
+-- a tick is reported where the period (ns) of reports is due, if there is one; the last tick always
+-- is
 abbrev pub is_report : ℕ → ℕ → ℕ → ℕ → Bool
 is_report period length last i = i == last || (nat_lt 0 period && is_due period length i)
 
 -- ---- tables
 
--- A tick: its moment (ns), and the times (ns) in the seven states and of interrupts up to it, of each group on each processor:
--- a table by slot, by processor and by place.
+-- A tick: its moment (ns), and the times (ns) in the seven states and of interrupts up to it, of
+-- each group on each processor: a table by slot, by processor and by place.
 pub record Tick : Type 0 where
   pub at : ℕ
   pub table : List (List (List ℕ))
 
--- the times (ns) of a group on a processor: those in the states, in the order of their numbers, and then what interrupts took
+-- the times (ns) of a group on a processor: those in the states, in the order of their numbers, and
+-- then what interrupts took
 abbrev pub times_with : (State → ℕ) → ℕ → List ℕ
 times_with in_state irq = map in_state states ++ irq ∷ []
 
@@ -70,7 +73,8 @@ ticks_of cpus events length count = map (tick_of cpus events length) (range_with
 abbrev pub no_row : ℕ → List (List ℕ)
 no_row cpus = replicate cpus (times_with (λ state. 0) 0)
 
--- before the first tick: the moment 0, and no time has passed in any of so many groups on so many processors
+-- before the first tick: the moment 0, and no time has passed in any of so many groups on so many
+-- processors
 abbrev pub no_tick : ℕ → ℕ → Tick
 no_tick cpus slots = record { at = 0; table = replicate slots (no_row cpus) }
 
@@ -87,16 +91,19 @@ time_of row cpu place = slice_index (slice_index_or row cpu []) place
 abbrev pub time_in : List (List (List ℕ)) → ℕ → ℕ → ℕ → ℕ
 time_in table slot cpu place = time_of (slice_index_or table slot []) cpu place
 
--- A tick comes next after another: it is later, by at most the longest tick, and within the last moment. No time fell since
--- then. None in a state grew by more than the time in between. Interrupt time may have grown by a second more, since a trace
--- tells of it when it has passed; and all of it passed before the tick.
+-- A tick comes next after another: it is later, by at most the longest tick, and within the last
+-- moment. No time fell since then. None in a state grew by more than the time in between. Interrupt
+-- time may have grown by a second more, since a trace tells of it when it has passed; and all of it
+-- passed before the tick.
 pub record IsNextTick (last tick : Tick) : Type 0 where
   pub later : last.at < tick.at
   pub soon : tick.at ≤ last.at + longest_tick
   pub early : tick.at ≤ last_moment
   pub kept : (slot cpu place : ℕ) → time_in last.table slot cpu place ≤ time_in tick.table slot cpu place
-  pub grown : (slot cpu place : ℕ) → place < irq_place → time_in tick.table slot cpu place ≤ time_in last.table slot cpu place + (tick.at - last.at)
-  pub irq_grown : (slot cpu : ℕ) → time_in tick.table slot cpu irq_place ≤ time_in last.table slot cpu irq_place + (tick.at - last.at) + longest_irq
+  pub grown : (slot cpu place : ℕ) → place < irq_place
+      → time_in tick.table slot cpu place ≤ time_in last.table slot cpu place + (tick.at - last.at)
+  pub irq_grown : (slot cpu : ℕ) → time_in tick.table slot cpu irq_place
+      ≤ time_in last.table slot cpu irq_place + (tick.at - last.at) + longest_irq
   pub irq_early : (slot cpu : ℕ) → time_in tick.table slot cpu irq_place ≤ tick.at
 
 -- ticks come one after another, the first of them after the one before them

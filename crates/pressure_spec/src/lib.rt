@@ -1,6 +1,7 @@
 //! What pressure is: shares of an interval and totals, averages, and the signals of triggers.
 //!
-//! In `specs/`: `Share`, `Average`, `Signal`, `Ticks`, `Samples` and `File`, and `Laws`, what follows from them.
+//! In `specs/`: `Share`, `Average`, `Signal`, `Ticks`, `Samples` and `File`, and `Laws`, what
+//! follows from them.
 #![tactic(auto)]
 
 mod arithmetic;

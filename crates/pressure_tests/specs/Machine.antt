@@ -7,8 +7,8 @@ use Rattle.aggregate.specs.Table.{HasSizes}
 use Rattle.tick_engine.specs.Engine.{EngineView}
 use Rattle.tick_engine.specs.Tables.{tick_at}
 
--- No time of a processor fell up to a moment (ns). None in a state grew by more than this (ns), and what interrupts took by at
--- most a second more; and it isn't above the moment.
+-- No time of a processor fell up to a moment (ns). None in a state grew by more than this (ns), and
+-- what interrupts took by at most a second more; and it isn't above the moment.
 pub record GrewWithin (most at : ℕ) (before now : List ℕ) : Type 0 where
   pub kept : (place : ℕ) → slice_index before place ≤ slice_index now place
   pub grown : (place : ℕ) → place < irq_place → slice_index now place ≤ slice_index before place + most

@@ -77,8 +77,8 @@ fn averages_of_interrupts(rt: HostRuntime) {
     assert_eq!(rt; averages.get(State::CpuFull), [0, 0, 0]);
 }
 
-// Ticks of 5 s: one period is missed at the first and two at the second, and what was above the length of the
-// sample waits.
+// Ticks of 5 s: one period is missed at the first and two at the second, and what was above the
+// length of the sample waits.
 #[test]
 fn averages_of_missed_periods(rt: HostRuntime) {
     let mut averages = Averages::new(0);
@@ -103,8 +103,8 @@ fn weighted_shares(rt: HostRuntime) {
     assert_eq!(rt; share(&[every]), [1, 2, 3, 4, 5, 6, 8]);
 }
 
-// Processor 0 is busy for two seconds, of which interrupts take one, and processor 1 for a second without interrupts: a
-// plain mean would be half a second.
+// Processor 0 is busy for two seconds, of which interrupts take one, and processor 1 for a second
+// without interrupts: a plain mean would be half a second.
 #[test]
 fn weighted_interrupts(rt: HostRuntime) {
     let interrupted = [0, 0, 0, 0, 0, 0, 2 * SECOND, SECOND];
@@ -156,8 +156,8 @@ fn windows_in_range(rt: HostRuntime) {
     }
 }
 
-/// The ticks (ms) of 100 ms up to 2500 ms at which a trigger of 150 ms in a window of a second signals, where the
-/// stall lasts up to a moment (ms).
+/// The ticks (ms) of 100 ms up to 2500 ms at which a trigger of 150 ms in a window of a second
+/// signals, where the stall lasts up to a moment (ms).
 fn signals(rt: &HostRuntime, until: u64) -> Result<Vec<u64>, Fail> {
     let mut at = Vec::new(rt.alloc());
     let mut trigger = match Trigger::new(0, 0, 150_000, 1_000_000) {
@@ -173,8 +173,8 @@ fn signals(rt: &HostRuntime, until: u64) -> Result<Vec<u64>, Fail> {
     Ok(at)
 }
 
-// In a stall that doesn't end, the signals are a window apart. Of one that ends after the first signal, the event
-// that is pending then is signalled, and none after it.
+// In a stall that doesn't end, the signals are a window apart. Of one that ends after the first
+// signal, the event that is pending then is signalled, and none after it.
 #[test]
 fn signals_of_a_trigger(rt: HostRuntime) -> Result<(), Fail> {
     assert_eq!(rt; &signals(&rt, 2500)?[..], [200u64, 1200, 2200].as_slice());

@@ -1,4 +1,5 @@
-//! Tests of pressure: its arithmetic, groups and triggers over ticks, and the lines and files that tell of it.
+//! Tests of pressure: its arithmetic, groups and triggers over ticks, and the lines and files that
+//! tell of it.
 #![tactic(auto)]
 
 #[cfg(test)]

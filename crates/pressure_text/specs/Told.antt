@@ -19,15 +19,15 @@ spelled_line level line = told_line level line.hundredths line.total_us
 abbrev pub IsTellable : PressureLine → Type 0
 IsTellable line = CanTell line.hundredths line.total_us
 
--- The bytes are the pressure file that tells these numbers: the line on some tasks, the line on all, and
--- nothing else.
+-- The bytes are the pressure file that tells these numbers: the line on some tasks, the line on
+-- all, and nothing else.
 pub record Tells (bytes : List ℕ) (file : PressureFile) : Type 0 where
   pub some_line : IsTellable file.some_line
   pub full_line : IsTellable file.full_line
   pub spelled : bytes ≡ spelled_line SomeStalled file.some_line ++ spelled_line FullStalled file.full_line
 
--- The bytes are the pressure file of interrupts that tells these numbers: the line on all tasks, and
--- nothing else.
+-- The bytes are the pressure file of interrupts that tells these numbers: the line on all tasks,
+-- and nothing else.
 pub record TellsIrq (bytes : List ℕ) (line : PressureLine) : Type 0 where
   pub full_line : IsTellable line
   pub spelled : bytes ≡ spelled_line FullStalled line
@@ -38,7 +38,8 @@ three_hundredths averages =
     in_hundredths (slice_index averages 0) ∷ in_hundredths (slice_index averages 1)
     ∷ in_hundredths (slice_index averages 2) ∷ []
 
--- what a line tells of three averages and a total (ns): whole hundredths of a percent and microseconds
+-- what a line tells of three averages and a total (ns): whole hundredths of a percent and
+-- microseconds
 abbrev pub numbers_told : List ℕ → ℕ → PressureLine
 numbers_told averages total = record { hundredths = three_hundredths averages; total_us = total / 1000 }
 
@@ -48,16 +49,16 @@ told_by_line res level totals averages =
     numbers_told (slice_index_or averages (state_number (state_of res level)) [])
     (slice_index totals (state_number (state_of res level)))
 
--- what a pressure file tells of totals (ns) and averages; of the processor and all tasks of the root it
--- tells zeros
+-- what a pressure file tells of totals (ns) and averages; of the processor and all tasks of the
+-- root it tells zeros
 abbrev pub told_file : Res → Bool → List ℕ → List (List ℕ) → PressureFile
 told_file res is_root totals averages = record {
   some_line = told_by_line res SomeStalled totals averages;
   full_line = if is_root && is_cpu res then numbers_told [] 0 else told_by_line res FullStalled totals averages;
 }
 
--- What is written of totals of 64 bits (ns) and of averages of at most 100 percent is read again, as
--- whole microseconds and hundredths of a percent.
+-- What is written of totals of 64 bits (ns) and of averages of at most 100 percent is read again,
+-- as whole microseconds and hundredths of a percent.
 abbrev pub ReadsAgain : Type 0
 ReadsAgain = (res : Res) (is_root : Bool) (totals : List ℕ) (averages : List (List ℕ)) →
     All (λ total. total < 2 ^ 64) totals → All (λ row. IsRow row) averages →

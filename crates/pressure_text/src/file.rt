@@ -1,14 +1,15 @@
 //! Pressure files, and reports of them.
 ghost use Rattle.std.specs.Prelude.{[], slice_index_or};
-ghost use Rattle.psi_base.specs.Outside.{HasCause, PutsAll, StaysOver};
+ghost use Rattle.outside.specs.Outside.{HasCause, PutsAll, StaysOver};
 ghost use Rattle.pressure_spec.specs.File.{file_line, file_text, full_line, state_line};
 ghost use Rattle.pressure_spec.specs.Share.{irq_quantity};
 ghost use Rattle.run_spec.specs.Lines.{head_line, irq_report, report_head, report_text};
 
 use crate::pieces::{Piece, put_pieces};
 use fixed_average::Averages;
+use outside::{Sink, WriteFailed};
 use pressure_spec::Amounts;
-use psi_base::{Level, Ns, Path, Res, Sink, State, WriteFailed};
+use psi_base::{Level, Ns, Path, Res, State};
 
 // A line of a pressure file: three averages, and a total (ns).
 fn put_line<K: Sink>(
@@ -75,10 +76,10 @@ fn put_full<K: Sink>(
     put_state(out, res, Level::FullStalled, totals, averages)
 }
 
-/// Writes the pressure file of a resource of a group, as `Documentation/accounting/psi.rst` has it: the
-/// line on some and the line on all of its tasks, by the group's totals (ns) of all states but nonidle, in
-/// their order, and of interrupts, and its averages. The processor's line on all tasks of the root has
-/// zeros, as the kernel's has.
+/// Writes the pressure file of a resource of a group, as `Documentation/accounting/psi.rst` has it:
+/// the line on some and the line on all of its tasks, by the group's totals (ns) of all states but
+/// nonidle, in their order, and of interrupts, and its averages. The processor's line on all tasks
+/// of the root has zeros, as the kernel's has.
 pub fn write_file<K: Sink>(
     out: &mut K,
     res: Res,
@@ -95,8 +96,9 @@ pub fn write_file<K: Sink>(
     put_full(out, res, root, &totals, averages)
 }
 
-// The line ahead of a pressure file: the tick (ns), the group's path and the word of what the file tells.
-#[tactic(auto, using(psi_base::proofs::Grows::chain))]
+// The line ahead of a pressure file: the tick (ns), the group's path and the word of what the file
+// tells.
+#[tactic(auto, using(outside::proofs::Grows::chain))]
 fn put_head<'a, K: Sink>(
     out: &mut K,
     at: Ns,
@@ -122,8 +124,8 @@ fn put_head<'a, K: Sink>(
     )
 }
 
-/// Writes the line ahead of the pressure file of a resource: the tick (ns), the group's path and the
-/// resource.
+/// Writes the line ahead of the pressure file of a resource: the tick (ns), the group's path and
+/// the resource.
 pub fn write_report_head<K: Sink>(
     out: &mut K,
     at: Ns,
@@ -137,9 +139,9 @@ pub fn write_report_head<K: Sink>(
     put_head(out, at, path, res.word().as_bytes())
 }
 
-/// Writes a report on a resource of a group at a tick (ns): its head, as [`write_report_head`], and its
-/// pressure file, as [`write_file`].
-#[tactic(auto, using(psi_base::proofs::Grows::chain))]
+/// Writes a report on a resource of a group at a tick (ns): its head, as [`write_report_head`], and
+/// its pressure file, as [`write_file`].
+#[tactic(auto, using(outside::proofs::Grows::chain))]
 pub fn write_report<K: Sink>(
     out: &mut K,
     at: Ns,
@@ -158,9 +160,10 @@ pub fn write_report<K: Sink>(
     write_file(out, res, root, totals, averages)
 }
 
-/// Writes the report on interrupts of a group at a tick (ns): the line ahead of it, and the line on all
-/// tasks, by the total of interrupts (ns) and their averages. Interrupts have no line on some tasks.
-#[tactic(auto, using(psi_base::proofs::Grows::chain))]
+/// Writes the report on interrupts of a group at a tick (ns): the line ahead of it, and the line on
+/// all tasks, by the total of interrupts (ns) and their averages. Interrupts have no line on some
+/// tasks.
+#[tactic(auto, using(outside::proofs::Grows::chain))]
 pub fn write_irq<K: Sink>(
     out: &mut K,
     at: Ns,

@@ -1,17 +1,18 @@
 //! The lines that stand alone.
 ghost use Rattle.std.specs.Prelude.{◌-◌, ◌<◌, ◌^◌};
-ghost use Rattle.psi_base.specs.Outside.{HasCause, PutsAll, StaysOver};
+ghost use Rattle.outside.specs.Outside.{HasCause, PutsAll, StaysOver};
 ghost use Rattle.psi_spec.specs.Fields as fields;
 ghost use Rattle.run_spec.specs.Lines.{check_line, end_line, event_line, kill_line};
 ghost use Rattle.run_spec.specs.Lines.{live_line, stall_line};
 ghost use Rattle.pressure_text.specs.Pieces.{with_numbers};
 
 use crate::pieces::{Piece, put_numbers, put_pieces};
+use outside::{Sink, WriteFailed, put_all};
 use pressure_spec::Times;
-use psi_base::{Cpu, Ns, Path, Sink, TriggerSpec, WriteFailed, put_all};
+use psi_base::{Cpu, Ns, Path, TriggerSpec};
 
 /// Writes a line of its own: the pieces in order, and behind them times (ns), each behind a space.
-#[tactic(auto, using(psi_base::proofs::Grows::chain))]
+#[tactic(auto, using(outside::proofs::Grows::chain))]
 pub fn put_timed<K: Sink>(out: &mut K, head: &[Piece], times: &[Ns]) -> Result<(), WriteFailed>
     ensures bytes { PutsAll (K.has out.old) (K.has out.new) result
         (with_numbers head.now times.now) }
@@ -58,8 +59,8 @@ pub fn write_stall<K: Sink>(
     put_stall(out, cpu, path, &seven)
 }
 
-/// Writes the line of a group on a processor where interrupts are told: its times (ns) in the seven states,
-/// in their order, and then what interrupts took.
+/// Writes the line of a group on a processor where interrupts are told: its times (ns) in the seven
+/// states, in their order, and then what interrupts took.
 pub fn write_stall_irq<K: Sink>(
     out: &mut K,
     cpu: Cpu,
@@ -74,9 +75,9 @@ pub fn write_stall_irq<K: Sink>(
     put_stall(out, cpu, path, &eight)
 }
 
-/// Writes the line of an accepted trace: how many events it has, the end among them, and its end moment
-/// (ns).
-#[tactic(auto, using(psi_base::proofs::Grows::chain))]
+/// Writes the line of an accepted trace: how many events it has, the end among them, and its end
+/// moment (ns).
+#[tactic(auto, using(outside::proofs::Grows::chain))]
 pub fn write_check<K: Sink>(out: &mut K, events: u64, end: Ns) -> Result<(), WriteFailed>
     requires { events < 2 ^ 64 - 1 }
     ensures bytes { PutsAll (K.has out.old) (K.has out.new) result (check_line events end) }
@@ -97,8 +98,8 @@ pub fn write_check<K: Sink>(out: &mut K, events: u64, end: Ns) -> Result<(), Wri
     )
 }
 
-/// Writes a sample of a clock of the watched group, taken at a tick (ns): the processor, after how many of
-/// its changes it was taken, and its times (ns) in the seven states, in their order.
+/// Writes a sample of a clock of the watched group, taken at a tick (ns): the processor, after how
+/// many of its changes it was taken, and its times (ns) in the seven states, in their order.
 #[tactic(auto, using(crate::proofs::Puts::times))]
 pub fn write_live<K: Sink>(
     out: &mut K,
@@ -126,9 +127,9 @@ pub fn write_live<K: Sink>(
     )
 }
 
-/// Writes a signal of a trigger at a tick (ns): its number, the path of the group that it watches, and what
-/// it watches, with threshold and window in us.
-#[tactic(auto, using(psi_base::proofs::Grows::chain))]
+/// Writes a signal of a trigger at a tick (ns): its number, the path of the group that it watches,
+/// and what it watches, with threshold and window in us.
+#[tactic(auto, using(outside::proofs::Grows::chain))]
 pub fn write_fired<K: Sink>(
     out: &mut K,
     at: Ns,
@@ -165,7 +166,7 @@ pub fn write_fired<K: Sink>(
 
 /// Writes a kill at a tick (ns): the numbers of the ruleset and of its action, both from 0, and the
 /// victim's path.
-#[tactic(auto, using(psi_base::proofs::Grows::chain))]
+#[tactic(auto, using(outside::proofs::Grows::chain))]
 pub fn write_kill<K: Sink>(
     out: &mut K,
     at: Ns,
@@ -194,9 +195,9 @@ pub fn write_kill<K: Sink>(
     )
 }
 
-/// Writes the last line of a replay: the end moment (ns), and how many ticks, signals and kills there
-/// were.
-#[tactic(auto, using(psi_base::proofs::Grows::chain))]
+/// Writes the last line of a replay: the end moment (ns), and how many ticks, signals and kills
+/// there were.
+#[tactic(auto, using(outside::proofs::Grows::chain))]
 pub fn write_end<K: Sink>(
     out: &mut K,
     at: Ns,

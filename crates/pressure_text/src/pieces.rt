@@ -1,11 +1,11 @@
 //! A text in pieces, each sent as it is made.
 ghost use Rattle.std.specs.Prelude.{◌≡◌, ◌++◌, codes};
 ghost use Rattle.std.specs.List.{flat_map};
-ghost use Rattle.psi_base.specs.Outside.{HasCause, PutsAll, StaysOver};
+ghost use Rattle.outside.specs.Outside.{HasCause, PutsAll, StaysOver};
 ghost use Rattle.pressure_spec.specs.File.{hundredths, percent_text, two_digits};
 ghost use Rattle.pressure_text.specs.Pieces.{piece_bytes, spaced_number};
 
-use psi_base::{Sink, WriteFailed, put_all, put_number};
+use outside::{Sink, WriteFailed, put_all, put_number};
 
 /// One percent of an average in fixed point.
 const PERCENT: u64 = 2048;
@@ -33,7 +33,7 @@ fn fraction_of(average: u64) -> [u8; 3]
 }
 
 // An average in percent.
-#[tactic(auto, using(psi_base::proofs::Grows::chain))]
+#[tactic(auto, using(outside::proofs::Grows::chain))]
 fn put_percent<K: Sink>(out: &mut K, average: u64) -> Result<(), WriteFailed>
     ensures bytes { PutsAll (K.has out.old) (K.has out.new) result (percent_text average) }
     ensures cause { HasCause (K.faults out.old) (K.faults out.new) result }
@@ -56,7 +56,7 @@ fn put_piece<K: Sink>(out: &mut K, piece: Piece) -> Result<(), WriteFailed>
 }
 
 /// Sends the pieces in order. A failure leaves a prefix of their joined bytes in the sink.
-#[tactic(auto, using(psi_base::proofs::Grows::growth))]
+#[tactic(auto, using(outside::proofs::Grows::growth))]
 pub fn put_pieces<K: Sink>(out: &mut K, pieces: &[Piece]) -> Result<(), WriteFailed>
     ensures bytes { PutsAll (K.has out.old) (K.has out.new) result
         (flat_map piece_bytes pieces.now) }
@@ -70,7 +70,7 @@ pub fn put_pieces<K: Sink>(out: &mut K, pieces: &[Piece]) -> Result<(), WriteFai
 }
 
 // A number behind a space.
-#[tactic(auto, using(psi_base::proofs::Grows::chain))]
+#[tactic(auto, using(outside::proofs::Grows::chain))]
 fn put_spaced<K: Sink>(out: &mut K, number: u64) -> Result<(), WriteFailed>
     ensures bytes { PutsAll (K.has out.old) (K.has out.new) result (spaced_number number) }
     ensures cause { HasCause (K.faults out.old) (K.faults out.new) result }
@@ -81,7 +81,7 @@ fn put_spaced<K: Sink>(out: &mut K, number: u64) -> Result<(), WriteFailed>
 }
 
 /// Sends numbers, each behind a space.
-#[tactic(auto, using(psi_base::proofs::Grows::growth))]
+#[tactic(auto, using(outside::proofs::Grows::growth))]
 pub(crate) fn put_numbers<K: Sink>(out: &mut K, numbers: &[u64]) -> Result<(), WriteFailed>
     ensures bytes { PutsAll (K.has out.old) (K.has out.new) result
         (flat_map spaced_number numbers.now) }

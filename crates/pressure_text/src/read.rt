@@ -184,9 +184,10 @@ fn irq_of(bytes: &[u8]) -> Option<PressureLine>
     Some(line)
 }
 
-/// Reads a pressure file: the line on some tasks and the line on all, each with its newline, and nothing
-/// behind them. Averages are from 0.00 to 100.00 percent with two digits behind the point, totals are below
-/// 2^64 us, and numbers have no leading zeros. None exactly where the bytes are no such file.
+/// Reads a pressure file: the line on some tasks and the line on all, each with its newline, and
+/// nothing behind them. Averages are from 0.00 to 100.00 percent with two digits behind the point,
+/// totals are below 2^64 us, and numbers have no leading zeros. None exactly where the bytes are no
+/// such file.
 pub fn read_file(bytes: &[u8]) -> Option<PressureFile>
     ensures exact { (file : PressureFile) → (result ≡ Some file) ↔ Tells bytes.now file }
     ensures none { IsNone result ↔ ((file : PressureFile) → ¬ Tells bytes.now file) }
@@ -194,8 +195,8 @@ pub fn read_file(bytes: &[u8]) -> Option<PressureFile>
     file_of(bytes)
 }
 
-/// Reads the pressure file of interrupts: the line on all tasks with its newline, and nothing behind it, its
-/// numbers as [`read_file`] has them. None exactly where the bytes are no such file.
+/// Reads the pressure file of interrupts: the line on all tasks with its newline, and nothing
+/// behind it, its numbers as [`read_file`] has them. None exactly where the bytes are no such file.
 pub fn read_irq(bytes: &[u8]) -> Option<PressureLine>
     ensures exact { (line : PressureLine) → (result ≡ Some line) ↔ TellsIrq bytes.now line }
     ensures none { IsNone result ↔ ((line : PressureLine) → ¬ TellsIrq bytes.now line) }
@@ -203,8 +204,8 @@ pub fn read_irq(bytes: &[u8]) -> Option<PressureLine>
     irq_of(bytes)
 }
 
-/// What is written of totals of 64 bits is read again, as whole microseconds and hundredths of a percent:
-/// what [`write_file`](crate::write_file) writes by [`read_file`], and the file that
+/// What is written of totals of 64 bits is read again, as whole microseconds and hundredths of a
+/// percent: what [`write_file`](crate::write_file) writes by [`read_file`], and the file that
 /// [`write_irq`](crate::write_irq) writes behind its head by [`read_irq`].
 pub fn law_read_again()
     ensures file { ReadsAgain }

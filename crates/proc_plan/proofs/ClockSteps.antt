@@ -8,12 +8,12 @@ use Rattle.psi_counts.specs.declared.changes.Change.{Change}
 use Rattle.psi_counts.specs.declared.changes.Counts.{Counts}
 use Rattle.psi_counts.specs.Clock.{ClockFollows}
 use Rattle.psi_spec.specs.Stall.{is_under, number_of_slot}
-use Rattle.psi_counts.specs.Touch.{AreAtMost, Follows, gated, no_counts, on_chain}
+use Rattle.psi_counts.specs.Touch.{AreAtMost, Follows, on_with, no_counts, on_chain}
 use Rattle.plan_laws.specs.Plan.{IsClock, IsPlan, PlanView, counts_after, current_after, holds_after, last_change, on_after}
 use Rattle.plan_laws.proofs.PlanClocks.{followed_is_clock, zero_is_clock}
 use Rattle.plan_laws.proofs.PlanStates.{counts_are}
 use Rattle.plan_laws.proofs.PlanSteps.{counts_by_change, current_by_change, on_by_change, plan_counts_are_few}
-use Rattle.slot_clocks.specs.Clocks.{AllCanFollow, AllClocksFollow, AllFollow, AllGated, AreTold, AreWhole, CanFollow, ClocksView, cell_at, first_clocks, parent_numbers, zero_cell}
+use Rattle.slot_clocks.specs.Clocks.{AllCanFollow, AllClocksFollow, AllFollow, AllOnWith, AreTold, AreWhole, CanFollow, ClocksView, cell_at, first_clocks, parent_numbers, zero_cell}
 use Rattle.slot_clocks.specs.declared.cell.Cell.{Cell}
 use Rattle.proc_plan.specs.Clocks.{AreClocks}
 
@@ -47,7 +47,7 @@ as_many_parents parents plan same = sym (ap length same) ∙ length-map parents 
 pub current_below : (plan : PlanView) (k : ℕ) → IsPlan plan → k ≤ length plan.changes → IfSome (current_after plan k) (λ running. running.0.0 < length plan.parents)
 current_below plan zero whole within = tt
 current_below plan (suc k) whole within =
-    let none : Change = record { at = 0; minus = None; plus = None; current = None; irq = 0; gate = None } in
+    let none : Change = record { at = 0; minus = None; plus = None; current = None; irq = 0; account = None } in
     let is = slice_get-get_or plan.changes k none (omega (arith, within)) in
     let next : suc k ≡ k + 1 = omega arith in
     subst (λ o. IfSome o (λ (running : Slot × Bool). running.0.0 < length plan.parents)) (sym (ap (current_after plan) next ∙ (current_by_change plan k (slice_index_or plan.changes k none) is).0)) (whole.slots k (slice_index_or plan.changes k none) is).current
@@ -98,7 +98,7 @@ same_follow old minus plus one other a b = counts_are one other.io other.stalled
 pub record AreMade (plan : PlanView) (change : Change) (old new : ClocksView) : Type 0 where
   pub room : length new.cells ≡ length old.cells
   pub counts : AllFollow plan.parents change old new
-  pub gates : AllGated change old new
+  pub accounts : AllOnWith change old new
   pub clocks : AllClocksFollow change.at old new
   pub whole : AreWhole new
   pub told : AreTold plan.parents new
@@ -118,7 +118,7 @@ next_clocks plan old new k change are is made =
     (subst (λ n. Follows n (on_chain plan.parents slot change.minus) (on_chain plan.parents slot change.plus) (cell_at new slot).counts) (are.counts slot) (made.counts slot))
     (counts_by_change plan are.whole.fits slot k change is) in
     let ons : (slot : ℕ) → (cell_at new slot).on ≡ on_after plan slot (k + 1) = λ slot.
-    made.gates slot ∙ ap (λ on. gated slot on change.gate) (are.ons slot) ∙ sym (on_by_change plan slot k change is) in
+    made.accounts slot ∙ ap (λ on. on_with slot on change.account) (are.ons slot) ∙ sym (on_by_change plan slot k change is) in
     record {
       whole = are.whole;
       within = omega (arith, room);

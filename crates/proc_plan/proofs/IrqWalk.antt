@@ -22,7 +22,8 @@ one_time : (on : Bool) (time irq : ℕ) → (time + (if on then irq else 0)) + (
 one_time true time irq = omega arith
 one_time false time irq = omega arith
 
--- a group whose account is on has its time where the walk stands, and the walk goes on to the parent
+-- a group whose account is on has its time where the walk stands, and the walk goes on to the
+-- parent
 pub step_up : (parents : List (Option Slot)) (ons : ℕ → Bool) (times : List ℕ) (place at irq : ℕ) → AreOlder (parent_numbers parents) → place < length times →
     irq_at (slice_set times place (irq_at times place + (if ons place then irq else 0))) at + (if ons at && leads_to (parent_numbers parents) (number_of_slot (slice_index_or parents place None)) at then irq else 0)
     ≡ irq_at times at + (if ons at && is_under (parent_numbers parents) place at then irq else 0)

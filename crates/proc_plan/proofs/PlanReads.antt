@@ -10,7 +10,7 @@ use Rattle.psi_counts.specs.declared.changes.Change.{Change}
 use Rattle.psi_counts.specs.declared.changes.Counts.{Counts}
 use Rattle.psi_spec.specs.Groups.{AreOlder, HaveParents, leads_to}
 use Rattle.psi_spec.specs.Stall.{is_under, number_of_slot}
-use Rattle.plan_laws.specs.Plan.{AreInOrder, PlanView, changes_up_to, current_after, is_gate_of, is_part_in, last_change}
+use Rattle.plan_laws.specs.Plan.{AreInOrder, PlanView, changes_up_to, current_after, is_account_of, is_part_in, last_change}
 use Rattle.psi_counts.specs.Touch.{HasNoCounts, IsOfOne, is_current_in}
 use Rattle.plan_laws.proofs.PlanSteps.{place_of_moment}
 use Rattle.slot_clocks.specs.Walk.{slot_in}
@@ -57,7 +57,8 @@ last_before plan at (suc k) d room early =
     let same : last_change plan (suc k) ≡ last_change plan (k + 1) = ap (last_change plan) (let e : suc k ≡ k + 1 = omega arith in e) in
     omega (arith, here, same, moment_at plan k d (omega (arith, room)))
 
--- What the place behind them tells: it is how many come up to the moment, the change before it isn't later, and the next is.
+-- What the place behind them tells: it is how many come up to the moment, the change before it
+-- isn't later, and the next is.
 pub record IsUntil (plan : PlanView) (at k : ℕ) : Type 0 where
   pub until : k ≡ changes_up_to plan at
   pub within : k ≤ length plan.changes
@@ -66,7 +67,7 @@ pub record IsUntil (plan : PlanView) (at k : ℕ) : Type 0 where
 
 pub point_counts : (plan : PlanView) (at k : ℕ) → AreInOrder plan → k ≤ length plan.changes → IsPartitionPoint (λ (change : Change). nat_le change.at at ≡ true) (λ (change : Change). nat_le change.at at ≡ false) plan.changes k → IsUntil plan at k
 point_counts plan at k order room point =
-    let none : Change = record { at = 0; minus = None; plus = None; current = None; irq = 0; gate = None } in
+    let none : Change = record { at = 0; minus = None; plus = None; current = None; irq = 0; account = None } in
     let past = last_before plan at k none room point.0 in
     let next : k < length plan.changes → at < last_change plan (k + 1) = λ more.
     let late = is_late (slice_index_or plan.changes k none).at at (point.1 k none (omega arith) more) in
@@ -88,26 +89,27 @@ current_off : (parents : List (Option ℕ)) (slot : ℕ) (current : Option (Slot
 current_off parents slot None off = refl
 current_off parents slot (Some running) off = off
 
--- a slot that is off the chain that a change begins with is off what it takes, and no gate is the slot's
-gate_off : (parents : List (Option ℕ)) (slot : ℕ) (gate : Option (Slot × Bool)) (minus : Option (Slot × Counts)) → IfSome gate (λ _. minus ≡ None) → leads_to parents (number_of_slot (option_or (slot_in gate) (slot_in minus))) slot ≡ false
-    → (is_part_in parents slot minus ≡ false) × (is_gate_of slot gate ≡ false)
-gate_off parents slot None minus none off = (part_off parents slot minus off, refl)
-gate_off parents slot (Some gate) minus none off = (
+-- a slot that is off the chain that a change begins with is off what it takes, and no switched
+-- account is the slot's
+account_off : (parents : List (Option ℕ)) (slot : ℕ) (account : Option (Slot × Bool)) (minus : Option (Slot × Counts)) → IfSome account (λ _. minus ≡ None) → leads_to parents (number_of_slot (option_or (slot_in account) (slot_in minus))) slot ≡ false
+    → (is_part_in parents slot minus ≡ false) × (is_account_of slot account ≡ false)
+account_off parents slot None minus none off = (part_off parents slot minus off, refl)
+account_off parents slot (Some account) minus none off = (
   ap (is_part_in parents slot) none,
-  elim (gate.0.0 == slot) as (λ b. (gate.0.0 == slot) ≡ b → b ≡ false) [
+  elim (account.0.0 == slot) as (λ b. (account.0.0 == slot) ≡ b → b ≡ false) [
     | true ↦ λ same.
-        let equal : gate.0.0 ≡ slot = grind (arith, nat_tests) in
-        absurd (cc (sym off ∙ ap (is_under parents gate.0.0) (sym equal) ∙ at_itself parents gate.0.0))
+        let equal : account.0.0 ≡ slot = grind (arith, nat_tests) in
+        absurd (cc (sym off ∙ ap (is_under parents account.0.0) (sym equal) ∙ at_itself parents account.0.0))
     | false ↦ λ _. refl
   ] refl,
 )
 
-pub no_minus : (change : Change) → IsOfOne change → IfSome change.gate (λ _. change.minus ≡ None)
-no_minus change is = alone change.gate is.gate
+pub no_minus : (change : Change) → IsOfOne change → IfSome change.account (λ _. change.minus ≡ None)
+no_minus change is = alone change.account is.account
   where
-    alone : (gate : Option (Slot × Bool)) → IfSome gate (λ _. HasNoCounts change × (change.irq ≡ 0)) → IfSome gate (λ _. change.minus ≡ None)
+    alone : (account : Option (Slot × Bool)) → IfSome account (λ _. HasNoCounts change × (change.irq ≡ 0)) → IfSome account (λ _. change.minus ≡ None)
     alone None is = tt
-    alone (Some gate) is = is.0.0
+    alone (Some account) is = is.0.0
 
 -- the change at a place is one
 pub same_change : (plan : PlanView) (k : ℕ) (one other : Change) → slice_get plan.changes k ≡ Some one → slice_get plan.changes k ≡ Some other → one ≡ other
@@ -118,10 +120,10 @@ pub others_aside : (plan : PlanView) (k : ℕ) (starts : List (Option Slot)) (on
 others_aside plan k starts one there is_one are slot change is off =
     let of_one : IsOfOne change = subst IsOfOne (same_change plan k one change there is) is_one in
     let none = subst (λ starts. IsOnNone plan.parents starts slot) (are change is) off in
-    let first = gate_off plan.parents slot change.gate change.minus (no_minus change of_one) (none 0 None (omega arith)) in
+    let first = account_off plan.parents slot change.account change.minus (no_minus change of_one) (none 0 None (omega arith)) in
     record {
       minus = first.0;
-      gate = first.1;
+      account = first.1;
       plus = part_off plan.parents slot change.plus (none 1 None (omega arith));
       before = current_off plan.parents slot (current_after plan k) (none 2 None (omega arith));
       current = current_off plan.parents slot change.current (none 3 None (omega arith));

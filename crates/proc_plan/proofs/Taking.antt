@@ -1,5 +1,6 @@
 -- What a planner has taken after one event more.
-use Rattle.std.proofs.Common.{◌≡◌, ℕ, ◌+◌, ◌<◌, ◌≤◌, List, [], ◌∷◌, ◌++◌, length, refl, sym, ap, ◌∙◌, subst, arith, Bool, true, false, Option, None, Some, IsSome, IfSome, append_assoc}
+use Rattle.std.proofs.Common.{◌≡◌, ℕ, ◌+◌, ◌<◌, ◌≤◌, List, [], ◌∷◌, ◌++◌, length, refl, sym, ap, ◌∙◌, subst, arith, Bool, true, false, Option, None, Some, IsSome, IfSome, append_assoc, take, drop}
+use Rattle.std.proofs.Math.Seq.{take-append_seam}
 use Rattle.std.specs.Prelude.{if◌then◌else◌, ◌==◌, Result, Ok, Err}
 use Rattle.std.proofs.lemmas.Bool.Decides.{eqb_tells}
 use Rattle.std.proofs.lemmas.List.{append-nil, length-append}
@@ -18,7 +19,7 @@ use Rattle.psi_spec.specs.Trace.{AllFit}
 use Rattle.psi_spec.specs.World.{World, Limits, after, after_event, after_from, first_world, most_groups, running_on, tasks_after}
 use Rattle.psi_spec.specs.Refusal.{AreLegal, cause_of}
 use Rattle.psi_counts.specs.Legal.{IsLegalWorld, with_change}
-use Rattle.psi_counts.specs.Touch.{AllTouched, HasSlotsBelow, IsTouch, change_of, change_on, change_told, gate_change, gate_first, shown, task_after, told_first, told_of}
+use Rattle.psi_counts.specs.Touch.{AllTouched, HasSlotsBelow, IsTouch, change_of, change_on, change_told, account_change, account_first, shown, task_after, told_first, told_of}
 use Rattle.psi_spec.specs.Changes.{before, touched}
 use Rattle.psi_counts.proofs.TouchWithin.{changes_are_within}
 use Rattle.plan_laws.proofs.PlanLaws.{after-push, changes_from-push}
@@ -31,6 +32,10 @@ use Rattle.proc_plan.specs.Plans.{HasTaken, PlannerTakes, PlannerView, changes_a
 use Rattle.proc_plan.specs.Room.{ChangesView, HasRoom, HasRoomFor, HasRoomWithin}
 use Rattle.psi_spec.specs.Told.{listed, told_from, trigger_by}
 use Rattle.proc_plan.specs.Sides.{sides_by}
+
+-- what a slice of all items wrote is what is there
+pub written : {A : Type 0} (n : ℕ) (new old : List A) → length new ≡ n → take n (new ++ drop (length new) old) ≡ new
+written n new old same = subst (λ m. take m (new ++ drop (length new) old) ≡ new) same (take-append_seam new (drop (length new) old))
 
 -- ---- one event more
 
@@ -84,32 +89,32 @@ told_or cpus cpu (Some one) other below rest some = picked (one.0.0 == cpu) cpus
 told_below : (touch : Touch) (cpus cpu : ℕ) → AllTouched (λ cpu change. cpu < cpus) touch → IsSome (told_of touch cpu) → cpu < cpus
 told_below touch cpus cpu all some = told_or cpus cpu touch.first (told_first cpu touch.second None) all.0 (told_or cpus cpu touch.second None all.1 (λ none. cc none)) some
 
--- what a touch without a gate tells of a processor is what the event changes there
-told_plainly : (cpus : ℕ) (w : World) (event : Event) (touch : Touch) (cpu : ℕ) → IsTouch cpus w event touch → cpu < cpus → (gate : Option (Slot × Bool)) → touch.gate ≡ gate → IsSome (told_of touch cpu) → IsSome (change_of w event cpu)
+-- what a touch that switches no account tells of a processor is what the event changes there
+told_plainly : (cpus : ℕ) (w : World) (event : Event) (touch : Touch) (cpu : ℕ) → IsTouch cpus w event touch → cpu < cpus → (account : Option (Slot × Bool)) → touch.account ≡ account → IsSome (told_of touch cpu) → IsSome (change_of w event cpu)
 told_plainly cpus w event touch cpu is below None none some =
-    subst (λ (o : Option Change). IsSome o) (ap (λ g. gate_first event.at (shown (running_on (after_event w event).tasks cpu)) g (told_of touch cpu)) (sym none) ∙ is.told cpu below) some
-told_plainly cpus w event touch cpu is below (Some gate) there some =
-    subst (λ (o : Option Change). IsSome o) (ap (λ g. gate_first event.at (shown (running_on (after_event w event).tasks cpu)) g (told_of touch cpu)) (sym there) ∙ is.told cpu below) refl
+    subst (λ (o : Option Change). IsSome o) (ap (λ g. account_first event.at (shown (running_on (after_event w event).tasks cpu)) g (told_of touch cpu)) (sym none) ∙ is.told cpu below) some
+told_plainly cpus w event touch cpu is below (Some account) there some =
+    subst (λ (o : Option Change). IsSome o) (ap (λ g. account_first event.at (shown (running_on (after_event w event).tasks cpu)) g (told_of touch cpu)) (sym there) ∙ is.told cpu below) refl
 
 -- there is room for what a legal event changes, where there is for its act
 pub room_for : (w : World) (event : Event) (touch : Touch) (task : Option Task) (changes : List ChangesView) (cpus : ℕ) → task ≡ before w.tasks event.act → IsTouch cpus w event touch → AllTouched (λ cpu change. cpu < cpus) touch → length changes ≡ cpus → HasRoomFor event.act task changes
     → (cpu : ℕ) → IsSome (told_of touch cpu) → HasRoom changes cpu
 room_for w event touch task changes cpus same is all each room cpu some =
     let below = told_below touch cpus cpu all some in
-    let here = touched_here w event cpu (told_plainly cpus w event touch cpu is below touch.gate refl some) in
+    let here = touched_here w event cpu (told_plainly cpus w event touch cpu is below touch.account refl some) in
     room cpu (ap (λ t. touched event.act t cpu) same ∙ here) (omega (arith, below, each))
 
--- so there is on every processor, where it has a gate
+-- so there is on every processor, where it switches an account
 pub room_for_all : (w : World) (event : Event) (touch : Touch) (task : Option Task) (changes : List ChangesView) (cpus : ℕ) → task ≡ before w.tasks event.act → IsTouch cpus w event touch → length changes ≡ cpus → HasRoomFor event.act task changes
-    → IsSome touch.gate → (cpu : ℕ) → HasRoomWithin changes cpu
+    → IsSome touch.account → (cpu : ℕ) → HasRoomWithin changes cpu
 room_for_all w event touch task changes cpus same is each room some cpu below =
     let within : cpu < cpus = omega (arith, below, each) in
-    let changed = subst (λ (o : Option Change). IsSome o) (is.told cpu within) (gate_tells event.at (shown (running_on (after_event w event).tasks cpu)) touch.gate (told_of touch cpu) some) in
+    let changed = subst (λ (o : Option Change). IsSome o) (is.told cpu within) (account_tells event.at (shown (running_on (after_event w event).tasks cpu)) touch.account (told_of touch cpu) some) in
     room cpu (ap (λ t. touched event.act t cpu) same ∙ touched_here w event cpu changed) below
   where
-    gate_tells : (at : ℕ) (current gate : Option (Slot × Bool)) (other : Option Change) → IsSome gate → IsSome (gate_first at current gate other)
-    gate_tells at current None other some = absurd (cc some)
-    gate_tells at current (Some gate) other some = refl
+    account_tells : (at : ℕ) (current account : Option (Slot × Bool)) (other : Option Change) → IsSome account → IsSome (account_first at current account other)
+    account_tells at current None other some = absurd (cc some)
+    account_tells at current (Some account) other some = refl
 
 -- ---- slots that fit
 
@@ -122,7 +127,7 @@ lower_slots change low high fewer below = record {
   minus = lower_slot change.minus low high fewer below.minus;
   plus = lower_slot change.plus low high fewer below.plus;
   current = lower_slot change.current low high fewer below.current;
-  gate = lower_slot change.gate low high fewer below.gate;
+  account = lower_slot change.account low high fewer below.account;
 }
 
 -- the slots of changes are as few as groups may be
@@ -133,17 +138,17 @@ slots_fit limits w touch legal below = (fitting touch.first below.0, fitting tou
     fitting None low = tt
     fitting (Some one) low = lower_slots one.1 (length w.groups) most_groups legal.groups.few low
 
--- so are those of the changes that a gate makes
-pub gate_slots_fit : (limits : Limits) (w : World) (event : Event) (touch : Touch) → cause_of limits w event ≡ None → IsLegalWorld limits w → IsTouch limits.cpus w event touch
-    → IfSome touch.gate (λ gate. (cpu : ℕ) → cpu < limits.cpus → HasSlotsBelow most_groups (gate_change event.at (shown (running_on (after_event w event).tasks cpu)) gate))
-gate_slots_fit limits w event touch allowed legal is = fitting touch.gate refl
+-- so are those of the changes that switching an account makes
+pub account_slots_fit : (limits : Limits) (w : World) (event : Event) (touch : Touch) → cause_of limits w event ≡ None → IsLegalWorld limits w → IsTouch limits.cpus w event touch
+    → IfSome touch.account (λ account. (cpu : ℕ) → cpu < limits.cpus → HasSlotsBelow most_groups (account_change event.at (shown (running_on (after_event w event).tasks cpu)) account))
+account_slots_fit limits w event touch allowed legal is = fitting touch.account refl
   where
-    fitting : (gate : Option (Slot × Bool)) → touch.gate ≡ gate → IfSome gate (λ gate. (cpu : ℕ) → cpu < limits.cpus → HasSlotsBelow most_groups (gate_change event.at (shown (running_on (after_event w event).tasks cpu)) gate))
+    fitting : (account : Option (Slot × Bool)) → touch.account ≡ account → IfSome account (λ account. (cpu : ℕ) → cpu < limits.cpus → HasSlotsBelow most_groups (account_change event.at (shown (running_on (after_event w event).tasks cpu)) account))
     fitting None there = tt
-    fitting (Some gate) there = λ cpu below.
+    fitting (Some account) there = λ cpu below.
         let current = shown (running_on (after_event w event).tasks cpu) in
-        let told : change_of w event cpu ≡ Some (gate_change event.at current gate) = sym (is.told cpu below) ∙ ap (λ g. gate_first event.at current g (told_of touch cpu)) there in
-        lower_slots (gate_change event.at current gate) (length w.groups) most_groups legal.groups.few (changes_are_within limits w event allowed legal.within cpu (gate_change event.at current gate) told).1
+        let told : change_of w event cpu ≡ Some (account_change event.at current account) = sym (is.told cpu below) ∙ ap (λ g. account_first event.at current g (told_of touch cpu)) there in
+        lower_slots (account_change event.at current account) (length w.groups) most_groups legal.groups.few (changes_are_within limits w event allowed legal.within cpu (account_change event.at current account) told).1
 
 -- ---- one step
 

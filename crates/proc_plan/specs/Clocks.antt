@@ -10,8 +10,9 @@ pub record OnPlan : Type 0 where
   pub plan : PlanView
   pub made : ℕ
 
--- The clocks of a processor are those of its plan after the first k changes: they show the running task and the moment of
--- the k-th, and the counts and the clock of each slot, and whether its account is on, are those after k changes.
+-- The clocks of a processor are those of its plan after the first k changes: they show the running
+-- task and the moment of the k-th, and the counts and the clock of each slot, and whether its
+-- account is on, are those after k changes.
 pub record AreClocks (plan : PlanView) (clocks : ClocksView) (k : ℕ) : Type 0 where
   pub whole : IsPlan plan
   pub within : k ≤ length plan.changes
@@ -26,14 +27,14 @@ pub record AreClocks (plan : PlanView) (clocks : ClocksView) (k : ℕ) : Type 0 
 abbrev pub irq_at : List ℕ → ℕ → ℕ
 irq_at times slot = slice_index_or times slot 0
 
--- The times that interrupts took from the groups of a processor are those of its plan after the first k changes: one for each
--- slot that the plan knows.
+-- The times that interrupts took from the groups of a processor are those of its plan after the
+-- first k changes: one for each slot that the plan knows.
 pub record AreIrqs (plan : PlanView) (times : List ℕ) (k : ℕ) : Type 0 where
   pub room : length times ≡ length plan.parents
   pub each : (slot : ℕ) → slot < length plan.parents → irq_at times slot ≡ planned_irq plan slot k
 
--- the time that interrupts take from the group in a slot: a time (ns) where its account is on and the running task is in the group
--- or below it
+-- the time that interrupts take from the group in a slot: a time (ns) where its account is on and
+-- the running task is in the group or below it
 abbrev pub irq_taken : List (Option ℕ) → ClocksView → Option (Slot × Bool) → ℕ → ℕ → ℕ
 irq_taken parents clocks current irq slot = if (cell_at clocks slot).on && is_current_in parents slot current then irq else 0
 

@@ -49,11 +49,13 @@ plans_over groups changes = map (λ (changes : ChangesView). plan_over groups ch
 
 -- ---- what a change leaves alone
 
--- These are the slots on whose chains the change after the first k stands: of the counts that it takes or else of its gate, of
--- those that it adds, of the task that runs before it and of the one that runs after it.
+-- These are the slots on whose chains the change after the first k stands: of the counts that it
+-- takes or else of its switched account, of those that it adds, of the task that runs before it and
+-- of the one that runs after it.
 abbrev pub AreConcerned : PlanView → ℕ → List (Option Slot) → Type 0
 AreConcerned plan k starts = (change : Change) → slice_get plan.changes k ≡ Some change →
-    starts ≡ option_or (slot_in change.gate) (slot_in change.minus) ∷ slot_in change.plus ∷ slot_in (current_after plan k) ∷ slot_in change.current ∷ []
+    starts ≡ option_or (slot_in change.account) (slot_in change.minus) ∷ slot_in change.plus ∷ slot_in (current_after plan k)
+    ∷ slot_in change.current ∷ []
 
 -- a slot is on none of the chains of slots
 abbrev pub IsOnNone : List (Option ℕ) → List (Option Slot) → ℕ → Type 0
@@ -66,7 +68,8 @@ OthersAreAside plan k starts = (slot : ℕ) (change : Change) → slice_get plan
 
 -- ---- all plans
 
--- The plans of a trace: one for each processor, all groups ever made, the triggers, the sides, and the end moment (ns).
+-- The plans of a trace: one for each processor, all groups ever made, the triggers, the sides, and
+-- the end moment (ns).
 pub record PlansView : Type 0 where
   pub plans : List PlanView
   pub lives : List GroupLife
@@ -86,8 +89,9 @@ plan_at plans cpu = slice_index_or plans.plans cpu no_plan
 abbrev pub AreSmall : List Side → Type 0
 AreSmall sides = All (λ (side : Side). IsSmall side.what) sides
 
--- What holds of all plans: there are 1 to 64 processors with one plan each, which is whole and knows the parents of the groups
--- that were made, these are groups of a legal world, and the sides are small.
+-- What holds of all plans: there are 1 to 64 processors with one plan each, which is whole and
+-- knows the parents of the groups that were made, these are groups of a legal world, and the sides
+-- are small.
 pub record ArePlans (plans : PlansView) : Type 0 where
   pub counted : IsCpuCount (length plans.plans)
   pub whole : (cpu : ℕ) → cpu < length plans.plans → IsPlan (plan_at plans cpu)
@@ -95,12 +99,13 @@ pub record ArePlans (plans : PlansView) : Type 0 where
   pub groups : AreGroups plans.lives
   pub small : AreSmall plans.sides
 
--- Plans stand for events. Each processor's plan has the changes that the events of its numbers make, each with its moment,
--- and the parents of all groups. The plans have the groups, the triggers and the sides of the events, in their order, and
--- the end moment.
+-- Plans stand for events. Each processor's plan has the changes that the events of its numbers
+-- make, each with its moment, and the parents of all groups. The plans have the groups, the
+-- triggers and the sides of the events, in their order, and the end moment.
 pub record StandFor (plans : PlansView) (cpus : ℕ) (events : List Event) : Type 0 where
   pub each : length plans.plans ≡ cpus
-  pub changes : (cpu : ℕ) → cpu < cpus → map (λ change. Some change) (plan_at plans cpu).changes ≡ map (change_at cpu events) (changes_of cpu events)
+  pub changes : (cpu : ℕ) → cpu < cpus → map (λ change. Some change) (plan_at plans cpu).changes
+      ≡ map (change_at cpu events) (changes_of cpu events)
   pub parents : (cpu : ℕ) → cpu < cpus → (plan_at plans cpu).parents ≡ parents_of (after events).groups
   pub lives : plans.lives ≡ (after events).groups
   pub triggers : plans.triggers ≡ triggers_of events
@@ -109,7 +114,9 @@ pub record StandFor (plans : PlansView) (cpus : ℕ) (events : List Event) : Typ
 
 -- The plans that stand for events are the plans of these events.
 abbrev pub PlansAreOfEvents : Type 0
-PlansAreOfEvents = (plans : PlansView) (cpus : ℕ) (events : List Event) → StandFor plans cpus events → (cpu : ℕ) → cpu < cpus → plan_at plans cpu ≡ plan_of cpu events
+PlansAreOfEvents =
+    (plans : PlansView) (cpus : ℕ) (events : List Event) → StandFor plans cpus events → (cpu : ℕ) → cpu < cpus
+    → plan_at plans cpu ≡ plan_of cpu events
 
 -- ---- refusals
 
@@ -117,7 +124,8 @@ PlansAreOfEvents = (plans : PlansView) (cpus : ℕ) (events : List Event) → St
 abbrev pub limits_by : ℕ → ℕ → Limits
 limits_by cpus latest = record { cpus = cpus; latest = latest }
 
--- events are refused at an event with its first cause, and those before it are legal; its line is their number and two
+-- events are refused at an event with its first cause, and those before it are legal; its line is
+-- their number and two
 pub record IsRefusedAt (limits : Limits) (events : List Event) (line : ℕ) (why : Cause) : Type 0 where
   pub front : List Event
   pub event : Event
@@ -136,12 +144,14 @@ pub record LacksEnd (limits : Limits) (events : List Event) (line : ℕ) (why : 
 
 -- events are refused at a line with a cause; of want of memory nothing is said
 abbrev pub IsRefusal : Limits → List Event → Fault Refusal → Type 0
-IsRefusal limits events (fault.Refused refusal) = IsRefusedAt limits events refusal.line refusal.cause ⊎ LacksEnd limits events refusal.line refusal.cause
+IsRefusal limits events (fault.Refused refusal) =
+    IsRefusedAt limits events refusal.line refusal.cause ⊎ LacksEnd limits events refusal.line refusal.cause
 IsRefusal limits events (fault.NoMemory _) = ⊤
 
 -- ---- a trace that is taken apart
 
--- A planner: the limits and the world of its table, the changes of each processor so far, the triggers and the sides.
+-- A planner: the limits and the world of its table, the changes of each processor so far, the
+-- triggers and the sides.
 pub record PlannerView : Type 0 where
   pub table : TableView
   pub changes : List (List Change)
@@ -155,7 +165,9 @@ planner_view table changes triggers sides = record { table = table; changes = ch
 -- a planner's value as nested pairs, by which proofs tell values apart
 abbrev pub planner_code : Coded PlannerView
 planner_code =
-    code_by (TableView × (List (List Change) × (List TriggerSpec × List Side))) (coded× view_code (coded× (coded_list (coded_list change_row.the_row.coded)) (coded× (coded_list trigger_row.the_row.coded) (coded_list side_row.the_row.coded))))
+    code_by (TableView × (List (List Change) × (List TriggerSpec × List Side)))
+    (coded× view_code (coded× (coded_list (coded_list change_row.the_row.coded))
+    (coded× (coded_list trigger_row.the_row.coded) (coded_list side_row.the_row.coded))))
     (λ p. (p.table, (p.changes, (p.triggers, p.sides)))) (λ p. planner_view p.0 p.1.0 p.1.1.0 p.1.1.1) (λ _. refl)
 
 -- the changes of a processor
@@ -167,7 +179,8 @@ pub record IsPlanner (planner : PlannerView) : Type 0 where
   pub each : length planner.changes ≡ planner.table.limits.cpus
   pub small : AreSmall planner.sides
 
--- A planner has taken apart these events of a trace with these limits. Each can be spelled, and all are legal.
+-- A planner has taken apart these events of a trace with these limits. Each can be spelled, and all
+-- are legal.
 pub record HasTaken (planner : PlannerView) (limits : Limits) (events : List Event) : Type 0 where
   pub limits_are : planner.table.limits ≡ limits
   pub counted : IsCpuCount limits.cpus
@@ -201,8 +214,8 @@ StandForTaken planner plans = (limits : Limits) (events : List Event) → HasTak
 abbrev pub HasTrace : PlannerView → Type 0
 HasTrace planner = (limits : Limits) × (events : List Event) × HasTaken planner limits events
 
--- What an event does to a planner: it is legal behind the events that were taken and taken with them, or the fault is the first
--- cause against it. Memory is wanted only where there is no cause.
+-- What an event does to a planner: it is legal behind the events that were taken and taken with
+-- them, or the fault is the first cause against it. Memory is wanted only where there is no cause.
 abbrev pub PlannerTakes : PlannerView → PlannerView → Event → Result (Unit {0}) (Fault Cause) → Type 0
 PlannerTakes old new event (Ok x) = (limits : Limits) (events : List Event) → HasTaken old limits events →
     (cause_of limits (after events) event ≡ None) × HasTaken new limits (events ++ event ∷ []) × (length events < most_events)

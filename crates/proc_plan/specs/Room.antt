@@ -1,5 +1,5 @@
 -- The changes of each processor as they are listed, and room for more.
-use Rattle.std.specs.Prelude.{◌≡◌, ℕ, ◌<◌, List, [], ◌++◌, length, map, slice_index_or, Option, true}
+use Rattle.std.specs.Prelude.{◌≡◌, ℕ, ◌<◌, List, [], ◌++◌, length, map, slice_index_or, Option, None, Some, true}
 use Rattle.psi_base.specs.declared.event.Act.{Act}
 use Rattle.psi_spec.specs.declared.machine.Task.{Task}
 use Rattle.psi_counts.specs.declared.changes.Change.{Change}
@@ -35,7 +35,12 @@ HasRoom changes cpu = 0 < (slice_index_or changes cpu no_room).room
 abbrev pub HasRoomWithin : List ChangesView → ℕ → Type 0
 HasRoomWithin changes cpu = cpu < length changes → HasRoom changes cpu
 
--- There is room for what an act changes, on each processor that it touches and that there is. The task is the one that the act
--- changes, as it is before.
+-- the number of a task's processor, if there is a task
+abbrev pub cpu_number : Option Task → Option ℕ
+cpu_number None = None
+cpu_number (Some task) = Some task.cpu.0
+
+-- There is room for what an act changes, on each processor that it touches and that there is. The
+-- task is the one that the act changes, as it is before.
 abbrev pub HasRoomFor : Act → Option Task → List ChangesView → Type 0
 HasRoomFor act before changes = (cpu : ℕ) → touched act before cpu ≡ true → HasRoomWithin changes cpu

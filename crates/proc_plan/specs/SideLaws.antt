@@ -1,4 +1,5 @@
--- What holds of the sides of a trace: they stand in the order of their moments, and tell how many tasks are in each group.
+-- What holds of the sides of a trace: they stand in the order of their moments, and tell how many
+-- tasks are in each group.
 use Rattle.std.specs.Prelude.{◌≡◌, ℕ, ◌+◌, ◌<◌, ◌≤◌, List, length, filter, count_by, nat_le, All, IfSome, ◌==◌, Bool, false, Option, None, Some, pos, negsuc}
 use Rattle.std.specs.FinMap as tasks_by
 use Rattle.std.specs.List.Sorted.{IsNonDecreasingBy}
@@ -41,7 +42,8 @@ goes slot _ = false
 abbrev pub members : ℕ → Tasks → ℕ
 members slot tasks = how_many (is_of slot) (tasks_by.values tasks)
 
--- As many tasks came into a group as left it and are in it. They are at most 65,536, as many as may live.
+-- As many tasks came into a group as left it and are in it. They are at most 65,536, as many as may
+-- live.
 abbrev pub MembersAreTold : Type 0
 MembersAreTold = (limits : Limits) (events : List Event) → AreLegal limits first_world events → (slot : ℕ) →
     (count_by (λ (side : Side). comes slot side.what) (sides_of events)

@@ -1,5 +1,5 @@
--- The sides of a trace, which it tells beside the changes of processors and its triggers: memory samples, preferences, the
--- memory of the host, and the tasks that come into groups and leave them.
+-- The sides of a trace, which it tells beside the changes of processors and its triggers: memory
+-- samples, preferences, the memory of the host, and the tasks that come into groups and leave them.
 use Rattle.std.specs.Prelude.{ℕ, ◌^◌, ◌≤◌, List, [], ◌∷◌, ◌++◌, ◌==◌, if◌then◌else◌, Option, None, Some, pos, negsuc}
 use Rattle.psi_base.specs.declared.event.Slot.{Slot}
 use Rattle.psi_base.specs.declared.event.Act.{Act}
@@ -29,8 +29,8 @@ came at slot = side_at at (side.Tasks slot (pos 1))
 abbrev pub went : ℕ → Slot → List Side
 went at slot = side_at at (side.Tasks slot (negsuc 0))
 
--- A task that is in one group and then in another left the one and came into the other. One that stays in its group neither
--- left nor came.
+-- A task that is in one group and then in another left the one and came into the other. One that
+-- stays in its group neither left nor came.
 abbrev pub passage : ℕ → Option Slot → Option Slot → List Side
 passage at None None = []
 passage at None (Some new) = came at new
@@ -42,7 +42,8 @@ abbrev pub group_of : Option Task → Option Slot
 group_of None = None
 group_of (Some task) = Some task.slot
 
--- the sample of a group's memory or of the host's, or the preference, that an act tells, if it tells one
+-- the sample of a group's memory or of the host's, or the preference, that an act tells, if it
+-- tells one
 abbrev pub sample_by : ℕ → List GroupLife → Act → List Side
 sample_by at groups (act.Mem path current swap scan) = side_at at (side.Mem (slot_named groups path) current swap scan)
 sample_by at groups (act.Prefer path preference) = side_at at (side.Prefer (slot_named groups path) preference)
@@ -51,7 +52,9 @@ sample_by at groups _ = []
 
 -- the sides that an event tells: what it samples, and how the task that it changes came and went
 abbrev pub sides_by : World → Event → List Side
-sides_by w event = sample_by event.at w.groups event.act ++ passage event.at (group_of (before w.tasks event.act)) (group_of (task_after w.groups w.tasks event.act))
+sides_by w event =
+    sample_by event.at w.groups event.act ++ passage event.at (group_of (before w.tasks event.act))
+    (group_of (task_after w.groups w.tasks event.act))
 
 -- the sides of events in their order
 abbrev pub sides_of : List Event → List Side

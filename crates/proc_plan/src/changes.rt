@@ -10,7 +10,8 @@ use slot_clocks::PackedChange;
 use std::alloc::Global;
 use std::marker::Model;
 
-/// The changes of a processor in their order. Contracts see the list of them, and for how many more there is room.
+/// The changes of a processor in their order. Contracts see the list of them, and for how many more
+/// there is room.
 #[derive(Drop)]
 pub(crate) struct Changes {
     list: Vec<PackedChange>,
@@ -47,8 +48,8 @@ impl Changes {
         Ok(())
     }
 
-    /// Adds a change behind the others. There must be room for it, and it must be of one task, or tell of interrupts or of a
-    /// gate alone, in slots that there may be.
+    /// Adds a change behind the others. There must be room for it, and it must be of one task, or
+    /// tell of interrupts or of a switched account alone, in slots that there may be.
     #[inline(always)]
     pub(crate) fn push(&mut self, change: Change)
         requires room { 0 < self.old.room }

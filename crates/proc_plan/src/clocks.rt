@@ -11,7 +11,8 @@ use slot_clocks::SlotClocks;
 use std::alloc::Global;
 use std::marker::Model;
 
-/// The clocks of all groups on one processor, which make the changes of its plan one after the other.
+/// The clocks of all groups on one processor, which make the changes of its plan one after the
+/// other.
 pub trait ProcClocks {
     /// The plan of the processor.
     ghost plan: { Self → PlanView };
@@ -19,7 +20,8 @@ pub trait ProcClocks {
     /// How many of its changes were made.
     ghost made: { Self → ℕ };
 
-    /// What tells these clocks from others, so that what is shared with them is known again: no call changes it.
+    /// What tells these clocks from others, so that what is shared with them is known again: no
+    /// call changes it.
     ghost Home: { Type 0 };
 
     ghost home: { Self → Home };
@@ -35,8 +37,8 @@ pub trait ProcClocks {
         ensures made { made self.new ≡ made self.old + 1 }
         ensures home { home self.new ≡ home self.old };
 
-    /// The clock of a slot that the plan knows, after the changes that were made. It may have started earlier than the last of
-    /// them, where they left the slot's states as they were.
+    /// The clock of a slot that the plan knows, after the changes that were made. It may have
+    /// started earlier than the last of them, where they left the slot's states as they were.
     fn own(&mut self, slot: Slot) -> Clock
         requires made { slot.0 < length (plan self.old).parents }
         ensures plan { plan self.new ≡ plan self.old }
@@ -47,7 +49,8 @@ pub trait ProcClocks {
 
 /// Clocks that tell as well for how long interrupts took from each group while its account was on.
 pub trait IrqClocks: ProcClocks {
-    /// For how long (ns) interrupts took from the group in a slot that the plan knows, by the changes that were made.
+    /// For how long (ns) interrupts took from the group in a slot that the plan knows, by the
+    /// changes that were made.
     fn own_irq(&mut self, slot: Slot) -> u64
         requires made { slot.0 < length (Self.plan self.old).parents }
         ensures plan { Self.plan self.new ≡ Self.plan self.old }
@@ -63,7 +66,8 @@ pub struct PlainClocks<'a> {
     /// Of all slots, as the plan knows them.
     parents: &'a [Option<Slot>],
     clocks: SlotClocks,
-    /// For how long interrupts took from each group, in ns, by slot. Changes that tell of none don't touch it.
+    /// For how long interrupts took from each group, in ns, by slot. Changes that tell of none
+    /// don't touch it.
     irqs: Vec<u64>,
     count: u64,
 }
@@ -84,8 +88,8 @@ impl<'a> Model for PlainClocks<'a> {
 }
 
 impl<'a> PlainClocks<'a> {
-    /// The clocks before the first change of a plan that knows the parents of so many slots. It takes all memory that they
-    /// need.
+    /// The clocks before the first change of a plan that knows the parents of so many slots. It
+    /// takes all memory that they need.
     pub fn make(alloc: Global, plan: &'a Plan, slots: u32) -> Result<PlainClocks<'a>, NoMemory>
         requires { slots ≡ length plan.now.parents }
         ensures { IfOk result (λ clocks. clocks ≡ record { plan = plan.now; made = 0 }) }

@@ -16,8 +16,8 @@ fn time_if(on: bool, irq: u64) -> u64
     if on { irq } else { 0 }
 }
 
-// Adds a time (ns) to the group of the running task and to each above it, where their accounts are on by these clocks. Changes
-// that tell of interrupts are rare, so it stands aside.
+// Adds a time (ns) to the group of the running task and to each above it, where their accounts are
+// on by these clocks. Changes that tell of interrupts are rare, so it stands aside.
 #[inline(never)]
 fn climb(
     times: &mut [u64],
@@ -44,8 +44,8 @@ fn climb(
     }
 }
 
-/// Adds the time that interrupts took by a change, if they took any, to the group of the running task and to each above it, where
-/// their accounts are on by these clocks.
+/// Adds the time that interrupts took by a change, if they took any, to the group of the running
+/// task and to each above it, where their accounts are on by these clocks.
 #[inline(always)]
 pub(crate) fn add_irq(
     times: &mut [u64],

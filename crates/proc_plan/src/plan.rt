@@ -14,12 +14,13 @@ use psi_counts::{Change, Counts};
 use slot_clocks::PackedChange;
 use std::marker::Model;
 
-/// The changes of one processor in a trace, and the parents of all slots, by which a change reaches the groups above the
-/// slots that it names. Contracts see both as lists.
+/// The changes of one processor in a trace, and the parents of all slots, by which a change reaches
+/// the groups above the slots that it names. Contracts see both as lists.
 ///
-/// There are at most 4,000,000 changes. Their moments never fall and are at most 60,000,000 s. Each takes and adds the counts
-/// of one task at most, and names slots that there are; a parent has a smaller slot; after any number of changes each count of
-/// each slot is from 0 to 65,536, and interrupts took no more time than up to the last of them.
+/// There are at most 4,000,000 changes. Their moments never fall and are at most 60,000,000 s. Each
+/// takes and adds the counts of one task at most, and names slots that there are; a parent has a
+/// smaller slot; after any number of changes each count of each slot is from 0 to 65,536, and
+/// interrupts took no more time than up to the last of them.
 #[derive(Drop)]
 pub struct Plan {
     changes: Changes,
@@ -45,7 +46,7 @@ fn part_slot(part: Option<(Slot, Counts)>) -> Option<Slot>
     part.map(|(slot, _)| slot)
 }
 
-/// The slot of the running task, or of a gate.
+/// The slot of the running task, or of a switched account.
 pub(crate) fn current_slot(current: Option<(Slot, bool)>) -> Option<Slot>
     ensures { result ≡ slot_in current }
 {
@@ -69,7 +70,8 @@ impl Plan {
         self.changes.all().len() as u64
     }
 
-    /// The change with a number from 1. It takes and adds the counts of one task at most, and none where it has a gate.
+    /// The change with a number from 1. It takes and adds the counts of one task at most, and none
+    /// where it switches an account.
     pub fn change(&self, k: u64) -> Change
         requires from { 1 ≤ k }
         requires to { k ≤ length self.now.changes }
@@ -99,9 +101,10 @@ impl Plan {
         self.packed(k).at()
     }
 
-    /// The slots on whose chains the change with a number from 1 stands: of the counts that it takes or else of its gate, of
-    /// the counts that it adds, of the task that runs up to it and of the one that runs from it on. It leaves alone each slot
-    /// that is on none of these chains.
+    /// The slots on whose chains the change with a number from 1 stands: of the counts that it
+    /// takes or else of its switched account, of the counts that it adds, of the task that runs up
+    /// to it and of the one that runs from it on. It leaves alone each slot that is on none of
+    /// these chains.
     pub fn concerned(&self, k: u64) -> [Option<Slot>; 4]
         requires from { 1 ≤ k }
         requires to { k ≤ length self.now.changes }
@@ -110,14 +113,15 @@ impl Plan {
     {
         let change = self.packed(k);
         [
-            current_slot(change.gate()).or(part_slot(change.minus())),
+            current_slot(change.account()).or(part_slot(change.minus())),
             part_slot(change.plus()),
             current_slot(self.current_before(k)),
             current_slot(change.current()),
         ]
     }
 
-    // The running task up to the change with a number from 1: its slot, and whether it is in a memory stall.
+    // The running task up to the change with a number from 1: its slot, and whether it is in a
+    // memory stall.
     fn current_before(&self, k: u64) -> Option<(Slot, bool)>
         requires from { 1 ≤ k }
         requires to { k ≤ length self.now.changes }
@@ -129,7 +133,8 @@ impl Plan {
         self.packed(k - 1).current()
     }
 
-    /// How many changes come up to a moment (ns), those at the moment among them. It halves what is left at each step.
+    /// How many changes come up to a moment (ns), those at the moment among them. It halves what is
+    /// left at each step.
     pub fn until(&self, at: Ns) -> u64
         ensures until { result ≡ changes_up_to self.now at }
         ensures within { result ≤ length self.now.changes }

@@ -1,6 +1,6 @@
 //! A trace that is taken apart event by event.
 
-ghost use Rattle.std.specs.Prelude.{◌≡◌, ◌≤◌, ℕ, [], length, IfOk, OnErr};
+ghost use Rattle.std.specs.Prelude.{◌≡◌, ◌≤◌, ℕ, [], false, length, IfOk, OnErr};
 ghost use Rattle.std.specs.List.{All};
 ghost use Rattle.psi_spec.specs.Grammar.{Fits};
 ghost use Rattle.psi_spec.specs.Stall.{parents_of};
@@ -10,18 +10,19 @@ ghost use Rattle.plan_laws.specs.Plan.{IsPlan};
 ghost use Rattle.slot_clocks.specs.Clocks.{parent_numbers};
 ghost use Rattle.proc_plan.specs.Plans.{HasTaken, HasTrace, PlannerTakes, StandForTaken, limits_by, plan_over, plans_over};
 ghost use Rattle.proc_plan.specs.Room.{changes_in};
+ghost use Rattle.task_table.specs.Acts.{event_by, exits};
 
 use crate::changes::Changes;
 use crate::plan::Plan;
 use crate::plans::Plans;
-use crate::room::{add_changes, add_side, add_trigger, make_room};
+use crate::room::{add_changes, add_side, add_touched, add_trigger, make_room, make_task_room};
 use crate::side::Side;
 use crate::sides::told_by;
 use group_tree::Tree;
 use psi_base::{Cause, Event, Fault, NoMemory, Ns, Slot, TriggerSpec};
 use std::alloc::Global;
 use std::marker::Model;
-use task_table::Table;
+use task_table::{Table, TaskAct};
 
 /// What takes a trace apart: the world so far, and all that plans keep. Contracts see both.
 #[derive(Drop)]
@@ -85,7 +86,8 @@ fn make_plans(alloc: Global, changes: Vec<Changes>, groups: &Tree) -> Result<Vec
 }
 
 impl Planner {
-    /// The planner of a trace with 1 to 64 processors, before its first event. No event is later than `latest` (ns).
+    /// The planner of a trace with 1 to 64 processors, before its first event. No event is later
+    /// than `latest` (ns).
     pub fn new(alloc: Global, cpus: u32, latest: Ns) -> Result<Planner, NoMemory>
         requires counted { IsCpuCount cpus }
         requires short { latest ≤ last_moment }
@@ -114,10 +116,41 @@ impl Planner {
         self.table.is_ended()
     }
 
-    /// Takes one event more: it is judged, then room is made for what it adds, and then it is done. `Refused` with the first
-    /// cause against it, where it isn't legal, and `NoMemory` only where it is. Nothing changes then.
+    /// Takes one event more: it is judged, then room is made for what it adds, and then it is done.
+    /// `Refused` with the first cause against it, where it isn't legal, and `NoMemory` only where
+    /// it is. Nothing changes then.
     #[inline(always)]
     pub fn take(&mut self, event: &Event) -> Result<(), Fault<Cause>>
+        requires { Fits event.now }
+        ensures takes { PlannerTakes self.old self.new event.now result }
+        ensures same { OnErr result (self.new ≡ self.old) }
+    {
+        match TaskAct::of(&event.act) {
+            Some(act) => self.take_task(event.at, act),
+            None => self.take_other(event),
+        }
+    }
+
+    // The same of a quick act at a moment (ns), by which no task leaves its group: it tells of
+    // changes alone.
+    #[inline(always)]
+    fn take_task(&mut self, at: Ns, act: TaskAct) -> Result<(), Fault<Cause>>
+        requires fits { Fits (event_by at act) }
+        requires stays { exits act ≡ false }
+        ensures takes { PlannerTakes self.old self.new (event_by at act) result }
+        ensures same { OnErr result (self.new ≡ self.old) }
+    {
+        let finding = self.table.judge_task(at, act)?;
+        make_task_room(&mut self.changes, act, finding.before)?;
+        let touch = self.table.perform_task(at, act, finding);
+        add_touched(&mut self.changes, &touch);
+        Ok(())
+    }
+
+    // The same of any event. It stands aside, so that the quick way is small enough to be inlined
+    // whole.
+    #[inline(never)]
+    fn take_other(&mut self, event: &Event) -> Result<(), Fault<Cause>>
         requires { Fits event.now }
         ensures takes { PlannerTakes self.old self.new event.now result }
         ensures same { OnErr result (self.new ≡ self.old) }

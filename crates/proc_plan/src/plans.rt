@@ -16,7 +16,8 @@ use psi_spec::GroupLife;
 use std::alloc::Global;
 use std::marker::Model;
 
-/// A trace taken apart: the plan of each processor, and what it tells beside their changes. Contracts see all of it.
+/// A trace taken apart: the plan of each processor, and what it tells beside their changes.
+/// Contracts see all of it.
 #[derive(Drop)]
 pub struct Plans {
     /// By processor.
@@ -89,8 +90,9 @@ impl Plans {
 
     /// Takes a trace apart, with 1 to 64 processors, no event of which is later than `latest` (ns).
     ///
-    /// Refused exactly at the first event that isn't legal, with its first cause; the event at the place `i` from 0 is at
-    /// line `i + 2`. Where all are legal and the last isn't the end, it is `NoEnd` at the line behind them.
+    /// Refused exactly at the first event that isn't legal, with its first cause; the event at the
+    /// place `i` from 0 is at line `i + 2`. Where all are legal and the last isn't the end, it is
+    /// `NoEnd` at the line behind them.
     pub fn build(
         alloc: Global,
         cpus: u32,

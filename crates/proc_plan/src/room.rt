@@ -5,10 +5,11 @@ ghost use Rattle.psi_counts.specs.Legal.{with_change};
 ghost use Rattle.psi_spec.specs.Names.{names};
 ghost use Rattle.psi_spec.specs.Told.{listed};
 ghost use Rattle.psi_spec.specs.World.{is_pressure, most_groups, running_on};
-ghost use Rattle.psi_counts.specs.Touch.{AllTouched, HasSlotsBelow, IsBeside, IsOfOne, change_told, gate_change, shown, told_first, told_of};
+ghost use Rattle.psi_counts.specs.Touch.{AllTouched, HasSlotsBelow, IsBeside, IsOfOne, change_told, account_change, shown, told_first, told_of};
 ghost use Rattle.proc_plan.specs.Plans.{AreSmall};
-ghost use Rattle.proc_plan.specs.Room.{AddsTold, HasRoom, HasRoomFor, HasRoomWithin, changes_in, lists_of};
+ghost use Rattle.proc_plan.specs.Room.{AddsTold, HasRoom, HasRoomFor, HasRoomWithin, changes_in, cpu_number, lists_of};
 ghost use Rattle.proc_plan.specs.Sides.{IsSmall};
+ghost use Rattle.task_table.specs.Acts.{act_by};
 
 use crate::changes::Changes;
 use crate::side::Side;
@@ -16,7 +17,7 @@ use crate::sides::Told;
 use psi_base::{Act, Cpu, NoMemory, Ns, Slot, TriggerSpec};
 use psi_counts::{Change, Touch};
 use psi_spec::Task;
-use task_table::Table;
+use task_table::{Table, TaskAct};
 
 // The number of the processor that an act names, if it names one.
 #[inline(always)]
@@ -83,8 +84,8 @@ fn is_pressure(act: &Act) -> bool
     matches!(act, Act::Pressure { .. })
 }
 
-// Makes room for what an act changes on each processor that it touches: the one that it names, and the one of the task that
-// it changes; or all of them, where it switches the account of a group.
+// Makes room for what an act changes on each processor that it touches: the one that it names, and
+// the one of the task that it changes; or all of them, where it switches the account of a group.
 #[inline(always)]
 fn reserve_changes(changes: &mut [Changes], act: &Act, task: Option<Task>) -> Result<(), NoMemory>
     ensures same { lists_of changes.new ≡ lists_of changes.old }
@@ -95,10 +96,11 @@ fn reserve_changes(changes: &mut [Changes], act: &Act, task: Option<Task>) -> Re
         return reserve_all(changes);
     }
     reserve_at(changes, named_cpu(act))?;
-    reserve_at(changes, task.map(|task| task.cpu.0))
+    reserve_at(changes, task_cpu(task))
 }
 
-/// Makes room for all that an event may add: what its act changes, which changes this task, and what it tells beside.
+/// Makes room for all that an event may add: what its act changes, which changes this task, and
+/// what it tells beside.
 #[inline(always)]
 pub(crate) fn make_room(
     changes: &mut [Changes],
@@ -125,9 +127,48 @@ pub(crate) fn make_room(
     Ok(())
 }
 
-// The change of a processor at a moment (ns) by a gate, where this task runs.
-fn gate_change(at: Ns, current: Option<(Slot, bool)>, gate: (Slot, bool)) -> Change
-    ensures change { result ≡ gate_change at current gate }
+// The number of the processor that a quick act names, if it names one.
+#[inline(always)]
+fn quick_cpu(act: TaskAct) -> Option<u32>
+    ensures { result ≡ (names (act_by act)).cpu }
+{
+    match act {
+        TaskAct::Wake { cpu, .. } | TaskAct::Switch { cpu, .. } | TaskAct::Migrate { cpu, .. } =>
+            Some(cpu.0),
+        TaskAct::Stall { .. } | TaskAct::Unstall { .. } => None,
+    }
+}
+
+// The number of a task's processor, if there is a task.
+#[inline(always)]
+fn task_cpu(task: Option<Task>) -> Option<u32>
+    ensures { result ≡ cpu_number task }
+{
+    match task {
+        Some(task) => Some(task.cpu.0),
+        None => None,
+    }
+}
+
+/// Makes room for what a quick act changes, which changes this task.
+#[inline(always)]
+pub(crate) fn make_task_room(
+    changes: &mut [Changes],
+    act: TaskAct,
+    task: Option<Task>,
+) -> Result<(), NoMemory>
+    ensures changes { lists_of changes.new ≡ lists_of changes.old }
+    ensures each { length changes.new ≡ length changes.old }
+    ensures room { OnOk result (HasRoomFor (act_by act) task changes.new) }
+{
+    reserve_at(changes, quick_cpu(act))?;
+    reserve_at(changes, task_cpu(task))?;
+    Ok(())
+}
+
+// The change of a processor at a moment (ns) by a switched account, where this task runs.
+fn account_change(at: Ns, current: Option<(Slot, bool)>, account: (Slot, bool)) -> Change
+    ensures change { result ≡ account_change at current account }
     ensures one { IsOfOne result }
 {
     Change {
@@ -136,24 +177,25 @@ fn gate_change(at: Ns, current: Option<(Slot, bool)>, gate: (Slot, bool)) -> Cha
         plus: None,
         current,
         irq: 0,
-        gate: Some(gate),
+        account: Some(account),
     }
 }
 
-// Adds what a gate at a moment (ns) changes on each processor: the same task runs there as before.
-fn add_gate(changes: &mut [Changes], at: Ns, gate: (Slot, bool), table: &Table)
+// Adds what a switched account at a moment (ns) changes on each processor: the same task runs there
+// as before.
+fn add_account(changes: &mut [Changes], at: Ns, account: (Slot, bool), table: &Table)
     requires each { length changes.old ≡ table.now.limits.cpus }
     requires room { (cpu : ℕ) → HasRoomWithin changes.old cpu }
     requires slots { (cpu : ℕ) → cpu < table.now.limits.cpus →
         HasSlotsBelow most_groups
-        (gate_change at (shown (running_on table.now.world.tasks cpu)) gate) }
+        (account_change at (shown (running_on table.now.world.tasks cpu)) account) }
     ensures each { length changes.new ≡ length changes.old }
     ensures added { (cpu : ℕ) → cpu < length changes.old →
         changes_in changes.new cpu ≡ changes_in changes.old cpu
-        ++ gate_change at (shown (running_on table.now.world.tasks cpu)) gate ∷ [] }
+        ++ account_change at (shown (running_on table.now.world.tasks cpu)) account ∷ [] }
 {
     'cpus: for cpu in 0..table.cpus() {
-        let change = gate_change(at, table.current(Cpu(cpu)), gate);
+        let change = account_change(at, table.current(Cpu(cpu)), account);
         changes[cpu as usize].push(change);
     }
 }
@@ -176,9 +218,10 @@ fn add_change(changes: &mut [Changes], touched: Option<(Cpu, Change)>)
     changes[cpu.0 as usize].push(change);
 }
 
-// Adds what an event changes on the processors that it names. There must be room for it, and each change must be of one task.
+/// Adds what an event changes on the processors that it names. There must be room for it, and each
+/// change must be of one task.
 #[inline(always)]
-fn add_touched(changes: &mut [Changes], touch: &Touch)
+pub(crate) fn add_touched(changes: &mut [Changes], touch: &Touch)
     requires room { (cpu : ℕ) → IsSome (told_of touch.now cpu) → HasRoom changes.old cpu }
     requires beside { IsBeside touch.now.first touch.now.second }
     requires ones { AllTouched (λ cpu change. IsOfOne change) touch.now }
@@ -190,27 +233,27 @@ fn add_touched(changes: &mut [Changes], touch: &Touch)
     add_change(changes, touch.second);
 }
 
-/// Adds what an event at a moment (ns) changes on the processors that it touches. There must be room for it, and each change must
-/// be of one task. The table is as it is after the event.
+/// Adds what an event at a moment (ns) changes on the processors that it touches. There must be
+/// room for it, and each change must be of one task. The table is as it is after the event.
 #[inline(always)]
 pub(crate) fn add_changes(changes: &mut [Changes], at: Ns, touch: &Touch, table: &Table)
     requires each { length changes.old ≡ table.now.limits.cpus }
     requires room { (cpu : ℕ) → IsSome (told_of touch.now cpu) → HasRoom changes.old cpu }
-    requires all { IsSome touch.now.gate → (cpu : ℕ) → HasRoomWithin changes.old cpu }
+    requires all { IsSome touch.now.account → (cpu : ℕ) → HasRoomWithin changes.old cpu }
     requires beside { IsBeside touch.now.first touch.now.second }
     requires ones { AllTouched (λ cpu change. IsOfOne change) touch.now }
     requires slots { AllTouched (λ cpu change. HasSlotsBelow most_groups change) touch.now }
-    requires gate_slots { IfSome touch.now.gate (λ gate.
+    requires account_slots { IfSome touch.now.account (λ account.
         (cpu : ℕ) → cpu < table.now.limits.cpus →
         HasSlotsBelow most_groups
-        (gate_change at (shown (running_on table.now.world.tasks cpu)) gate)) }
+        (account_change at (shown (running_on table.now.world.tasks cpu)) account)) }
     ensures each { length changes.new ≡ length changes.old }
     ensures added { (cpu : ℕ) → cpu < length changes.old →
         changes_in changes.new cpu ≡ changes_in changes.old cpu ++ with_change
         (change_told at (shown (running_on table.now.world.tasks cpu)) touch.now cpu) [] }
 {
-    match touch.gate {
-        Some(gate) => add_gate(changes, at, gate, table),
+    match touch.account {
+        Some(account) => add_account(changes, at, account, table),
         None => add_touched(changes, touch),
     }
 }

@@ -32,7 +32,8 @@ pub enum SideAct {
         swap_total: u64,
         swap_free: u64,
     },
-    /// A task came into this very group (1), or left it (-1). A task that moves into the group in which it is does neither.
+    /// A task came into this very group (1), or left it (-1). A task that moves into the group in
+    /// which it is does neither.
     Tasks {
         slot: Slot,
         added: i8,

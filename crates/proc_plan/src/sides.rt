@@ -53,7 +53,8 @@ fn trigger_by(groups: &Tree, at: Ns, act: &Act) -> Option<TriggerSpec>
     }
 }
 
-// The sample of a group's memory or of the host's, or the preference, that an act tells, if it tells one.
+// The sample of a group's memory or of the host's, or the preference, that an act tells, if it
+// tells one.
 #[inline(always)]
 fn sample_by(groups: &Tree, at: Ns, act: &Act) -> Option<Side>
     requires { ActFits act.now }
@@ -97,7 +98,8 @@ fn group_of(task: Option<Task>) -> Option<Slot>
     task.map(|task| task.slot)
 }
 
-// How a task that is in one group and then in another, at a moment (ns), leaves the one and comes into the other.
+// How a task that is in one group and then in another, at a moment (ns), leaves the one and comes
+// into the other.
 fn passage(at: Ns, old: Option<Slot>, new: Option<Slot>) -> (Option<Side>, Option<Side>)
     ensures sides { listed result.0 ++ listed result.1 ≡ passage at old new }
     ensures first { IfSome result.0 (λ side. IsSmall side.what) }
@@ -116,7 +118,8 @@ fn passage(at: Ns, old: Option<Slot>, new: Option<Slot>) -> (Option<Side>, Optio
     }
 }
 
-// The sides that an event tells in their order, at most two. The task is the one that its act changes, as it is before.
+// The sides that an event tells in their order, at most two. The task is the one that its act
+// changes, as it is before.
 #[inline(always)]
 fn sides_by(table: &Table, event: &Event, task: Option<Task>) -> (Option<Side>, Option<Side>)
     requires fits { ActFits event.now.act }

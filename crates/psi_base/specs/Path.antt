@@ -15,12 +15,17 @@ parts_at at (byte ∷ bytes) = if byte == at then [] ∷ parts_at at bytes else 
 
 -- a letter, a digit, or one of _ . @ : - \
 abbrev pub is_path_byte : ℕ → Bool
-is_path_byte c = (nat_le 97 c && nat_le c 122) || (nat_le 65 c && nat_le c 90) || (nat_le 48 c && nat_le c 57) || c == 95 || c == 46 || c == 64 || c == 58 || c == 45 || c == 92
+is_path_byte c =
+    (nat_le 97 c && nat_le c 122) || (nat_le 65 c && nat_le c 90) || (nat_le 48 c && nat_le c 57) || c == 95 || c == 46 || c == 64
+    || c == 58 || c == 45 || c == 92
 
 -- one or more such bytes, and neither `.` nor `..`
 abbrev pub is_component : List ℕ → Bool
-is_component part = nat_lt 0 (length part) && list_all is_path_byte part && not (bytes_eq part (codes ".")) && not (bytes_eq part (codes ".."))
+is_component part =
+    nat_lt 0 (length part) && list_all is_path_byte part && not (bytes_eq part (codes ".")) && not (bytes_eq part (codes ".."))
 
 -- the root, or 1 to 32 components of together at most 255 bytes with their slashes
 unfoldable pub is_path : List ℕ → Bool
-is_path bytes = bytes_eq bytes (codes "/") || (slice_index bytes 0 == 47 && nat_le (length bytes) 255 && nat_le (length (parts_at 47 (drop 1 bytes))) 32 && list_all is_component (parts_at 47 (drop 1 bytes)))
+is_path bytes =
+    bytes_eq bytes (codes "/") || (slice_index bytes 0 == 47 && nat_le (length bytes) 255
+    && nat_le (length (parts_at 47 (drop 1 bytes))) 32 && list_all is_component (parts_at 47 (drop 1 bytes)))

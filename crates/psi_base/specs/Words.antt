@@ -1,4 +1,5 @@
--- The words of a trace and of what is written of it: one for each way to leave a processor, preference, resource and level.
+-- The words of a trace and of what is written of it: one for each way to leave a processor,
+-- preference, resource and level.
 use Rattle.std.specs.Prelude.{ℕ, List, [], ◌∷◌, codes, if◌then◌else◌, Option, None, Some}
 use Rattle.std.specs.Str.{bytes_eq}
 use Rattle.psi_base.specs.declared.event.How.{How}

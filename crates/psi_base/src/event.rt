@@ -1,4 +1,5 @@
-//! What a trace tells: moments, tasks, processors and groups, what happened to them, and why a line is refused.
+//! What a trace tells: moments, tasks, processors and groups, what happened to them, and why a line
+//! is refused.
 use crate::path::Path;
 use crate::text::NoMemory;
 use std::alloc::{AllocError, AllocFailed};
@@ -14,12 +15,14 @@ pub struct Pid(pub u32);
 #[derive(Clone, Copy, Debug, PartialEq, Eq, PartialOrd, Ord)]
 pub struct Cpu(pub u32);
 
-/// The number of a group in the order in which groups were made. The root has 0, and no number is used again.
+/// The number of a group in the order in which groups were made. The root has 0, and no number is
+/// used again.
 #[derive(Clone, Copy, Debug, PartialEq, Eq, PartialOrd, Ord)]
 pub struct Slot(pub u32);
 
-/// The states of a group on one processor that are timed, numbered from 0 in this order: the kernel's
-/// `enum psi_states` without irq pressure. `Some` is that at least one task is held up, `Full` that no task gets on.
+/// The states of a group on one processor that are timed, numbered from 0 in this order: the
+/// kernel's `enum psi_states` without irq pressure. `Some` is that at least one task is held up,
+/// `Full` that no task gets on.
 #[derive(Clone, Copy, Debug, PartialEq, Eq)]
 pub enum State {
     /// A task waits for IO.
@@ -38,7 +41,8 @@ pub enum State {
     Nonidle,
 }
 
-/// The resources whose pressure is told, as the files `io.pressure`, `memory.pressure` and `cpu.pressure`.
+/// The resources whose pressure is told, as the files `io.pressure`, `memory.pressure` and
+/// `cpu.pressure`.
 #[derive(Clone, Copy, Debug, PartialEq, Eq)]
 pub enum Res {
     /// Input and output.
@@ -135,7 +139,8 @@ pub enum Act {
         pid: Pid,
         path: Path,
     },
-    /// `mem`: a group's memory and swap in use, in bytes, and how many pages were scanned for it so far.
+    /// `mem`: a group's memory and swap in use, in bytes, and how many pages were scanned for it so
+    /// far.
     Mem {
         path: Path,
         current: u64,
@@ -148,7 +153,8 @@ pub enum Act {
         swap_total: u64,
         swap_free: u64,
     },
-    /// `trigger`: a group's pressure is watched, with a threshold and a window in microseconds (us).
+    /// `trigger`: a group's pressure is watched, with a threshold and a window in microseconds
+    /// (us).
     Trigger {
         path: Path,
         res: Res,
@@ -179,8 +185,8 @@ pub struct Event {
     pub act: Act,
 }
 
-/// A watch on a group's pressure, as the trace sets it: a signal is owed where the stall time in a window
-/// reaches the threshold.
+/// A watch on a group's pressure, as the trace sets it: a signal is owed where the stall time in a
+/// window reaches the threshold.
 #[derive(Clone, Copy, Debug, PartialEq, Eq)]
 pub struct TriggerSpec {
     /// Since when, in ns.
@@ -197,8 +203,8 @@ pub struct TriggerSpec {
     pub window_us: u64,
 }
 
-/// Why a line of a trace is refused. A line with several faults has the first cause in this profile's order, which
-/// is not the order of these variants.
+/// Why a line of a trace is refused. A line with several faults has the first cause in this
+/// profile's order, which is not the order of these variants.
 #[derive(Clone, Copy, Debug, PartialEq, Eq)]
 pub enum Cause {
     /// The first line isn't a header, or there is no whole first line.
@@ -209,7 +215,8 @@ pub enum Cause {
     BadTime,
     /// The second part is missing, or is no verb.
     BadVerb,
-    /// The part with this number behind the verb, from 1, is missing, wrong or one too many. It is the leftmost such.
+    /// The part with this number behind the verb, from 1, is missing, wrong or one too many. It is
+    /// the leftmost such.
     BadField(u8),
     /// The time is before that of the last line.
     TimeBack,
@@ -255,7 +262,8 @@ pub enum Cause {
     AfterEnd,
     /// The input ends before an `end` line.
     NoEnd,
-    /// Interrupts took more than a second, or more than passed since the last `irq` line of the processor.
+    /// Interrupts took more than a second, or more than passed since the last `irq` line of the
+    /// processor.
     IrqTooLong,
     /// The account of the root is switched.
     RootPressure,

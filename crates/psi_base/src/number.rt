@@ -1,16 +1,12 @@
 //! Decimal numbers, in the one spelling.
 ghost use Rattle.std.specs.Prelude.{◌≡◌, ◌^◌, ◌<◌, ℕ, IfSome, IfNone, decimal};
 ghost use Rattle.psi_base.specs.Number.{number_of, digits_of};
-ghost use Rattle.psi_base.specs.Outside.{HasCause, PutsAll, StaysOver};
-
-use crate::outside::{Sink, WriteFailed};
-use crate::put::put_all;
 
 /// Below this, a number has room for one digit more, whichever it is.
 const LARGE: u64 = u64::MAX / 10;
 
-/// The number that these bytes write, up to 2^64 - 1, leading zeros allowed; no bytes write 0. None exactly where one of them is no
-/// digit, or the number is greater.
+/// The number that these bytes write, up to 2^64 - 1, leading zeros allowed; no bytes write 0. None
+/// exactly where one of them is no digit, or the number is greater.
 #[tactic(auto, using(crate::proofs::NumberLaws::steps))]
 pub fn read_digits(bytes: &[u8]) -> Option<u64>
     ensures { result ≡ digits_of bytes.now }
@@ -21,8 +17,8 @@ pub fn read_digits(bytes: &[u8]) -> Option<u64>
             return None;
         }
         let digit = u64::from(*byte - b'0');
-        // Only for a large number it is asked whether the next digit fits: a division for each digit would take a quarter of the
-        // time of reading an event.
+        // Only for a large number it is asked whether the next digit fits: a division for each
+        // digit would take a quarter of the time of reading an event.
         if number >= LARGE && number > (u64::MAX - digit) / 10 {
             return None;
         }
@@ -31,8 +27,8 @@ pub fn read_digits(bytes: &[u8]) -> Option<u64>
     Some(number)
 }
 
-/// The number that the bytes spell: decimal digits, up to 2^64 - 1, with no leading zero but in `0` itself. None
-/// exactly where they spell no such number.
+/// The number that the bytes spell: decimal digits, up to 2^64 - 1, with no leading zero but in `0`
+/// itself. None exactly where they spell no such number.
 #[tactic(auto, unfolding(crate::specs::Number::number_of))]
 pub fn read_number(bytes: &[u8]) -> Option<u64>
     ensures exact { result ≡ number_of bytes.now }
@@ -43,15 +39,4 @@ pub fn read_number(bytes: &[u8]) -> Option<u64>
         return None;
     }
     read_digits(bytes)
-}
-
-/// Writes a number in its one spelling, as [`read_number`] reads it. A failure leaves a prefix of the digits in the
-/// sink.
-pub fn put_number<K: Sink>(out: &mut K, n: u64) -> Result<(), WriteFailed>
-    ensures bytes { PutsAll (K.has out.old) (K.has out.new) result (decimal n) }
-    ensures cause { HasCause (K.faults out.old) (K.faults out.new) result }
-    ensures below { StaysOver (K.below out.old) (K.below out.new) }
-{
-    let mut buffer = itoa::Buffer::new();
-    put_all(out, buffer.format(n).as_bytes())
 }

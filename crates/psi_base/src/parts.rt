@@ -18,8 +18,9 @@ fn cut(bytes: &[u8], at: u8) -> (&[u8], Option<&[u8]>)
     (bytes, None)
 }
 
-/// The parts of a text that are left, in order: those between the bytes `AT`, one more than there are of these, so
-/// that two of them side by side have an empty part between. Contracts see the list of parts.
+/// The parts of a text that are left, in order: those between the bytes `AT`, one more than there
+/// are of these, so that two of them side by side have an empty part between. Contracts see the
+/// list of parts.
 #[derive(Drop)]
 pub struct Parts<'a, const AT: u8> {
     rest: &'a [u8],

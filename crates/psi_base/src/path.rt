@@ -73,9 +73,9 @@ fn is_path(bytes: &[u8]) -> bool
     are_components(&bytes[1..])
 }
 
-/// A path of a control group, ordered by its bytes, which contracts see as a list: `/`, or 1 to 32 components, each
-/// behind a `/`, together at most 255 bytes. A component has one or more letters, digits and signs of `_.@:-\`, and is
-/// neither `.` nor `..`. These limits are this profile's.
+/// A path of a control group, ordered by its bytes, which contracts see as a list: `/`, or 1 to 32
+/// components, each behind a `/`, together at most 255 bytes. A component has one or more letters,
+/// digits and signs of `_.@:-\`, and is neither `.` nor `..`. These limits are this profile's.
 #[derive(Drop)]
 pub struct Path {
     bytes: Vec<u8>,

@@ -4,7 +4,8 @@ ghost use Rattle.std.specs.Prelude.{◌≡◌, ℕ, List, IfOk};
 use std::alloc::{AllocError, AllocFailed, Global};
 use std::marker::Model;
 
-/// There was no memory. Its field is private, so that one comes only of what a refused growth gave back.
+/// There was no memory. Its field is private, so that one comes only of what a refused growth gave
+/// back.
 #[derive(Clone, Copy, Debug, PartialEq, Eq)]
 pub struct NoMemory {
     refused: (),

@@ -17,7 +17,8 @@ opened_at clock at CpuSome = refl
 opened_at clock at CpuFull = refl
 opened_at clock at Nonidle = refl
 
--- the time of a state after a change: what was before it, and the open time where the state is in the new mask
+-- the time of a state after a change: what was before it, and the open time where the state is in
+-- the new mask
 pub advanced_time : (clock : ClockView) (at mask later : ℕ) (state : State) → opened_time (advanced clock at mask) later state ≡ opened_time clock at state + (if mask_holds mask state then later - at else 0)
 advanced_time clock at mask later state = rw (opened_at clock at state) refl
 

@@ -26,7 +26,8 @@ told_alone groups tasks _ cpu some = absurd (omega (arith, some))
 
 -- ---- how much
 
--- what a test of interrupts lets through is a second at most, and no longer than the time since the last of them
+-- what a test of interrupts lets through is a second at most, and no longer than the time since the
+-- last of them
 pub record AreShort (irqs : List ℕ) (at cpu ns : ℕ) : Type 0 where
   pub second : ns ≤ longest_irq
   pub since : ns ≤ at - slice_index_or irqs cpu 0

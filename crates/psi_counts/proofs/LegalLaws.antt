@@ -28,10 +28,12 @@ use Rattle.psi_counts.specs.Legal.{IsLegalWorld, added, both_counts, changes_fro
 use Rattle.psi_counts.proofs.CountLaws.{one}
 use Rattle.psi_spec.proofs.TaskLaws.{found, no_entries}
 use Rattle.psi_counts.proofs.TouchCounts.{tally, counted}
-use Rattle.psi_counts.proofs.TouchLaws.{counted_act, counts_follow, stays_untouched, runs_once_first, runs_once_kept}
+use Rattle.psi_counts.proofs.TouchLaws.{counted_act, counts_follow, stays_untouched}
+use Rattle.psi_counts.proofs.RunnerLaws.{runs_once_first, runs_once_kept}
 use Rattle.psi_spec.proofs.RefusalLaws.{passed}
 use Rattle.psi_counts.proofs.TouchWithin.{within_first, within_kept}
-use Rattle.psi_spec.proofs.GroupLaws.{climbs_kept, groups_first, groups_kept, parents_kept}
+use Rattle.psi_spec.proofs.GroupLaws.{climbs_kept}
+use Rattle.psi_spec.proofs.GroupChanges.{groups_first, groups_kept, parents_kept}
 
 -- ---- how many tasks live
 

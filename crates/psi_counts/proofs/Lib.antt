@@ -1,9 +1,10 @@
 pub mod ClockLaws
 pub mod CountLaws
-pub mod GateLaws
+pub mod AccountLaws
 pub mod IrqLaws
 pub mod MaskLaws
 pub mod TouchCounts
 pub mod TouchLaws
+pub mod RunnerLaws
 pub mod TouchWithin
 pub mod LegalLaws

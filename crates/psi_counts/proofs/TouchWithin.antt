@@ -25,16 +25,17 @@ use Rattle.psi_spec.specs.Names.{names}
 use Rattle.psi_spec.specs.Refusal.{cause_of}
 use Rattle.psi_spec.specs.Stall.{irq_told, tasks_in, runs, waits, stalls, is_up}
 use Rattle.psi_counts.specs.Counts.{how_many, counts_among, is_up_stalled, IsRunningTold}
-use Rattle.psi_counts.specs.Touch.{changed, left_if, task_after, part, shown, gate_of, change_on, change_of, told_first, told_of, IsBeside, AllTouched, HasSlotsBelow, AreAtMost, IsOfOne, AreWithin, WithinFirst, WithinKept, ChangesAreWithin, on_chain, Follows, irq_in, is_current_in, is_current_stalled, ChangeTells, RunsOnce, TouchesItsOwn}
+use Rattle.psi_counts.specs.Touch.{changed, left_if, task_after, part, shown, account_of, change_on, change_of, told_first, told_of, IsBeside, AllTouched, HasSlotsBelow, AreAtMost, IsOfOne, AreWithin, WithinFirst, WithinKept, ChangesAreWithin, on_chain, Follows, irq_in, is_current_in, is_current_stalled, ChangeTells, RunsOnce, TouchesItsOwn}
 use Rattle.psi_spec.specs.Changes.{before, is_at, touched}
 use Rattle.psi_counts.proofs.CountLaws.{one, how_many-cons}
-use Rattle.psi_counts.proofs.GateLaws.{gate_alone}
+use Rattle.psi_counts.proofs.AccountLaws.{account_alone}
 use Rattle.psi_counts.proofs.IrqLaws.{told_alone, told_few}
 use Rattle.psi_spec.proofs.TaskLaws.{itself, task_placed}
 use Rattle.psi_counts.proofs.TouchCounts.{running_found}
 use Rattle.psi_spec.proofs.GroupLaws.{found_below}
 use Rattle.psi_spec.proofs.RefusalLaws.{first_true, none_stands}
-use Rattle.psi_counts.proofs.TouchLaws.{counts_follow, current_tells, runs_once_kept}
+use Rattle.psi_counts.proofs.TouchLaws.{counts_follow}
+use Rattle.psi_counts.proofs.RunnerLaws.{current_tells, runs_once_kept}
 
 -- a task, if there is one, is on one of so many processors and in one of so many slots
 abbrev pub Fits : ℕ → ℕ → Option Task → Type 0
@@ -171,7 +172,7 @@ either_cpu cpus slots named cpu o fits room either =
     ] refl either
 
 -- a processor that a legal act touches, and not all of them, is one that there is
-touched_room : (limits : Limits) (w : World) (at : ℕ) (a : Act) → cause_of limits w (record { at = at; act = a }) ≡ None → AreWithin limits.cpus (length w.groups) w.tasks → (cpu : ℕ) → touched a (before w.tasks a) cpu ≡ true → gate_of w.groups a ≡ None → cpu < limits.cpus
+touched_room : (limits : Limits) (w : World) (at : ℕ) (a : Act) → cause_of limits w (record { at = at; act = a }) ≡ None → AreWithin limits.cpus (length w.groups) w.tasks → (cpu : ℕ) → touched a (before w.tasks a) cpu ≡ true → account_of w.groups a ≡ None → cpu < limits.cpus
 touched_room limits w at (act.Fork pid path named) h within cpu on plain = same_cpu named.0 cpu limits.cpus on (room_of limits.cpus named.0 (none_stands limits w _ h).bad_cpu)
 touched_room limits w at (act.Wake pid named) h within cpu on plain = either_cpu limits.cpus (length w.groups) named.0 cpu (task_of w.tasks pid.0) (within pid.0) (room_of limits.cpus named.0 (none_stands limits w _ h).bad_cpu) on
 touched_room limits w at (act.Switch named next how) h within cpu on plain = same_cpu named.0 cpu limits.cpus on (room_of limits.cpus named.0 (none_stands limits w _ h).bad_cpu)
@@ -212,10 +213,10 @@ is_then : (b : Bool) (change other : Change) → (if b then Some change else Non
 is_then true change other h = (refl, cc h)
 is_then false change other h = absurd (cc h)
 
--- a gate's slot is one that there is
-gate_slot : (limits : Limits) (w : World) (at : ℕ) (a : Act) → cause_of limits w (record { at = at; act = a }) ≡ None → IfSome (gate_of w.groups a) (λ gate. gate.0.0 < length w.groups)
-gate_slot limits w at (act.Pressure path on) h = slot_room w.groups path (none_stands limits w _ h).unknown_group
-gate_slot limits w at _ h = tt
+-- a switched account's slot is one that there is
+account_slot : (limits : Limits) (w : World) (at : ℕ) (a : Act) → cause_of limits w (record { at = at; act = a }) ≡ None → IfSome (account_of w.groups a) (λ account. account.0.0 < length w.groups)
+account_slot limits w at (act.Pressure path on) h = slot_room w.groups path (none_stands limits w _ h).unknown_group
+account_slot limits w at _ h = tt
 
 -- all of it for a change
 pub changes_are_within : ChangesAreWithin
@@ -230,16 +231,16 @@ changes_are_within limits w event legal within cpu change is =
       minus = part_slot limits.cpus (length w.groups) cpu old (fits_before limits.cpus (length w.groups) w.tasks within event.act);
       plus = part_slot limits.cpus (length w.groups) cpu new (fits_after limits w event.at event.act legal within);
       current = shown_slot limits.cpus (length w.groups) (running_on tasks cpu) (fits_running limits.cpus (length w.groups) tasks later cpu (running_on tasks cpu) refl);
-      gate = gate_slot limits w event.at event.act legal;
+      account = account_slot limits w event.at event.act legal;
     } in
     let ones : IsOfOne (change_on w.groups event old new tasks cpu) = record {
       minus = part_one cpu old;
       plus = part_one cpu new;
       irq = told_few limits w event legal cpu;
       alone = told_alone w.groups w.tasks event.act cpu;
-      gate = gate_alone w.groups w.tasks event.act cpu;
+      account = account_alone w.groups w.tasks event.act cpu;
     } in
-    (λ plain. touched_room limits w event.at event.act legal within cpu both.0 (ap (λ (c : Change). c.gate) both.1 ∙ plain), subst (HasSlotsBelow (length w.groups)) both.1 slots, subst IsOfOne both.1 ones, ap (λ (c : Change). c.at) (sym both.1))
+    (λ plain. touched_room limits w event.at event.act legal within cpu both.0 (ap (λ (c : Change). c.account) both.1 ∙ plain), subst (HasSlotsBelow (length w.groups)) both.1 slots, subst IsOfOne both.1 ones, ap (λ (c : Change). c.at) (sym both.1))
 
 -- ---- what is so of each change of a processor is so of each in a touch
 
@@ -292,7 +293,7 @@ change_tells limits w event legal once cpu change is parents slot =
           (current_tells (after_event w event).tasks (runs_once_kept limits w event legal once) parents cpu slot),
       subst (λ (c : Change). irq_in parents slot c ≡ (if list_any runs (tasks_in parents cpu slot w.tasks) then irq_told cpu event.act else 0)) both.1
           (same_runner w.groups w.tasks event.act once parents cpu slot),
-      ap (λ (c : Change). c.gate) (sym both.1),
+      ap (λ (c : Change). c.account) (sym both.1),
     )
 
 -- ---- an act touches the processors that it names and those of its task

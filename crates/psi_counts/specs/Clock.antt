@@ -5,8 +5,8 @@ use Rattle.psi_spec.specs.Trace.{last_moment}
 use Rattle.psi_spec.specs.Stall.{state_number, states}
 use Rattle.psi_counts.specs.Counts.{mask_holds, IsMask}
 
--- A clock: the times (ns) in the order of the states, as they stood at its start, and the mask of the states that hold
--- from its start on.
+-- A clock: the times (ns) in the order of the states, as they stood at its start, and the mask of
+-- the states that hold from its start on.
 pub record ClockView : Type 0 where
   pub times : List ℕ
   pub mask : ℕ
@@ -16,7 +16,8 @@ pub record ClockView : Type 0 where
 abbrev pub zero_clock : ClockView
 zero_clock = record { times = map (λ _. 0) states; mask = 0; start = 0 }
 
--- the time (ns) of a state at a moment: the time at the start, and the open time since then where the state holds
+-- the time (ns) of a state at a moment: the time at the start, and the open time since then where
+-- the state holds
 abbrev pub opened_time : ClockView → ℕ → State → ℕ
 opened_time clock at state = slice_index clock.times (state_number state) + (if mask_holds clock.mask state then at - clock.start else 0)
 
@@ -28,8 +29,8 @@ opened clock at = map (opened_time clock at) states
 abbrev pub advanced : ClockView → ℕ → ℕ → ClockView
 advanced clock at mask = record { times = opened clock at; mask = mask; start = at }
 
--- a clock that may be taken to a moment (ns): the moment isn't before its start, and neither the moment nor a time is
--- above 60,000,000 s, the longest trace
+-- a clock that may be taken to a moment (ns): the moment isn't before its start, and neither the
+-- moment nor a time is above 60,000,000 s, the longest trace
 pub record IsInTime (clock : ClockView) (at : ℕ) : Type 0 where
   pub started : clock.start ≤ at
   pub moment : at ≤ last_moment
@@ -52,25 +53,29 @@ AreWordsOfClock words = (clock : ClockView) × (words ≡ words_of clock) × IsW
 
 -- ---- equal clocks
 
--- clocks that tell the same: their masks are equal, and they open to the same times at every moment from the later start on
+-- clocks that tell the same: their masks are equal, and they open to the same times at every moment
+-- from the later start on
 pub record SameClock (one other : ClockView) : Type 0 where
   pub mask : one.mask ≡ other.mask
   pub opened : (at : ℕ) → one.start ≤ at → other.start ≤ at → opened one at ≡ opened other at
 
 -- ---- changes
 
--- A clock follows another over a change at a moment (ns): it tells for each state, at each moment from the change on, what
--- the other told at the change, and the time since then where its own mask has the state. It may be advanced to the change,
--- or be the same clock where the mask stays.
+-- A clock follows another over a change at a moment (ns): it tells for each state, at each moment
+-- from the change on, what the other told at the change, and the time since then where its own mask
+-- has the state. It may be advanced to the change, or be the same clock where the mask stays.
 pub record ClockFollows (old : ClockView) (at : ℕ) (new : ClockView) : Type 0 where
   pub start : new.start ≤ at
-  pub times : (state : State) (later : ℕ) → at ≤ later → opened_time new later state ≡ opened_time old at state + (if mask_holds new.mask state then later - at else 0)
+  pub times : (state : State) (later : ℕ) → at ≤ later
+      → opened_time new later state ≡ opened_time old at state + (if mask_holds new.mask state then later - at else 0)
 
 -- ---- laws
 
 -- No state holds for longer than the clock runs, if none did up to its start.
 abbrev pub NoLongerThanClock : Type 0
-NoLongerThanClock = (clock : ClockView) (at : ℕ) (state : State) → clock.start ≤ at → slice_index clock.times (state_number state) ≤ clock.start → opened_time clock at state ≤ at
+NoLongerThanClock =
+    (clock : ClockView) (at : ℕ) (state : State) → clock.start ≤ at → slice_index clock.times (state_number state) ≤ clock.start
+    → opened_time clock at state ≤ at
 
 -- Advancing with the mask that a clock has changes nothing of what it tells.
 abbrev pub SameMaskIsNoChange : Type 0
@@ -78,7 +83,9 @@ SameMaskIsNoChange = (clock : ClockView) (at : ℕ) → clock.start ≤ at → S
 
 -- Clocks that tell the same are equal after a change.
 abbrev pub SameAfterChange : Type 0
-SameAfterChange = (one other : ClockView) (at mask : ℕ) → one.start ≤ at → other.start ≤ at → SameClock one other → advanced one at mask ≡ advanced other at mask
+SameAfterChange =
+    (one other : ClockView) (at mask : ℕ) → one.start ≤ at → other.start ≤ at → SameClock one other
+    → advanced one at mask ≡ advanced other at mask
 
 -- Clocks with the same words are equal.
 abbrev pub WordsTellClock : Type 0

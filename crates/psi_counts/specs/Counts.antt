@@ -22,25 +22,33 @@ is_up_stalled task = is_up task && stalls task
 abbrev pub runs_stalled : Task → Bool
 runs_stalled task = runs task && stalls task
 
--- The counts of a list of tasks: how many wait for IO, are in a memory stall, are ready or run, and are ready or run in a
--- memory stall. The kernel has them as tasks[NR_IOWAIT], tasks[NR_MEMSTALL], tasks[NR_RUNNING], tasks[NR_MEMSTALL_RUNNING].
+-- The counts of a list of tasks: how many wait for IO, are in a memory stall, are ready or run, and
+-- are ready or run in a memory stall. The kernel has them as tasks[NR_IOWAIT], tasks[NR_MEMSTALL],
+-- tasks[NR_RUNNING], tasks[NR_MEMSTALL_RUNNING].
 abbrev pub counts_among : List Task → Counts
-counts_among tasks = record { io = how_many waits tasks; stalled = how_many stalls tasks; running = how_many is_up tasks; stalled_running = how_many is_up_stalled tasks }
+counts_among tasks =
+    record {
+      io = how_many waits tasks;
+      stalled = how_many stalls tasks;
+      running = how_many is_up tasks;
+      stalled_running = how_many is_up_stalled tasks;
+    }
 
--- The states by counts, after the kernel's test_states, and for a running task in a stall after its psi_group_change.
--- `on_cpu` says that the processor's running task is among the counted ones (PSI_ONCPU), and `current_stalled` that the
--- running task is in a memory stall.
+-- The states by counts, after the kernel's test_states, and for a running task in a stall after its
+-- psi_group_change. `on_cpu` says that the processor's running task is among the counted ones
+-- (PSI_ONCPU), and `current_stalled` that the running task is in a memory stall.
 abbrev pub tells : State → Counts → Bool → Bool → Bool
 tells IoSome counts on_cpu current_stalled = nat_lt 0 counts.io
 tells IoFull counts on_cpu current_stalled = nat_lt 0 counts.io && counts.running == 0
 tells MemSome counts on_cpu current_stalled = nat_lt 0 counts.stalled
-tells MemFull counts on_cpu current_stalled = (nat_lt 0 counts.stalled && counts.running == counts.stalled_running) || (on_cpu && current_stalled)
+tells MemFull counts on_cpu current_stalled =
+    (nat_lt 0 counts.stalled && counts.running == counts.stalled_running) || (on_cpu && current_stalled)
 tells CpuSome counts on_cpu current_stalled = if on_cpu then nat_lt 1 counts.running else nat_lt 0 counts.running
 tells CpuFull counts on_cpu current_stalled = nat_lt 0 counts.running && not on_cpu
 tells Nonidle counts on_cpu current_stalled = nat_lt 0 counts.io || nat_lt 0 counts.stalled || nat_lt 0 counts.running
 
--- At most one of the tasks runs. `on_cpu` says whether one does, and where one does, `current_stalled` says whether it is in
--- a memory stall.
+-- At most one of the tasks runs. `on_cpu` says whether one does, and where one does,
+-- `current_stalled` says whether it is in a memory stall.
 pub record IsRunningTold (tasks : List Task) (on_cpu current_stalled : Bool) : Type 0 where
   pub at_most_one : how_many runs tasks ≤ 1
   pub one_runs : on_cpu ≡ list_any runs tasks
@@ -63,4 +71,5 @@ mask_holds mask state = bit_at mask (state_number state) == 1
 
 -- Masks that hold the same states are equal.
 abbrev pub MasksAreTheirStates : Type 0
-MasksAreTheirStates = (one other : ℕ) → IsMask one → IsMask other → ((state : State) → mask_holds one state ≡ mask_holds other state) → one ≡ other
+MasksAreTheirStates =
+    (one other : ℕ) → IsMask one → IsMask other → ((state : State) → mask_holds one state ≡ mask_holds other state) → one ≡ other

@@ -11,8 +11,9 @@ use Rattle.psi_counts.specs.Touch.{AreAtMost, AreWithin, Follows, RunsOnce, chan
 use Rattle.psi_counts.specs.declared.changes.Change.{Change}
 use Rattle.psi_counts.specs.declared.changes.Counts.{Counts}
 
--- What holds of each legal world: its groups are so; each task is on a processor and in a slot that there is; at most one
--- runs on a processor; tasks, triggers, `pressure` lines and all lines are few, and the last moment isn't too late.
+-- What holds of each legal world: its groups are so; each task is on a processor and in a slot that
+-- there is; at most one runs on a processor; tasks, triggers, `pressure` lines and all lines are
+-- few, and the last moment isn't too late.
 pub record IsLegalWorld (limits : Limits) (w : World) : Type 0 where
   pub groups : AreGroups w.groups
   pub within : AreWithin limits.cpus (length w.groups) w.tasks
@@ -37,7 +38,13 @@ changes_from cpu w (event ∷ events) = with_change (change_of w event cpu) (cha
 
 -- two counts together
 abbrev pub both_counts : Counts → Counts → Counts
-both_counts one other = record { io = one.io + other.io; stalled = one.stalled + other.stalled; running = one.running + other.running; stalled_running = one.stalled_running + other.stalled_running }
+both_counts one other =
+    record {
+      io = one.io + other.io;
+      stalled = one.stalled + other.stalled;
+      running = one.running + other.running;
+      stalled_running = one.stalled_running + other.stalled_running;
+    }
 
 -- all counts that changes add on the chain of a slot
 abbrev pub added : List (Option ℕ) → ℕ → List Change → Counts
@@ -57,19 +64,25 @@ LegalFirst = (limits : Limits) → IsLegalWorld limits first_world
 
 -- So is each after a legal event.
 abbrev pub LegalKept : Type 0
-LegalKept = (limits : Limits) (w : World) (event : Event) → cause_of limits w event ≡ None → IsLegalWorld limits w → IsLegalWorld limits (after_event w event)
+LegalKept =
+    (limits : Limits) (w : World) (event : Event) → cause_of limits w event ≡ None → IsLegalWorld limits w
+    → IsLegalWorld limits (after_event w event)
 
--- Groups that are made later change no tasks that count for a group, so that a whole trace may be told by its last parents.
+-- Groups that are made later change no tasks that count for a group, so that a whole trace may be
+-- told by its last parents.
 abbrev pub SameTasksLater : Type 0
 SameTasksLater = (limits : Limits) (w : World) → IsLegalWorld limits w → (more : List (Option ℕ)) (cpu slot : ℕ) →
     tasks_in (parents_of w.groups ++ more) cpu slot w.tasks ≡ tasks_in (parents_of w.groups) cpu slot w.tasks
 
 -- No group counts more tasks than may live.
 abbrev pub CountsAreFew : Type 0
-CountsAreFew = (limits : Limits) (w : World) → IsLegalWorld limits w → (parents : List (Option ℕ)) (cpu slot : ℕ) → AreAtMost most_tasks (counts_among (tasks_in parents cpu slot w.tasks))
+CountsAreFew =
+    (limits : Limits) (w : World) → IsLegalWorld limits w → (parents : List (Option ℕ)) (cpu slot : ℕ)
+    → AreAtMost most_tasks (counts_among (tasks_in parents cpu slot w.tasks))
 
--- After legal events, what the changes of a processor added on a group's chain and took there are the numbers of the tasks
--- that count for the group on the processor.
+-- After legal events, what the changes of a processor added on a group's chain and took there are
+-- the numbers of the tasks that count for the group on the processor.
 abbrev pub CountsAreSums : Type 0
 CountsAreSums = (limits : Limits) (events : List Event) → AreLegal limits first_world events → (parents : List (Option ℕ)) (cpu slot : ℕ) →
-    Follows no_counts (taken parents slot (changes_from cpu first_world events)) (added parents slot (changes_from cpu first_world events)) (counts_among (tasks_in parents cpu slot (after events).tasks))
+    Follows no_counts (taken parents slot (changes_from cpu first_world events))
+    (added parents slot (changes_from cpu first_world events)) (counts_among (tasks_in parents cpu slot (after events).tasks))

@@ -1,4 +1,5 @@
--- What an event changes on the processors that it touches, and how counts of tasks follow such changes.
+-- What an event changes on the processors that it touches, and how counts of tasks follow such
+-- changes.
 use Rattle.std.specs.Prelude.{◌≡◌, ◌≢◌, ℕ, ◌+◌, ◌≤◌, ◌<◌, List, [], ◌∷◌, length, ◌==◌, Bool, true, false, if◌then◌else◌, unwrap_or, Option, None, Some, IfSome}
 use Rattle.std.specs.List.{list_any}
 use Rattle.std.specs.FinMap as tasks_by
@@ -14,7 +15,7 @@ use Rattle.psi_counts.specs.declared.changes.Change.{Change}
 use Rattle.psi_counts.specs.declared.changes.Touch.{Touch}
 use Rattle.psi_spec.specs.declared.machine.GroupLife.{GroupLife}
 use Rattle.psi_spec.specs.Names.{names}
-use Rattle.psi_spec.specs.World.{Effect, forks, gates, interrupts, moves, none, readies, stalls, switches, effect_of}
+use Rattle.psi_spec.specs.World.{Effect, forks, switches_account, interrupts, moves, none, readies, stalls, switches, effect_of}
 use Rattle.psi_spec.specs.World.{World, Limits, Tasks, no_tasks, task_of, task_part, running_on, is_running_on, new_task, readied, left_by, slot_of, is_on, tasks_after, after_event, longest_irq}
 use Rattle.psi_spec.specs.Refusal.{cause_of}
 use Rattle.psi_spec.specs.Stall.{irq_told, is_under, runs, tasks_in}
@@ -41,31 +42,32 @@ after_effect groups tasks none = None
 after_effect groups tasks (forks pid path cpu) = Some (new_task groups path cpu.0)
 after_effect groups tasks (readies pid cpu) = changed (readied cpu.0) (task_of tasks pid.0)
 after_effect groups tasks (stalls pid stalled) = changed (λ task. record task { stalled = stalled }) (task_of tasks pid.0)
-after_effect groups tasks (moves pid path) = changed (λ task. record task { slot = record { 0 = unwrap_or (slot_of groups path) 0 } }) (task_of tasks pid.0)
+after_effect groups tasks (moves pid path) =
+    changed (λ task. record task { slot = record { 0 = unwrap_or (slot_of groups path) 0 } }) (task_of tasks pid.0)
 after_effect groups tasks (switches cpu next how) = left_if how (task_part (running_on tasks cpu.0))
 after_effect groups tasks (interrupts cpu) = None
-after_effect groups tasks gates = None
+after_effect groups tasks switches_account = None
 
 -- the task whose counts an act changes, after it
 abbrev pub task_after : List GroupLife → Tasks → Act → Option Task
 task_after groups tasks act = after_effect groups tasks (effect_of act)
 
--- ---- gates
+-- ---- accounts
 
--- A gate is the slot of a group whose account is switched, and whether it is on from then on. This is the gate of a path and of
--- whether on, if there are these.
-abbrev pub gate_named : List GroupLife → Option (List ℕ × Bool) → Option (Slot × Bool)
-gate_named groups None = None
-gate_named groups (Some switched) = Some (slot_named groups switched.0, switched.1)
+-- A switched account is the slot of its group, and whether it is on from then on. This is that of a
+-- path and of whether on, if there are these.
+abbrev pub account_named : List GroupLife → Option (List ℕ × Bool) → Option (Slot × Bool)
+account_named groups None = None
+account_named groups (Some switched) = Some (slot_named groups switched.0, switched.1)
 
--- the gate of an act, if it switches an account
-abbrev pub gate_of : List GroupLife → Act → Option (Slot × Bool)
-gate_of groups what = gate_named groups (names what).switched
+-- the account that an act switches, if it switches one
+abbrev pub account_of : List GroupLife → Act → Option (Slot × Bool)
+account_of groups what = account_named groups (names what).switched
 
--- the account of a slot is on after a gate, if there is one, where it is on before it or isn't
-abbrev pub gated : ℕ → Bool → Option (Slot × Bool) → Bool
-gated slot on None = on
-gated slot on (Some gate) = if gate.0.0 == slot then gate.1 else on
+-- the account of a slot is on after one is switched, if one is, where it is on before that or isn't
+abbrev pub on_with : ℕ → Bool → Option (Slot × Bool) → Bool
+on_with slot on None = on
+on_with slot on (Some account) = if account.0.0 == slot then account.1 else on
 
 -- ---- changes
 
@@ -79,9 +81,10 @@ abbrev pub shown : Option (ℕ × Task) → Option (Slot × Bool)
 shown None = None
 shown (Some running) = Some (running.1.slot, running.1.stalled)
 
--- The change of a processor by an event, at its moment: the task's counts before are taken from the chain of its slot, those
--- after are added to the chain of its slot, and then some task runs there, or none. With it goes the time (ns) that interrupts
--- took there, if the event tells of any, and the gate, if it switches an account: then the same task runs as before.
+-- The change of a processor by an event, at its moment: the task's counts before are taken from the
+-- chain of its slot, those after are added to the chain of its slot, and then some task runs there,
+-- or none. With it goes the time (ns) that interrupts took there, if the event tells of any, and
+-- the account, if it switches one: then the same task runs as before.
 abbrev pub change_on : List GroupLife → Event → Option Task → Option Task → Tasks → ℕ → Change
 change_on groups event old new tasks cpu = record {
   at = event.at;
@@ -89,14 +92,15 @@ change_on groups event old new tasks cpu = record {
   plus = part cpu new;
   current = shown (running_on tasks cpu);
   irq = irq_told cpu event.act;
-  gate = gate_of groups event.act;
+  account = account_of groups event.act;
 }
 
 -- the change of a processor by an event, if the event touches it
 unfoldable pub change_of : World → Event → ℕ → Option Change
 change_of w event cpu =
     if touched event.act (before w.tasks event.act) cpu
-    then Some (change_on w.groups event (before w.tasks event.act) (task_after w.groups w.tasks event.act) (tasks_after w.groups w.tasks event.act) cpu)
+    then Some (change_on w.groups event (before w.tasks event.act) (task_after w.groups w.tasks event.act)
+    (tasks_after w.groups w.tasks event.act) cpu)
     else None
 
 -- ---- touches
@@ -110,18 +114,18 @@ told_first cpu (Some touched) other = if touched.0.0 == cpu then Some touched.1 
 abbrev pub told_of : Touch → ℕ → Option Change
 told_of touch cpu = told_first cpu touch.first (told_first cpu touch.second None)
 
--- the change of a processor at a moment (ns) by a gate, where this task runs
-abbrev pub gate_change : ℕ → Option (Slot × Bool) → Slot × Bool → Change
-gate_change at current gate = record { at = at; minus = None; plus = None; current = current; irq = 0; gate = Some gate }
+-- the change of a processor at a moment (ns) by a switched account, where this task runs
+abbrev pub account_change : ℕ → Option (Slot × Bool) → Slot × Bool → Change
+account_change at current account = record { at = at; minus = None; plus = None; current = current; irq = 0; account = Some account }
 
--- the change that is made of a gate, if there is one, else another
-abbrev pub gate_first : ℕ → Option (Slot × Bool) → Option (Slot × Bool) → Option Change → Option Change
-gate_first at current None other = other
-gate_first at current (Some gate) other = Some (gate_change at current gate)
+-- the change that is made of a switched account, if there is one, else another
+abbrev pub account_first : ℕ → Option (Slot × Bool) → Option (Slot × Bool) → Option Change → Option Change
+account_first at current None other = other
+account_first at current (Some account) other = Some (account_change at current account)
 
 -- the change that a touch at a moment (ns) tells of a processor on which this task runs after it
 abbrev pub change_told : ℕ → Option (Slot × Bool) → Touch → ℕ → Option Change
-change_told at current touch cpu = gate_first at current touch.gate (told_of touch cpu)
+change_told at current touch cpu = account_first at current touch.account (told_of touch cpu)
 
 -- a second is there only beside a first on another processor
 abbrev pub IsBeside : Option (Cpu × Change) → Option (Cpu × Change) → Type 0
@@ -129,11 +133,14 @@ IsBeside first None = Unit {0}
 IsBeside None (Some second) = ⊥
 IsBeside (Some first) (Some second) = first.0 ≢ second.0
 
--- a touch tells of each of so many processors the change by the event, and of none two; where it has a gate, that tells of all
+-- a touch tells of each of so many processors the change by the event, and of none two; its
+-- switched account is the event's, and where it has one, that tells of all
 pub record IsTouch (cpus : ℕ) (w : World) (event : Event) (touch : Touch) : Type 0 where
-  pub told : (cpu : ℕ) → cpu < cpus → change_told event.at (shown (running_on (after_event w event).tasks cpu)) touch cpu ≡ change_of w event cpu
+  pub told : (cpu : ℕ) → cpu < cpus → change_told event.at (shown (running_on (after_event w event).tasks cpu)) touch cpu
+      ≡ change_of w event cpu
   pub beside : IsBeside touch.first touch.second
-  pub alone : IfSome touch.gate (λ gate. (touch.first ≡ None) × (touch.second ≡ None))
+  pub on_with : touch.account ≡ account_of w.groups event.act
+  pub alone : IfSome touch.account (λ account. (touch.first ≡ None) × (touch.second ≡ None))
 
 -- each change in a touch is so, with its processor
 abbrev pub AllTouched : (ℕ → Change → Type 0) → Touch → Type 0
@@ -144,7 +151,7 @@ pub record HasSlotsBelow (slots : ℕ) (change : Change) : Type 0 where
   pub minus : IfSome change.minus (λ part. part.0.0 < slots)
   pub plus : IfSome change.plus (λ part. part.0.0 < slots)
   pub current : IfSome change.current (λ current. current.0.0 < slots)
-  pub gate : IfSome change.gate (λ gate. gate.0.0 < slots)
+  pub account : IfSome change.account (λ account. account.0.0 < slots)
 
 -- each count is at most so much
 pub record AreAtMost (most : ℕ) (counts : Counts) : Type 0 where
@@ -157,14 +164,15 @@ pub record AreAtMost (most : ℕ) (counts : Counts) : Type 0 where
 abbrev pub HasNoCounts : Change → Type 0
 HasNoCounts change = (change.minus ≡ None) × (change.plus ≡ None)
 
--- A change takes and adds the counts of one task each. Where it tells that interrupts took time, which is a second at most, it
--- takes and adds no counts; nor does it where it has a gate, and then it tells of no interrupts.
+-- A change takes and adds the counts of one task each. Where it tells that interrupts took time,
+-- which is a second at most, it takes and adds no counts; nor does it where it switches an account,
+-- and then it tells of no interrupts.
 pub record IsOfOne (change : Change) : Type 0 where
   pub minus : IfSome change.minus (λ part. AreAtMost 1 part.1)
   pub plus : IfSome change.plus (λ part. AreAtMost 1 part.1)
   pub irq : change.irq ≤ longest_irq
   pub alone : 0 < change.irq → HasNoCounts change
-  pub gate : IfSome change.gate (λ gate. HasNoCounts change × (change.irq ≡ 0))
+  pub account : IfSome change.account (λ account. HasNoCounts change × (change.irq ≡ 0))
 
 -- ---- how counts follow
 
@@ -198,8 +206,8 @@ abbrev pub is_current_stalled : Option (Slot × Bool) → Bool
 is_current_stalled None = false
 is_current_stalled (Some current) = current.1
 
--- the time (ns) that interrupts took from a group by a change: all that it tells of, where the running task is in the group or
--- below it
+-- the time (ns) that interrupts took from a group by a change: all that it tells of, where the
+-- running task is in the group or below it
 abbrev pub irq_in : List (Option ℕ) → ℕ → Change → ℕ
 irq_in parents slot change = if is_current_in parents slot change.current then change.irq else 0
 
@@ -209,10 +217,13 @@ AreWithin cpus slots tasks = (pid : ℕ) → IfSome (task_of tasks pid) (λ task
 
 -- ---- laws
 
--- A legal event changes the counts of each group on each processor by what its change takes and adds there.
+-- A legal event changes the counts of each group on each processor by what its change takes and
+-- adds there.
 abbrev pub CountsFollow : Type 0
 CountsFollow = (limits : Limits) (w : World) (event : Event) → cause_of limits w event ≡ None → (parents : List (Option ℕ)) (cpu slot : ℕ) →
-    Follows (counts_among (tasks_in parents cpu slot w.tasks)) (on_chain parents slot (part cpu (before w.tasks event.act))) (on_chain parents slot (part cpu (task_after w.groups w.tasks event.act))) (counts_among (tasks_in parents cpu slot (after_event w event).tasks))
+    Follows (counts_among (tasks_in parents cpu slot w.tasks)) (on_chain parents slot (part cpu (before w.tasks event.act)))
+    (on_chain parents slot (part cpu (task_after w.groups w.tasks event.act)))
+    (counts_among (tasks_in parents cpu slot (after_event w event).tasks))
 
 -- At most one task runs on each processor, from the first on.
 abbrev pub RunsOnceFirst : Type 0
@@ -220,55 +231,72 @@ RunsOnceFirst = RunsOnce no_tasks
 
 -- It stays so by legal events.
 abbrev pub RunsOnceKept : Type 0
-RunsOnceKept = (limits : Limits) (w : World) (event : Event) → cause_of limits w event ≡ None → RunsOnce w.tasks → RunsOnce (after_event w event).tasks
+RunsOnceKept =
+    (limits : Limits) (w : World) (event : Event) → cause_of limits w event ≡ None → RunsOnce w.tasks → RunsOnce (after_event w event).tasks
 
--- What a change shows of a processor's running task tells which task runs among those of each group there.
+-- What a change shows of a processor's running task tells which task runs among those of each group
+-- there.
 abbrev pub CurrentTells : Type 0
 CurrentTells = (tasks : Tasks) → RunsOnce tasks → (parents : List (Option ℕ)) (cpu slot : ℕ) →
-    IsRunningTold (tasks_in parents cpu slot tasks) (is_current_in parents slot (shown (running_on tasks cpu))) (is_current_stalled (shown (running_on tasks cpu)))
+    IsRunningTold (tasks_in parents cpu slot tasks) (is_current_in parents slot (shown (running_on tasks cpu)))
+    (is_current_stalled (shown (running_on tasks cpu)))
 
--- A processor's change by a legal event tells all that sums of times need there: the counts of each group follow what it takes
--- and adds on the chains, it shows which task of each group runs afterwards, the time of interrupts is that of the groups
--- that have a running task in the world before the event, and its gate is the event's.
+-- A processor's change by a legal event tells all that sums of times need there: the counts of each
+-- group follow what it takes and adds on the chains, it shows which task of each group runs
+-- afterwards, the time of interrupts is that of the groups that have a running task in the world
+-- before the event, and its account is the event's.
 abbrev pub ChangeTells : Type 0
 ChangeTells =
-    (limits : Limits) (w : World) (event : Event) → cause_of limits w event ≡ None → RunsOnce w.tasks → (cpu : ℕ) (change : Change) → change_of w event cpu ≡ Some change → (parents : List (Option ℕ)) (slot : ℕ) →
-    Follows (counts_among (tasks_in parents cpu slot w.tasks)) (on_chain parents slot change.minus) (on_chain parents slot change.plus) (counts_among (tasks_in parents cpu slot (after_event w event).tasks))
-    × IsRunningTold (tasks_in parents cpu slot (after_event w event).tasks) (is_current_in parents slot change.current) (is_current_stalled change.current)
+    (limits : Limits) (w : World) (event : Event) → cause_of limits w event ≡ None → RunsOnce w.tasks → (cpu : ℕ) (change : Change)
+    → change_of w event cpu ≡ Some change → (parents : List (Option ℕ)) (slot : ℕ) →
+    Follows (counts_among (tasks_in parents cpu slot w.tasks)) (on_chain parents slot change.minus)
+    (on_chain parents slot change.plus) (counts_among (tasks_in parents cpu slot (after_event w event).tasks))
+    × IsRunningTold (tasks_in parents cpu slot (after_event w event).tasks) (is_current_in parents slot change.current)
+    (is_current_stalled change.current)
     × (irq_in parents slot change ≡ (if list_any runs (tasks_in parents cpu slot w.tasks) then irq_told cpu event.act else 0))
-    × (change.gate ≡ gate_of w.groups event.act)
+    × (change.account ≡ account_of w.groups event.act)
 
--- An act touches the processor that it names, and the one on which the task that it changes is, before it and after it.
+-- An act touches the processor that it names, and the one on which the task that it changes is,
+-- before it and after it.
 abbrev pub TouchesItsOwn : Type 0
 TouchesItsOwn = (w : World) (event : Event) (cpu : ℕ) →
     ((names event.act).cpu ≡ Some cpu → touched event.act (before w.tasks event.act) cpu ≡ true)
     × (is_some_and (before w.tasks event.act) (is_at cpu) ≡ true → touched event.act (before w.tasks event.act) cpu ≡ true)
     × (is_some_and (task_after w.groups w.tasks event.act) (is_at cpu) ≡ true → touched event.act (before w.tasks event.act) cpu ≡ true)
 
--- A legal event leaves the counts of each group on a processor that it doesn't touch, and which task runs there; and it tells of
--- no interrupts there, and switches no account.
+-- A legal event leaves the counts of each group on a processor that it doesn't touch, and which
+-- task runs there; and it tells of no interrupts there, and switches no account.
 abbrev pub StaysUntouched : Type 0
-StaysUntouched = (limits : Limits) (w : World) (event : Event) → cause_of limits w event ≡ None → (cpu : ℕ) → change_of w event cpu ≡ None → (parents : List (Option ℕ)) (slot : ℕ) →
+StaysUntouched =
+    (limits : Limits) (w : World) (event : Event) → cause_of limits w event ≡ None → (cpu : ℕ) → change_of w event cpu ≡ None
+    → (parents : List (Option ℕ)) (slot : ℕ) →
     (counts_among (tasks_in parents cpu slot (after_event w event).tasks) ≡ counts_among (tasks_in parents cpu slot w.tasks))
-    × ((on_cpu current_stalled : Bool) → IsRunningTold (tasks_in parents cpu slot w.tasks) on_cpu current_stalled → IsRunningTold (tasks_in parents cpu slot (after_event w event).tasks) on_cpu current_stalled)
+    × ((on_cpu current_stalled : Bool) → IsRunningTold (tasks_in parents cpu slot w.tasks) on_cpu current_stalled
+    → IsRunningTold (tasks_in parents cpu slot (after_event w event).tasks) on_cpu current_stalled)
     × (irq_told cpu event.act ≡ 0)
-    × (gate_of w.groups event.act ≡ None)
+    × (account_of w.groups event.act ≡ None)
 
--- The gate of a legal event tells which accounts are on after it.
-abbrev pub OnByGate : Type 0
-OnByGate = (limits : Limits) (w : World) (event : Event) → cause_of limits w event ≡ None → AreGroups w.groups → (slot : ℕ) →
-    is_on (after_event w event).groups slot ≡ gated slot (is_on w.groups slot) (gate_of w.groups event.act)
+-- The account that a legal event switches tells which are on after it.
+abbrev pub OnByAccount : Type 0
+OnByAccount = (limits : Limits) (w : World) (event : Event) → cause_of limits w event ≡ None → AreGroups w.groups → (slot : ℕ) →
+    is_on (after_event w event).groups slot ≡ on_with slot (is_on w.groups slot) (account_of w.groups event.act)
 
 -- No task is anywhere at first.
 abbrev pub WithinFirst : Type 0
 WithinFirst = (cpus slots : ℕ) → AreWithin cpus slots no_tasks
 
--- Processors and slots of tasks stay below the number of processors and the number of groups by legal events.
+-- Processors and slots of tasks stay below the number of processors and the number of groups by
+-- legal events.
 abbrev pub WithinKept : Type 0
-WithinKept = (limits : Limits) (w : World) (event : Event) → cause_of limits w event ≡ None → AreWithin limits.cpus (length w.groups) w.tasks → AreWithin limits.cpus (length w.groups) (after_event w event).tasks
+WithinKept =
+    (limits : Limits) (w : World) (event : Event) → cause_of limits w event ≡ None → AreWithin limits.cpus (length w.groups) w.tasks
+    → AreWithin limits.cpus (length w.groups) (after_event w event).tasks
 
--- So do those of changes, but that a gate is on every processor; and a change takes and adds the counts of one task, or tells of
--- interrupts or has a gate, at the event's moment.
+-- So do those of changes, but that an account is switched on every processor; and a change takes
+-- and adds the counts of one task, or tells of interrupts or switches an account, at the event's
+-- moment.
 abbrev pub ChangesAreWithin : Type 0
-ChangesAreWithin = (limits : Limits) (w : World) (event : Event) → cause_of limits w event ≡ None → AreWithin limits.cpus (length w.groups) w.tasks → (cpu : ℕ) (change : Change) → change_of w event cpu ≡ Some change →
-    (change.gate ≡ None → cpu < limits.cpus) × HasSlotsBelow (length w.groups) change × IsOfOne change × (change.at ≡ event.at)
+ChangesAreWithin =
+    (limits : Limits) (w : World) (event : Event) → cause_of limits w event ≡ None → AreWithin limits.cpus (length w.groups) w.tasks
+    → (cpu : ℕ) (change : Change) → change_of w event cpu ≡ Some change →
+    (change.account ≡ None → cpu < limits.cpus) × HasSlotsBelow (length w.groups) change × IsOfOne change × (change.at ≡ event.at)

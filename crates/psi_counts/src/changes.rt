@@ -15,29 +15,32 @@ pub struct Counts {
     pub stalled_running: u32,
 }
 
-/// What an event changes on a processor: counts taken from the chain of a slot, counts added to the chain of a
-/// slot, and afterwards the slot of the processor's running task and whether that task is in a stall. Where interrupts took
-/// the processor, it changes nothing but that: no counts, and the task that runs, if one does, is the one that they held up. Where
-/// the account of a group is switched, which every processor has as a change, no counts change either, and the same task runs.
+/// What an event changes on a processor: counts taken from the chain of a slot, counts added to the
+/// chain of a slot, and afterwards the slot of the processor's running task and whether that task
+/// is in a stall. Where interrupts took the processor, it changes nothing but that: no counts, and
+/// the task that runs, if one does, is the one that they held up. Where the account of a group is
+/// switched, which every processor has as a change, no counts change either, and the same task
+/// runs.
 #[derive(Clone, Copy, Debug, PartialEq, Eq)]
 pub struct Change {
     pub at: Ns,
     pub minus: Option<(Slot, Counts)>,
     pub plus: Option<(Slot, Counts)>,
     pub current: Option<(Slot, bool)>,
-    /// For how long interrupts took the processor, in ns: a second at most, and 0 where the event tells of none.
+    /// For how long interrupts took the processor, in ns: a second at most, and 0 where the event
+    /// tells of none.
     pub irq: u64,
     /// The slot of the group whose account is switched, and whether it is on from then on.
-    pub gate: Option<(Slot, bool)>,
+    pub account: Option<(Slot, bool)>,
 }
 
-/// The processors that an event touches, each with its change. There is a second one only beside a first one on
-/// another processor. Where the account of a group is switched there is a gate alone, and every processor has the change that
-/// is made of it.
+/// The processors that an event touches, each with its change. There is a second one only beside a
+/// first one on another processor. Where the account of a group is switched there is that alone,
+/// and every processor has the change that is made of it.
 #[derive(Clone, Copy, Debug, PartialEq, Eq)]
 pub struct Touch {
     pub first: Option<(Cpu, Change)>,
     pub second: Option<(Cpu, Change)>,
     /// The slot of the group whose account is switched, and whether it is on from then on.
-    pub gate: Option<(Slot, bool)>,
+    pub account: Option<(Slot, bool)>,
 }

@@ -3,7 +3,7 @@ use Rattle.std.proofs.Common.{◌≡◌, ℕ, ◌+◌, ◌-◌, ◌<◌, ◌≤�
 use Rattle.std.proofs.lemmas.List.{take-append-drop, drop-drop, drop-take, take-take}
 use Rattle.std.proofs.Math.ListN.{drop_of_length-le}
 use Rattle.std.proofs.Math.Seq.{take-add}
-use Rattle.psi_base.specs.Outside.{ReadsBytes}
+use Rattle.outside.specs.Outside.{ReadsBytes}
 use Rattle.psi_lines.specs.Next.{FillsBytes}
 
 -- bytes that were read at a place stand before those behind it

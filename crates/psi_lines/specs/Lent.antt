@@ -1,7 +1,7 @@
 -- What reading the next line gives, where its bytes are lent.
 use Rattle.std.specs.Prelude.{◌≡◌, ℕ, ◌+◌, ◌≤◌, List, [], OnErr, Option, None, Some, Result, Ok, Err}
 use Rattle.std.specs.Borrow.{Bor}
-use Rattle.psi_base.specs.Outside.{told, Lacks, Files}
+use Rattle.outside.specs.Outside.{told, Lacks, Files}
 use Rattle.psi_lines.specs.Lines.{Reader}
 use Rattle.psi_lines.specs.Next.{NextOf, ReadsOn, furthest, number_after}
 use Rattle.psi_lines.specs.declared.lines.Line.{Line}
@@ -13,9 +13,10 @@ lent_line number (Ok (Some bytes)) = Ok (Some (record { number = number; bytes =
 lent_line number (Ok None) = Ok None
 lent_line number (Err fault) = Err fault
 
--- what the reader is once the answer's loan is over: all that is said of it behind a line that owns its bytes; the first
--- number is what the shelf had given before, the second what it has given now
-pub record LendsLine (files : Option Files) (given given_now : ℕ) (old new : Reader) (result : Result (Option (Bor (List ℕ))) LineFault) : Type 0 where
+-- what the reader is once the answer's loan is over: all that is said of it behind a line that owns
+-- its bytes; the first number is what the shelf had given before, the second what it has given now
+pub record LendsLine (files : Option Files) (given given_now : ℕ) (old new : Reader)
+    (result : Result (Option (Bor (List ℕ))) LineFault) : Type 0 where
   pub name : new.name ≡ old.name
   pub number : new.number ≡ number_after old.number (lent_line old.number result)
   pub line : (bytes : List ℕ) → told files old.name ≡ Some bytes → NextOf bytes old new (lent_line old.number result)

@@ -1,7 +1,8 @@
 -- Lines of a file's bytes.
 use Rattle.std.specs.Prelude.{◌≡◌, ◌≢◌, ℕ, ◌≤◌, ◌<◌, List, ◌∷◌, ◌++◌, length, drop, slice_index}
 
--- a reader: the name, the number of the next line, the bytes that were read and not handed out, and the place behind them
+-- a reader: the name, the number of the next line, the bytes that were read and not handed out, and
+-- the place behind them
 pub record Reader : Type 0 where
   pub name : List ℕ
   pub number : ℕ

@@ -1,9 +1,9 @@
 -- What reading the next line gives.
 use Rattle.std.specs.Prelude.{◌≡◌, ℕ, ◌+◌, ◌-◌, ◌*◌, List, [], ◌++◌, drop, take, length, ◌<◌, ◌≤◌, ◌⊎◌, slice_index, Option, None, Some, Result, Ok, Err, IsErrOf, ⊤}
-use Rattle.psi_base.specs.Outside.{ShelfCounts, HasCauses}
+use Rattle.outside.specs.Outside.{ShelfCounts, HasCauses}
 use Rattle.psi_lines.specs.Lines.{Reader, HasNoNewline, left, BeginsWithLine, IsTooLong, IsCut}
-use Rattle.psi_base.specs.declared.outside.ShelfFault.{ShelfFault}
-use Rattle.psi_base.specs.declared.outside.ShelfFault.TheVariants as shelf
+use Rattle.outside.specs.declared.shelf.ShelfFault.{ShelfFault}
+use Rattle.outside.specs.declared.shelf.ShelfFault.TheVariants as shelf
 use Rattle.psi_lines.specs.declared.lines.Line.{Line}
 use Rattle.psi_lines.specs.declared.lines.LineFault.{LineFault}
 use Rattle.psi_lines.specs.declared.lines.LineFault.TheVariants.{TooLong, Cut, NoFile, ReadFault, NoMemory}
@@ -62,12 +62,13 @@ pub record ReadsOn (held : List ℕ) (at : ℕ) (held_now : List ℕ) (at_now : 
   pub front : take (length held) held_now ≡ held
   pub place : at_now + length held ≡ at + length held_now
 
--- the furthest place of a reader at the line with this number: the lines before it have at most 513 bytes each, with
--- their newlines, and behind them it holds at most 66,048
+-- the furthest place of a reader at the line with this number: the lines before it have at most 513
+-- bytes each, with their newlines, and behind them it holds at most 66,048
 abbrev pub furthest : ℕ → ℕ
 furthest number = 513 * (number - 1) + 66048
 
--- what is found at the front of the held bytes: how many bytes the line with this number has, or why there is none
+-- what is found at the front of the held bytes: how many bytes the line with this number has, or
+-- why there is none
 abbrev pub FindsLine : ℕ → List ℕ → Result (Option ℕ) LineFault → Type 0
 FindsLine number held (Ok (Some count)) = (count < length held) × (count ≤ 512) × (slice_index held count ≡ 10) × HasNoNewline held count
 FindsLine number held (Ok None) = held ≡ []
@@ -77,11 +78,13 @@ FindsLine number held (Err NoFile) = ⊤
 FindsLine number held (Err ReadFault) = ⊤
 FindsLine number held (Err (NoMemory _)) = ⊥
 
--- What is held tells of the next line with no read: a newline is among it, or more bytes than a line and its newline can have.
+-- What is held tells of the next line with no read: a newline is among it, or more bytes than a
+-- line and its newline can have.
 abbrev pub TellsLine : List ℕ → Type 0
 TellsLine held = (513 ≤ length held) ⊎ (i : ℕ) × (i < length held) × (slice_index held i ≡ 10)
 
--- where no line stands in front, or a cut one, the input is read to its end; of other answers nothing is said
+-- where no line stands in front, or a cut one, the input is read to its end; of other answers
+-- nothing is said
 abbrev pub EndsAt : List ℕ → ℕ → Result (Option ℕ) LineFault → Type 0
 EndsAt bytes at (Ok (Some count)) = ⊤
 EndsAt bytes at (Ok None) = drop at bytes ≡ []

@@ -1,17 +1,19 @@
 //! The bytes that were read and not handed out.
 ghost use Rattle.std.specs.Prelude.{◌≡◌, ◌+◌, ◌-◌, ◌<◌, ◌≤◌, ◌⊎◌, [], ℕ, List, length, drop, take, IfOk, OnErr, IsErrOf, Some, None};
-ghost use Rattle.psi_base.specs.Outside.{told, Lacks, counts_of, given_by};
+ghost use Rattle.outside.specs.Outside.{told, Lacks, counts_of, given_by};
 ghost use Rattle.psi_lines.specs.Next.{CausesFault, FillsBytes, IsReadFault};
 
 use crate::lines::LineFault;
-use psi_base::{NoMemory, Shelf, read_behind};
+use outside::{Shelf, read_behind};
+use psi_base::NoMemory;
 use std::alloc::Global;
 use std::marker::Model;
 
 /// The greatest line with its newline, in bytes: fewer are held whenever a read is due.
 pub(crate) const LINE: usize = 513;
 
-/// How much a buffer can hold, in bytes: a line that is begun, and behind it room for at least 65,536 that a read gives.
+/// How much a buffer can hold, in bytes: a line that is begun, and behind it room for at least
+/// 65,536 that a read gives.
 pub(crate) const ROOM: usize = 66048;
 
 // Moves the bytes from `start` to `end` to the front.
@@ -25,8 +27,9 @@ fn move_to_front(bytes: &mut [u8], start: usize, end: usize)
     }
 }
 
-/// Bytes that were read and not handed out, which contracts see as a list. They stand in one piece of memory that
-/// never grows, from `start` to `end`, and are moved to its front only when a read is due.
+/// Bytes that were read and not handed out, which contracts see as a list. They stand in one piece
+/// of memory that never grows, from `start` to `end`, and are moved to its front only when a read
+/// is due.
 #[derive(Drop)]
 pub(crate) struct Buffer {
     bytes: Vec<u8>,

@@ -1,13 +1,14 @@
 //! Lines of a name's bytes, however the shelf cuts them.
 ghost use Rattle.std.specs.Prelude.{◌≡◌, ◌≢◌, ◌+◌, ◌-◌, ◌*◌, ◌<◌, ◌≤◌, ◌^◌, ◌↔◌, [], ◌++◌, ℕ, List, length, drop, IfOk, OnErr, IsErrOf, IsTrue, MatchOption, slice_index, Ok, Some, None, false};
 ghost use Rattle.psi_base.specs.Gives.{no_memory};
-ghost use Rattle.psi_base.specs.Outside.{told, Lacks, counts_of};
+ghost use Rattle.outside.specs.Outside.{told, Lacks, counts_of};
 ghost use Rattle.psi_lines.specs.Lines.{HasNoNewline, Reader, left};
 ghost use Rattle.psi_lines.specs.Next.{CausesFault, EndsAt, FindsLine, IsMissing, IsNumbered, IsReadFault, IsShortLine, NextOf, ReadsOn, TellsLine, furthest, number_after};
 
 use crate::buffer::{Buffer, LINE, ROOM};
 use memchr::memchr;
-use psi_base::{NoMemory, Shelf, ShelfFault, Text};
+use outside::{Shelf, ShelfFault};
+use psi_base::{NoMemory, Text};
 use std::alloc::Global;
 use std::marker::Model;
 
@@ -60,10 +61,12 @@ impl From<ShelfFault> for LineFault {
     }
 }
 
-/// A reader of a name's lines, at the start of a line. Contracts see it as a `Reader`: the name, the number of the
-/// next line, the bytes that were read and not handed out, and the place behind these.
+/// A reader of a name's lines, at the start of a line. Contracts see it as a `Reader`: the name,
+/// the number of the next line, the bytes that were read and not handed out, and the place behind
+/// these.
 ///
-/// A fault leaves it at the start of the same line, with all bytes that it has; a further call goes on from there.
+/// A fault leaves it at the start of the same line, with all bytes that it has; a further call goes
+/// on from there.
 #[derive(Drop)]
 pub struct Lines {
     alloc: Global,
@@ -95,8 +98,8 @@ fn newline_in(held: &[u8]) -> Option<usize>
     memchr(b'\n', &held[..held.len().min(LINE)])
 }
 
-// Reads on until the line with this number stands whole at the front of what is held: its bytes before the newline.
-// None at the end of the input.
+// Reads on until the line with this number stands whole at the front of what is held: its bytes
+// before the newline. None at the end of the input.
 fn find_line<S: Shelf>(
     shelf: &mut S,
     name: &str,
@@ -164,15 +167,18 @@ impl Lines {
         })
     }
 
-    /// The bytes up to the next newline, without it; the reader then stands behind it. None exactly at the end of the
-    /// input, with no byte of a further line.
+    /// The bytes up to the next newline, without it; the reader then stands behind it. None exactly
+    /// at the end of the input, with no byte of a further line.
     ///
-    /// It reads no further than a whole buffer behind the lines that were handed out, each with its newline.
+    /// It reads no further than a whole buffer behind the lines that were handed out, each with its
+    /// newline.
     ///
-    /// Where what it holds tells of the line, it doesn't read: then neither a failing shelf nor a slow one holds it up.
+    /// Where what it holds tells of the line, it doesn't read: then neither a failing shelf nor a
+    /// slow one holds it up.
     ///
-    /// `TooLong` exactly where 513 bytes stand without a newline, `Cut` exactly where the input ends inside a line of
-    /// at most 512 bytes. `NoFile` and `ReadFault` only where the shelf counted an absent name or a fault in this call.
+    /// `TooLong` exactly where 513 bytes stand without a newline, `Cut` exactly where the input
+    /// ends inside a line of at most 512 bytes. `NoFile` and `ReadFault` only where the shelf
+    /// counted an absent name or a fault in this call.
     pub fn next<S: Shelf>(&mut self, shelf: &mut S) -> Result<Option<Line>, LineFault>
         requires { self.old.number < 2 ^ 32 }
         ensures kept { S.holds shelf.new ≡ S.holds shelf.old }
@@ -210,8 +216,8 @@ impl Lines {
         Ok(Some(Line { number, bytes }))
     }
 
-    /// As [`Lines::next`], but the bytes are lent from where they were read, up to the next call. It takes no memory,
-    /// so its answer is never `NoMemory`.
+    /// As [`Lines::next`], but the bytes are lent from where they were read, up to the next call.
+    /// It takes no memory, so its answer is never `NoMemory`.
     pub fn next_bytes<S: Shelf>(&mut self, shelf: &mut S) -> Result<Option<&[u8]>, LineFault>
         requires { self.old.number < 2 ^ 32 }
         ensures kept { S.holds shelf.new ≡ S.holds shelf.old }
@@ -260,8 +266,8 @@ impl Lines {
         self.held.held()
     }
 
-    /// Hands out the line at the front of the bytes that it holds, which has so many bytes before its newline. It reads
-    /// nothing, and the caller has seen the line in [`Lines::held`].
+    /// Hands out the line at the front of the bytes that it holds, which has so many bytes before
+    /// its newline. It reads nothing, and the caller has seen the line in [`Lines::held`].
     #[inline(always)]
     pub fn pass(&mut self, count: usize)
         requires number { self.old.number < 2 ^ 32 }
@@ -279,8 +285,8 @@ impl Lines {
         self.held.take_line(count);
     }
 
-    /// Whether nothing is left behind the lines that were handed out. Where bytes are held, that is known with no
-    /// read; else it takes exactly one. No byte is handed out.
+    /// Whether nothing is left behind the lines that were handed out. Where bytes are held, that is
+    /// known with no read; else it takes exactly one. No byte is handed out.
     pub fn is_at_end<S: Shelf>(&mut self, shelf: &mut S) -> Result<bool, LineFault>
         ensures kept { S.holds shelf.new ≡ S.holds shelf.old }
         ensures same { (self.new.name ≡ self.old.name) × (self.new.number ≡ self.old.number) }

@@ -1,23 +1,26 @@
 -- How the program ends.
 use Rattle.std.specs.Prelude.{◌≡◌, ◌↔◌, ℕ, List, Option, None, Some}
 use Rattle.std.specs.Io.KnownBytes.{Appends}
-use Rattle.psi_base.specs.Outside.{AppendsFront, Files, Rose}
+use Rattle.outside.specs.Outside.{AppendsFront, Files, Rose}
 use Rattle.run_spec.specs.Run.{RunCounts}
-use Rattle.observe_spec.specs.Run.{Runs}
-use Rattle.observe_spec.specs.Status.{code_of, status_text}
+use Rattle.observe_spec.specs.Run.{Observes}
+use Rattle.observe_spec.specs.Status.{code_of, observe_status_text}
 use Rattle.observe_spec.specs.Words.{Request}
 use Rattle.observe_spec.specs.declared.status.ObserveStatus.{ObserveStatus}
 use Rattle.observe_spec.specs.declared.status.ObserveStatus.TheVariants.{Usage}
 
--- The program ends with the code of a status, and the note grew by the line that tells of it, or by a front of the line
--- where a write to the note failed.
-pub record EndsAs (request : Option Request) (status : ObserveStatus) (exit faults_before faults_now : ℕ) (old new : Option (List ℕ)) : Type 0 where
+-- The program ends with the code of a status, and the note grew by the line that tells of it, or by
+-- a front of the line where a write to the note failed.
+pub record EndsAs (request : Option Request) (status : ObserveStatus) (exit faults_before faults_now : ℕ)
+    (old new : Option (List ℕ)) : Type 0 where
   pub code : exit ≡ code_of status
-  pub front : AppendsFront old new (status_text request status)
-  pub whole : (Rose faults_before faults_now → ⊥) → Appends old new (status_text request status)
+  pub front : AppendsFront old new (observe_status_text request status)
+  pub whole : (Rose faults_before faults_now → ⊥) → Appends old new (observe_status_text request status)
 
--- A status is that of a run of some words: of what they ask for it says what a run promises, of the trace, of the counts and of the
--- output; words that ask for nothing, and they alone, are a faulty use.
-pub record RanAs (request : Option Request) (ended : ObserveStatus) (files : Option Files) (before now : RunCounts) (old new : Option (List ℕ)) : Type 0 where
-  pub runs : (given : Request) → request ≡ Some given → Runs given files before now old new ended
+-- A status is that of a run of some words: of what they ask for it says what a run promises, of the
+-- trace, of the counts and of the output; words that ask for nothing, and they alone, are a faulty
+-- use.
+pub record RanAs (request : Option Request) (ended : ObserveStatus) (files : Option Files) (before now : RunCounts)
+    (old new : Option (List ℕ)) : Type 0 where
+  pub runs : (given : Request) → request ≡ Some given → Observes given files before now old new ended
   pub usage : (ended ≡ Usage) ↔ (request ≡ None)

@@ -12,7 +12,8 @@ ghost use Rattle.psi_observe_main.specs.End.{EndsAs, RanAs};
 
 use host_files::{HostShelf, HostSink, words_of};
 use observe_core::{ObserveStatus, observe};
-use psi_base::{NoMemory, OpenGate, Shelf, Sink, put_all};
+use outside::{OpenGate, Shelf, Sink, put_all};
+use psi_base::NoMemory;
 use std::alloc::Global;
 use std::env;
 use std::process::ExitCode;
@@ -35,8 +36,8 @@ fn end_without_words<N: Sink>(none: NoMemory, note: &mut N) -> ExitCode
     exit_code(ObserveStatus::NoMemory(none))
 }
 
-// Runs the words and ends as the run did: what a run promises of a status, of the trace, output and counts, holds of the status that
-// the exit and the note tell of.
+// Runs the words and ends as the run did: what a run promises of a status, of the trace, output and
+// counts, holds of the status that the exit and the note tell of.
 fn end_of<R: Threads + Wait + Sync, S: Shelf, K: Sink, N: Sink>(
     rt: &R,
     alloc: Global,

@@ -2,22 +2,24 @@
 use Rattle.std.specs.Prelude.{◌≡◌, ◌⊎◌, ℕ, List, Option, None, Some}
 use Rattle.std.specs.Io.KnownBytes.{Appends}
 use Rattle.psi_base.specs.Gives.{no_memory}
-use Rattle.psi_base.specs.Outside.{AppendsFront, Files, Rose}
+use Rattle.outside.specs.Outside.{AppendsFront, Files, Rose}
 use Rattle.run_spec.specs.declared.command.Command.{Command}
 use Rattle.run_spec.specs.Run.{RunCounts, Runs}
 use Rattle.run_spec.specs.Status.{code_of, status_text}
 use Rattle.run_spec.specs.declared.status.Status.{Status}
 use Rattle.run_spec.specs.declared.status.Status.TheVariants as status
 
--- The program ends with the code of a status, and the note grew by the line that tells of it, or by a front of the line
--- where a write to the note failed.
-pub record EndsAs (command : Option Command) (status : Status) (exit faults_before faults_now : ℕ) (old new : Option (List ℕ)) : Type 0 where
+-- The program ends with the code of a status, and the note grew by the line that tells of it, or by
+-- a front of the line where a write to the note failed.
+pub record EndsAs (command : Option Command) (status : Status) (exit faults_before faults_now : ℕ)
+    (old new : Option (List ℕ)) : Type 0 where
   pub code : exit ≡ code_of status
   pub front : AppendsFront old new (status_text command status)
   pub whole : (Rose faults_before faults_now → ⊥) → Appends old new (status_text command status)
 
--- A status is that of a run of some words: of a command it says what a run of it promises, of its files, of the counts and of the
--- output; words of no command are a faulty use.
-pub record RanAs (command : Option Command) (ended : Status) (files : Option Files) (before now : RunCounts) (old new : Option (List ℕ)) : Type 0 where
+-- A status is that of a run of some words: of a command it says what a run of it promises, of its
+-- files, of the counts and of the output; words of no command are a faulty use.
+pub record RanAs (command : Option Command) (ended : Status) (files : Option Files) (before now : RunCounts)
+    (old new : Option (List ℕ)) : Type 0 where
   pub runs : (given : Command) → command ≡ Some given → Runs given files before now old new ended
   pub unknown : command ≡ None → (ended ≡ status.Usage) ⊎ (ended ≡ status.NoMemory no_memory)

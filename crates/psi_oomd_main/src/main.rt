@@ -11,7 +11,8 @@ ghost use Rattle.run_spec.specs.Status.{code_of};
 ghost use Rattle.psi_oomd_main.specs.End.{EndsAs, RanAs};
 
 use host_files::{HostShelf, HostSink, words_of};
-use psi_base::{NoMemory, OpenGate, Shelf, Sink, put_all};
+use outside::{OpenGate, Shelf, Sink, put_all};
+use psi_base::NoMemory;
 use replay_core::{Status, run};
 use std::alloc::Global;
 use std::env;
@@ -34,8 +35,8 @@ fn end_without_words<N: Sink>(none: NoMemory, note: &mut N) -> ExitCode
     exit_code(Status::NoMemory(none))
 }
 
-// Runs the words and ends as the run did: what a run promises of a status, of files, output and counts, holds of the status that
-// the exit and the note tell of.
+// Runs the words and ends as the run did: what a run promises of a status, of files, output and
+// counts, holds of the status that the exit and the note tell of.
 fn end_of<R: Threads + Sync, S: Shelf, K: Sink, N: Sink>(
     rt: &R,
     alloc: Global,

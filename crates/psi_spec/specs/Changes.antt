@@ -5,14 +5,15 @@ use Rattle.psi_base.specs.declared.event.Act.{Act}
 use Rattle.psi_base.specs.declared.event.Event.{Event}
 use Rattle.psi_base.specs.Missing.{is_some_and}
 use Rattle.psi_spec.specs.declared.machine.Task.{Task}
-use Rattle.psi_spec.specs.World.{Effect, forks, gates, interrupts, moves, none, readies, stalls, switches, effect_of}
+use Rattle.psi_spec.specs.World.{Effect, forks, switches_account, interrupts, moves, none, readies, stalls, switches, effect_of}
 use Rattle.psi_spec.specs.World.{World, Tasks, task_of, task_part, running_on, after, up_to}
 use Rattle.psi_spec.specs.Stall.{stall, states}
 
 -- ---- the processors that an act touches
 
--- The one task whose counts an effect changes, before it. The task that a switch puts on a processor is ready before and runs
--- after, and counts the same; so it is the task that leaves whose counts change.
+-- The one task whose counts an effect changes, before it. The task that a switch puts on a
+-- processor is ready before and runs after, and counts the same; so it is the task that leaves
+-- whose counts change.
 abbrev pub before_effect : Tasks → Effect → Option Task
 before_effect tasks none = None
 before_effect tasks (forks pid path cpu) = None
@@ -21,7 +22,7 @@ before_effect tasks (stalls pid stalled) = task_of tasks pid.0
 before_effect tasks (moves pid path) = task_of tasks pid.0
 before_effect tasks (switches cpu next how) = task_part (running_on tasks cpu.0)
 before_effect tasks (interrupts cpu) = None
-before_effect tasks gates = None
+before_effect tasks switches_account = None
 
 -- the one task whose counts an act changes, before it
 abbrev pub before : Tasks → Act → Option Task
@@ -31,9 +32,10 @@ before tasks what = before_effect tasks (effect_of what)
 abbrev pub is_at : ℕ → Task → Bool
 is_at cpu task = task.cpu.0 == cpu
 
--- An effect touches a processor, by the task that it changes as it is before: the processor that a fork or a switch names, the
--- one that a task comes to and the one that it was on where it is put on a run queue, the task's where it stays there, the one
--- that interrupts hold up, and every one where the account of a group is switched.
+-- An effect touches a processor, by the task that it changes as it is before: the processor that a
+-- fork or a switch names, the one that a task comes to and the one that it was on where it is put
+-- on a run queue, the task's where it stays there, the one that interrupts hold up, and every one
+-- where the account of a group is switched.
 abbrev pub touched_by : Effect → Option Task → ℕ → Bool
 touched_by none old cpu = false
 touched_by (forks pid path named) old cpu = named.0 == cpu
@@ -42,10 +44,11 @@ touched_by (stalls pid stalled) old cpu = is_some_and old (is_at cpu)
 touched_by (moves pid path) old cpu = is_some_and old (is_at cpu)
 touched_by (switches named next how) old cpu = named.0 == cpu
 touched_by (interrupts named) old cpu = named.0 == cpu
-touched_by gates old cpu = true
+touched_by switches_account old cpu = true
 
--- An act touches a processor of the machine, by the task that it changes as it is before. It is asked of processors that there
--- are alone: an act that touches every processor touches whichever is asked for.
+-- An act touches a processor of the machine, by the task that it changes as it is before. It is
+-- asked of processors that there are alone: an act that touches every processor touches whichever
+-- is asked for.
 abbrev pub touched : Act → Option Task → ℕ → Bool
 touched what old cpu = touched_by (effect_of what) old cpu
 
@@ -56,7 +59,8 @@ abbrev pub touches : World → Option Event → ℕ → Bool
 touches w None cpu = false
 touches w (Some event) cpu = touched event.act (before w.tasks event.act) cpu
 
--- the event with a number from 1 changes a processor: it touches it in the world after the events before it
+-- the event with a number from 1 changes a processor: it touches it in the world after the events
+-- before it
 abbrev pub is_change : ℕ → List Event → ℕ → Bool
 is_change cpu events i = touches (after (take (i - 1) events)) (slice_get events (i - 1)) cpu
 
@@ -68,7 +72,8 @@ changes_of cpu events = filter (is_change cpu events) (range_with_len 1 (length 
 abbrev pub event_of_change : ℕ → List Event → ℕ → ℕ
 event_of_change cpu events k = slice_index_or (0 ∷ changes_of cpu events) k 0
 
--- the events up to a processor's change with a number from 1, and none for 0; meant for numbers of changes that there are
+-- the events up to a processor's change with a number from 1, and none for 0; meant for numbers of
+-- changes that there are
 abbrev pub until_change : ℕ → List Event → ℕ → List Event
 until_change cpu events k = take (event_of_change cpu events k) events
 
@@ -78,8 +83,8 @@ count_at cpu events at = length (changes_of cpu (up_to events at))
 
 -- ---- samples of a processor
 
--- how long (ns) a group was in each state on a processor up to a moment, by the processor's first so many changes: as if no
--- other came after them
+-- how long (ns) a group was in each state on a processor up to a moment, by the processor's first
+-- so many changes: as if no other came after them
 abbrev pub times_after : ℕ → ℕ → List Event → ℕ → ℕ → List ℕ
 times_after cpu slot events k at = map (λ state. stall state cpu slot (until_change cpu events k) at) states
 

@@ -1,4 +1,5 @@
--- The kinds of fields that an event line has: the values of each, and the one word that spells a value.
+-- The kinds of fields that an event line has: the values of each, and the one word that spells a
+-- value.
 use Rattle.std.specs.Prelude.{◌≡◌, ◌⊎◌, ℕ, ◌≤◌, ◌<◌, ◌^◌, List, [], ◌∷◌, nat_lt, nat_le, ◌&&◌, Bool, true, false, if◌then◌else◌, codes, decimal, Option, None, Some, IfSome, option_map}
 use Rattle.psi_base.specs.Number.{number_of}
 use Rattle.psi_base.specs.Path.{is_path}
@@ -10,9 +11,10 @@ use Rattle.psi_base.specs.declared.event.Preference.{Preference}
 use Rattle.psi_base.specs.declared.event.Res.{Res}
 use Rattle.psi_base.specs.declared.event.Level.{Level}
 
--- what a field of an event line speaks of: a task, the task that runs next or none, a processor, a group by its path,
--- how a task leaves its processor, a group's preference, a size or quantity of at most 2^60, any number of 64 bits,
--- a resource, whether some or all tasks stall, and whether the account of a group is on
+-- what a field of an event line speaks of: a task, the task that runs next or none, a processor, a
+-- group by its path, how a task leaves its processor, a group's preference, a size or quantity of
+-- at most 2^60, any number of 64 bits, a resource, whether some or all tasks stall, and whether the
+-- account of a group is on
 pub data Kind : Type 0 where
   pid : Kind
   next : Kind

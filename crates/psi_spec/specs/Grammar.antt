@@ -1,5 +1,5 @@
--- The lines of a trace, as this profile has them: which bytes spell a header and an event, which event a line has,
--- and for what a line is refused that spells none.
+-- The lines of a trace, as this profile has them: which bytes spell a header and an event, which
+-- event a line has, and for what a line is refused that spells none.
 use Rattle.std.specs.Prelude.{◌≡◌, ◌⊎◌, ℕ, ◌+◌, ◌<◌, ◌^◌, ◌==◌, if◌then◌else◌, List, [], ◌∷◌, ◌++◌, map, codes, decimal, Option, None, Some, Result, Ok, Err}
 use Rattle.std.specs.List.{flat_map, range_with_len}
 use Rattle.psi_base.specs.Number.{number_of}
@@ -207,7 +207,8 @@ abbrev pub field : ℕ → (k : Kind) → List (List ℕ) → Result (Value k ×
 field i k [] = Err (cause.BadField i)
 field i k (text ∷ words) = or_bad i (value_of k text) words
 
--- the act that the values of words make, of which the first is the field with this number, or the leftmost bad field
+-- the act that the values of words make, of which the first is the field with this number, or the
+-- leftmost bad field
 abbrev pub made_from : ℕ → (ks : List Kind) → Maker ks → List (List ℕ) → Result Act Cause
 made_from i [] made [] = Ok made
 made_from i [] made (text ∷ words) = Err (cause.BadField i)

@@ -1,4 +1,5 @@
--- What holds of the groups of each legal world, and how the groups above a group are told step by step.
+-- What holds of the groups of each legal world, and how the groups above a group are told step by
+-- step.
 use Rattle.std.specs.Prelude.{◌≡◌, ℕ, ◌+◌, if◌then◌else◌, ◌<◌, ◌≤◌, List, [], ◌∷◌, length, map, take, slice_get, slice_index_or, nat_le, not, ◌&&◌, Bool, true, false, Option, None, Some, IsSome, IsPermutation, IsSortedByKey}
 use Rattle.std.specs.List.{range_with_len}
 use Rattle.std.specs.Ordering.{nat_cmp}
@@ -27,14 +28,18 @@ path_at groups slot = slice_index_or (map (λ group. group.path) groups) slot []
 
 -- each parent has the path before the last slash of its child's
 abbrev pub AreAbove : List GroupLife → Type 0
-AreAbove groups = (slot parent : ℕ) → slice_index_or (parents_of groups) slot None ≡ Some parent → path_at groups parent ≡ parent_path (path_at groups slot)
+AreAbove groups =
+    (slot parent : ℕ) → slice_index_or (parents_of groups) slot None ≡ Some parent
+    → path_at groups parent ≡ parent_path (path_at groups slot)
 
 -- each live group is the one that its path finds, so no two live ones have one path
 abbrev pub IsOneLive : List GroupLife → Type 0
-IsOneLive groups = (slot : ℕ) (group : GroupLife) → slice_get groups slot ≡ Some group → is_live group ≡ true → slot_of groups group.path ≡ Some slot
+IsOneLive groups =
+    (slot : ℕ) (group : GroupLife) → slice_get groups slot ≡ Some group → is_live group ≡ true → slot_of groups group.path ≡ Some slot
 
--- What holds of the groups of each legal world: they are few; the first is the root as it was made, live and with its account on;
--- parents are older and are what the paths say; and no two live groups have one path.
+-- What holds of the groups of each legal world: they are few; the first is the root as it was made,
+-- live and with its account on; parents are older and are what the paths say; and no two live
+-- groups have one path.
 pub record AreGroups (groups : List GroupLife) : Type 0 where
   pub few : length groups ≤ most_groups
   pub rooted : take 1 groups ≡ root ∷ []
@@ -92,8 +97,8 @@ new_parents groups what = parent_of_new groups (names what).new_path
 
 -- ---- an order of all slots
 
--- An order of slots by path: each slot that there is stands in it once, and the paths come in byte order. Slots of one path
--- stand in any order.
+-- An order of slots by path: each slot that there is stands in it once, and the paths come in byte
+-- order. Slots of one path stand in any order.
 pub record IsPathOrder (groups : List GroupLife) (order : List ℕ) : Type 0 where
   pub each : IsPermutation (range_with_len 0 (length groups)) order
   pub sorted : IsSortedByKey (path_at groups) (slice_cmp nat_cmp) order

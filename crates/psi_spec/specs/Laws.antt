@@ -20,7 +20,9 @@ AreGroupsFirst = AreGroups (root ∷ [])
 
 -- A legal event keeps them so.
 abbrev pub AreGroupsKept : Type 0
-AreGroupsKept = (limits : Limits) (w : World) (event : Event) → cause_of limits w event ≡ None → AreGroups w.groups → AreGroups (after_event w event).groups
+AreGroupsKept =
+    (limits : Limits) (w : World) (event : Event) → cause_of limits w event ≡ None → AreGroups w.groups
+    → AreGroups (after_event w event).groups
 
 -- Parents never change: an event only adds those of new groups behind them.
 abbrev pub ParentsKept : Type 0
@@ -28,11 +30,15 @@ ParentsKept = (w : World) (event : Event) → parents_of (after_event w event).g
 
 -- Groups that are made later change nothing above the groups before them.
 abbrev pub ClimbsKept : Type 0
-ClimbsKept = (parents more : List (Option ℕ)) (low high : ℕ) → AreOlder parents → low < length parents → is_under (parents ++ more) low high ≡ is_under parents low high
+ClimbsKept =
+    (parents more : List (Option ℕ)) (low high : ℕ) → AreOlder parents → low < length parents
+    → is_under (parents ++ more) low high ≡ is_under parents low high
 
 -- A slot is another or has it among its ancestors where it is the other, or its parent is or has.
 abbrev pub UnderByStep : Type 0
-UnderByStep = (parents : List (Option ℕ)) (low high : ℕ) → AreOlder parents → is_under parents low high ≡ (low == high || leads_to parents (slice_index_or parents low None) high)
+UnderByStep =
+    (parents : List (Option ℕ)) (low high : ℕ) → AreOlder parents
+    → is_under parents low high ≡ (low == high || leads_to parents (slice_index_or parents low None) high)
 
 -- Ancestors are older.
 abbrev pub AncestorsAreOlder : Type 0
@@ -44,16 +50,18 @@ RootIsAbove = (groups : List GroupLife) (slot : ℕ) → AreGroups groups → sl
 
 -- ---- stall time and interrupt time
 
--- Stall time grows by an event as a clock does: up to the event by what was before it, and from it on where the state
--- holds after it.
+-- Stall time grows by an event as a clock does: up to the event by what was before it, and from it
+-- on where the state holds after it.
 abbrev pub GrowsByEvent : Type 0
 GrowsByEvent = (state : State) (cpu slot : ℕ) (events : List Event) (event : Event) (at : ℕ) →
-    stall state cpu slot (events ++ event ∷ []) at ≡ stall state cpu slot events event.at + (if holds state cpu slot (after (events ++ event ∷ [])) then at - event.at else 0)
+    stall state cpu slot (events ++ event ∷ []) at ≡ stall state cpu slot events event.at
+    + (if holds state cpu slot (after (events ++ event ∷ [])) then at - event.at else 0)
 
 -- Stall time grows with time alone where the state holds after the last event.
 abbrev pub GrowsWithTime : Type 0
 GrowsWithTime = (state : State) (cpu slot : ℕ) (events : List Event) (event : Event) (at later : ℕ) → event.at ≤ at → at ≤ later →
-    stall state cpu slot (events ++ event ∷ []) later ≡ stall state cpu slot (events ++ event ∷ []) at + (if holds state cpu slot (after (events ++ event ∷ [])) then later - at else 0)
+    stall state cpu slot (events ++ event ∷ []) later
+    ≡ stall state cpu slot (events ++ event ∷ []) at + (if holds state cpu slot (after (events ++ event ∷ [])) then later - at else 0)
 
 -- Interrupt time grows by an event as that tells in the world before it.
 abbrev pub IrqByEvent : Type 0
@@ -62,8 +70,8 @@ IrqByEvent = (cpu slot : ℕ) (events : List Event) (event : Event) →
 
 -- ---- traces
 
--- what makes bytes a trace, with no reader in sight: they are its text, its version is accepted, and its events, each by a verb
--- that is accepted, make up a trace
+-- what makes bytes a trace, with no reader in sight: they are its text, its version is accepted,
+-- and its events, each by a verb that is accepted, make up a trace
 pub record IsTrace (accepts : Accepts) (bytes : List ℕ) (trace : Trace) : Type 0 where
   pub text : bytes ≡ text_of trace
   pub version : IsAmong trace.version accepts.versions
@@ -86,16 +94,19 @@ IsFirstLine rest line = NoNewline line × ((behind : List ℕ) × (rest ≡ line
 abbrev pub IsRest : List ℕ → Type 0
 IsRest rest = NoNewline rest
 
--- the cause against what stands at the start of a line in a world, as the line or as the rest of the input
+-- the cause against what stands at the start of a line in a world, as the line or as the rest of
+-- the input
 abbrev pub IsLineCause : List Verb → Limits → World → List ℕ → Cause → Type 0
-IsLineCause verbs limits w rest why = ((line : List ℕ) × IsFirstLine rest line × (line_event verbs limits w line ≡ Err why)) ⊎ (IsRest rest × (rest_cause w rest ≡ Some why))
+IsLineCause verbs limits w rest why =
+    ((line : List ℕ) × IsFirstLine rest line × (line_event verbs limits w line ≡ Err why)) ⊎ (IsRest rest × (rest_cause w rest ≡ Some why))
 
 -- the same of the first line
 abbrev pub IsFirstLineCause : List Version → List ℕ → Cause → Type 0
-IsFirstLineCause versions rest why = ((line : List ℕ) × IsFirstLine rest line × (first_line versions line ≡ Err why)) ⊎ (IsRest rest × (first_rest rest ≡ why))
+IsFirstLineCause versions rest why =
+    ((line : List ℕ) × IsFirstLine rest line × (first_line versions line ≡ Err why)) ⊎ (IsRest rest × (first_rest rest ≡ why))
 
--- the first refused line is one behind the header: the lines before it are a header and legal events, and in the world
--- after these the cause is that of what stands there
+-- the first refused line is one behind the header: the lines before it are a header and legal
+-- events, and in the world after these the cause is that of what stands there
 pub record IsRefusedLater (accepts : Accepts) (bytes : List ℕ) (line : ℕ) (why : Cause) : Type 0 where
   pub version : Version
   pub cpus : ℕ
@@ -114,6 +125,9 @@ pub record IsRefusedLater (accepts : Accepts) (bytes : List ℕ) (line : ℕ) (w
 abbrev pub IsRefused : Accepts → List ℕ → ℕ → Cause → Type 0
 IsRefused accepts bytes line why = ((line ≡ 1) × IsFirstLineCause accepts.versions bytes why) ⊎ IsRefusedLater accepts bytes line why
 
--- bytes are refused at a line with a cause exactly where that is the first refused line and its first cause
+-- bytes are refused at a line with a cause exactly where that is the first refused line and its
+-- first cause
 abbrev pub FirstRefused : Type 0
-FirstRefused = (accepts : Accepts) (bytes : List ℕ) (line : ℕ) (why : Cause) → (trace_of accepts bytes ≡ Err (refused line why)) ↔ IsRefused accepts bytes line why
+FirstRefused =
+    (accepts : Accepts) (bytes : List ℕ) (line : ℕ) (why : Cause)
+    → (trace_of accepts bytes ≡ Err (refused line why)) ↔ IsRefused accepts bytes line why

@@ -1,4 +1,5 @@
--- What follows from the grammar of lines: what is read is what is spelled, and a line is refused for what is wrong first.
+-- What follows from the grammar of lines: what is read is what is spelled, and a line is refused
+-- for what is wrong first.
 use Rattle.std.specs.Prelude.{◌≡◌, ◌≢◌, ◌↔◌, ℕ, ◌+◌, ◌≤◌, ◌<◌, ◌^◌, List, drop, length, slice_get, slice_index, EachIndex, Option, None, Some, Ok, Err}
 use Rattle.psi_base.specs.Path.{parts_at}
 use Rattle.psi_base.specs.declared.event.Cause.{Cause}
@@ -47,23 +48,28 @@ pub record HasBadField (verbs : List Verb) (parts : List (List ℕ)) (number : �
   pub is_number : number ≡ at + 1
   pub first : IsFirstBad (kinds_of verb) (drop 2 parts) at
 
--- The cause against the parts of a line, for what they spell alone: a first part that is no time; else a second part
--- that is missing or no verb of these; else the leftmost field that is missing, wrong or one too many. There is no other.
+-- The cause against the parts of a line, for what they spell alone: a first part that is no time;
+-- else a second part that is missing or no verb of these; else the leftmost field that is missing,
+-- wrong or one too many. There is no other.
 abbrev pub IsCause : List Verb → List (List ℕ) → Cause → Type 0
 IsCause verbs parts cause.BadTime = HasTime parts → ⊥
 IsCause verbs parts cause.BadVerb = HasTime parts × ((verb : Verb) → HasVerb verbs parts verb → ⊥)
 IsCause verbs parts (cause.BadField number) = HasBadField verbs parts number
 IsCause verbs parts _ = ⊥
 
--- A line is read as an event exactly where it is the spelling of one that a trace may speak of, by one of the verbs.
+-- A line is read as an event exactly where it is the spelling of one that a trace may speak of, by
+-- one of the verbs.
 abbrev pub ReadsSpelled : Type 0
-ReadsSpelled = (verbs : List Verb) (line : List ℕ) (event : Event) → (event_of verbs line ≡ Ok event) ↔ (Fits event × IsKnown verbs event × (line ≡ spelling event))
+ReadsSpelled =
+    (verbs : List Verb) (line : List ℕ) (event : Event)
+    → (event_of verbs line ≡ Ok event) ↔ (Fits event × IsKnown verbs event × (line ≡ spelling event))
 
 -- A line is refused exactly for what is wrong first from the left.
 abbrev pub FindsCauses : Type 0
 FindsCauses = (verbs : List Verb) (line : List ℕ) (why : Cause) → (event_of verbs line ≡ Err why) ↔ IsCause verbs (parts_at 32 line) why
 
--- A line is read as a header exactly where it is the header of one of the versions and of 1 to 64 processors.
+-- A line is read as a header exactly where it is the header of one of the versions and of 1 to 64
+-- processors.
 abbrev pub HeadersSpelled : Type 0
 HeadersSpelled = (versions : List Version) (line : List ℕ) (head : Header) →
     (header_of versions line ≡ Some head) ↔ (IsAmong head.version versions × (1 ≤ head.cpus) × (head.cpus ≤ 64) × (line ≡ header_line head))

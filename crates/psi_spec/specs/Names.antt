@@ -4,8 +4,9 @@ use Rattle.psi_base.specs.declared.event.Pid.{Pid}
 use Rattle.psi_base.specs.declared.event.Act.{Act}
 use Rattle.psi_base.specs.declared.event.Act.TheVariants as act
 
--- what an act names: the paths of a group that has to be live, of one that is made and of one that is removed, that of one whose
--- account is switched and whether on, a task that has to be live and one that is made, and a processor that has to be there
+-- what an act names: the paths of a group that has to be live, of one that is made and of one that
+-- is removed, that of one whose account is switched and whether on, a task that has to be live and
+-- one that is made, and a processor that has to be there
 pub record Names : Type 0 where
   pub live_path : Option (List ℕ)
   pub new_path : Option (List ℕ)

@@ -132,14 +132,16 @@ abbrev pub bad_window : Act → Bool
 bad_window (act.Trigger path res level threshold_us window_us) = not (is_window threshold_us window_us)
 bad_window _ = false
 
--- interrupts took more than a second, or more time (ns) than passed since the last `irq` line of the processor
+-- interrupts took more than a second, or more time (ns) than passed since the last `irq` line of
+-- the processor
 abbrev pub irq_too_long : List ℕ → ℕ → Act → Bool
 irq_too_long irqs at (act.Irq cpu ns) = nat_lt longest_irq ns || nat_lt (at - slice_index_or irqs cpu.0 0) ns
 irq_too_long irqs at _ = false
 
 -- ---- causes
 
--- When each cause stands against an event in a world. Causes that a line's bytes alone can have stand against no event.
+-- When each cause stands against an event in a world. Causes that a line's bytes alone can have
+-- stand against no event.
 abbrev pub applies : Cause → Limits → World → Event → Bool
 applies cause.AfterEnd limits w event = w.ended
 applies cause.TimeBack limits w event = nat_lt event.at w.last

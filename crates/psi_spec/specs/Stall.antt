@@ -1,4 +1,5 @@
--- When a group is in a state on a processor, and for how long; and how long interrupts took from it there.
+-- When a group is in a state on a processor, and for how long; and how long interrupts took from it
+-- there.
 use Rattle.std.specs.Prelude.{ℕ, zero, suc, ◌+◌, ◌-◌, List, [], ◌∷◌, length, sum, map, take, filter, slice_get, slice_index_or, ◌==◌, ◌&&◌, ◌||◌, not, Bool, false, if◌then◌else◌, Option, None, Some}
 use Rattle.std.specs.List.{list_any, list_all, range_with_len}
 use Rattle.std.specs.FinMap as tasks_by
@@ -30,7 +31,8 @@ climbs n parents None high = false
 climbs zero parents (Some slot) high = slot == high
 climbs (suc n) parents (Some slot) high = slot == high || climbs n parents (slice_index_or parents slot None) high
 
--- A slot is another or has it among its ancestors. Parents are older, so the slot's own number bounds the way up.
+-- A slot is another or has it among its ancestors. Parents are older, so the slot's own number
+-- bounds the way up.
 unfoldable pub is_under : List (Option ℕ) → ℕ → ℕ → Bool
 is_under parents low high = climbs low parents (Some low) high
 
@@ -64,15 +66,17 @@ is_up task = is_active task.mode
 abbrev pub stalls : Task → Bool
 stalls task = task.stalled
 
--- The states, as this profile's table has them after the kernel's psi.c, said of the tasks that count.
--- IO: some task waits for IO; full where besides none is ready or running.
--- Memory: some task is in a stall; full where besides all that are ready or running are in a stall, or the running one is.
--- CPU: some task is ready; full where besides none runs. Nonidle: some task waits, is in a stall, is ready or runs.
+-- The states, as this profile's table has them after the kernel's psi.c, said of the tasks that
+-- count. IO: some task waits for IO; full where besides none is ready or running. Memory: some task
+-- is in a stall; full where besides all that are ready or running are in a stall, or the running
+-- one is. CPU: some task is ready; full where besides none runs. Nonidle: some task waits, is in a
+-- stall, is ready or runs.
 abbrev pub holds_of : State → List Task → Bool
 holds_of IoSome tasks = list_any waits tasks
 holds_of IoFull tasks = list_any waits tasks && not (list_any is_up tasks)
 holds_of MemSome tasks = list_any stalls tasks
-holds_of MemFull tasks = list_any stalls tasks && (list_all (λ task. not (is_up task) || stalls task) tasks || list_any (λ task. runs task && stalls task) tasks)
+holds_of MemFull tasks =
+    list_any stalls tasks && (list_all (λ task. not (is_up task) || stalls task) tasks || list_any (λ task. runs task && stalls task) tasks)
 holds_of CpuSome tasks = list_any queues tasks
 holds_of CpuFull tasks = list_any queues tasks && not (list_any runs tasks)
 holds_of Nonidle tasks = list_any (λ task. waits task || stalls task || is_up task) tasks
@@ -81,7 +85,8 @@ holds_of Nonidle tasks = list_any (λ task. waits task || stalls task || is_up t
 abbrev pub states : List State
 states = IoSome ∷ IoFull ∷ MemSome ∷ MemFull ∷ CpuSome ∷ CpuFull ∷ Nonidle ∷ []
 
--- a group is in a state on a processor: its account is on, and the tasks that count for it there tell so
+-- a group is in a state on a processor: its account is on, and the tasks that count for it there
+-- tell so
 unfoldable pub holds : State → ℕ → ℕ → World → Bool
 holds state cpu slot w = is_on w.groups slot && holds_of state (tasks_in (parents_of w.groups) cpu slot w.tasks)
 
@@ -93,7 +98,8 @@ moment_of events at i = slice_index_or (map (λ (event : Event). event.at) event
 
 -- the time (ns) from an event to the next, where the group is in the state after it
 abbrev pub stall_after : State → ℕ → ℕ → List Event → ℕ → ℕ → ℕ
-stall_after state cpu slot events at i = if holds state cpu slot (after (take i events)) then moment_of events at (i + 1) - moment_of events at i else 0
+stall_after state cpu slot events at i =
+    if holds state cpu slot (after (take i events)) then moment_of events at (i + 1) - moment_of events at i else 0
 
 -- how long (ns) a group was in a state on a processor, up to a moment: the sum over the events
 unfoldable pub stall : State → ℕ → ℕ → List Event → ℕ → ℕ
@@ -110,13 +116,14 @@ abbrev pub irq_told : ℕ → Act → ℕ
 irq_told cpu (act.Irq named ns) = if named.0 == cpu then ns else 0
 irq_told cpu _ = 0
 
--- the time (ns) that interrupts took from a group on a processor, by an event, if there is one, in a world: what the event
--- tells, where the group's account is on and a task of it runs there
+-- the time (ns) that interrupts took from a group on a processor, by an event, if there is one, in
+-- a world: what the event tells, where the group's account is on and a task of it runs there
 abbrev pub irq_from : ℕ → ℕ → World → Option Event → ℕ
 irq_from cpu slot w None = 0
 irq_from cpu slot w (Some event) = if is_on w.groups slot && has_running cpu slot w then irq_told cpu event.act else 0
 
--- the time (ns) that interrupts took from a group on a processor by the event with a number from 1, in the world before it
+-- the time (ns) that interrupts took from a group on a processor by the event with a number from 1,
+-- in the world before it
 abbrev pub irq_by : ℕ → ℕ → List Event → ℕ → ℕ
 irq_by cpu slot events i = irq_from cpu slot (after (take (i - 1) events)) (slice_get events (i - 1))
 

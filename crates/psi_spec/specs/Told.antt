@@ -10,7 +10,8 @@ use Rattle.psi_spec.specs.declared.machine.GroupLife.{GroupLife}
 use Rattle.psi_spec.specs.World.{World, after_event, first_world, slot_of}
 use Rattle.psi_spec.specs.Refusal.{is_window}
 
--- what each event tells in the world before it, all together and in the order of the events, from a world on
+-- what each event tells in the world before it, all together and in the order of the events, from a
+-- world on
 abbrev pub told_from : {A : Type 0} → (World → Event → List A) → World → List Event → List A
 told_from tells w [] = []
 told_from tells w (event ∷ events) = tells w event ++ told_from tells (after_event w event) events
@@ -28,15 +29,16 @@ listed (Some x) = x ∷ []
 
 -- the trigger that an act at a moment (ns) sets, if it sets one
 abbrev pub trigger_by : ℕ → List GroupLife → Act → List TriggerSpec
-trigger_by at groups (act.Trigger path res level threshold_us window_us) = record { at = at; slot = slot_named groups path; res = res; level = level; threshold_us = threshold_us; window_us = window_us } ∷ []
+trigger_by at groups (act.Trigger path res level threshold_us window_us) =
+    record { at = at; slot = slot_named groups path; res = res; level = level; threshold_us = threshold_us; window_us = window_us } ∷ []
 trigger_by at groups _ = []
 
 -- the triggers of events in their order
 abbrev pub triggers_of : List Event → List TriggerSpec
 triggers_of events = told_from (λ w event. trigger_by event.at w.groups event.act) first_world events
 
--- a trigger is one that a trace may set: no later than the latest moment (ns), on a slot that there is, and with a threshold
--- and a window (us) in their ranges
+-- a trigger is one that a trace may set: no later than the latest moment (ns), on a slot that there
+-- is, and with a threshold and a window (us) in their ranges
 pub record IsTriggerWithin (latest slots : ℕ) (trigger : TriggerSpec) : Type 0 where
   pub early : trigger.at ≤ latest
   pub slot : trigger.slot.0 < slots

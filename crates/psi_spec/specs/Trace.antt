@@ -52,7 +52,8 @@ AllFit (event ∷ events) = Fits event × AllFit events
 abbrev pub EndsLast : List Event → Type 0
 EndsLast events = (front : List Event) × (at : ℕ) × (events ≡ front ++ record { at = at; act = act.End } ∷ [])
 
--- Events make up a trace within limits: each can be spelled, each is legal in its turn, and the end is the last.
+-- Events make up a trace within limits: each can be spelled, each is legal in its turn, and the end
+-- is the last.
 pub record IsAccepted (limits : Limits) (events : List Event) : Type 0 where
   pub fit : AllFit events
   pub legal : AreLegal limits first_world events
@@ -63,7 +64,8 @@ abbrev pub AreKnown : List Verb → List Event → Type 0
 AreKnown verbs [] = Unit {0}
 AreKnown verbs (event ∷ events) = IsKnown verbs event × AreKnown verbs events
 
--- What is accepted: at which length of a tick (ns), which versions, and which verbs in a trace of a version.
+-- What is accepted: at which length of a tick (ns), which versions, and which verbs in a trace of a
+-- version.
 pub record Accepts : Type 0 where
   pub tick : ℕ
   pub versions : List Version
@@ -85,15 +87,20 @@ abbrev pub then_legal : Limits → World → Result Event Cause → Result Event
 then_legal limits w (Err why) = Err why
 then_legal limits w (Ok event) = if_legal (cause_of limits w event) event
 
--- the event of a line behind the header, or the first cause against the line: nothing may stand behind the end, a line
--- has at most 512 bytes, it spells an event by one of the verbs, and the event is legal
+-- the event of a line behind the header, or the first cause against the line: nothing may stand
+-- behind the end, a line has at most 512 bytes, it spells an event by one of the verbs, and the
+-- event is legal
 unfoldable pub line_event : List Verb → Limits → World → List ℕ → Result Event Cause
-line_event verbs limits w line = if w.ended then Err cause.AfterEnd else if nat_lt 512 (length line) then Err cause.LineTooLong else then_legal limits w (event_of verbs line)
+line_event verbs limits w line =
+    if w.ended then Err cause.AfterEnd else if nat_lt 512 (length line) then Err cause.LineTooLong
+    else then_legal limits w (event_of verbs line)
 
--- the cause against input that ends with this rest of a line, or none: after the end nothing is left, and before it the
--- input may not end
+-- the cause against input that ends with this rest of a line, or none: after the end nothing is
+-- left, and before it the input may not end
 unfoldable pub rest_cause : World → List ℕ → Option Cause
-rest_cause w rest = if w.ended then (if nat_lt 0 (length rest) then Some cause.AfterEnd else None) else if nat_lt 512 (length rest) then Some cause.LineTooLong else Some cause.NoEnd
+rest_cause w rest =
+    if w.ended then (if nat_lt 0 (length rest) then Some cause.AfterEnd else None) else if nat_lt 512 (length rest)
+    then Some cause.LineTooLong else Some cause.NoEnd
 
 -- a header that was read, or a bad one
 abbrev pub or_bad_header : Option Header → Result Header Cause
@@ -128,12 +135,14 @@ abbrev pub or_refused : {A : Type 0} → ℕ → Result A Cause → (A → Resul
 or_refused line (Err why) next = Err (refused line why)
 or_refused line (Ok event) next = next event
 
--- The events of these parts of the input between newlines, of which the first is the line with this number and the
--- last is what stands behind the last newline; or the first refused line.
+-- The events of these parts of the input between newlines, of which the first is the line with this
+-- number and the last is what stands behind the last newline; or the first refused line.
 unfoldable pub events_from : List Verb → Limits → World → ℕ → List (List ℕ) → Result (List Event) Refusal
 events_from verbs limits w line [] = at_end line (rest_cause w [])
 events_from verbs limits w line (rest ∷ []) = at_end line (rest_cause w rest)
-events_from verbs limits w line (part ∷ next ∷ parts) = or_refused line (line_event verbs limits w part) (λ event. followed (event ∷ []) (events_from verbs limits (after_event w event) (line + 1) (next ∷ parts)))
+events_from verbs limits w line (part ∷ next ∷ parts) =
+    or_refused line (line_event verbs limits w part) (λ event. followed (event ∷ [])
+    (events_from verbs limits (after_event w event) (line + 1) (next ∷ parts)))
 
 -- a trace with this header, and these events
 abbrev pub with_events : Header → Result (List Event) Refusal → Result Trace Refusal
@@ -143,7 +152,8 @@ with_events head (Err refusal) = Err refusal
 -- behind a header, or its refusal
 abbrev pub headed : Accepts → Result Header Cause → List (List ℕ) → Result Trace Refusal
 headed accepts (Err why) parts = Err (refused 1 why)
-headed accepts (Ok head) parts = with_events head (events_from (accepts.verbs head.version) (limits_of accepts.tick head.cpus) first_world 2 parts)
+headed accepts (Ok head) parts =
+    with_events head (events_from (accepts.verbs head.version) (limits_of accepts.tick head.cpus) first_world 2 parts)
 
 unfoldable pub trace_of_parts : Accepts → List (List ℕ) → Result Trace Refusal
 trace_of_parts accepts [] = Err (refused 1 cause.BadHeader)

@@ -147,8 +147,8 @@ is_on groups slot = is_on_life (slice_get groups slot)
 
 -- ---- the world
 
--- how many processors a machine may have, how many event lines its trace, and how many `pressure` lines; how many groups there
--- may ever be, the root among them, and how many live tasks
+-- how many processors a machine may have, how many event lines its trace, and how many `pressure`
+-- lines; how many groups there may ever be, the root among them, and how many live tasks
 abbrev pub most_cpus : ℕ
 most_cpus = 64
 
@@ -173,9 +173,9 @@ pub record Limits : Type 0 where
   pub cpus : ℕ
   pub latest : ℕ
 
--- the live tasks, all groups ever made in the order of their slots, for each processor the moment (ns) of its last `irq` line
--- or 0, how many triggers, `pressure` lines and event lines there were, the moment of the last line (ns), and whether the trace
--- has ended
+-- the live tasks, all groups ever made in the order of their slots, for each processor the moment
+-- (ns) of its last `irq` line or 0, how many triggers, `pressure` lines and event lines there were,
+-- the moment of the last line (ns), and whether the trace has ended
 pub record World : Type 0 where
   pub tasks : Tasks
   pub groups : List GroupLife
@@ -188,7 +188,17 @@ pub record World : Type 0 where
 
 -- the root alone, and no task
 abbrev pub first_world : World
-first_world = record { tasks = no_tasks; groups = root ∷ []; irqs = replicate most_cpus 0; triggers = 0; pressures = 0; lines = 0; last = 0; ended = false }
+first_world =
+    record {
+      tasks = no_tasks;
+      groups = root ∷ [];
+      irqs = replicate most_cpus 0;
+      triggers = 0;
+      pressures = 0;
+      lines = 0;
+      last = 0;
+      ended = false;
+    }
 
 -- ---- effects
 
@@ -203,7 +213,8 @@ change tasks pid f = change_to tasks pid f (task_of tasks pid)
 
 -- a task that forked: ready, and in no stall
 abbrev pub new_task : List GroupLife → List ℕ → ℕ → Task
-new_task groups path cpu = record { slot = record { 0 = unwrap_or (slot_of groups path) 0 }; cpu = record { 0 = cpu }; mode = Ready; stalled = false }
+new_task groups path cpu =
+    record { slot = record { 0 = unwrap_or (slot_of groups path) 0 }; cpu = record { 0 = cpu }; mode = Ready; stalled = false }
 
 -- a task that was put on the run queue of a processor; its stall stays
 abbrev pub readied : ℕ → Task → Task
@@ -232,10 +243,11 @@ abbrev pub start : Option Pid → Tasks → Tasks
 start None tasks = tasks
 start (Some pid) tasks = change tasks pid.0 (λ task. record task { mode = Running })
 
--- what an act does to tasks: nothing; a task is made in a group on a processor, is put on the run queue of a processor, starts
--- or ends a memory stall, or goes to another group; the task that runs on a processor leaves, and the next starts; the one that
--- runs there is held up by interrupts, and is as before; or the account of a group is switched, on all processors, and all tasks
--- are as before
+-- what an act does to tasks: nothing; a task is made in a group on a processor, is put on the run
+-- queue of a processor, starts or ends a memory stall, or goes to another group; the task that runs
+-- on a processor leaves, and the next starts; the one that runs there is held up by interrupts, and
+-- is as before; or the account of a group is switched, on all processors, and all tasks are as
+-- before
 pub data Effect : Type 0 where
   none : Effect
   forks : Pid → List ℕ → Cpu → Effect
@@ -244,7 +256,7 @@ pub data Effect : Type 0 where
   moves : Pid → List ℕ → Effect
   switches : Cpu → Option Pid → How → Effect
   interrupts : Cpu → Effect
-  gates : Effect
+  switches_account : Effect
 
 -- what each act does to tasks
 abbrev pub effect_of : Act → Effect
@@ -262,7 +274,7 @@ effect_of (act.Mem path current swap scan) = none
 effect_of (act.Host mem_total swap_total swap_free) = none
 effect_of (act.Trigger path res level threshold_us window_us) = none
 effect_of (act.Irq cpu ns) = interrupts cpu
-effect_of (act.Pressure path on) = gates
+effect_of (act.Pressure path on) = switches_account
 effect_of act.End = none
 
 -- the tasks after an effect
@@ -271,10 +283,11 @@ tasks_by_effect groups tasks none = tasks
 tasks_by_effect groups tasks (forks pid path cpu) = put tasks pid.0 (new_task groups path cpu.0)
 tasks_by_effect groups tasks (readies pid cpu) = change tasks pid.0 (readied cpu.0)
 tasks_by_effect groups tasks (stalls pid stalled) = change tasks pid.0 (λ task. record task { stalled = stalled })
-tasks_by_effect groups tasks (moves pid path) = change tasks pid.0 (λ task. record task { slot = record { 0 = unwrap_or (slot_of groups path) 0 } })
+tasks_by_effect groups tasks (moves pid path) =
+    change tasks pid.0 (λ task. record task { slot = record { 0 = unwrap_or (slot_of groups path) 0 } })
 tasks_by_effect groups tasks (switches cpu next how) = start next (leave how tasks (running_on tasks cpu.0))
 tasks_by_effect groups tasks (interrupts cpu) = tasks
-tasks_by_effect groups tasks gates = tasks
+tasks_by_effect groups tasks switches_account = tasks
 
 -- what an act does to the tasks
 abbrev pub tasks_after : List GroupLife → Tasks → Act → Tasks
@@ -297,7 +310,8 @@ with_switched (Some switched) groups = map (marked_switched switched.0 switched.
 
 -- what an act at a moment does to the groups
 abbrev pub groups_after : ℕ → List GroupLife → Act → List GroupLife
-groups_after at groups what = with_new at (names what).new_path (with_removed at (names what).removed_path (with_switched (names what).switched groups))
+groups_after at groups what =
+    with_new at (names what).new_path (with_removed at (names what).removed_path (with_switched (names what).switched groups))
 
 -- the moments (ns) of the last `irq` lines of all processors after an act at a moment
 abbrev pub irqs_after : ℕ → List ℕ → Act → List ℕ
@@ -341,7 +355,8 @@ after_from w (event ∷ events) = after_from (after_event w event) events
 abbrev pub after : List Event → World
 after events = after_from first_world events
 
--- the events up to a moment (ns), those at the moment among them: the first so many, where moments never fall
+-- the events up to a moment (ns), those at the moment among them: the first so many, where moments
+-- never fall
 abbrev pub up_to : List Event → ℕ → List Event
 up_to events at = filter (λ (event : Event). nat_le event.at at) events
 

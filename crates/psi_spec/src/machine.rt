@@ -2,14 +2,16 @@
 
 use psi_base::{Cpu, Ns, Path, Slot};
 
-/// A control group: its path, the slot of the group above it, and the moments at which it was made and removed.
+/// A control group: its path, the slot of the group above it, and the moments at which it was made
+/// and removed.
 #[derive(Drop)]
 pub struct GroupLife {
     pub path: Path,
     pub parent: Option<Slot>,
     pub made: Ns,
     pub gone: Option<Ns>,
-    /// Its account is on: stalls and interrupts are counted for it. Groups above and below have accounts of their own.
+    /// Its account is on: stalls and interrupts are counted for it. Groups above and below have
+    /// accounts of their own.
     pub on: bool,
 }
 

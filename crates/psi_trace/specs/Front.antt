@@ -31,7 +31,8 @@ pub record AreFour (bytes : List ℕ) (place number : ℕ) : Type 0 where
   pub fourth : IsDigit (slice_index_or bytes (place + 3) 0) d
   pub value : number ≡ a * 1000 + b * 100 + c * 10 + d
 
--- the bytes are the line of this event with its newline, and then the rest; its verb is one of every version
+-- the bytes are the line of this event with its newline, and then the rest; its verb is one of
+-- every version
 pub record BeginsWithEvent (bytes : List ℕ) (event : Event) (rest : List ℕ) : Type 0 where
   pub fits : Fits event
   pub known : IsKnown first_verbs event
@@ -43,7 +44,8 @@ pub record HasInFront (bytes : List ℕ) (event : Event) (count : ℕ) : Type 0 
   pub inside : count < length bytes
   pub short : count ≤ 512
 
--- the bytes begin with the line of an event that a player took so, which has so many bytes before its newline
+-- the bytes begin with the line of an event that a player took so, which has so many bytes before
+-- its newline
 pub record TakesFront (Before After : Plays) (bytes : List ℕ) (played : PlayedLine) : Type 0 where
   pub event : Event
   pub front : HasInFront bytes event played.count

@@ -1,9 +1,10 @@
-//! The lines that a trace has most of, read where they stand, and played: those of tasks that wake, are switched, stall or
-//! migrate.
+//! The lines that a trace has most of, read where they stand, and played: those of tasks that wake,
+//! are switched, stall or migrate.
 //!
-//! Each is read in one pass from the left, and its newline ends it. Where the bytes don't begin with such a line the answer is
-//! none, and nothing is said of them: `read_event` reads any line, and says what is wrong with it.
-ghost use Rattle.std.specs.Prelude.{◌≡◌, ◌+◌, ◌<◌, ◌≤◌, ◌^◌, ◌∷◌, ◌++◌, IfNone, IfSome, codes, decimal, length};
+//! Each is read in one pass from the left, and its newline ends it. Where the bytes don't begin
+//! with such a line the answer is none, and nothing is said of them: `read_event` reads any line,
+//! and says what is wrong with it.
+ghost use Rattle.std.specs.Prelude.{◌≡◌, ◌+◌, ◌<◌, ◌≤◌, ◌^◌, ◌∷◌, ◌++◌, ◌↔◌, IfNone, IfSome, IsTrue, codes, decimal, length};
 ghost use Rattle.psi_spec.specs.Fields.{how_word, next_word, IsPid};
 ghost use Rattle.psi_trace.specs.Front.{AreDigits, AreFour, BeginsWithEvent, IsDigit, TakesFront};
 
@@ -28,11 +29,35 @@ fn four_at(bytes: &[u8], place: usize) -> Option<u64>
     requires { place + 4 ≤ length bytes.now }
     ensures { IfSome result (AreFour bytes.now place) }
 {
-    let first = digit(bytes[place])?;
-    let second = digit(bytes[place + 1])?;
-    let third = digit(bytes[place + 2])?;
-    let fourth = digit(bytes[place + 3])?;
-    Some(first * 1000 + second * 100 + third * 10 + fourth)
+    let first = bytes[place];
+    let second = bytes[place + 1];
+    let third = bytes[place + 2];
+    let fourth = bytes[place + 3];
+    // Judged together: one branch, where `&&` would make four.
+    if !(is_digit(first) & is_digit(second) & is_digit(third) & is_digit(fourth)) {
+        return None;
+    }
+    let upper = value_of(first) * 10 + value_of(second);
+    let lower = value_of(third) * 10 + value_of(fourth);
+    Some(upper * 100 + lower)
+}
+
+// The byte is a digit.
+#[inline(always)]
+fn is_digit(byte: u8) -> bool
+    ensures { IsTrue result ↔ (48 ≤ byte) × (byte ≤ 57) }
+{
+    (b'0' <= byte) & (byte <= b'9')
+}
+
+// What a digit stands for.
+#[inline(always)]
+fn value_of(byte: u8) -> u64
+    requires low { 48 ≤ byte }
+    requires high { byte ≤ 57 }
+    ensures { IsDigit byte result }
+{
+    u64::from(byte - b'0')
 }
 
 // What a byte stands for, if it is a digit.
@@ -40,14 +65,14 @@ fn four_at(bytes: &[u8], place: usize) -> Option<u64>
 fn digit(byte: u8) -> Option<u64>
     ensures { IfSome result (IsDigit byte) }
 {
-    if byte < b'0' || byte > b'9' {
+    if !is_digit(byte) {
         return None;
     }
-    Some(u64::from(byte - b'0'))
+    Some(value_of(byte))
 }
 
-// The number that digits at the front of the bytes write, and how many these are: fours of digits as long as four stand there,
-// 16 at most.
+// The number that digits at the front of the bytes write, and how many these are: fours of digits
+// as long as four stand there, 16 at most.
 #[inline(always)]
 fn fours_before(bytes: &[u8]) -> (u64, usize)
     ensures are { AreDigits bytes.now result.0 result.1 }
@@ -67,8 +92,8 @@ fn fours_before(bytes: &[u8]) -> (u64, usize)
     (number, count)
 }
 
-// The number that digits write, of which so many at the front of the bytes write another, and how many all are: all that stand
-// there, or the first 19.
+// The number that digits write, of which so many at the front of the bytes write another, and how
+// many all are: all that stand there, or the first 19.
 #[inline(always)]
 fn digits_behind(bytes: &[u8], written: u64, place: usize) -> (u64, usize)
     requires are { AreDigits bytes.now written place }
@@ -89,8 +114,8 @@ fn digits_behind(bytes: &[u8], written: u64, place: usize) -> (u64, usize)
     (number, count)
 }
 
-// The number that so many digits at the front of the bytes write, if the byte `end` stands behind them and no zero before others,
-// and the bytes behind that.
+// The number that so many digits at the front of the bytes write, if the byte `end` stands behind
+// them and no zero before others, and the bytes behind that.
 #[inline(always)]
 fn ended_by(bytes: &[u8], number: u64, count: usize, end: u8) -> Option<(u64, &[u8])>
     requires { AreDigits bytes.now number count }
@@ -105,8 +130,8 @@ fn ended_by(bytes: &[u8], number: u64, count: usize, end: u8) -> Option<(u64, &[
     Some((number, &bytes[count + 1..]))
 }
 
-// The number that the bytes begin with, if the byte `end` stands behind it, and the bytes behind that. None where it has more
-// than 19 digits.
+// The number that the bytes begin with, if the byte `end` stands behind it, and the bytes behind
+// that. None where it has more than 19 digits.
 #[inline(always)]
 fn number_before(bytes: &[u8], end: u8) -> Option<(u64, &[u8])>
     ensures { IfSome result (λ found. bytes.now ≡ decimal found.0 ++ end ∷ found.1.now) }
@@ -171,7 +196,8 @@ fn next_before(bytes: &[u8], end: u8) -> Option<(Option<Pid>, &[u8])>
     Some((Some(Pid(number)), rest))
 }
 
-// How the running task leaves its processor, any way but exit, if that ends the line, and the bytes behind the newline.
+// How the running task leaves its processor, any way but exit, if that ends the line, and the bytes
+// behind the newline.
 #[inline(always)]
 fn how_before_newline(bytes: &[u8]) -> Option<(How, &[u8])>
     ensures { IfSome result (λ found. bytes.now ≡ how_word found.0 ++ 10 ∷ found.1.now) }
@@ -191,7 +217,8 @@ fn how_before_newline(bytes: &[u8]) -> Option<(How, &[u8])>
     None
 }
 
-// The event at a time (ns) of each verb, if the bytes begin with its fields and a newline, and the bytes behind that.
+// The event at a time (ns) of each verb, if the bytes begin with its fields and a newline, and the
+// bytes behind that.
 
 #[inline(always)]
 fn switch_in(at: Ns, fields: &[u8]) -> Option<(Event, &[u8])>
@@ -247,7 +274,8 @@ fn migrate_in(at: Ns, fields: &[u8]) -> Option<(Event, &[u8])>
     Some((Event { at, act }, rest))
 }
 
-// Plays the event that the bytes begin with the line of, if one was found there, with the bytes behind its newline.
+// Plays the event that the bytes begin with the line of, if one was found there, with the bytes
+// behind its newline.
 #[inline(always)]
 fn play_found<P: Player>(
     bytes: &[u8],
@@ -267,12 +295,13 @@ fn play_found<P: Player>(
     Some(PlayedLine { count, answer })
 }
 
-/// Plays the event of the line that the bytes begin with, where that is a `switch` without an `exit`, a `wake`, `stall`,
-/// `unstall` or `migrate`: the one that [`read_event`](crate::read_event) reads. None may also be where the bytes begin with
-/// such a line; then nothing is played.
+/// Plays the event of the line that the bytes begin with, where that is a `switch` without an
+/// `exit`, a `wake`, `stall`, `unstall` or `migrate`: the one that
+/// [`read_event`](crate::read_event) reads. None may also be where the bytes begin with such a
+/// line; then nothing is played.
 ///
-/// Each verb has a call of its own, in which it is known what the event is. Whether it is stored all the same is the
-/// compiler's choice.
+/// Each verb has a call of its own, in which it is known what the event is. Whether it is stored
+/// all the same is the compiler's choice.
 #[inline(always)]
 pub fn take_front<P: Player>(bytes: &[u8], player: &mut P) -> Option<PlayedLine>
     ensures front { IfSome result

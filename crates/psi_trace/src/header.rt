@@ -46,7 +46,8 @@ fn header_in(line: &[u8]) -> Option<Header>
     })
 }
 
-/// What a header line tells, given without its newline. `BadHeader` where the line is no header of a version.
+/// What a header line tells, given without its newline. `BadHeader` where the line is no header of
+/// a version.
 pub fn read_header(line: &[u8]) -> Result<Header, Cause>
     ensures spelled { MatchResult result
         (λ head. IsVersion head.version × (1 ≤ head.cpus) × (head.cpus ≤ 64)

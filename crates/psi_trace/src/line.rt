@@ -3,8 +3,8 @@ ghost use Rattle.std.specs.Prelude.{◌≡◌, ◌+◌, ◌≤◌, ◌++◌, [],
 
 use std::marker::Model;
 
-/// A line with room for so many bytes, which contracts see as the bytes that it has. It is written from its end to its
-/// front, so that each number is put where its digits belong, at once.
+/// A line with room for so many bytes, which contracts see as the bytes that it has. It is written
+/// from its end to its front, so that each number is put where its digits belong, at once.
 #[derive(Drop)]
 pub(crate) struct LineBuffer<const ROOM: usize> {
     bytes: [u8; ROOM],
@@ -12,10 +12,12 @@ pub(crate) struct LineBuffer<const ROOM: usize> {
     start: usize,
 }
 
-/// A header, or the line of an event that has few words and no path: time, verb, processor, task and how it leaves.
+/// A header, or the line of an event that has few words and no path: time, verb, processor, task
+/// and how it leaves.
 pub(crate) type ShortLine = LineBuffer<80>;
 
-/// The line of any other event. The longest is that of the memory of a group with a path of 255 bytes.
+/// The line of any other event. The longest is that of the memory of a group with a path of 255
+/// bytes.
 pub(crate) type LongLine = LineBuffer<384>;
 
 impl<const ROOM: usize> Model for LineBuffer<ROOM> {

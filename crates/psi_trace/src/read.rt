@@ -17,9 +17,9 @@ use crate::field::{
 use psi_base::{Act, Cause, Event, Fault, Ns, Parts, read_number};
 use std::alloc::Global;
 
-// The event at a time (ns) of each verb, from its fields. Each makes the whole answer, so that nothing is copied from one
-// place to the next on the way out. These functions are inlined: a call that stays would clear the place of its answer for
-// every line, whichever verb it has.
+// The event at a time (ns) of each verb, from its fields. Each makes the whole answer, so that
+// nothing is copied from one place to the next on the way out. These functions are inlined: a call
+// that stays would clear the place of its answer for every line, whichever verb it has.
 
 #[tactic(auto, unfolding(psi_spec::specs::Grammar::act_from))]
 #[inline(always)]
@@ -238,8 +238,8 @@ fn end_of_trace(at: Ns, mut words: Words) -> Result<Event, Fault<Cause>>
     Ok(Event { at, act })
 }
 
-// The event at a time (ns) of the verb that is the next part, and of its fields, in a trace of a version: the verbs that a
-// trace has most of first.
+// The event at a time (ns) of the verb that is the next part, and of its fields, in a trace of a
+// version: the verbs that a trace has most of first.
 #[tactic(auto, unfolding(psi_spec::specs::Grammar::act_at, psi_spec::specs::Grammar::verb_of))]
 fn event_at(alloc: Global, version: u32, at: Ns, mut words: Words) -> Result<Event, Fault<Cause>>
     ensures exact { Gives result (dated at (act_at (verbs_of (version_of version)) words.entry)) }
@@ -303,9 +303,10 @@ fn event_in(alloc: Global, version: u32, line: &[u8]) -> Result<Event, Fault<Cau
     event_at(alloc, version, at, words)
 }
 
-/// The event that a line spells in a trace of version 1 or 2, given without its newline; else the first cause against the line
-/// from the left: `BadTime`, `BadVerb`, or `BadField` with the number of the leftmost field that is missing, wrong or surplus.
-/// `NoMemory` comes only for a verb that has a path among its fields, since its bytes alone are allocated.
+/// The event that a line spells in a trace of version 1 or 2, given without its newline; else the
+/// first cause against the line from the left: `BadTime`, `BadVerb`, or `BadField` with the number
+/// of the leftmost field that is missing, wrong or surplus. `NoMemory` comes only for a verb that
+/// has a path among its fields, since its bytes alone are allocated.
 pub fn read_event(alloc: Global, version: u32, line: &[u8]) -> Result<Event, Fault<Cause>>
     requires version { IsVersion version }
     ensures exact { Gives result (event_of (verbs_of (version_of version)) line.now) }

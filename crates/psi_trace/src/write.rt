@@ -292,7 +292,8 @@ fn put_header(line: &mut ShortLine, cpus: u32)
     line.text(b"psitrace 1 cpus=");
 }
 
-/// Appends bytes to a buffer; where memory runs out the buffer stays as it was, and had no room for them.
+/// Appends bytes to a buffer; where memory runs out the buffer stays as it was, and had no room for
+/// them.
 fn append(bytes: &[u8], to: &mut Vec<u8>) -> Result<(), NoMemory>
     ensures written { OnOk result (to.new.items ≡ to.old.items ++ bytes.now) }
     ensures kept { OnErr result (to.new.items ≡ to.old.items) }
@@ -303,7 +304,8 @@ fn append(bytes: &[u8], to: &mut Vec<u8>) -> Result<(), NoMemory>
     Ok(())
 }
 
-/// Appends the one spelling of another event. It stands apart, since a function that has a long line clears room for it.
+/// Appends the one spelling of another event. It stands apart, since a function that has a long
+/// line clears room for it.
 #[inline(never)]
 fn write_long(event: &Event, to: &mut Vec<u8>) -> Result<(), NoMemory>
     requires { is_short event.now.act ≡ false }
@@ -318,8 +320,8 @@ fn write_long(event: &Event, to: &mut Vec<u8>) -> Result<(), NoMemory>
     append(line.bytes(), to)
 }
 
-/// Appends the header for so many processors, without a newline, to a buffer; where memory runs out the buffer stays as
-/// it was, and the header had no room there.
+/// Appends the header for so many processors, without a newline, to a buffer; where memory runs out
+/// the buffer stays as it was, and the header had no room there.
 pub fn write_header(cpus: u32, to: &mut Vec<u8>) -> Result<(), NoMemory>
     ensures written { OnOk result (to.new.items ≡ to.old.items ++ header 1 cpus) }
     ensures kept { OnErr result (to.new.items ≡ to.old.items) }
@@ -332,9 +334,9 @@ pub fn write_header(cpus: u32, to: &mut Vec<u8>) -> Result<(), NoMemory>
     append(line.bytes(), to)
 }
 
-/// Appends the one spelling of an event, without a newline, to a buffer; where memory runs out the buffer stays as it
-/// was, and the line had no room there. The event is one that a trace may speak of: times below 2^64 ns, tasks from 1,
-/// sizes and quantities of at most 2^60.
+/// Appends the one spelling of an event, without a newline, to a buffer; where memory runs out the
+/// buffer stays as it was, and the line had no room there. The event is one that a trace may speak
+/// of: times below 2^64 ns, tasks from 1, sizes and quantities of at most 2^60.
 pub fn write_event(event: &Event, to: &mut Vec<u8>) -> Result<(), NoMemory>
     requires { Fits event.now }
     ensures written { OnOk result (to.new.items ≡ to.old.items ++ spelling event.now) }

@@ -27,7 +27,7 @@ use Rattle.std.proofs.Common.{true≢false}
 use Rattle.psi_words.proofs.Rows.{all_rows}
 use Rattle.psi_words.proofs.Rules.{built_rules, filled_all, simple_all}
 use Rattle.psi_words.proofs.Walking.{top, is_nil, row}
-use Rattle.psi_words.proofs.Reading.{all_read}
+use Rattle.psi_words.proofs.ReadingSteps.{all_read}
 
 built_is : (names : List (List ℕ)) → built (plain_app names) ≡ record { top = top names; subs = [] }
 built_is names =

@@ -9,3 +9,4 @@ mod Rows
 mod Rules
 mod Turning
 mod Walking
+pub mod ReadingSteps

@@ -17,9 +17,12 @@ use Rattle.psi_words.proofs.Turning.{given_walked, open_walked, open_held, open_
 use Rattle.std.proofs.lemmas.List.{append_assoc, append-nil}
 use Rattle.clap.specs.Walk.{finished}
 use Rattle.psi_words.proofs.Walking.{same_rows}
-use Rattle.psi_words.proofs.Reading.{second_plain, positional_joined, or_nothing, place_plain}
-use Rattle.psi_words.proofs.Reading.{judged_none, parts_bare, parts_dashes, parts_long, parts_open}
-use Rattle.psi_words.proofs.Reading.{parts_open_dashed, has_positional}
+use Rattle.psi_words.proofs.Reading.{second_plain, positional_joined, or_nothing}
+use Rattle.psi_words.proofs.ReadingSteps.{place_plain}
+use Rattle.psi_words.proofs.Reading.{judged_none}
+use Rattle.psi_words.proofs.ReadingSteps.{parts_bare, parts_dashes, parts_long, parts_open}
+use Rattle.psi_words.proofs.Reading.{has_positional}
+use Rattle.psi_words.proofs.ReadingSteps.{parts_open_dashed}
 
 -- what stands in the rows at the end
 abbrev pub rows_end : List (List ℕ) → Walk → List (List ℕ) → List Row

@@ -82,31 +82,61 @@ fn shape(given: &Parsed) -> Result<Shape, BadWords>
     })
 }
 
-/// The words behind `stall`.
+// What the words behind `stall` say.
 #[tactic(auto, unfolding(run_spec::specs::Words::stall_of))]
+fn stall_given(alloc: Global, given: &Parsed) -> Result<Command, Fault<BadWords>>
+    ensures exact { ReadsWord result (spec.stall_of given.now) }
+    ensures texts { IfOk result HasTextNames }
+{
+    let trace = trace(alloc, given)?;
+    Ok(Command::Stall { trace })
+}
+
+/// The words behind `stall`.
 pub(crate) fn read_stall(alloc: Global, words: &[String]) -> Result<Command, Fault<BadWords>>
     ensures exact { ReadsWord result (spec.spelled spec.stall_form (map string_bytes words.now)) }
     ensures texts { IfOk result HasTextNames }
 {
     let given = Parsed::read(alloc, &[], words)?;
-    let trace = trace(alloc, &given)?;
-    Ok(Command::Stall { trace })
+    let command = stall_given(alloc, &given);
+    drop(given);
+    command
+}
+
+// What the words behind `check` say.
+#[tactic(auto, unfolding(run_spec::specs::Words::check_of))]
+fn check_given(alloc: Global, given: &Parsed) -> Result<Command, Fault<BadWords>>
+    ensures exact { ReadsWord result (spec.check_of given.now) }
+    ensures texts { IfOk result HasTextNames }
+{
+    let trace = trace(alloc, given)?;
+    let tick_ms = tick_ms(given)?;
+    Ok(Command::Check { trace, tick_ms })
 }
 
 /// The words behind `check`.
-#[tactic(auto, unfolding(run_spec::specs::Words::check_of))]
 pub(crate) fn read_check(alloc: Global, words: &[String]) -> Result<Command, Fault<BadWords>>
     ensures exact { ReadsWord result (spec.spelled spec.check_form (map string_bytes words.now)) }
     ensures texts { IfOk result HasTextNames }
 {
     let given = Parsed::read(alloc, &["tick-ms"], words)?;
-    let trace = trace(alloc, &given)?;
-    let tick_ms = tick_ms(&given)?;
-    Ok(Command::Check { trace, tick_ms })
+    let command = check_given(alloc, &given);
+    drop(given);
+    command
+}
+
+// What the words behind `replay` say.
+#[tactic(auto, unfolding(run_spec::specs::Words::replay_of))]
+fn replay_given(alloc: Global, given: &Parsed) -> Result<Command, Fault<BadWords>>
+    ensures exact { ReadsWord result (spec.replay_of given.now) }
+    ensures texts { IfOk result HasTextNames }
+{
+    let trace = trace(alloc, given)?;
+    let options = options(alloc, given)?;
+    Ok(Command::Replay { trace, options })
 }
 
 /// The words behind `replay`.
-#[tactic(auto, unfolding(run_spec::specs::Words::replay_of))]
 pub(crate) fn read_replay(alloc: Global, words: &[String]) -> Result<Command, Fault<BadWords>>
     ensures exact { ReadsWord result (spec.spelled spec.replay_form (map string_bytes words.now)) }
     ensures texts { IfOk result HasTextNames }
@@ -122,61 +152,115 @@ pub(crate) fn read_replay(alloc: Global, words: &[String]) -> Result<Command, Fa
         "live-count",
     ];
     let given = Parsed::read(alloc, &names, words)?;
-    let trace = trace(alloc, &given)?;
-    let options = options(alloc, &given)?;
-    Ok(Command::Replay { trace, options })
+    let command = replay_given(alloc, &given);
+    drop(given);
+    command
+}
+
+// What the words behind `gen` say.
+#[tactic(auto, unfolding(run_spec::specs::Words::gen_of))]
+fn gen_given(given: &Parsed) -> Result<Command, Fault<BadWords>>
+    ensures exact { ReadsWord result (spec.gen_of given.now) }
+    ensures texts { IfOk result HasTextNames }
+{
+    let shape = shape(given)?;
+    Ok(Command::Gen { shape })
 }
 
 /// The words behind `gen`.
-#[tactic(auto, unfolding(run_spec::specs::Words::gen_of))]
 pub(crate) fn read_gen(alloc: Global, words: &[String]) -> Result<Command, Fault<BadWords>>
     ensures exact { ReadsWord result (spec.spelled spec.gen_form (map string_bytes words.now)) }
     ensures texts { IfOk result HasTextNames }
 {
     let given = Parsed::read(alloc, &["seed", "cpus", "groups", "events"], words)?;
-    let shape = shape(&given)?;
-    Ok(Command::Gen { shape })
+    let command = gen_given(&given);
+    drop(given);
+    command
+}
+
+// What the words behind `stress` say.
+#[tactic(auto, unfolding(run_spec::specs::Words::stress_of))]
+fn stress_given(given: &Parsed) -> Result<Command, Fault<BadWords>>
+    ensures exact { ReadsWord result (spec.stress_of given.now) }
+    ensures texts { IfOk result HasTextNames }
+{
+    let shape = shape(given)?;
+    let workers = workers(given)?;
+    Ok(Command::Stress { shape, workers })
 }
 
 /// The words behind `stress`.
-#[tactic(auto, unfolding(run_spec::specs::Words::stress_of))]
 pub(crate) fn read_stress(alloc: Global, words: &[String]) -> Result<Command, Fault<BadWords>>
     ensures exact { ReadsWord result (spec.spelled spec.stress_form (map string_bytes words.now)) }
     ensures texts { IfOk result HasTextNames }
 {
     let names = ["workers", "seed", "cpus", "groups", "events"];
     let given = Parsed::read(alloc, &names, words)?;
-    let shape = shape(&given)?;
-    let workers = workers(&given)?;
-    Ok(Command::Stress { shape, workers })
+    let command = stress_given(&given);
+    drop(given);
+    command
+}
+
+// What the words behind `import` say.
+#[tactic(auto, unfolding(run_spec::specs::Words::import_command_of))]
+fn import_given(alloc: Global, given: &Parsed) -> Result<Command, Fault<BadWords>>
+    ensures exact { ReadsWord result (spec.import_command_of given.now) }
+    ensures texts { IfOk result HasTextNames }
+{
+    let file = trace(alloc, given)?;
+    let cpus = needed(1, 64, given.value("cpus"))? as u32;
+    Ok(Command::Import { file, cpus })
 }
 
 /// The words behind `import`.
-#[tactic(auto, unfolding(run_spec::specs::Words::import_of))]
 pub(crate) fn read_import(alloc: Global, words: &[String]) -> Result<Command, Fault<BadWords>>
     ensures exact { ReadsWord result (spec.spelled spec.import_form (map string_bytes words.now)) }
     ensures texts { IfOk result HasTextNames }
 {
     let given = Parsed::read(alloc, &["cpus"], words)?;
-    let file = trace(alloc, &given)?;
-    let cpus = needed(1, 64, given.value("cpus"))? as u32;
-    Ok(Command::Import { file, cpus })
+    let command = import_given(alloc, &given);
+    drop(given);
+    command
+}
+
+// What the words behind `rules` say.
+#[tactic(auto, unfolding(run_spec::specs::Words::rules_command_of))]
+fn rules_given(alloc: Global, given: &Parsed) -> Result<Command, Fault<BadWords>>
+    ensures exact { ReadsWord result (spec.rules_command_of given.now) }
+    ensures texts { IfOk result HasTextNames }
+{
+    let file = trace(alloc, given)?;
+    let drop_in = rules(alloc, given.value("drop-in"))?;
+    Ok(Command::Rules { file, drop_in })
 }
 
 /// The words behind `rules`.
-#[tactic(auto, unfolding(run_spec::specs::Words::rules_command_of))]
 pub(crate) fn read_rules(alloc: Global, words: &[String]) -> Result<Command, Fault<BadWords>>
     ensures exact { ReadsWord result (spec.spelled spec.rules_form (map string_bytes words.now)) }
     ensures texts { IfOk result HasTextNames }
 {
     let given = Parsed::read(alloc, &["drop-in"], words)?;
-    let file = trace(alloc, &given)?;
-    let drop_in = rules(alloc, given.value("drop-in"))?;
-    Ok(Command::Rules { file, drop_in })
+    let command = rules_given(alloc, &given);
+    drop(given);
+    command
+}
+
+// What the words behind `whatif` say.
+#[tactic(auto, unfolding(run_spec::specs::Words::whatif_of))]
+fn whatif_given(alloc: Global, given: &Parsed) -> Result<Command, Fault<BadWords>>
+    ensures exact { ReadsWord result (spec.whatif_of given.now) }
+    ensures texts { IfOk result HasTextNames }
+{
+    let trace = trace(alloc, given)?;
+    let options = options(alloc, given)?;
+    if options.rules.is_some() && options.live.is_none() {
+        Ok(Command::Whatif { trace, options })
+    } else {
+        Err(Fault::Refused(BadWords))
+    }
 }
 
 /// The words behind `whatif`.
-#[tactic(auto, unfolding(run_spec::specs::Words::whatif_of))]
 pub(crate) fn read_whatif(alloc: Global, words: &[String]) -> Result<Command, Fault<BadWords>>
     ensures exact { ReadsWord result (spec.spelled spec.whatif_form (map string_bytes words.now)) }
     ensures texts { IfOk result HasTextNames }
@@ -190,11 +274,7 @@ pub(crate) fn read_whatif(alloc: Global, words: &[String]) -> Result<Command, Fa
         "workers",
     ];
     let given = Parsed::read(alloc, &names, words)?;
-    let trace = trace(alloc, &given)?;
-    let options = options(alloc, &given)?;
-    if options.rules.is_some() && options.live.is_none() {
-        Ok(Command::Whatif { trace, options })
-    } else {
-        Err(Fault::Refused(BadWords))
-    }
+    let command = whatif_given(alloc, &given);
+    drop(given);
+    command
 }

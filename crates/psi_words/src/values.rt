@@ -63,7 +63,8 @@ pub(crate) fn rules(alloc: Global, given: Option<&str>) -> Result<Option<Text>, 
     }
 }
 
-/// The name of the drop-in file over a rules file, or that there is none: without rules there is nothing that it could change.
+/// The name of the drop-in file over a rules file, or that there is none: without rules there is
+/// nothing that it could change.
 pub(crate) fn drop_in(
     alloc: Global,
     rules_named: &Option<Text>,

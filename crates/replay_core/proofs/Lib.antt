@@ -1,13 +1,4 @@
-pub mod GeneratedLaws
-pub mod HeadLaws
-pub mod ImportLaws
-pub mod LineLaws
-pub mod LineTexts
 pub mod Pieces
-pub mod PlayLaws
-pub mod ReplayLaws
-pub mod RulesLaws
-pub mod RulesRuns
 pub mod RunEnds
-pub mod RunLaws
+pub mod RulesEnds
 pub mod WhatifLaws

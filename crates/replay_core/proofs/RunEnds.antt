@@ -1,13 +1,13 @@
 -- What a run over a buffered sink comes to, and what its status tells of its files.
 use Rattle.std.proofs.Common.{◌≡◌, ◌≢◌, ◌⊎◌, inl, inr, ℕ, ◌≤◌, List, [], ◌++◌, length, refl, sym, ap, ◌∙◌, subst, arith, Option, None, Some, true, true≢false}
-use Rattle.std.specs.Prelude.{MatchOption, Result, Ok, Err, codes, is_some, option_map}
+use Rattle.std.specs.Prelude.{MatchOption, Result, Ok, Err, is_some, option_map}
 use Rattle.std.specs.Io.KnownBytes.{Appends, Keeps, append_known}
 use Rattle.std.proofs.lemmas.List.{append-nil, length-append, nil_from_length}
 use Rattle.psi_base.specs.Gives.{no_memory}
-use Rattle.psi_base.specs.Outside.{Files, Lacks, Rose, bytes_of, known_count, told}
+use Rattle.outside.specs.Outside.{Files, Lacks, Rose, bytes_of, known_count, told}
 use Rattle.psi_base.specs.declared.event.Refusal.{Refusal}
 use Rattle.psi_base.specs.declared.event.Event.{Event}
-use Rattle.psi_base.proofs.Buffered.{flush_failed, flushed, put_failed}
+use Rattle.outside.proofs.Buffered.{flush_failed, flushed, put_failed}
 use Rattle.psi_spec.specs.Trace.{Trace, text_of, trace_of}
 use Rattle.import_spec.specs.Import.{Refused, import_of, import_trace}
 use Rattle.run_spec.proofs.Missing.{from_import, from_trace, has_trace}
@@ -19,11 +19,8 @@ use Rattle.run_spec.specs.declared.command.Command.TheVariants as words
 use Rattle.run_spec.specs.declared.command.Options.{Options}
 use Rattle.run_spec.specs.declared.status.Which.{Which}
 use Rattle.run_spec.specs.declared.status.Which.TheVariants.{DropInFile, ImportFile, RulesFile, TraceFile}
-use Rattle.run_spec.specs.Outputs.{IsOutput, accepts_of, drop_in_name, file_of, or_not_imported, or_refused, or_rules_fault, outcome_of, pace_of, rules_from, rules_name, source_of, status_of_last, taken_of, watch_of_path, with_drop_in}
+use Rattle.run_spec.specs.Outputs.{IsOutput, accepts_of, drop_in_name, file_of, or_not_imported, or_refused_trace, or_rules_fault, outcome_of, pace_of, rules_from, rules_name, source_of, status_of_last, taken_of, watch_of_path, with_drop_in}
 use Rattle.run_spec.specs.Replay.{IsReplayText, replay_text, with_rules}
-use Rattle.run_spec.specs.Whatif.{last_trace}
-use Rattle.run_spec.specs.Words.{command_of}
-use Rattle.run_spec.proofs.RangeLaws.{command_ranges}
 use Rattle.run_laws.proofs.LiveTexts.{one_text_unwatched}
 use Rattle.run_spec.specs.Run.{DropInTold, Ends, FailuresAreCounted, HasTrace, IsTold, IsThere, Refuses, RulesTold, RunCounts, Runs, TakesBase, TakesRules, TakesTrace, told_if_named}
 use Rattle.ruleset_json.specs.Rules.{rules_of}
@@ -31,9 +28,8 @@ use Rattle.ruleset_json.specs.declared.fault.RulesFault.{RulesFault}
 use Rattle.ruleset_json.specs.declared.types.Rule.{Rule}
 use Rattle.ruleset_json.specs.declared.types.Rules.{Rules}
 use Rattle.dropin_rules.specs.declared.fault.DropFault.{DropFault}
-use Rattle.dropin_rules.specs.RulesText.{rules_text}
-use Rattle.replay_core.proofs.RulesRuns.{named_bytes}
-use Rattle.replay_core.proofs.RunLaws.{stays}
+use Rattle.rules_file.proofs.RulesRuns.{named_bytes}
+use Rattle.run_outcomes.proofs.RunLaws.{stays}
 
 -- ---- over a buffered sink
 
@@ -90,10 +86,11 @@ runs_unsent command files before mid now had sent below pending left runs kept m
 -- ---- what a status tells of files
 
 -- the bytes of a file are told of one name alone
-one_told : (files : Option Files) (name other bytes : List ℕ) (found : Option (List ℕ)) → found ≡ Some name → found ≡ Some other → told files name ≡ Some bytes → told files other ≡ None → ⊥
+pub one_told : (files : Option Files) (name other bytes : List ℕ) (found : Option (List ℕ)) → found ≡ Some name → found ≡ Some other → told files name ≡ Some bytes → told files other ≡ None → ⊥
 one_told files name other bytes found is also tells none = cc (is, also, tells, none)
 
--- rulesets are those of a rules file with this name, and of the drop-in file over it, as these are told
+-- rulesets are those of a rules file with this name, and of the drop-in file over it, as these are
+-- told
 abbrev pub AreTold : Command → Option Files → List Rule → List ℕ → Type 0
 AreTold command files rules name =
     (bytes : List ℕ) × (drop_in : Option (List ℕ)) × (told files name ≡ Some bytes) × DropInTold command files drop_in
@@ -124,11 +121,11 @@ pub same_rules : (command : Command) (files : Option Files) (taken rules : List 
 same_rules command files taken rules takes tells = by_name command files taken rules (rules_name command) refl takes tells
 
 -- a fault of a rules file is one whatever drop-in file is over it
-fault_first : (bytes : List ℕ) (drop_in : Option (List ℕ)) (fault : RulesFault) → rules_of bytes ≡ Err fault → rules_from bytes drop_in ≡ Err (status.Rules fault)
+pub fault_first : (bytes : List ℕ) (drop_in : Option (List ℕ)) (fault : RulesFault) → rules_of bytes ≡ Err fault → rules_from bytes drop_in ≡ Err (status.Rules fault)
 fault_first bytes drop_in fault is = ap (λ read. with_drop_in drop_in (or_rules_fault read)) is
 
 -- a run never finds a fault in rules that are told
-no_fault : (command : Command) (files : Option Files) (rules : List Rule) (fault : RulesFault) (had has : Option (List ℕ)) → RulesTold command files rules → Ends command files had has (status.Rules fault) → ⊥
+pub no_fault : (command : Command) (files : Option Files) (rules : List Rule) (fault : RulesFault) (had has : Option (List ℕ)) → RulesTold command files rules → Ends command files had has (status.Rules fault) → ⊥
 no_fault command files rules fault had has tells ends =
     let found = told_bytes command files rules ends.2.0 ends.2.1 tells in
     let good = found.4 in
@@ -136,7 +133,7 @@ no_fault command files rules fault had has tells ends =
     cc (good, other)
 
 -- nor misses their file
-no_missed : (command : Command) (files : Option Files) (rules : List Rule) (had has : Option (List ℕ)) → RulesTold command files rules → Ends command files had has (status.NoFile RulesFile) → ⊥
+pub no_missed : (command : Command) (files : Option Files) (rules : List Rule) (had has : Option (List ℕ)) → RulesTold command files rules → Ends command files had has (status.NoFile RulesFile) → ⊥
 no_missed command files rules had has tells ends =
     let found = told_bytes command files rules ends.2.0 ends.2.1 tells in
     let here = found.2 in
@@ -149,7 +146,7 @@ named_some None is = absurd (true≢false (sym is))
 named_some (Some name) is = (name, refl)
 
 -- nor finds one in the drop-in file over them
-no_drop_fault : (command : Command) (files : Option Files) (rules : List Rule) (fault : DropFault) (had has : Option (List ℕ)) → RulesTold command files rules → Ends command files had has (status.DropIn fault) → ⊥
+pub no_drop_fault : (command : Command) (files : Option Files) (rules : List Rule) (fault : DropFault) (had has : Option (List ℕ)) → RulesTold command files rules → Ends command files had has (status.DropIn fault) → ⊥
 no_drop_fault command files rules fault had has tells ends =
     let named = named_some (rules_name command) ends.2.1 in
     let over = named_some (drop_in_name command) ends.1 in
@@ -161,7 +158,7 @@ no_drop_fault command files rules fault had has tells ends =
     cc (same, good, bad)
 
 -- nor misses that
-no_missed_drop_in : (command : Command) (files : Option Files) (rules : List Rule) (had has : Option (List ℕ)) → RulesTold command files rules → Ends command files had has (status.NoFile DropInFile) → ⊥
+pub no_missed_drop_in : (command : Command) (files : Option Files) (rules : List Rule) (had has : Option (List ℕ)) → RulesTold command files rules → Ends command files had has (status.NoFile DropInFile) → ⊥
 no_missed_drop_in command files rules had has tells ends =
     let named = named_some (rules_name command) ends.1.1 in
     let found = told_bytes command files rules named.0 named.1 tells in
@@ -183,7 +180,8 @@ no_trace command files bytes had has tells ends = none_told command files bytes 
 no_import : (command : Command) (files : Option Files) (bytes : List ℕ) (had has : Option (List ℕ)) → IsTold command (source_of command) files bytes → Ends command files had has (status.NoFile ImportFile) → ⊥
 no_import command files bytes had has tells ends = none_told command files bytes ImportFile had has (from_import command (ap is_some ends.2.1)) tells ends
 
--- what a command takes from bytes that are told, where a status tells of a refused line of a file of a kind
+-- what a command takes from bytes that are told, where a status tells of a refused line of a file
+-- of a kind
 taken_told : (command : Command) (files : Option Files) (bytes : List ℕ) (which : Which) (had has : Option (List ℕ)) (result : Status) → source_of command ≡ which → IsTold command (source_of command) files bytes → Refuses command files had has which result
     → taken_of command bytes ≡ Err result
 taken_told command files bytes which had has result from tells refuses = refuses.4 bytes (subst (λ w. IsTold command w files bytes) from tells)
@@ -197,7 +195,7 @@ import_told : (command : Command) (files : Option Files) (bytes : List ℕ) (had
 import_told command files bytes had has result tells refuses = taken_told command files bytes ImportFile had has result (from_import command refuses.1) tells refuses
 
 -- a trace that was taken is the one that was read
-of_read : (read : Result Trace Refusal) (trace : Trace) → or_refused read ≡ Ok trace → read ≡ Ok trace
+pub of_read : (read : Result Trace Refusal) (trace : Trace) → or_refused_trace read ≡ Ok trace → read ≡ Ok trace
 of_read (Ok other) trace is = let same : other ≡ trace = cc is in ap (λ (t : Trace). let read : Result Trace Refusal = Ok t in read) same
 of_read (Err refusal) trace is = absurd (let no : ⊥ = cc is in no)
 
@@ -234,7 +232,8 @@ headlined_alone name options files before now had has runs bytes rules none tell
     let text = found.2 in
     (found.0, found.1, subst (Appends had has) (one_text_unwatched found.0 (pace_of options) rules text.0 (ap (watch_of_path options.live_count) none) text.1) text.2)
 
--- where a command has its output for a trace and rulesets, it is done where nothing else is against it
+-- where a command has its output for a trace and rulesets, it is done where nothing else is against
+-- it
 done_there : (command : Command) (trace : Trace) (rules : List Rule) (text : List ℕ) → IsOutput command trace rules text → outcome_of command trace rules ≡ status.Done
 done_there (words.Whatif name options) trace rules text output = ap status_of_last output.1
 done_there (words.Stall name) trace rules text output = refl
@@ -259,7 +258,8 @@ same_outcome command files bytes taken trace taken_rules rules result takes take
     sym comes ∙ ap (λ t. outcome_of command t taken_rules) (same_trace command files bytes taken trace takes tells is)
     ∙ ap (outcome_of command trace) (same_rules command files taken_rules rules takes_rules given)
 
--- an accepted trace ends a run as it is to, where its rules are accepted, nothing failed and memory was there
+-- an accepted trace ends a run as it is to, where its rules are accepted, nothing failed and memory
+-- was there
 pub completes : (command : Command) (files : Option Files) (before now : RunCounts) (had has : Option (List ℕ)) (result : Status) → Runs command files before now had has result
     → (rules : List Rule) (bytes : List ℕ) (trace : Trace) → RulesTold command files rules → IsTold command (source_of command) files bytes → taken_of command bytes ≡ Ok trace
     → (Rose before.shelf.faults now.shelf.faults → ⊥) → (Rose before.writes now.writes → ⊥) → (result ≡ outcome_of command trace rules) ⊎ (result ≡ status.NoMemory no_memory)
@@ -282,7 +282,8 @@ completes command files before now had has (status.NoFile RulesFile) runs rules 
 completes command files before now had has (status.NoFile TraceFile) runs rules bytes trace given tells is reads writes = absurd (no_trace command files bytes had has tells runs.ends)
 completes command files before now had has (status.NoFile ImportFile) runs rules bytes trace given tells is reads writes = absurd (no_import command files bytes had has tells runs.ends)
 
--- a refused file tells of its refusal, where the rules are accepted, no read failed and memory was there
+-- a refused file tells of its refusal, where the rules are accepted, no read failed and memory was
+-- there
 pub refuses : (command : Command) (files : Option Files) (before now : RunCounts) (had has : Option (List ℕ)) (result : Status) → Runs command files before now had has result
     → (rules : List Rule) (bytes : List ℕ) (why : Status) → RulesTold command files rules → IsTold command (source_of command) files bytes → taken_of command bytes ≡ Err why
     → (Rose before.shelf.faults now.shelf.faults → ⊥) → (result ≡ why) ⊎ (result ≡ status.NoMemory no_memory)
@@ -305,7 +306,8 @@ refuses command files before now had has (status.NoFile RulesFile) runs rules by
 refuses command files before now had has (status.NoFile TraceFile) runs rules bytes why given tells is reads = absurd (no_trace command files bytes had has tells runs.ends)
 refuses command files before now had has (status.NoFile ImportFile) runs rules bytes why given tells is reads = absurd (no_import command files bytes had has tells runs.ends)
 
--- a drop-in file that isn't missing is told where the rules file is, since a shelf tells of all its names or of none
+-- a drop-in file that isn't missing is told where the rules file is, since a shelf tells of all its
+-- names or of none
 known_drop_in : (files : Option Files) (named : Option (List ℕ)) (name bytes : List ℕ) → told files name ≡ Some bytes → ((other : List ℕ) → named ≡ Some other → Lacks files other → ⊥)
     → (found : Option (List ℕ)) × (told_if_named files named ≡ Some found)
 known_drop_in None named name bytes tells there = absurd (true≢false (sym (ap is_some tells)))
@@ -353,117 +355,3 @@ faults command files before now had has (status.Import line why) runs name bytes
 faults command files before now had has (status.NoFile RulesFile) runs name bytes fault named tells is reads = absurd (one_told files name runs.ends.2.0 bytes (rules_name command) named runs.ends.2.1 tells runs.ends.2.2)
 faults command files before now had has (status.NoFile TraceFile) runs name bytes fault named tells is reads = absurd (none_taken command files runs.ends.1.0 name bytes fault runs.ends.1.1 runs.ends.1.2.1 named tells is)
 faults command files before now had has (status.NoFile ImportFile) runs name bytes fault named tells is reads = absurd (none_taken command files runs.ends.1.0 name bytes fault runs.ends.1.1 runs.ends.1.2.1 named tells is)
-
--- ---- refused drop-in files
-
--- the bytes of a drop-in file are told
-over_told : (command : Command) (files : Option Files) (drop_in : List ℕ) → IsTold command DropInFile files drop_in → DropInTold command files (Some drop_in)
-over_told command files drop_in over =
-    subst (λ named. told_if_named files named ≡ Some (Some drop_in)) (sym over.1) (ap (option_map (λ b. Some b)) over.2)
-
--- a command never takes rulesets from files of which the drop-in file has a fault
-none_joined : (command : Command) (files : Option Files) (taken : List Rule) (bytes drop_in : List ℕ) (fault : DropFault) → TakesRules command files taken → IsTold command RulesFile files bytes → IsTold command DropInFile files drop_in
-    → rules_from bytes (Some drop_in) ≡ Err (status.DropIn fault) → ⊥
-none_joined command files taken bytes drop_in fault takes known over is =
-    let good = takes.read bytes (Some drop_in) known (over_told command files drop_in over) in cc (good, is)
-
--- nor finds one of the rules file there
-no_rules_fault : (command : Command) (files : Option Files) (had has : Option (List ℕ)) (bytes drop_in : List ℕ) (found : RulesFault) (fault : DropFault) → Ends command files had has (status.Rules found) → IsTold command RulesFile files bytes
-    → rules_from bytes (Some drop_in) ≡ Err (status.DropIn fault) → ⊥
-no_rules_fault command files had has bytes drop_in found fault ends known is =
-    let same : ends.2.0 ≡ known.0 = let one = ends.2.1 in let other = known.1 in cc (one, other) in
-    let first = fault_first bytes (Some drop_in) found (ends.2.2 bytes (subst (λ n. told files n ≡ Some bytes) (sym same) known.2)) in
-    cc (first, is)
-
--- a file that is told isn't missed
-not_missed : (command : Command) (files : Option Files) (which : Which) (had has : Option (List ℕ)) (bytes : List ℕ) → IsTold command which files bytes → Ends command files had has (status.NoFile which) → ⊥
-not_missed command files which had has bytes known ends = one_told files known.0 ends.2.0 bytes (file_of command which) known.1 ends.2.1 known.2 ends.2.2
-
--- a refused drop-in file tells of its first fault, where no read failed and memory was there
-pub drop_faults : (command : Command) (files : Option Files) (before now : RunCounts) (had has : Option (List ℕ)) (result : Status) → Runs command files before now had has result
-    → (bytes drop_in : List ℕ) (fault : DropFault) → IsTold command RulesFile files bytes → IsTold command DropInFile files drop_in → rules_from bytes (Some drop_in) ≡ Err (status.DropIn fault)
-    → (Rose before.shelf.faults now.shelf.faults → ⊥) → (result ≡ status.DropIn fault) ⊎ (result ≡ status.NoMemory no_memory)
-drop_faults command files before now had has status.Done runs bytes drop_in fault known over is reads = absurd (none_joined command files runs.ends.1 bytes drop_in fault runs.ends.3 known over is)
-drop_faults command files before now had has status.WriteFault runs bytes drop_in fault known over is reads = absurd (none_joined command files runs.ends.1 bytes drop_in fault runs.ends.3 known over is)
-drop_faults command files before now had has (status.TooLarge events) runs bytes drop_in fault known over is reads = absurd (none_joined command files runs.ends.1.rules bytes drop_in fault runs.ends.1.takes_rules known over is)
-drop_faults command files before now had has (status.NoMemory _) runs bytes drop_in fault known over is reads = inr refl
-drop_faults command files before now had has status.ReadFault runs bytes drop_in fault known over is reads = absurd (reads (runs.counts.faults.rose refl))
-drop_faults command files before now had has status.Usage runs bytes drop_in fault known over is reads = absurd runs.ends
-drop_faults command files before now had has (status.Rules found) runs bytes drop_in fault known over is reads = absurd (no_rules_fault command files had has bytes drop_in found fault runs.ends known is)
-drop_faults command files before now had has (status.DropIn found) runs bytes drop_in fault known over is reads = let other = runs.ends.4 bytes drop_in known over in inl (cc (is, other))
-drop_faults command files before now had has (status.Trace line why) runs bytes drop_in fault known over is reads = absurd (none_joined command files runs.ends.2.0 bytes drop_in fault runs.ends.2.1 known over is)
-drop_faults command files before now had has (status.Import line why) runs bytes drop_in fault known over is reads = absurd (none_joined command files runs.ends.2.0 bytes drop_in fault runs.ends.2.1 known over is)
-drop_faults command files before now had has (status.NoFile RulesFile) runs bytes drop_in fault known over is reads = absurd (not_missed command files RulesFile had has bytes known runs.ends)
-drop_faults command files before now had has (status.NoFile DropInFile) runs bytes drop_in fault known over is reads = absurd (not_missed command files DropInFile had has drop_in over runs.ends)
-drop_faults command files before now had has (status.NoFile TraceFile) runs bytes drop_in fault known over is reads = absurd (none_joined command files runs.ends.1.0 bytes drop_in fault runs.ends.1.1 known over is)
-drop_faults command files before now had has (status.NoFile ImportFile) runs bytes drop_in fault known over is reads = absurd (none_joined command files runs.ends.1.0 bytes drop_in fault runs.ends.1.1 known over is)
-
--- ---- `rules`
-
--- where it is done, its output is the text of its rules
-pub prints : (name : List ℕ) (drop_in : Option (List ℕ)) (files : Option Files) (before now : RunCounts) (had has : Option (List ℕ)) → Runs (words.Rules name drop_in) files before now had has status.Done
-    → (rules : List Rule) → RulesTold (words.Rules name drop_in) files rules → Appends had has (rules_text rules ++ codes "\n")
-prints name drop_in files before now had has runs rules tells =
-    let ends = runs.ends in
-    let same = same_rules (words.Rules name drop_in) files ends.1 rules ends.3 tells in
-    subst (λ (r : List Rule). Appends had has (rules_text r ++ codes "\n")) same (subst (Appends had has) ends.6.1 ends.6.2)
-
--- and it is done, where its rules are accepted, nothing failed and memory was there
-pub prints_all : (name : List ℕ) (drop_in : Option (List ℕ)) (files : Option Files) (before now : RunCounts) (had has : Option (List ℕ)) (result : Status) → Runs (words.Rules name drop_in) files before now had has result
-    → (rules : List Rule) → RulesTold (words.Rules name drop_in) files rules
-    → (Rose before.shelf.faults now.shelf.faults → ⊥) → (Rose before.writes now.writes → ⊥) → (result ≡ status.Done) ⊎ (result ≡ status.NoMemory no_memory)
-prints_all name drop_in files before now had has status.Done runs rules given reads writes = inl refl
-prints_all name drop_in files before now had has (status.NoMemory _) runs rules given reads writes = inr refl
-prints_all name drop_in files before now had has status.WriteFault runs rules given reads writes = absurd (writes (runs.counts.writes.rose refl))
-prints_all name drop_in files before now had has (status.TooLarge events) runs rules given reads writes = absurd (let no : ⊥ = let come = runs.ends.1.outcome in cc come in no)
-prints_all name drop_in files before now had has status.ReadFault runs rules given reads writes = absurd (reads (runs.counts.faults.rose refl))
-prints_all name drop_in files before now had has status.Usage runs rules given reads writes = absurd runs.ends
-prints_all name drop_in files before now had has (status.Rules fault) runs rules given reads writes = absurd (no_fault (words.Rules name drop_in) files rules fault had has given runs.ends)
-prints_all name drop_in files before now had has (status.DropIn fault) runs rules given reads writes = absurd (no_drop_fault (words.Rules name drop_in) files rules fault had has given runs.ends)
-prints_all name drop_in files before now had has (status.Trace line why) runs rules given reads writes = absurd (true≢false (sym runs.ends.1))
-prints_all name drop_in files before now had has (status.Import line why) runs rules given reads writes = absurd (true≢false (sym runs.ends.1))
-prints_all name drop_in files before now had has (status.NoFile RulesFile) runs rules given reads writes = absurd (no_missed (words.Rules name drop_in) files rules had has given runs.ends)
-prints_all name drop_in files before now had has (status.NoFile DropInFile) runs rules given reads writes = absurd (no_missed_drop_in (words.Rules name drop_in) files rules had has given runs.ends)
-prints_all name drop_in files before now had has (status.NoFile TraceFile) runs rules given reads writes = absurd (true≢false (sym (ap is_some runs.ends.2.1)))
-prints_all name drop_in files before now had has (status.NoFile ImportFile) runs rules given reads writes = absurd (true≢false (sym (ap is_some runs.ends.2.1)))
-
--- ---- `whatif`
-
--- where it is done, its output is that of the last trace
-pub supposed : (name : List ℕ) (options : Options) (files : Option Files) (before now : RunCounts) (had has : Option (List ℕ)) → Runs (words.Whatif name options) files before now had has status.Done
-    → (bytes : List ℕ) (rules : List Rule) → options.live ≡ None → IsTold (words.Whatif name options) TraceFile files bytes → RulesTold (words.Whatif name options) files rules
-    → (trace : Trace) × (last : Trace) × (trace_of (accepts_of (words.Whatif name options)) bytes ≡ Ok trace)
-    × (last_trace trace (pace_of options) rules ≡ Ok last) × Appends had has (replay_text last (pace_of options) (with_rules rules))
-supposed name options files before now had has runs bytes rules none tells rules_told =
-    let ends = runs.ends in
-    let same = same_rules (words.Whatif name options) files ends.1 rules ends.3 rules_told in
-    let last = ends.6.1.0 in
-    let text = subst (λ r. IsReplayText last (pace_of options) r ends.6.0) same ends.6.1.2 in (
-      ends.0,
-      last,
-      of_read (trace_of (accepts_of (words.Whatif name options)) bytes) ends.0 ((ends.2 tt).read bytes tells),
-      subst (λ r. last_trace ends.0 (pace_of options) r ≡ Ok last) same ends.6.1.1,
-      subst (Appends had has) (one_text_unwatched last (pace_of options) rules ends.6.0 (ap (watch_of_path options.live_count) none) text) ends.6.2,
-    )
-
--- how many events a round left is told by the status
-large_events : (last : Result Trace ℕ) (events : ℕ) → status_of_last last ≡ status.TooLarge events → last ≡ Err events
-large_events (Ok trace) events is = absurd (let no : ⊥ = cc is in no)
-large_events (Err more) events is = let same : more ≡ events = cc is in ap (λ (n : ℕ). let lost : Result Trace ℕ = Err n in lost) same
-
--- and where it is too large, a round left so many events
-pub outgrown : (name : List ℕ) (options : Options) (files : Option Files) (before now : RunCounts) (had has : Option (List ℕ)) (events : ℕ) → Runs (words.Whatif name options) files before now had has (status.TooLarge events)
-    → (bytes : List ℕ) (rules : List Rule) → IsTold (words.Whatif name options) TraceFile files bytes → RulesTold (words.Whatif name options) files rules
-    → (trace : Trace) × (trace_of (accepts_of (words.Whatif name options)) bytes ≡ Ok trace) × (last_trace trace (pace_of options) rules ≡ Err events) × Keeps had has
-outgrown name options files before now had has events runs bytes rules tells rules_told =
-    let come = runs.ends.1 in
-    let same = same_rules (words.Whatif name options) files come.rules rules come.takes_rules rules_told in (
-      come.trace,
-      of_read (trace_of (accepts_of (words.Whatif name options)) bytes) come.trace ((come.takes tt).read bytes tells),
-      subst (λ r. last_trace come.trace (pace_of options) r ≡ Err events) same (large_events (last_trace come.trace (pace_of options) come.rules) events come.outcome),
-      runs.ends.0,
-    )
-
--- nothing that `whatif` says is watched
-pub unwatched : (given : List (List ℕ)) (name : List ℕ) (options : Options) → command_of given ≡ Some (words.Whatif name options) → options.live ≡ None
-unwatched given name options is = (command_ranges given (words.Whatif name options) is).3

@@ -15,9 +15,9 @@ use Rattle.run_spec.specs.declared.status.Status.{Status}
 use Rattle.run_spec.specs.declared.status.Status.TheVariants as status
 use Rattle.whatif_trace.specs.declared.removal.TooLarge.{TooLarge}
 use Rattle.whatif_rounds.specs.Rounds.{IsOutgrown, IsTraceAt, trace_from}
-use Rattle.replay_core.specs.Reads.{HasKept}
-use Rattle.replay_core.specs.Writes.{IsStatusOfRounds, WritesLast, WritesSome}
-use Rattle.replay_core.proofs.RunLaws.{keeps_same}
+use Rattle.trace_file.specs.Reads.{HasKept}
+use Rattle.run_outcomes.specs.Writes.{IsStatusOfRounds, WritesLast, WritesSome}
+use Rattle.run_outcomes.proofs.RunLaws.{keeps_same}
 
 -- an output of the last trace was to be written
 pub last_written : (trace last : Trace) (pace : Pace) (rules : List Rule) (before now : ℕ) (had has : Option (List ℕ)) (result : Status) → last_trace trace pace rules ≡ Ok last

@@ -1,6 +1,6 @@
 //! The commands, each over its files.
 ghost use Rattle.std.specs.Prelude.{◌≡◌, ◌+◌, ◌≤◌, List, None, IfSome, IsUtf8};
-ghost use Rattle.psi_base.specs.Outside.{StaysOver};
+ghost use Rattle.outside.specs.Outside.{StaysOver};
 ghost use Rattle.psi_base.specs.declared.event.Event.{Event};
 ghost use Rattle.psi_spec.specs.World.{Limits};
 ghost use Rattle.run_spec.specs.Text.{check_text};
@@ -8,25 +8,24 @@ ghost use Rattle.run_spec.specs.MostRead.{most_read};
 ghost use Rattle.run_spec.specs.Run.{Runs, run_counts};
 ghost use Rattle.run_spec.specs.Words.{IsCommand, IsWithin};
 ghost use Rattle.psi_words.specs.Reads.{HasTextNames};
-ghost use Rattle.replay_core.specs.Reads.{plain_trace};
+ghost use Rattle.trace_file.specs.Reads.{plain_trace};
 ghost use Rattle.trace_player.specs.Playing.{IsPlayed};
-ghost use Rattle.replay_core.specs.Writes.{IsStatusOf, WritesText};
+ghost use Rattle.run_outcomes.specs.Writes.{IsStatusOf, WritesText};
 
-use crate::generated::{write_generated, write_stress};
-use crate::import::run_import;
-use crate::lines::put_check;
-use crate::printed::run_rules;
-use crate::replay::write_replay;
-use crate::rules::read_rules;
-use crate::stalls::write_stalls;
-use crate::trace::{TraceFault, play_trace};
 use crate::whatif::run_whatif;
+use gen_run::{write_generated, write_stress};
+use import_run::run_import;
+use outside::{Gate, Shelf, Sink, WriteFailed};
 use proc_plan::Planner;
-use psi_base::{Gate, Ns, Shelf, Sink, Text, WriteFailed};
+use psi_base::Ns;
+use replay_run::write_replay;
+use rules_file::{name_of, read_rules, run_rules};
 use run_spec::{Command, Options, Status, Which};
+use stall_run::{put_check, write_stalls};
 use std::alloc::Global;
 use std::thread::Threads;
 use task_table::Table;
+use trace_file::{TraceFault, play_trace};
 
 /// How many ns a millisecond has.
 pub(crate) const MILLISECOND: Ns = 1_000_000;
@@ -112,7 +111,8 @@ fn run_check<S: Shelf, K: Sink>(
     }
 }
 
-// Runs `replay` over a trace, with the rules of its rules file and of the drop-in file over it, if it names them.
+// Runs `replay` over a trace, with the rules of its rules file and of the drop-in file over it, if
+// it names them.
 fn run_replay<R: Threads + Sync, S: Shelf, K: Sink, G: Gate>(
     rt: &R,
     alloc: Global,
@@ -149,17 +149,6 @@ fn run_replay<R: Threads + Sync, S: Shelf, K: Sink, G: Gate>(
             write_replay(rt, alloc, version, planner, rules, options, out, gate)
         }
         Err(fault) => fault_status(fault),
-    }
-}
-
-/// A name as the system takes it.
-pub(crate) fn name_of(text: &Text) -> &str
-    requires { IsUtf8 text.now }
-    ensures { result.now ≡ text.now }
-{
-    match str::from_utf8(text.bytes()) {
-        Ok(name) => name,
-        Err(_) => unreachable!(),
     }
 }
 

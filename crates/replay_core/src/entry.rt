@@ -2,7 +2,7 @@
 ghost use Rattle.std.specs.Prelude.{◌≡◌, ◌⊎◌, ◌≢◌, ◌+◌, ◌≤◌, ◌++◌, ℕ, List, Option, Some, None, Ok, Err, codes, map, string_bytes};
 ghost use Rattle.std.specs.Io.KnownBytes.{Appends, Keeps};
 ghost use Rattle.psi_base.specs.Gives.{no_memory};
-ghost use Rattle.psi_base.specs.Outside.{AppendsFront, Rose, told};
+ghost use Rattle.outside.specs.Outside.{AppendsFront, Rose, told};
 ghost use Rattle.psi_base.specs.declared.event.Event.{Event};
 ghost use Rattle.psi_spec.specs.Trace.{Trace, text_of, trace_of};
 ghost use Rattle.import_spec.specs.Import.{import_of, import_trace};
@@ -26,7 +26,8 @@ ghost use Rattle.run_spec.specs.Words.{IsCommand, command_of};
 
 use crate::command::run_command;
 use crate::note::put_status;
-use psi_base::{BufferedSink, Fault, Gate, Pending, Shelf, Sink};
+use outside::{BufferedSink, Gate, Pending, Shelf, Sink};
+use psi_base::Fault;
 use psi_words::{BadWords, read_words};
 use run_spec::{Command, Status};
 use std::alloc::Global;
@@ -64,9 +65,10 @@ fn run_buffered<R: Threads + Sync, S: Shelf, K: Sink, G: Gate>(
     }
 }
 
-/// Runs the command of these words, the command line without the program's name. The output goes to `out`, and one
-/// line that tells of the status to `note`; of `Done` nothing is told. A fault of `note` changes no status. The threads of a
-/// replay tell the gate of each change that they have made.
+/// Runs the command of these words, the command line without the program's name. The output goes to
+/// `out`, and one line that tells of the status to `note`; of `Done` nothing is told. A fault of
+/// `note` changes no status. The threads of a replay tell the gate of each change that they have
+/// made.
 pub fn run<R: Threads + Sync, S: Shelf, K: Sink, N: Sink, G: Gate>(
     rt: &R,
     alloc: Global,
@@ -84,7 +86,8 @@ pub fn run<R: Threads + Sync, S: Shelf, K: Sink, N: Sink, G: Gate>(
     ensures unknown { command_of (map string_bytes words.now) ≡ None →
         (result ≡ Status.Usage) ⊎ (result ≡ Status.NoMemory no_memory) }
 
-    // What each status says of the command's files and of the output, and which counts of failures rose.
+    // What each status says of the command's files and of the output, and which counts of failures
+    // rose.
     ensures runs { (command : Command) →
         command_of (map string_bytes words.now) ≡ Some command →
         Runs command (S.holds shelf.old)
@@ -92,9 +95,10 @@ pub fn run<R: Threads + Sync, S: Shelf, K: Sink, N: Sink, G: Gate>(
         (run_counts (S.faults shelf.new) (S.absent shelf.new) (K.faults out.new))
         (K.has out.old) (K.has out.new) result }
 
-    // The headline: where a replay is done, the output grew by exactly a text that the definitions give for its trace and its
-    // rules, those of its rules file with the drop-in file over it. With `--live` each live line may be of any number of its
-    // processor's changes, from that of the tick before to that of its own.
+    // The headline: where a replay is done, the output grew by exactly a text that the definitions
+    // give for its trace and its rules, those of its rules file with the drop-in file over it. With
+    // `--live` each live line may be of any number of its processor's changes, from that of the
+    // tick before to that of its own.
     ensures headline { (name bytes : List ℕ) (options : Options) (rules : List Rule) →
         command_of (map string_bytes words.now) ≡ Some (Command.Replay name options) →
         IsTold (Command.Replay name options) TraceFile (S.holds shelf.old) bytes →
@@ -115,7 +119,8 @@ pub fn run<R: Threads + Sync, S: Shelf, K: Sink, N: Sink, G: Gate>(
         × Appends (K.has out.old) (K.has out.new)
         (replay_text trace (pace_of options) (with_rules rules)) }
 
-    // The import: where it is done, the output grew by exactly the text of the trace that the definition gives for the bytes.
+    // The import: where it is done, the output grew by exactly the text of the trace that the
+    // definition gives for the bytes.
     ensures imported { (name bytes : List ℕ) (cpus : ℕ) →
         command_of (map string_bytes words.now) ≡ Some (Command.Import name cpus) →
         IsTold (Command.Import name cpus) ImportFile (S.holds shelf.old) bytes →
@@ -123,7 +128,8 @@ pub fn run<R: Threads + Sync, S: Shelf, K: Sink, N: Sink, G: Gate>(
         (events : List Event) × (import_of cpus bytes ≡ Ok events)
         × Appends (K.has out.old) (K.has out.new) (text_of (import_trace cpus events)) }
 
-    // The rules: where `rules` is done, the output grew by exactly the text of the rules, and a newline.
+    // The rules: where `rules` is done, the output grew by exactly the text of the rules, and a
+    // newline.
     ensures printed { (name : List ℕ) (drop_in : Option (List ℕ)) (rules : List Rule) →
         command_of (map string_bytes words.now) ≡ Some (Command.Rules name drop_in) →
         RulesTold (Command.Rules name drop_in) (S.holds shelf.old) rules →
@@ -138,8 +144,9 @@ pub fn run<R: Threads + Sync, S: Shelf, K: Sink, N: Sink, G: Gate>(
         (Rose (K.faults out.old) (K.faults out.new) → ⊥) →
         (result ≡ Status.Done) ⊎ (result ≡ Status.NoMemory no_memory) }
 
-    // What a kill would have done: where it is done, the output grew by exactly the text that the definitions give for the last trace,
-    // which is left when the victims of the kills were taken out of the trace, one after the other.
+    // What a kill would have done: where it is done, the output grew by exactly the text that the
+    // definitions give for the last trace, which is left when the victims of the kills were taken
+    // out of the trace, one after the other.
     ensures supposed { (name bytes : List ℕ) (options : Options) (rules : List Rule) →
         command_of (map string_bytes words.now) ≡ Some (Command.Whatif name options) →
         IsTold (Command.Whatif name options) TraceFile (S.holds shelf.old) bytes →
@@ -163,8 +170,9 @@ pub fn run<R: Threads + Sync, S: Shelf, K: Sink, N: Sink, G: Gate>(
         × (last_trace trace (pace_of options) rules ≡ Err events)
         × Keeps (K.has out.old) (K.has out.new) }
 
-    // An accepted file, with accepted rules, ends the run as it is to end: with the whole output, or, where a round of `whatif` leaves
-    // too many events, as too large; unless a count of faults rose or memory was wanting.
+    // An accepted file, with accepted rules, ends the run as it is to end: with the whole output,
+    // or, where a round of `whatif` leaves too many events, as too large; unless a count of faults
+    // rose or memory was wanting.
     ensures complete { (command : Command) (rules : List Rule) (bytes : List ℕ)
         (trace : Trace) →
         command_of (map string_bytes words.now) ≡ Some command →
@@ -175,15 +183,16 @@ pub fn run<R: Threads + Sync, S: Shelf, K: Sink, N: Sink, G: Gate>(
         (Rose (K.faults out.old) (K.faults out.new) → ⊥) →
         (result ≡ outcome_of command trace rules) ⊎ (result ≡ Status.NoMemory no_memory) }
 
-    // A refused rules file gives its first fault with its place, unless a fault of reading rose or memory was wanting.
+    // A refused rules file gives its first fault with its place, unless a fault of reading rose or
+    // memory was wanting.
     ensures faulty { (command : Command) (name bytes : List ℕ) (fault : RulesFault) →
         command_of (map string_bytes words.now) ≡ Some command → rules_name command ≡ Some name →
         told (S.holds shelf.old) name ≡ Some bytes → rules_of bytes ≡ Err fault →
         (Rose (S.faults shelf.old) (S.faults shelf.new) → ⊥) →
         (result ≡ Status.Rules fault) ⊎ (result ≡ Status.NoMemory no_memory) }
 
-    // A refused drop-in file over accepted rules gives its first fault with its place, unless a fault of reading rose or memory was
-    // wanting.
+    // A refused drop-in file over accepted rules gives its first fault with its place, unless a
+    // fault of reading rose or memory was wanting.
     ensures dropped { (command : Command) (bytes drop_in : List ℕ) (fault : DropFault) →
         command_of (map string_bytes words.now) ≡ Some command →
         IsTold command RulesFile (S.holds shelf.old) bytes →
@@ -192,8 +201,8 @@ pub fn run<R: Threads + Sync, S: Shelf, K: Sink, N: Sink, G: Gate>(
         (Rose (S.faults shelf.old) (S.faults shelf.new) → ⊥) →
         (result ≡ Status.DropIn fault) ⊎ (result ≡ Status.NoMemory no_memory) }
 
-    // Behind accepted rules a refused file gives the status of its first refused line with its cause, unless a fault of reading
-    // rose or memory was wanting.
+    // Behind accepted rules a refused file gives the status of its first refused line with its
+    // cause, unless a fault of reading rose or memory was wanting.
     ensures refuses { (command : Command) (rules : List Rule) (bytes : List ℕ)
         (why : Status) →
         command_of (map string_bytes words.now) ≡ Some command →
@@ -203,7 +212,8 @@ pub fn run<R: Threads + Sync, S: Shelf, K: Sink, N: Sink, G: Gate>(
         (Rose (S.faults shelf.old) (S.faults shelf.new) → ⊥) →
         (result ≡ why) ⊎ (result ≡ Status.NoMemory no_memory) }
 
-    // A command that reads no file ends with its whole output, unless a count of failed writes rose or memory was wanting.
+    // A command that reads no file ends with its whole output, unless a count of failed writes rose
+    // or memory was wanting.
     ensures made { (command : Command) →
         command_of (map string_bytes words.now) ≡ Some command →
         (ReadsFiles command → ⊥) →
@@ -215,7 +225,8 @@ pub fn run<R: Threads + Sync, S: Shelf, K: Sink, N: Sink, G: Gate>(
         (run_counts (S.faults shelf.old) (S.absent shelf.old) (K.faults out.old))
         (run_counts (S.faults shelf.new) (S.absent shelf.new) (K.faults out.new)) result }
 
-    // However large its files are, and whatever it answers, a command reads no more bytes than this, and other words read none.
+    // However large its files are, and whatever it answers, a command reads no more bytes than
+    // this, and other words read none.
     ensures reads { (command : Command) →
         command_of (map string_bytes words.now) ≡ Some command →
         S.given shelf.new ≤ S.given shelf.old + most_read command }

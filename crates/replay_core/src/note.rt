@@ -2,102 +2,17 @@
 ghost use Rattle.std.specs.Prelude.{◌≡◌, ◌++◌, codes, option_map};
 ghost use Rattle.dropin_rules.specs.FaultText.{drop_fault_text};
 ghost use Rattle.ruleset_json.specs.FaultText.{fault_text};
-ghost use Rattle.psi_base.specs.Outside.{PutsAll, HasCause};
-ghost use Rattle.run_spec.specs.Text.{cause_name, field_number, import_cause_text};
-ghost use Rattle.run_spec.specs.Status.{import_refusal_text, status_text, name_text, refusal_text};
+ghost use Rattle.outside.specs.Outside.{PutsAll, HasCause};
+ghost use Rattle.run_spec.specs.Text.{import_cause_text};
+ghost use Rattle.run_spec.specs.Status.{import_refusal_text, name_text, status_text};
 
 use dropin_rules::{DropFault, put_drop_fault};
 use import_spec::ImportCause;
 use itoa::Buffer;
-use psi_base::{Cause, Sink, WriteFailed, put_all, put_each};
+use outside::{Sink, WriteFailed, put_all, put_each};
 use ruleset_json::{RulesFault, put_fault};
 use run_spec::{Command, Status, Which};
-
-// The name of a cause.
-fn cause_name(cause: Cause) -> &'static [u8]
-    ensures { result.now ≡ cause_name cause }
-{
-    match cause {
-        Cause::BadHeader => b"BadHeader",
-        Cause::LineTooLong => b"LineTooLong",
-        Cause::BadTime => b"BadTime",
-        Cause::BadVerb => b"BadVerb",
-        Cause::BadField(_) => b"BadField",
-        Cause::TimeBack => b"TimeBack",
-        Cause::TimeTooLate => b"TimeTooLate",
-        Cause::TooManyEvents => b"TooManyEvents",
-        Cause::UnknownGroup => b"UnknownGroup",
-        Cause::GroupExists => b"GroupExists",
-        Cause::NoParent => b"NoParent",
-        Cause::GroupBusy => b"GroupBusy",
-        Cause::TooManyGroups => b"TooManyGroups",
-        Cause::UnknownTask => b"UnknownTask",
-        Cause::TaskExists => b"TaskExists",
-        Cause::TooManyTasks => b"TooManyTasks",
-        Cause::BadCpu => b"BadCpu",
-        Cause::NotRunning => b"NotRunning",
-        Cause::NotReady => b"NotReady",
-        Cause::NotBlocked => b"NotBlocked",
-        Cause::WrongHow => b"WrongHow",
-        Cause::InStall => b"InStall",
-        Cause::NotInStall => b"NotInStall",
-        Cause::TooManyTriggers => b"TooManyTriggers",
-        Cause::BadWindow => b"BadWindow",
-        Cause::AfterEnd => b"AfterEnd",
-        Cause::NoEnd => b"NoEnd",
-        Cause::IrqTooLong => b"IrqTooLong",
-        Cause::RootPressure => b"RootPressure",
-        Cause::TooManyPressures => b"TooManyPressures",
-    }
-}
-
-// The number of the field that a cause speaks of, if it speaks of one.
-fn field_of(cause: Cause) -> Option<u8>
-    ensures { result ≡ field_number cause }
-{
-    match cause {
-        Cause::BadField(field) => Some(field),
-        _ => None,
-    }
-}
-
-/// Tells of the refused line of a trace: its number, from 1, and the cause. Takes no memory.
-pub fn put_refusal<N: Sink>(note: &mut N, line: u32, cause: Cause) -> Result<(), WriteFailed>
-    ensures bytes { PutsAll (N.has note.old) (N.has note.new) result (refusal_text line cause) }
-    ensures cause { HasCause (N.faults note.old) (N.faults note.new) result }
-{
-    let mut line_digits = Buffer::new();
-    let line = line_digits.format(line).as_bytes();
-    let name = cause_name(cause);
-    match field_of(cause) {
-        Some(field) => {
-            let mut field_digits = Buffer::new();
-            let field = field_digits.format(field).as_bytes();
-            put_each(
-                note,
-                &[
-                    b"trace line ".as_slice(),
-                    line,
-                    b": ".as_slice(),
-                    name,
-                    b" ".as_slice(),
-                    field,
-                    b"\n".as_slice(),
-                ],
-            )
-        }
-        None => put_each(
-            note,
-            &[
-                b"trace line ".as_slice(),
-                line,
-                b": ".as_slice(),
-                name,
-                b"\n".as_slice(),
-            ],
-        ),
-    }
-}
+use trace_file::put_refusal;
 
 // The name of a cause against a line of a text of ftrace.
 fn import_cause_name(cause: ImportCause) -> &'static [u8]

@@ -1,24 +1,24 @@
 //! `whatif`: the output of what is left of a trace without the victims of its kills.
 ghost use Rattle.std.specs.Prelude.{◌≡◌, ◌+◌, ◌≤◌, IfSome, IsSome, IsUtf8};
-ghost use Rattle.psi_base.specs.Outside.{StaysOver};
+ghost use Rattle.outside.specs.Outside.{StaysOver};
 ghost use Rattle.psi_spec.specs.Grammar.{IsVersion};
 ghost use Rattle.ruleset_json.specs.RuleRanges.{FitsRules};
 ghost use Rattle.run_spec.specs.Outputs.{pace_of};
 ghost use Rattle.run_spec.specs.MostRead.{most_read};
 ghost use Rattle.run_spec.specs.Run.{Runs, run_counts};
 ghost use Rattle.whatif_rounds.specs.Rounds.{IsTraceAt, MayReplay, trace_from};
-ghost use Rattle.replay_core.specs.Writes.{IsStatusOfRounds, WritesLast};
+ghost use Rattle.run_outcomes.specs.Writes.{IsStatusOfRounds, WritesLast};
 
-use crate::command::{MILLISECOND, fault_status, name_of};
-use crate::player::Keeper;
-use crate::replay::write_planned;
-use crate::rules::read_joined;
-use crate::trace::play_trace;
-use psi_base::{Event, Fault, Gate, Ns, Shelf, Sink};
+use crate::command::{MILLISECOND, fault_status};
+use outside::{Gate, Shelf, Sink};
+use psi_base::{Event, Fault, Ns};
+use replay_run::write_planned;
+use rules_file::{name_of, read_joined};
 use ruleset_json::Rules;
 use run_spec::{Command, Options, Status};
 use std::alloc::Global;
 use std::thread::Threads;
+use trace_file::{Keeper, play_trace};
 use whatif_rounds::{TooLarge, last_plans};
 
 // The status of a trace of which no last one is left.
@@ -33,8 +33,8 @@ fn rounds_status(fault: Fault<TooLarge>) -> Status
     }
 }
 
-// Takes the victims of its kills out of a trace of a version, with these events, and writes the output of what is left. All rounds
-// are made before anything is written.
+// Takes the victims of its kills out of a trace of a version, with these events, and writes the
+// output of what is left. All rounds are made before anything is written.
 fn write_whatif<R: Threads + Sync, K: Sink, G: Gate>(
     rt: &R,
     alloc: Global,
@@ -60,7 +60,8 @@ fn write_whatif<R: Threads + Sync, K: Sink, G: Gate>(
     }
 }
 
-/// Runs `whatif` over a trace, with the rules of its rules file and of the drop-in file over it, if it names one.
+/// Runs `whatif` over a trace, with the rules of its rules file and of the drop-in file over it, if
+/// it names one.
 pub(crate) fn run_whatif<R: Threads + Sync, S: Shelf, K: Sink, G: Gate>(
     rt: &R,
     alloc: Global,

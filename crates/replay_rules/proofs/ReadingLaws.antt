@@ -34,7 +34,7 @@ use Rattle.kill_spec.specs.Readings.{Ascend, AreReadings, IsGroupReading, IsHost
 use Rattle.kill_spec.specs.Readings.{IsLater, IsReading, Reading, no_host, path_of}
 use Rattle.kill_spec.specs.Evaluations.{MemorySample, averages_at, evaluations, group_seen}
 use Rattle.kill_spec.specs.Evaluations.{host_of, host_told, last_or, memory_of, memory_told}
-use Rattle.kill_spec.specs.Evaluations.{no_memory, reading_at, readings_until}
+use Rattle.kill_spec.specs.Evaluations.{no_memory_sample, reading_at, readings_until}
 use Rattle.run_spec.specs.Replay.{Pace, lives_of}
 use Rattle.detectors.specs.Views.{IsAfter}
 use Rattle.detectors.specs.Stands.{newest_moment}
@@ -97,7 +97,7 @@ memory_fits slot groups _ fits = tt
 memory_small : (slot : ℕ) (events : List Event) → AllFit events →
     IsSmallSample (memory_of slot events)
 memory_small slot events fit =
-    last_holds IsSmallSample no_memory _ (omega arith, omega arith, omega arith)
+    last_holds IsSmallSample no_memory_sample _ (omega arith, omega arith, omega arith)
     (told_holds IsSmallSample
     (λ (w : World) (event : Event). memory_told slot w.groups event.act)
     (λ w event fits. memory_fits slot w.groups event.act fits.act) first_world events fit)

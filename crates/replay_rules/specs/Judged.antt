@@ -81,8 +81,8 @@ HasReadAll None trace rules readings = rules ≡ []
 HasReadAll (Some evaluator) trace rules readings = HasRead evaluator trace rules readings
 
 -- A judge with rules has decided at the first so many ticks of a trace at a pace: it has the pace's
--- interval, has taken the readings of all evaluations among them, and tells the kills at the last of
--- these ticks.
+-- interval, has taken the readings of all evaluations among them, and tells the kills at the last
+-- of these ticks.
 pub record HasJudged (judge : JudgeView) (trace : Trace) (pace : Pace) (rules : List Rule) (i : ℕ)
     : Type 0 where
   pub interval : judge.interval ≡ pace.interval
@@ -112,9 +112,9 @@ pub record IsToEvaluate (evaluator : EvaluatorView) (plans : PlansView) (engine 
   pub by_path : IsPathOrder plans.lives (numbers_of order)
   pub read : HasRead evaluator trace rules (readings_of trace pace i)
 
--- All is there to decide at the tick that comes behind the first so many: at its moment (ns), by the
--- length of a tick (ns). The engine has taken it, the order has all slots by path, and the judge has
--- decided at those before it.
+-- All is there to decide at the tick that comes behind the first so many: at its moment (ns), by
+-- the length of a tick (ns). The engine has taken it, the order has all slots by path, and the
+-- judge has decided at those before it.
 pub record IsToJudge (judge : JudgeView) (plans : PlansView) (engine : EngineView)
     (order : List Slot) (trace : Trace) (pace : Pace) (rules : List Rule) (i at length : ℕ)
     : Type 0 where

@@ -61,9 +61,9 @@ impl Judge {
         })
     }
 
-    /// The tick at a moment (ns), which the engine took last, by the length of a tick (ns): where it
-    /// is an evaluation, all live groups are read, and the rules decide. The order has all slots by
-    /// path. [`Judge::kills`] has the kills then. Takes no memory.
+    /// The tick at a moment (ns), which the engine took last, by the length of a tick (ns): where
+    /// it is an evaluation, all live groups are read, and the rules decide. The order has all slots
+    /// by path. [`Judge::kills`] has the kills then. Takes no memory.
     pub fn tick(&mut self, plans: &Plans, engine: &Engine, order: &[Slot], at: Ns, length: Ns)
         requires { (trace : Trace) × (pace : Pace) × (rules : List Rule) × (i : ℕ) ×
             IsToJudge self.old plans.now engine.now order.now trace pace rules i at length }

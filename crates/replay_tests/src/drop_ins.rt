@@ -4,7 +4,8 @@ use crate::runs::{Failing, Files, NO_FAULT, NONE, Ran, run_files};
 use std::test::Fail;
 use std::thread::Threads;
 
-/// The one task of a group that is killed at each evaluation, as long as it rests for no longer than the ruleset does.
+/// The one task of a group that is killed at each evaluation, as long as it rests for no longer
+/// than the ruleset does.
 const LIVING: &str = "psitrace 1 cpus=1\n\
     0 group /s\n\
     0 group /s/a\n\

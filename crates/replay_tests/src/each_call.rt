@@ -68,7 +68,8 @@ fn is_unread(ran: &Ran) -> bool {
     ran.status == Status::ReadFault && is_told && ran.output.is_empty()
 }
 
-/// How many reads there are, each of which fails the run where it fails. None where a run ends in another way.
+/// How many reads there are, each of which fails the run where it fails. None where a run ends in
+/// another way.
 fn reads_of<R: Threads + AllocGlobal + Sync>(rt: &R, replay: &Replay) -> Result<Option<u64>, Fail> {
     for read in 0..NONE {
         let ran = replay.run(rt, read, NONE)?;
@@ -167,7 +168,8 @@ fn one_kill(rt: HostRuntime) -> Result<(), Fail> {
     Ok(())
 }
 
-/// The live line may be of the tick before, or of any of the changes since then, another one in each run.
+/// The live line may be of the tick before, or of any of the changes since then, another one in
+/// each run.
 #[test]
 fn one_live_line(rt: HostRuntime) -> Result<(), Fail> {
     let alloc = rt.alloc();

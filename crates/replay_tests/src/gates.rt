@@ -1,7 +1,8 @@
 //! Threads that run at one time: a gate holds each of them until it has met another.
 
 use crate::runs::{NO_FAULT, is_run, run_failing, run_gated};
-use psi_base::{Cpu, Gate};
+use outside::Gate;
+use psi_base::Cpu;
 use replay_core::Status;
 use std::sync::atomic::AtomicBool;
 use std::sync::atomic::Ordering::SeqCst;
@@ -101,8 +102,8 @@ fn workers_meet(rt: HostRuntime) -> Result<(), Fail> {
     Ok(())
 }
 
-/// A gate at which a change of a processor and the first sample there wait for one another: the sample is taken once the change
-/// is made, and the next change is made once it is taken.
+/// A gate at which a change of a processor and the first sample there wait for one another: the
+/// sample is taken once the change is made, and the next change is made once it is taken.
 #[derive(Drop)]
 struct Between {
     cpu: Cpu,
@@ -152,8 +153,8 @@ fn line_of(text: &[u8], number: usize) -> &[u8] {
         .unwrap_or(b"".as_slice())
 }
 
-/// A command line over a trace prints this line at this place, where the first sample of a processor is taken behind so many of
-/// its changes.
+/// A command line over a trace prints this line at this place, where the first sample of a
+/// processor is taken behind so many of its changes.
 fn samples_between<R: Threads + AllocGlobal + Sync>(
     rt: &R,
     line: &str,
@@ -192,8 +193,8 @@ fn place_from(line: &[u8], from: usize) -> Option<usize> {
     if place < from { None } else { Some(place) }
 }
 
-/// Whether an output begins with so many live lines, none of which is of fewer changes than the one before, and ends as another
-/// output does.
+/// Whether an output begins with so many live lines, none of which is of fewer changes than the one
+/// before, and ends as another output does.
 fn begins_live(output: &[u8], count: usize, end: &[u8]) -> bool {
     let mut from = 0;
     for number in 0..count {

@@ -1,5 +1,6 @@
-//! Tests of the top call over shelves and sinks in memory: traces and outputs in pieces, words, faults at each call, traces that
-//! are cut anywhere, traces at their limits, drop-in files over rules, and traces without the victims of kills.
+//! Tests of the top call over shelves and sinks in memory: traces and outputs in pieces, words,
+//! faults at each call, traces that are cut anywhere, traces at their limits, drop-in files over
+//! rules, and traces without the victims of kills.
 #![tactic(auto)]
 
 #[cfg(test)]

@@ -1,5 +1,5 @@
-//! Traces at their limits, and one beyond. The limits of event lines stand with the cases of the built program, those of a rules
-//! file in rule_tests.
+//! Traces at their limits, and one beyond. The limits of event lines stand with the cases of the
+//! built program, those of a rules file in rule_tests.
 
 use crate::runs::{is_refused, prints_by};
 use psi_base::Cause;

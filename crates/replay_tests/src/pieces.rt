@@ -4,15 +4,17 @@ use crate::runs::prints_by;
 use std::test::Fail;
 use std::thread::Threads;
 
-/// Traces, and behind each what `stall` and `check` print of it. No task; a wait for IO without end; one that ends
-/// early; two tasks, of which one waits. Then:
+/// Traces, and behind each what `stall` and `check` print of it. No task; a wait for IO without
+/// end; one that ends early; two tasks, of which one waits. Then:
 ///
-/// - one of two running tasks is in a stall, and it is the one that runs: memory is full by it alone;
+/// - one of two running tasks is in a stall, and it is the one that runs: memory is full by it
+///   alone;
 /// - a task waits on one processor and wakes on another;
-/// - the running one of two tasks moves up to the root, and the ready one migrates to another processor;
+/// - the running one of two tasks moves up to the root, and the ready one migrates to another
+///   processor;
 /// - a group is removed and made again, and a waiting task moves into the new one;
-/// - two tasks of two groups on one processor: the one that is ready sees the processor taken, its group doesn't run, and
-///   the root's one running task keeps the root's processor from being full;
+/// - two tasks of two groups on one processor: the one that is ready sees the processor taken, its
+///   group doesn't run, and the root's one running task keeps the root's processor from being full;
 /// - groups are printed in the byte order of their paths, and removed ones aren't.
 const TRACES: &str = "psitrace 1 cpus=1\n\
     5 end\n|\
@@ -119,7 +121,8 @@ const TRACES: &str = "psitrace 1 cpus=1\n\
     stall cpu=0 /b 0 0 0 0 0 0 0\n|\
     ok lines=12 events=11 end=7\n";
 
-/// Both commands print what stands behind the trace, where the shelf and the sinks move so many bytes a call.
+/// Both commands print what stands behind the trace, where the shelf and the sinks move so many
+/// bytes a call.
 fn prints<R: Threads + AllocGlobal + Sync>(rt: &R, row: &str, most: usize) -> Result<bool, Fail> {
     let Some((trace, outputs)) = row.split_once('|') else {
         return Ok(false);

@@ -1,4 +1,5 @@
-//! A replay whose trace comes, and whose output goes, byte by byte, and each of whose calls fails in turn.
+//! A replay whose trace comes, and whose output goes, byte by byte, and each of whose calls fails
+//! in turn.
 
 use crate::runs::{ONE_WAIT, prints_by, prints_front, prints_nothing};
 use replay_core::Status;

@@ -1,6 +1,8 @@
 //! Running words over one trace, and at most one rules file and one drop-in file, in memory.
 
-use psi_base::{Cause, Gate, MemShelf, MemSink, OpenGate, Text};
+use outside::{Gate, OpenGate};
+use outside_fakes::{MemShelf, MemSink};
+use psi_base::{Cause, Text};
 use replay_core::{Status, run};
 use std::test::Fail;
 use std::thread::Threads;
@@ -48,7 +50,8 @@ pub const ONE_WAIT: &str = "psitrace 1 cpus=1\n\
     0 switch 0 0 iowait\n\
     2000000000 end\n";
 
-/// What the shelf holds: a trace by the name `t`, rules by the name `r`, and a drop-in file over them by the name `d`.
+/// What the shelf holds: a trace by the name `t`, rules by the name `r`, and a drop-in file over
+/// them by the name `d`.
 #[derive(Clone, Copy)]
 pub struct Files<'a> {
     pub trace: &'a [u8],
@@ -56,8 +59,8 @@ pub struct Files<'a> {
     pub drop_in: &'a str,
 }
 
-/// Runs a command line over a shelf, where some calls fail, and threads are held by a gate. The shelf and both sinks move at most
-/// so many bytes a call.
+/// Runs a command line over a shelf, where some calls fail, and threads are held by a gate. The
+/// shelf and both sinks move at most so many bytes a call.
 fn run_over<R: Threads + AllocGlobal + Sync, G: Gate>(
     rt: &R,
     line: &str,
@@ -102,7 +105,8 @@ pub fn run_files<R: Threads + AllocGlobal + Sync>(
     run_over(rt, line, files, most, failing, &OpenGate)
 }
 
-/// Runs a command line over this trace and no rules, where some calls fail, and threads are held by a gate.
+/// Runs a command line over this trace and no rules, where some calls fail, and threads are held by
+/// a gate.
 pub fn run_gated<R: Threads + AllocGlobal + Sync, G: Gate>(
     rt: &R,
     line: &str,
@@ -149,7 +153,8 @@ pub fn prints_by<R: Threads + AllocGlobal + Sync>(
     Ok(is_run(&ran, Status::Done, output, ""))
 }
 
-/// A command line over this trace ends with this status and note, and prints nothing, where this call of the shelf fails.
+/// A command line over this trace ends with this status and note, and prints nothing, where this
+/// call of the shelf fails.
 pub fn prints_nothing<R: Threads + AllocGlobal + Sync>(
     rt: &R,
     line: &str,

@@ -7,8 +7,8 @@ use std::thread::Threads;
 
 const WHATIF: &str = "whatif t --rules r --tick-ms 1000 --report-s 0";
 
-/// Any group under `/s` is killed at each evaluation, but that the ruleset rests for 15 s: the one that has most memory, and of two the
-/// first by path.
+/// Any group under `/s` is killed at each evaluation, but that the ruleset rests for 15 s: the one
+/// that has most memory, and of two the first by path.
 const KILLS: &str =
     r#"{"rulesets":[{"name":"r","detectors":[["g",{"name":"exists","args":{"cgroup":"s/*"}}]],"actions":[{"name":"kill_by_memory_size_or_growth","args":{"cgroup":"s/*"}}]}]}"#;
 

@@ -81,7 +81,8 @@ at_is_behind plans clocks at there = record {
 
 -- ---- going over ticks
 
--- the ticks that a crew is to go over, behind the first so many: as many as are left, and as it has room for
+-- the ticks that a crew is to go over, behind the first so many: as many as are left, and as it has
+-- room for
 pub record AreNext (ticks : Ticks) (crew : CrewView) (pacing : Pacing) (i : ℕ) : Type 0 where
   pub first : ticks.first ≡ tick_moment pacing.length (i + 1)
   pub length : ticks.length ≡ pacing.length

@@ -3,8 +3,8 @@ use Rattle.std.proofs.Common.{◌≡◌, ℕ, List, [], ◌++◌, ap}
 use Rattle.std.specs.Prelude.{Option, Result, Ok, Err}
 use Rattle.std.specs.Io.KnownBytes.{Appends}
 use Rattle.std.proofs.lemmas.List.{append-nil}
-use Rattle.psi_base.specs.Outside.{AppendsFront, PutsAll}
-use Rattle.psi_base.proofs.Grows.{Appends-none, Appends-then, AppendsFront-then}
+use Rattle.outside.specs.Outside.{AppendsFront, PutsAll}
+use Rattle.outside.proofs.Grows.{Appends-none, Appends-then, AppendsFront-then}
 
 -- a front of the first text is one of both
 pub front_of_both : (old new : Option (List ℕ)) (xs ys : List ℕ) → AppendsFront old new xs → AppendsFront old new (xs ++ ys)

@@ -6,7 +6,7 @@ use Rattle.std.proofs.lemmas.List.{append-nil, get_or-map}
 use Rattle.std.proofs.lemmas.List.Concat.{flat_map-cons}
 use Rattle.std.proofs.lemmas.List.Folds.{flat_map-map}
 use Rattle.std.proofs.lemmas.Option.{slice_get-get_or}
-use Rattle.psi_base.proofs.Grows.{flat_map-at}
+use Rattle.outside.proofs.Grows.{flat_map-at}
 use Rattle.psi_base.specs.declared.event.Res.{Res}
 use Rattle.psi_base.specs.declared.event.Res.TheVariants.{Io, Memory, Cpu as CpuRes}
 use Rattle.psi_base.specs.declared.event.Slot.{Slot}

@@ -20,8 +20,8 @@ use Rattle.tick_engine.specs.Tables.{tick_at}
 use Rattle.replay_workers.specs.Crew.{CrewView, IsTableAt}
 use Rattle.replay_workers.proofs.Tables.{table_is_of_events}
 use Rattle.std.specs.Io.KnownBytes.{Appends}
-use Rattle.psi_base.specs.Outside.{AppendsFront}
-use Rattle.psi_base.proofs.Grows.{Appends-then}
+use Rattle.outside.specs.Outside.{AppendsFront}
+use Rattle.outside.proofs.Grows.{Appends-then}
 use Rattle.psi_base.specs.declared.event.Slot.{Slot}
 use Rattle.psi_spec.specs.Groups.{IsPathOrder}
 use Rattle.replay_ticks.specs.declared.replay.TickFault.{TickFault}

@@ -2,7 +2,7 @@
 use Rattle.std.specs.Prelude.{◌≡◌, ℕ, ◌+◌, ◌<◌, ◌≤◌, List, [], drop, length, map, Bool, true, false, if◌then◌else◌, Option, None, Some, Result, Ok, Err}
 use Rattle.std.specs.List.{All, flat_map, range_with_len}
 use Rattle.std.specs.Io.KnownBytes.{Appends, Keeps}
-use Rattle.psi_base.specs.Outside.{AppendsFront}
+use Rattle.outside.specs.Outside.{AppendsFront}
 use Rattle.psi_base.specs.declared.event.Slot.{Slot}
 use Rattle.psi_spec.specs.Grammar.{version_of}
 use Rattle.psi_spec.specs.Groups.{IsPathOrder}
@@ -26,9 +26,9 @@ use Rattle.replay_workers.specs.Crew.{AreBehind, AreSampled, CrewView, WatchView
 use Rattle.replay_ticks.specs.declared.pacing.Pacing.{Pacing}
 use Rattle.replay_ticks.specs.declared.replay.TickFault.{TickFault}
 
--- A replay: the plans of its trace, the clocks of all processors, the table of the last tick, the engine, what decides by
--- rules, all slots by path, how it is paced, the path that is watched, if one is, how many ticks were made, and how many
--- signals and kills there were.
+-- A replay: the plans of its trace, the clocks of all processors, the table of the last tick, the
+-- engine, what decides by rules, all slots by path, how it is paced, the path that is watched, if
+-- one is, how many ticks were made, and how many signals and kills there were.
 pub record ReplayView : Type 0 where
   pub plans : PlansView
   pub crew : CrewView
@@ -59,7 +59,8 @@ HasPlaces plans rows = HasSizes (length plans.plans) (length plans.lives) rows
 abbrev pub moments_behind : ℕ → ℕ → ℕ → List ℕ
 moments_behind length i count = map (tick_moment length) (range_with_len (i + 1) count)
 
--- A crew is ahead of the first so many ticks: the tables of some ticks that come next are ready, and no clock is past them.
+-- A crew is ahead of the first so many ticks: the tables of some ticks that come next are ready,
+-- and no clock is past them.
 pub record IsAhead (plans : PlansView) (crew : CrewView) (trace : Trace) (pace : Pace) (i : ℕ) : Type 0 where
   pub same : crew.plans ≡ plans
   pub ready : crew.ready ≡ moments_behind pace.length i (length crew.ready)
@@ -90,7 +91,8 @@ abbrev pub asked_by : Option LiveWatch → ℕ
 asked_by None = 0
 asked_by (Some watch) = watch.count
 
--- the slot that is watched at a moment (ns) of a trace: the one that the watched path has then, if it is live
+-- the slot that is watched at a moment (ns) of a trace: the one that the watched path has then, if
+-- it is live
 abbrev pub watched_at : Trace → Option (List ℕ) → ℕ → Option ℕ
 watched_at trace None at = None
 watched_at trace (Some path) at = live_slot_at trace.events path at
@@ -103,15 +105,17 @@ IsSlotAt slot trace pace i = number_of_slot slot ≡ watched_at trace (watched_p
 abbrev pub AreIdle : List WatchView → Type 0
 AreIdle watches = (cpu : ℕ) → (watch_at watches cpu).samples ≡ []
 
--- Where a group is watched, a crew goes tick by tick: so many tables are ready, and each processor's clocks made the changes up
--- to the tick with a number, and no others. Else there are no samples.
+-- Where a group is watched, a crew goes tick by tick: so many tables are ready, and each
+-- processor's clocks made the changes up to the tick with a number, and no others. Else there are
+-- no samples.
 abbrev pub GoesByTick : Option LiveWatch → ℕ → CrewView → Trace → ℕ → ℕ → Type 0
 GoesByTick None count crew trace tick i = AreIdle crew.watches
 GoesByTick (Some watch) count crew trace tick i =
     (length crew.ready ≡ count)
     × ((cpu : ℕ) → cpu < trace.cpus → (clocks_at crew.clocks cpu).made ≡ changes_until trace tick cpu i)
 
--- what is watched: the path, how many samples are taken, and how far the crew is after the first so many ticks
+-- what is watched: the path, how many samples are taken, and how far the crew is after the first so
+-- many ticks
 pub record IsWatching (crew : CrewView) (live : Option (List ℕ)) (trace : Trace) (pace : Pace) (i : ℕ) : Type 0 where
   pub path : live ≡ watched_path pace.watch
   pub asked : crew.asked ≡ asked_by pace.watch
@@ -130,8 +134,8 @@ abbrev pub AreInTime : ℕ → List WatchView → ℕ → Type 0
 AreInTime cpus watches at =
     (cpu : ℕ) → cpu < cpus → All (λ (sample : Sample). IsInTime sample.clock at) (watch_at watches cpu).samples
 
--- Beside the changes up to a tick a crew took samples of the slot that is watched at the tick, and these are its live lines,
--- which the tick may have.
+-- Beside the changes up to a tick a crew took samples of the slot that is watched at the tick, and
+-- these are its live lines, which the tick may have.
 pub record IsLiveTick (old new : CrewView) (trace : Trace) (pace : Pace) (i : ℕ) : Type 0 where
   pub watched : Option Slot
   pub slot : IsSlotAt watched trace pace i
@@ -146,7 +150,8 @@ handed crew = record crew { ready = drop 1 crew.ready }
 -- ---- one tick
 
 -- All is there to sample the tick at a moment (ns), which comes behind the first so many.
-pub record IsToSample (plans : PlansView) (crew : CrewView) (rows : List (List (List ℕ))) (engine : EngineView) (trace : Trace) (pace : Pace) (i at : ℕ) : Type 0 where
+pub record IsToSample (plans : PlansView) (crew : CrewView) (rows : List (List (List ℕ))) (engine : EngineView) (trace : Trace)
+    (pace : Pace) (i at : ℕ) : Type 0 where
   pub planned : IsPlanned plans trace pace
   pub left : i < tick_count trace pace
   pub at_is : at ≡ tick_moment pace.length (i + 1)
@@ -155,13 +160,16 @@ pub record IsToSample (plans : PlansView) (crew : CrewView) (rows : List (List (
   pub ticked : HasTicked engine trace pace i
 
 -- The tick with a number from 1 was sampled.
-pub record IsTickSampled (plans : PlansView) (crew : CrewView) (rows : List (List (List ℕ))) (engine : EngineView) (trace : Trace) (pace : Pace) (number : ℕ) : Type 0 where
+pub record IsTickSampled (plans : PlansView) (crew : CrewView) (rows : List (List (List ℕ))) (engine : EngineView) (trace : Trace)
+    (pace : Pace) (number : ℕ) : Type 0 where
   pub ahead : IsAhead plans crew trace pace number
   pub sizes : HasPlaces plans rows
   pub ticked : HasTicked engine trace pace number
 
--- All is there to write the lines of the tick with a number from 1, which was the last to be sampled, at its moment (ns).
-pub record IsToPut (plans : PlansView) (engine : EngineView) (order : List Slot) (pacing : Pacing) (trace : Trace) (pace : Pace) (number at : ℕ) : Type 0 where
+-- All is there to write the lines of the tick with a number from 1, which was the last to be
+-- sampled, at its moment (ns).
+pub record IsToPut (plans : PlansView) (engine : EngineView) (order : List Slot) (pacing : Pacing) (trace : Trace) (pace : Pace)
+    (number at : ℕ) : Type 0 where
   pub planned : IsPlanned plans trace pace
   pub paced : IsPaced pacing trace pace
   pub some : 0 < number
@@ -169,7 +177,8 @@ pub record IsToPut (plans : PlansView) (engine : EngineView) (order : List Slot)
   pub ticked : HasTicked engine trace pace number
   pub by_path : IsPathOrder plans.lives (numbers_of order)
 
--- All is there to write the pressure files of the root at the tick with a number from 1, which was the last to be sampled.
+-- All is there to write the pressure files of the root at the tick with a number from 1, which was
+-- the last to be sampled.
 pub record IsToPutRoot (plans : PlansView) (engine : EngineView) (pacing : Pacing) (trace : Trace) (pace : Pace) (number : ℕ) : Type 0 where
   pub planned : IsPlanned plans trace pace
   pub paced : IsPaced pacing trace pace
@@ -183,8 +192,9 @@ due_text trace pace number =
 
 -- ---- the whole replay
 
--- A crew reached the tick behind the first so many: where it took samples of the slot that is watched at the tick, they are those of
--- the tick, and where it goes tick by tick the tick's table alone is ready.
+-- A crew reached the tick behind the first so many: where it took samples of the slot that is
+-- watched at the tick, they are those of the tick, and where it goes tick by tick the tick's table
+-- alone is ready.
 pub record IsReached (slot : Option Slot) (old new : CrewView) (trace : Trace) (pace : Pace) (i : ℕ) : Type 0 where
   pub live : IsSlotAt slot trace pace (i + 1) → IsLiveTick old new trace pace (i + 1)
   pub asked : new.asked ≡ old.asked
@@ -216,7 +226,8 @@ IsSomeReplay replay = (trace : Trace) × (pace : Pace) × (rules : List Rule) ×
 
 -- of a replay a tick is left
 abbrev pub IsTickLeft : ReplayView → Type 0
-IsTickLeft replay = (trace : Trace) × (pace : Pace) × (rules : List Rule) × (i : ℕ) × IsReplay replay trace pace rules i × (i < tick_count trace pace)
+IsTickLeft replay =
+    (trace : Trace) × (pace : Pace) × (rules : List Rule) × (i : ℕ) × IsReplay replay trace pace rules i × (i < tick_count trace pace)
 
 -- making the next tick: one is left, and samples were taken up to it, or nothing changes
 abbrev pub Passes : Trace → Pace → List Rule → ℕ → ReplayView → ReplayView → Bool → Type 0
@@ -228,13 +239,15 @@ Passes trace pace rules i old new false = (i ≡ tick_count trace pace) × (new 
 abbrev pub root_report : Trace → Pace → ℕ → List ℕ
 root_report trace pace i = group_report trace pace i root_group
 
--- What the next tick gives: its lines, or a front of them, where one is left. Its live lines are those of the samples that the
--- crew took up to the tick.
-abbrev pub TickGives : Trace → Pace → List Rule → ℕ → ReplayView → ReplayView → Option (List ℕ) → Option (List ℕ) → Result Bool TickFault → Type 0
+-- What the next tick gives: its lines, or a front of them, where one is left. Its live lines are
+-- those of the samples that the crew took up to the tick.
+abbrev pub TickGives : Trace → Pace → List Rule → ℕ → ReplayView → ReplayView → Option (List ℕ) → Option (List ℕ)
+    → Result Bool TickFault → Type 0
 TickGives trace pace rules i old new had has (Ok true) =
     (i < tick_count trace pace) × IsReplay new trace pace rules (i + 1) × IsLiveTick old.crew new.crew trace pace (i + 1)
     × Appends had has (tick_lines trace pace rules (i + 1) (watches_text (tick_moment pace.length (i + 1)) trace.cpus new.crew.watches))
 TickGives trace pace rules i old new had has (Ok false) = (i ≡ tick_count trace pace) × Keeps had has × IsReplay new trace pace rules i
 TickGives trace pace rules i old new had has (Err fault) =
     (i < tick_count trace pace)
-    × ((live : List ℕ) × IsLiveText trace pace.length pace.watch (i + 1) live × AppendsFront had has (tick_lines trace pace rules (i + 1) live))
+    × ((live : List ℕ) × IsLiveText trace pace.length pace.watch (i + 1) live
+    × AppendsFront had has (tick_lines trace pace rules (i + 1) live))

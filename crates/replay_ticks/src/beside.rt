@@ -1,4 +1,5 @@
-//! What those ask of a replay between its ticks who take samples of their own beside it: how far it is, and its clocks.
+//! What those ask of a replay between its ticks who take samples of their own beside it: how far it
+//! is, and its clocks.
 ghost use Rattle.std.specs.Prelude.{◌≡◌, ◌+◌, ◌<◌, ◌≤◌, ℕ, List, length, IfOk, Some, is_some, true};
 ghost use Rattle.psi_spec.specs.Trace.{Trace};
 ghost use Rattle.plan_laws.specs.Plan.{IsClock};
@@ -10,7 +11,8 @@ ghost use Rattle.replay_workers.specs.Crew.{clocks_at, row_at};
 ghost use Rattle.replay_ticks.specs.Replays.{IsReplay, IsSomeReplay, IsTickLeft};
 
 use crate::replay::Replay;
-use psi_base::{Cpu, Gate, NoMemory, Slot};
+use outside::Gate;
+use psi_base::{Cpu, NoMemory, Slot};
 use replay_workers::{ClockReader, Sample};
 use std::thread::Threads;
 
@@ -30,7 +32,8 @@ impl<'a> Replay<'a> {
         self.signals
     }
 
-    /// Makes the next tick, where one is left, and takes no sample, also where a path is watched. Takes no memory.
+    /// Makes the next tick, where one is left, and takes no sample, also where a path is watched.
+    /// Takes no memory.
     pub fn pass_unwatched<R: Threads + Sync, G: Gate>(&mut self, rt: &R, gate: &G)
         requires { IsTickLeft self.old }
         ensures passed { (trace : Trace) (pace : Pace) (rules : List Rule) (i : ℕ) →
@@ -42,7 +45,8 @@ impl<'a> Replay<'a> {
         self.advance(rt, None, gate);
     }
 
-    /// A reader of a processor's row, where its clocks are in one. It has seen the changes that were made.
+    /// A reader of a processor's row, where its clocks are in one. It has seen the changes that
+    /// were made.
     pub fn reader(&mut self, cpu: Cpu) -> Result<ClockReader, NoMemory>
         requires replay { IsSomeReplay self.old }
         requires cpu { cpu.0 < length self.old.plans.plans }
@@ -55,8 +59,8 @@ impl<'a> Replay<'a> {
         self.crew.reader(cpu)
     }
 
-    /// Tells a reader of a processor's row how many changes were made: it has then seen at least so many, and no fewer than
-    /// before. Takes no memory.
+    /// Tells a reader of a processor's row how many changes were made: it has then seen at least so
+    /// many, and no fewer than before. Takes no memory.
     pub fn meet(&mut self, cpu: Cpu, reader: &mut ClockReader)
         requires replay { IsSomeReplay self.old }
         requires cpu { cpu.0 < length self.old.plans.plans }
@@ -70,7 +74,8 @@ impl<'a> Replay<'a> {
         let _met = self.crew.meet(cpu, reader);
     }
 
-    /// Learns from a reader of a processor's row what it has seen: at most as many changes as were made. Takes no memory.
+    /// Learns from a reader of a processor's row what it has seen: at most as many changes as were
+    /// made. Takes no memory.
     pub fn settle(&mut self, cpu: Cpu, reader: &mut ClockReader)
         requires replay { IsSomeReplay self.old }
         requires cpu { cpu.0 < length self.old.plans.plans }
@@ -83,7 +88,8 @@ impl<'a> Replay<'a> {
         let _settled = self.crew.settle(cpu, reader);
     }
 
-    /// The clock of a slot on a processor that the replay itself has, after the changes that were made.
+    /// The clock of a slot on a processor that the replay itself has, after the changes that were
+    /// made.
     pub fn last(&mut self, cpu: Cpu, slot: Slot) -> Sample
         requires replay { IsSomeReplay self.old }
         requires cpu { cpu.0 < length self.old.plans.plans }

@@ -1,7 +1,7 @@
 //! Live samples: which slot is watched, and the lines of what was sampled.
 ghost use Rattle.std.specs.Prelude.{◌≡◌, ◌<◌, ◌^◌, length, IfSome};
 ghost use Rattle.std.specs.List.{All};
-ghost use Rattle.psi_base.specs.Outside.{HasCause, PutsAll, StaysOver};
+ghost use Rattle.outside.specs.Outside.{HasCause, PutsAll, StaysOver};
 ghost use Rattle.psi_base.specs.declared.event.Slot.{Slot};
 ghost use Rattle.psi_spec.specs.Stall.{number_of_slot};
 ghost use Rattle.psi_counts.specs.Clock.{IsInTime};
@@ -9,8 +9,9 @@ ghost use Rattle.run_laws.specs.Live.{live_slot};
 ghost use Rattle.clock_row.specs.declared.reader.Sample.{Sample};
 ghost use Rattle.replay_ticks.specs.Replays.{AreInTime, samples_text, watches_text};
 
+use outside::{Sink, WriteFailed};
 use pressure_text::write_live;
-use psi_base::{Cpu, Ns, Path, Sink, Slot, WriteFailed};
+use psi_base::{Cpu, Ns, Path, Slot};
 use psi_spec::GroupLife;
 use replay_rules::is_live_at;
 use replay_workers::{Crew, Sample};
@@ -31,7 +32,7 @@ pub(crate) fn watched_slot(lives: &[GroupLife], path: &Path, at: Ns) -> Option<S
 }
 
 // Writes the lines of the samples of a processor at a tick (ns).
-#[tactic(auto, using(psi_base::proofs::Grows::growth))]
+#[tactic(auto, using(outside::proofs::Grows::growth))]
 fn put_samples<K: Sink>(
     out: &mut K,
     at: Ns,
@@ -52,7 +53,7 @@ fn put_samples<K: Sink>(
 }
 
 /// Writes the lines of the samples that a crew took last, of so many processors, at a tick (ns).
-#[tactic(auto, using(psi_base::proofs::Grows::growth))]
+#[tactic(auto, using(outside::proofs::Grows::growth))]
 pub(crate) fn put_live<K: Sink>(
     out: &mut K,
     at: Ns,

@@ -19,8 +19,8 @@ pub(crate) struct Pacing {
 }
 
 impl Pacing {
-    /// Whether the tick with a number from 1, at its moment (ns), is reported: the last one is, and each at which a report is
-    /// due.
+    /// Whether the tick with a number from 1, at its moment (ns), is reported: the last one is, and
+    /// each at which a report is due.
     pub(crate) fn is_report(self, tick: u64, at: Ns) -> bool
         requires some { 0 < tick }
         requires moment { at ≡ tick_moment self.length tick }

@@ -1,7 +1,7 @@
 //! A trace that is replayed tick by tick.
 ghost use Rattle.std.specs.Prelude.{◌≡◌, ◌+◌, ◌<◌, ℕ, List, length, IfSome};
 ghost use Rattle.psi_base.specs.declared.event.Slot.{Slot};
-ghost use Rattle.psi_base.specs.Outside.{HasCause, PutsAll, StaysOver};
+ghost use Rattle.outside.specs.Outside.{HasCause, PutsAll, StaysOver};
 ghost use Rattle.psi_spec.specs.Trace.{Trace};
 ghost use Rattle.pressure_spec.specs.Ticks.{tick_moment};
 ghost use Rattle.run_spec.specs.Replay.{Pace, kills_in, last_line, tick_count, tick_text, with_rules};
@@ -12,9 +12,10 @@ use crate::live::{put_live, watched_slot};
 use crate::pacing::Pacing;
 use crate::reports::{put_files, put_kills, put_reports, put_signals};
 use aggregate::Rows;
+use outside::{Gate, Sink, WriteFailed};
 use pressure_text::write_end;
 use proc_plan::Plans;
-use psi_base::{Gate, Ns, Path, Sink, Slot, WriteFailed};
+use psi_base::{Ns, Path, Slot};
 use replay_rules::{Judge, Kill, tick_moment};
 use replay_workers::{Crew, Ticks};
 use std::marker::Model;
@@ -83,9 +84,10 @@ impl<'a> Model for Replay<'a> {
     } };
 }
 
-// Makes the changes up to the ticks behind the first so many, where the table of none is ready: over as many ticks at once as are
-// left and as the crew can go over, and up to the next alone where a path is watched, whose slot may be another at each. Then
-// samples of a slot are taken beside them, if one is named.
+// Makes the changes up to the ticks behind the first so many, where the table of none is ready:
+// over as many ticks at once as are left and as the crew can go over, and up to the next alone
+// where a path is watched, whose slot may be another at each. Then samples of a slot are taken
+// beside them, if one is named.
 fn look_ahead<R: Threads + Sync, G: Gate>(
     rt: &R,
     crew: &mut Crew<'_>,
@@ -137,7 +139,8 @@ fn sample(crew: &mut Crew<'_>, rows: &mut Rows, engine: &mut Engine, at: Ns)
     engine.tick(at, rows);
 }
 
-// Writes the reports of the tick that was the last to be sampled, by its number from 1 and its moment (ns), where they are due.
+// Writes the reports of the tick that was the last to be sampled, by its number from 1 and its
+// moment (ns), where they are due.
 fn put_due<K: Sink>(
     out: &mut K,
     plans: &Plans,
@@ -161,7 +164,8 @@ fn put_due<K: Sink>(
     Ok(())
 }
 
-// Writes the pressure files of the root at the tick that was the last to be sampled, by its number from 1.
+// Writes the pressure files of the root at the tick that was the last to be sampled, by its number
+// from 1.
 fn put_root<K: Sink>(
     out: &mut K,
     plans: &Plans,
@@ -185,7 +189,8 @@ fn put_root<K: Sink>(
 }
 
 impl<'a> Replay<'a> {
-    /// The slot that the watched path has at the next tick, if a tick is left, and the path is live then.
+    /// The slot that the watched path has at the next tick, if a tick is left, and the path is live
+    /// then.
     pub fn next_slot(&self) -> Option<Slot>
         requires { IsSomeReplay self.now }
         ensures slot { (trace : Trace) (pace : Pace) (rules : List Rule) (i : ℕ) →
@@ -245,7 +250,8 @@ impl<'a> Replay<'a> {
         self.kills += self.judge.kills().len() as u64;
     }
 
-    /// Makes the next tick, and writes nothing. False exactly where no tick is left; then nothing changes. Takes no memory.
+    /// Makes the next tick, and writes nothing. False exactly where no tick is left; then nothing
+    /// changes. Takes no memory.
     pub fn pass<R: Threads + Sync, G: Gate>(&mut self, rt: &R, gate: &G) -> bool
         requires { IsSomeReplay self.old }
         ensures { (trace : Trace) (pace : Pace) (rules : List Rule) (i : ℕ) →
@@ -260,8 +266,9 @@ impl<'a> Replay<'a> {
         true
     }
 
-    // Writes the lines of the tick that was made last, whose moment (ns) this is, but for its live lines.
-    #[tactic(auto, using(psi_base::proofs::Grows::growth))]
+    // Writes the lines of the tick that was made last, whose moment (ns) this is, but for its live
+    // lines.
+    #[tactic(auto, using(outside::proofs::Grows::growth))]
     fn put_tick<K: Sink>(&self, out: &mut K, at: Ns) -> Result<(), WriteFailed>
         requires { (trace : Trace) × (pace : Pace) × (rules : List Rule) × (i : ℕ)
             × IsReplay self.now trace pace rules (i + 1)
@@ -287,8 +294,8 @@ impl<'a> Replay<'a> {
         )
     }
 
-    /// Makes the next tick and writes its lines. False exactly where no tick is left; then nothing is written. After a fault
-    /// the replay isn't to be used again. Takes no memory.
+    /// Makes the next tick and writes its lines. False exactly where no tick is left; then nothing
+    /// is written. After a fault the replay isn't to be used again. Takes no memory.
     pub fn tick<R: Threads + Sync, K: Sink, G: Gate>(
         &mut self,
         rt: &R,
@@ -332,7 +339,8 @@ impl<'a> Replay<'a> {
         put_root(out, self.plans, &self.engine, self.pacing, self.made)
     }
 
-    /// Writes the last line, behind the last tick: the end moment, and how many ticks, signals and kills there were.
+    /// Writes the last line, behind the last tick: the end moment, and how many ticks, signals and
+    /// kills there were.
     pub fn finish<K: Sink>(&mut self, out: &mut K) -> Result<(), WriteFailed>
         requires { (trace : Trace) × (pace : Pace) × (rules : List Rule)
             × IsReplay self.old trace pace rules (tick_count trace pace) }

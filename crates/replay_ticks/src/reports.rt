@@ -1,7 +1,7 @@
 //! The lines of a tick.
 ghost use Rattle.std.specs.Prelude.{◌≡◌, ◌<◌, length, ◌==◌};
 ghost use Rattle.std.specs.List.{All};
-ghost use Rattle.psi_base.specs.Outside.{HasCause, PutsAll, StaysOver};
+ghost use Rattle.outside.specs.Outside.{HasCause, PutsAll, StaysOver};
 ghost use Rattle.psi_base.specs.declared.event.TriggerSpec.{TriggerSpec};
 ghost use Rattle.psi_spec.specs.Grammar.{version_of};
 ghost use Rattle.run_spec.specs.Replay.{files_text, irq_files, resource_files, signal_lines};
@@ -12,9 +12,10 @@ ghost use Rattle.run_spec.specs.Replay.{kill_lines};
 ghost use Rattle.group_tree.specs.Tree.{numbers_of};
 
 use fixed_average::Averages;
+use outside::{Sink, WriteFailed};
 use pressure_spec::{Amounts, QUANTITIES};
 use pressure_text::{write_fired, write_irq, write_kill, write_report};
-use psi_base::{Ns, Path, Res, Sink, Slot, TriggerSpec, WriteFailed};
+use psi_base::{Ns, Path, Res, Slot, TriggerSpec};
 use psi_spec::GroupLife;
 use replay_rules::{Kill, is_live_at};
 use tick_engine::Engine;
@@ -26,7 +27,7 @@ const WITH_IRQ: u32 = 2;
 const IRQ: usize = QUANTITIES - 1;
 
 /// Writes the lines of the triggers that signalled at a tick (ns), by their numbers.
-#[tactic(auto, using(psi_base::proofs::Grows::growth))]
+#[tactic(auto, using(outside::proofs::Grows::growth))]
 pub(crate) fn put_signals<K: Sink>(
     out: &mut K,
     at: Ns,
@@ -51,7 +52,7 @@ pub(crate) fn put_signals<K: Sink>(
 }
 
 /// Writes the lines of kills.
-#[tactic(auto, using(psi_base::proofs::Grows::growth))]
+#[tactic(auto, using(outside::proofs::Grows::growth))]
 pub(crate) fn put_kills<K: Sink>(
     out: &mut K,
     lives: &[GroupLife],
@@ -71,7 +72,7 @@ pub(crate) fn put_kills<K: Sink>(
 }
 
 // Writes the reports on the resources of a group at a moment (ns).
-#[tactic(auto, using(psi_base::proofs::Grows::growth))]
+#[tactic(auto, using(outside::proofs::Grows::growth))]
 fn put_resources<K: Sink>(
     out: &mut K,
     at: Ns,
@@ -91,7 +92,8 @@ fn put_resources<K: Sink>(
     write_report(out, at, path, Res::Cpu, is_root, totals, averages)
 }
 
-// Writes the report on interrupts of a group at a moment (ns), where the version of the trace tells of them.
+// Writes the report on interrupts of a group at a moment (ns), where the version of the trace tells
+// of them.
 fn put_irq<K: Sink>(
     out: &mut K,
     version: u32,
@@ -112,7 +114,7 @@ fn put_irq<K: Sink>(
 }
 
 /// Writes the reports of a group at a moment (ns) of a trace of this version.
-#[tactic(auto, using(psi_base::proofs::Grows::growth))]
+#[tactic(auto, using(outside::proofs::Grows::growth))]
 pub(crate) fn put_files<K: Sink>(
     out: &mut K,
     version: u32,
@@ -163,9 +165,9 @@ fn put_report<K: Sink>(
     )
 }
 
-/// Writes the reports of all groups that are live at a tick (ns) of a trace of a version, in this order of
-/// slots.
-#[tactic(auto, using(psi_base::proofs::Grows::growth))]
+/// Writes the reports of all groups that are live at a tick (ns) of a trace of a version, in this
+/// order of slots.
+#[tactic(auto, using(outside::proofs::Grows::growth))]
 pub(crate) fn put_reports<K: Sink>(
     out: &mut K,
     version: u32,

@@ -28,7 +28,8 @@ const MILLISECOND: Ns = 1_000_000;
 /// How many ns a second has.
 const SECOND: Ns = 1_000_000_000;
 
-// The path that options have watched, if they name one, and how many samples they have taken of a processor in an interval.
+// The path that options have watched, if they name one, and how many samples they have taken of a
+// processor in an interval.
 fn watched(alloc: Global, options: &Options) -> Result<(Option<Path>, u32), NoMemory>
     ensures path { IfOk result (λ watched. watched.0 ≡ watched_path (watch_of options.now)) }
     ensures asked { IfOk result (λ watched. watched.1 ≡ asked_by (watch_of options.now)) }
@@ -39,8 +40,9 @@ fn watched(alloc: Global, options: &Options) -> Result<(Option<Path>, u32), NoMe
     }
 }
 
-/// A replay of the trace that the plans stand for, with rules if there are some, before its first tick: a trace of this version
-/// that is accepted at the options' length of a tick. It takes all memory that the replay needs.
+/// A replay of the trace that the plans stand for, with rules if there are some, before its first
+/// tick: a trace of this version that is accepted at the options' length of a tick. It takes all
+/// memory that the replay needs.
 pub fn prepare<'a>(
     alloc: Global,
     version: u32,

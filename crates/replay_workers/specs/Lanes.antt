@@ -1,4 +1,5 @@
--- The lanes of a crew, one for each processor, and how they are dealt to batches, one for each worker that has a lane.
+-- The lanes of a crew, one for each processor, and how they are dealt to batches, one for each
+-- worker that has a lane.
 use Rattle.std.specs.Prelude.{◌≡◌, ◌≢◌, ℕ, ◌+◌, ◌*◌, ◌/◌, ◌%◌, ◌^◌, ◌<◌, ◌≤◌, Bool, List, [], length, map, slice_index_or, Option, None, Some, is_some}
 use Rattle.std.specs.List.{range_with_len}
 use Rattle.plan_laws.specs.Plan.{IsPlan, PlanView, changes_up_to, last_change, no_plan}
@@ -28,8 +29,8 @@ abbrev pub row_of_clocks : LaneClocks → Option TableId
 row_of_clocks (Plain clocks) = None
 row_of_clocks (Row writer) = Some writer.row
 
--- A lane: a processor's number, the row that its clocks are in, if they are in one, these, and the times (ns) that it keeps,
--- tick by tick and slot by slot.
+-- A lane: a processor's number, the row that its clocks are in, if they are in one, these, and the
+-- times (ns) that it keeps, tick by tick and slot by slot.
 pub record LaneView : Type 0 where
   pub cpu : ℕ
   pub row : Option TableId
@@ -49,24 +50,28 @@ abbrev pub KeepsTicks : List (List ℕ) → PlanView → Ticks → ℕ → Type 
 KeepsTicks kept plan ticks n = (j slot : ℕ) → j < n → slot < length plan.parents →
     kept_at kept (length plan.parents) j slot ≡ times_by plan slot (moment_in ticks j)
 
--- The times of all slots at a moment (ns) are kept for a tick with a number from 0, and those for the ticks before it stay.
+-- The times of all slots at a moment (ns) are kept for a tick with a number from 0, and those for
+-- the ticks before it stay.
 pub record KeepsTick (old new : List (List ℕ)) (j : ℕ) (plan : PlanView) (at : ℕ) : Type 0 where
   pub size : length new ≡ length old
   pub here : (slot : ℕ) → slot < length plan.parents → kept_at new (length plan.parents) j slot ≡ times_by plan slot at
   pub before : (place : ℕ) → place < j * length plan.parents → slice_index_or new place [] ≡ slice_index_or old place []
 
--- A lane's clocks are on its own plan, which is whole and has a parent or none for each of so many slots.
+-- A lane's clocks are on its own plan, which is whole and has a parent or none for each of so many
+-- slots.
 pub record IsLane (plan : PlanView) (slots : ℕ) (on : OnPlan) : Type 0 where
   pub on_plan : on.plan ≡ plan
   pub whole : IsPlan plan
   pub slots_are : slots ≡ length plan.parents
 
--- a lane may go over ticks: there is a place for all times, and no change was made that is later than the first tick
+-- a lane may go over ticks: there is a place for all times, and no change was made that is later
+-- than the first tick
 pub record MayGo (ticks : Ticks) (lane : LaneView) : Type 0 where
   pub room : ticks.count * length lane.on.plan.parents ≤ length lane.kept
   pub behind : lane.on.made ≤ changes_up_to lane.on.plan ticks.first
 
--- A lane went over ticks: its clocks made the changes up to the last, and no others, and the times at each are kept.
+-- A lane went over ticks: its clocks made the changes up to the last, and no others, and the times
+-- at each are kept.
 pub record HasGone (ticks : Ticks) (old new : LaneView) : Type 0 where
   pub cpu : new.cpu ≡ old.cpu
   pub row : new.row ≡ old.row
@@ -100,23 +105,26 @@ pub record HaveAllGone (ticks : Ticks) (old new : List (List LaneView)) : Type 0
   pub many : length new ≡ length old
   pub each : (worker : ℕ) → worker < length old → HaveGone ticks (batch_at old worker) (batch_at new worker)
 
--- The lane of a processor is the one at the place of its number over that of the workers, in the batch of the rest.
+-- The lane of a processor is the one at the place of its number over that of the workers, in the
+-- batch of the rest.
 abbrev pub lane_of : List (List LaneView) → ℕ → LaneView
 lane_of batches cpu = lane_at (batch_at batches (cpu % length batches)) (cpu / length batches)
 
--- The lane of a processor is there, and keeps the times of all groups at a moment (ns) for a tick with a number from 0.
+-- The lane of a processor is there, and keeps the times of all groups at a moment (ns) for a tick
+-- with a number from 0.
 pub record IsKept (plans : PlansView) (batches : List (List LaneView)) (cpu tick at : ℕ) : Type 0 where
   pub some : 0 < length batches
   pub place : cpu / length batches < length (batch_at batches (cpu % length batches))
   pub room : tick * length plans.lives + length plans.lives ≤ length (lane_of batches cpu).kept
-  pub times : (slot : ℕ) → slot < length plans.lives → kept_at (lane_of batches cpu).kept (length plans.lives) tick slot ≡ times_by (plan_at plans cpu) slot at
+  pub times : (slot : ℕ) → slot < length plans.lives
+      → kept_at (lane_of batches cpu).kept (length plans.lives) tick slot ≡ times_by (plan_at plans cpu) slot at
 
 -- so it is for each processor
 abbrev pub AreKept : PlansView → List (List LaneView) → ℕ → ℕ → Type 0
 AreKept plans batches tick at = (cpu : ℕ) → cpu < length plans.plans → IsKept plans batches cpu tick at
 
--- A table has the times of a group on the first so many processors at a moment (ns), by their plans, and those of the other groups
--- as they were.
+-- A table has the times of a group on the first so many processors at a moment (ns), by their
+-- plans, and those of the other groups as they were.
 pub record FillsRow (old new : List (List (List ℕ))) (plans : PlansView) (slot cpus at : ℕ) : Type 0 where
   pub here : (cpu : ℕ) → cpu < cpus → times_at new slot cpu ≡ times_by (plan_at plans cpu) slot at
   pub others : (other cpu : ℕ) → other ≢ slot → times_at new other cpu ≡ times_at old other cpu
@@ -131,8 +139,8 @@ rows_of batches cpus = map (λ cpu. (lane_of batches cpu).row) (range_with_len 0
 
 -- ---- crews
 
--- A lane of a crew is that of a processor: its clocks are on the processor's plan, there is room for so many ticks, and the
--- times at ticks are kept.
+-- A lane of a crew is that of a processor: its clocks are on the processor's plan, there is room
+-- for so many ticks, and the times at ticks are kept.
 pub record IsLaneOf (plans : PlansView) (ticks : Ticks) (room cpu : ℕ) (lane : LaneView) : Type 0 where
   pub cpu_is : lane.cpu ≡ cpu
   pub below : cpu < length plans.plans
@@ -142,7 +150,8 @@ pub record IsLaneOf (plans : PlansView) (ticks : Ticks) (room cpu : ℕ) (lane :
   pub size : length lane.kept ≡ room * length plans.lives
   pub keeps : KeepsTicks lane.kept (plan_at plans cpu) ticks ticks.count
 
--- A batch has the lanes of its worker, which has each processor whose number over that of the workers leaves the worker's own.
+-- A batch has the lanes of its worker, which has each processor whose number over that of the
+-- workers leaves the worker's own.
 pub record IsBatchOf (plans : PlansView) (ticks : Ticks) (room workers worker : ℕ) (lanes : List LaneView) : Type 0 where
   pub all : (k : ℕ) → k * workers + worker < length plans.plans → k < length lanes
   pub each : (k : ℕ) → k < length lanes → IsLaneOf plans ticks room (k * workers + worker) (lane_at lanes k)
@@ -151,7 +160,8 @@ pub record IsBatchOf (plans : PlansView) (ticks : Ticks) (room workers worker : 
 abbrev pub no_ticks : Ticks
 no_ticks = record { first = 0; length = 0; count = 0 }
 
--- A batch has the lanes of its worker, no lane made a change yet, and their clocks are in rows or plain, as is wanted.
+-- A batch has the lanes of its worker, no lane made a change yet, and their clocks are in rows or
+-- plain, as is wanted.
 pub record IsNewBatch (plans : PlansView) (room : ℕ) (in_rows : Bool) (workers worker : ℕ) (lanes : List LaneView) : Type 0 where
   pub batch : IsBatchOf plans no_ticks room workers worker lanes
   pub fresh : (k : ℕ) → k < length lanes → (lane_at lanes k).on.made ≡ 0
@@ -162,8 +172,8 @@ pub record AreNewBatches (plans : PlansView) (room : ℕ) (in_rows : Bool) (work
   pub many : length batches ≡ workers
   pub each : (worker : ℕ) → worker < workers → IsNewBatch plans room in_rows workers worker (batch_at batches worker)
 
--- The lanes of a crew: there is a batch for each of some workers, and so many of the ticks that its lanes went over were handed
--- out.
+-- The lanes of a crew: there is a batch for each of some workers, and so many of the ticks that its
+-- lanes went over were handed out.
 pub record AreLanes (plans : PlansView) (batches : List (List LaneView)) (ticks : Ticks) (out room : ℕ) : Type 0 where
   pub some : 0 < length batches
   pub roomy : 1 ≤ room

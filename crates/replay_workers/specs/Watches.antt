@@ -17,8 +17,8 @@ use Rattle.replay_workers.specs.Lanes.{AreLanes, LaneView, batch_at, clocks_of, 
 
 -- ---- one watcher
 
--- A watcher: a processor's number, the row of its clocks and what is known of it, the writer's own clock when they met, the
--- samples of the last interval, and how many it takes in one.
+-- A watcher: a processor's number, the row of its clocks and what is known of it, the writer's own
+-- clock when they met, the samples of the last interval, and how many it takes in one.
 pub record WatcherView : Type 0 where
   pub cpu : ℕ
   pub row : TableId
@@ -33,7 +33,15 @@ no_table_id = record { words = 0; slots = 0; views_name = 0; atom = 0; block = 0
 
 -- no watcher
 abbrev pub no_watcher : WatcherView
-no_watcher = record { cpu = 0; row = no_table_id; knows = new_reader no_plan 0; last = record { count = 0; clock = zero_clock }; samples = []; asked = 0 }
+no_watcher =
+    record {
+      cpu = 0;
+      row = no_table_id;
+      knows = new_reader no_plan 0;
+      last = record { count = 0; clock = zero_clock };
+      samples = [];
+      asked = 0;
+    }
 
 -- a watcher, by its place
 abbrev pub watcher_at : List WatcherView → ℕ → WatcherView
@@ -43,7 +51,8 @@ watcher_at watchers k = slice_index_or watchers k no_watcher
 abbrev pub watch_seen : WatcherView → WatchView
 watch_seen watcher = record { samples = watcher.samples; reader = watcher.knows }
 
--- it is the same watcher: of the same processor and row, with the same plan, and takes as many samples
+-- it is the same watcher: of the same processor and row, with the same plan, and takes as many
+-- samples
 pub record IsSameWatcher (old new : WatcherView) : Type 0 where
   pub cpu : new.cpu ≡ old.cpu
   pub row : new.row ≡ old.row
@@ -58,14 +67,15 @@ pub record IsNewWatcher (cpu asked : ℕ) (row : Option TableId) (plan : PlanVie
   pub asked_is : watcher.asked ≡ asked
   pub none : watcher.samples ≡ []
 
--- A watcher may take samples of a slot: its last one is the slot's clock after as many changes as it has seen.
+-- A watcher may take samples of a slot: its last one is the slot's clock after as many changes as
+-- it has seen.
 pub record MaySample (slot : ℕ) (watcher : WatcherView) : Type 0 where
   pub slot_is : slot < length watcher.knows.plan.parents
   pub clock : IsClock watcher.last.clock watcher.knows.plan slot watcher.last.count
   pub seen : watcher.last.count ≡ watcher.knows.seen
 
--- A watcher met the writer, whose clocks these are: it has seen its changes, and has its clock of a slot as the last sample. It
--- tried nothing.
+-- A watcher met the writer, whose clocks these are: it has seen its changes, and has its clock of a
+-- slot as the last sample. It tried nothing.
 pub record HasMet (slot : ℕ) (on : OnPlan) (old new : WatcherView) : Type 0 where
   pub same : IsSameWatcher old new
   pub got : new.knows.got ≡ old.knows.got
@@ -74,7 +84,8 @@ pub record HasMet (slot : ℕ) (on : OnPlan) (old new : WatcherView) : Type 0 wh
   pub count : new.last.count ≡ on.made
   pub clock : IsClock new.last.clock on.plan slot on.made
 
--- A watcher took its samples of a slot after its last one, by its own tries, eight at most for each, up to what it has seen now.
+-- A watcher took its samples of a slot after its last one, by its own tries, eight at most for
+-- each, up to what it has seen now.
 pub record HasSampled (slot : ℕ) (old new : WatcherView) : Type 0 where
   pub same : IsSameWatcher old new
   pub many : length new.samples ≡ old.asked
@@ -140,7 +151,8 @@ AreSettled batches watchers = (k : ℕ) → k < length watchers → (watcher_at 
 -- each took its samples of a slot beside the changes of its lane
 pub record HaveWatched (slot : ℕ) (batches_old batches_new : List (List LaneView)) (old new : List WatcherView) : Type 0 where
   pub many : length new ≡ length old
-  pub each : (k : ℕ) → k < length old → HasWatched slot (lane_of batches_old k) (lane_of batches_new k) (watcher_at old k) (watcher_at new k)
+  pub each : (k : ℕ) → k < length old → HasWatched slot (lane_of batches_old k) (lane_of batches_new k) (watcher_at old k)
+      (watcher_at new k)
 
 -- each put its samples away
 pub record HaveCleared (old new : List WatcherView) : Type 0 where
@@ -150,11 +162,13 @@ pub record HaveCleared (old new : List WatcherView) : Type 0 where
 -- New watchers of so many processors, which take so many samples.
 pub record AreNewWatchers (batches : List (List LaneView)) (cpus asked : ℕ) (watchers : List WatcherView) : Type 0 where
   pub many : length watchers ≡ cpus
-  pub each : (cpu : ℕ) → cpu < length watchers → IsNewWatcher cpu asked (lane_of batches cpu).row (lane_of batches cpu).on.plan (watcher_at watchers cpu)
+  pub each : (cpu : ℕ) → cpu < length watchers → IsNewWatcher cpu asked (lane_of batches cpu).row (lane_of batches cpu).on.plan
+      (watcher_at watchers cpu)
 
 -- ---- crews
 
--- A watcher of a crew is that of a processor: it has the row of its lane, and its plan, and takes so many samples.
+-- A watcher of a crew is that of a processor: it has the row of its lane, and its plan, and takes
+-- so many samples.
 pub record IsWatcherOf (plans : PlansView) (batches : List (List LaneView)) (asked cpu : ℕ) (watcher : WatcherView) : Type 0 where
   pub cpu_is : watcher.cpu ≡ cpu
   pub row : Some watcher.row ≡ (lane_of batches cpu).row
@@ -168,7 +182,8 @@ pub record AreWatchers (plans : PlansView) (batches : List (List LaneView)) (ask
   pub each : (cpu : ℕ) → cpu < length watchers → IsWatcherOf plans batches asked cpu (watcher_at watchers cpu)
 
 -- A crew has lanes, and watchers of these.
-pub record IsCrew (plans : PlansView) (batches : List (List LaneView)) (ticks : Ticks) (out room asked : ℕ) (watchers : List WatcherView) : Type 0 where
+pub record IsCrew (plans : PlansView) (batches : List (List LaneView)) (ticks : Ticks) (out room asked : ℕ)
+    (watchers : List WatcherView) : Type 0 where
   pub lanes : AreLanes plans batches ticks out room
   pub watched : AreWatchers plans batches asked watchers
 

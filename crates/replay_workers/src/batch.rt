@@ -7,7 +7,8 @@ ghost use Rattle.replay_workers.specs.Lanes.{HaveAllGone, HaveGone, MayAllGo};
 
 use crate::lane::Lane;
 use crate::ticks::Ticks;
-use psi_base::{Gate, Ns};
+use outside::Gate;
+use psi_base::Ns;
 use std::marker::Model;
 use std::thread;
 use std::thread::Threads;
@@ -50,8 +51,9 @@ impl<'a> Batch<'a> {
     }
 }
 
-// In how many threads to work: in one for each so many changes that the batches have up to a moment (ns), and in no more than
-// there are batches; in the caller's alone, where no more than one of them has a change.
+// In how many threads to work: in one for each so many changes that the batches have up to a moment
+// (ns), and in no more than there are batches; in the caller's alone, where no more than one of
+// them has a change.
 fn threads_for(batches: &[Batch<'_>], until: Ns, worth: u64) -> usize
     requires { 0 < worth }
     ensures { 0 < result }
@@ -69,8 +71,9 @@ fn threads_for(batches: &[Batch<'_>], until: Ns, worth: u64) -> usize
     batches.len().min((changes / worth) as usize).max(1)
 }
 
-/// Makes the changes of all batches up to each tick, and keeps the times of all groups there, each batch in a thread of its own
-/// where one can be started, but in no more threads than one for each so many changes: they tell nothing of one another.
+/// Makes the changes of all batches up to each tick, and keeps the times of all groups there, each
+/// batch in a thread of its own where one can be started, but in no more threads than one for each
+/// so many changes: they tell nothing of one another.
 pub(crate) fn go_all<R: Threads + Sync, G: Gate>(
     rt: &R,
     batches: &mut [Batch<'_>],

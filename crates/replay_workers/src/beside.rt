@@ -10,7 +10,8 @@ ghost use Rattle.replay_workers.specs.Watches.{AreNewWatchers, AreSettled, AreWa
 use crate::batch::{Batch, go_all};
 use crate::ticks::Ticks;
 use crate::watch::Watcher;
-use psi_base::{Cpu, Gate, NoMemory, Slot};
+use outside::Gate;
+use psi_base::{Cpu, NoMemory, Slot};
 use std::alloc::Global;
 use std::thread::{Threads, join};
 
@@ -32,12 +33,12 @@ fn watcher_of(
     batch.lanes[cpu.0 as usize / workers].watcher(alloc, asked)
 }
 
-/// How many changes are worth a thread, where a crew goes interval by interval: it takes about as long to start one as to make
-/// so many changes.
+/// How many changes are worth a thread, where a crew goes interval by interval: it takes about as
+/// long to start one as to make so many changes.
 pub(crate) const WORTH_THREAD: u64 = 2_000;
 
-/// Watchers of the lanes of so many processors, whose clocks are in rows. Each is to take so many samples in an interval. They
-/// take all the memory that they need.
+/// Watchers of the lanes of so many processors, whose clocks are in rows. Each is to take so many
+/// samples in an interval. They take all the memory that they need.
 pub(crate) fn watch(
     alloc: Global,
     batches: &mut [Batch<'_>],
@@ -147,9 +148,10 @@ fn sampled<G: Gate>(mut watchers: Vec<Watcher>, slot: Slot, gate: &G) -> Vec<Wat
     watchers
 }
 
-/// Makes the changes of all batches up to each tick, as [`go_all`] does, in threads where they are worth them. In a thread beside
-/// them all watchers take their samples of a slot, each after it met its lane and before it settles with it. Where there is no
-/// watcher, no thread of theirs is started.
+/// Makes the changes of all batches up to each tick, as [`go_all`] does, in threads where they are
+/// worth them. In a thread beside them all watchers take their samples of a slot, each after it met
+/// its lane and before it settles with it. Where there is no watcher, no thread of theirs is
+/// started.
 pub(crate) fn go_beside<'a, R: Threads + Sync, G: Gate>(
     rt: &R,
     batches: Vec<Batch<'a>>,

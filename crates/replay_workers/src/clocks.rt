@@ -5,12 +5,14 @@ ghost use Rattle.psi_spec.specs.Trace.{last_moment};
 ghost use Rattle.proc_plan.specs.Plans.{plan_at};
 ghost use Rattle.replay_workers.specs.Crew.{AreOnPlans, clocks_at, planned_with_irq};
 
+use outside::Gate;
 use pressure_spec::{TIMES, Times};
 use proc_plan::{IrqClocks, PlainClocks, Plans, ProcClocks};
-use psi_base::{Cpu, Gate, NoMemory, Ns, Slot};
+use psi_base::{Cpu, NoMemory, Ns, Slot};
 use std::alloc::Global;
 
-/// The clocks of all processors before the first change. They take all the memory that their changes need.
+/// The clocks of all processors before the first change. They take all the memory that their
+/// changes need.
 pub fn first_clocks(alloc: Global, plans: &Plans) -> Result<Vec<PlainClocks<'_>>, NoMemory>
     ensures on { IfOk result (λ clocks. AreOnPlans plans.now clocks.items) }
     ensures fresh { IfOk result (λ clocks. (cpu : ℕ) → cpu < length clocks.items →
@@ -41,8 +43,8 @@ pub fn make_until<C: ProcClocks, G: Gate>(clocks: &mut C, cpu: Cpu, changes: u64
 /// Where the interrupt time stands, behind the times in the seven states.
 const IRQ_PLACE: usize = 7;
 
-/// The times (ns) of a slot at a moment, after the changes that were made: those in the seven states, in their order, and the
-/// interrupt time behind them.
+/// The times (ns) of a slot at a moment, after the changes that were made: those in the seven
+/// states, in their order, and the interrupt time behind them.
 pub fn own_times<C: IrqClocks>(clocks: &mut C, slot: Slot, at: Ns) -> Times
     requires slot { slot.0 < length (C.plan clocks.old).parents }
     requires whole { IsPlan (C.plan clocks.old) }

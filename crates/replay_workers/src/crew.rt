@@ -16,21 +16,24 @@ use crate::watch::Watcher;
 use aggregate::Rows;
 use clock_row::{ClockReader, Sample};
 use cpu_clock::Clock;
+use outside::Gate;
 use proc_plan::Plans;
-use psi_base::{Cpu, Gate, NoMemory, Ns, Slot};
+use psi_base::{Cpu, NoMemory, Ns, Slot};
 use std::alloc::Global;
 use std::marker::Model;
 use std::mem;
 use std::thread::Threads;
 
-/// The clocks of all processors, which make the changes of a trace over some ticks at a time, each worker those of its own
-/// processors. They keep the times of all groups at each of these ticks, until [`Crew::fill`] hands them out. Beside the changes
-/// of an interval live samples of one group can be taken. Contracts see the plans, how many changes each processor's clocks
-/// made and in which row they are, the moments whose times are ready, over how many ticks the crew goes at once, and what is
-/// watched.
+/// The clocks of all processors, which make the changes of a trace over some ticks at a time, each
+/// worker those of its own processors. They keep the times of all groups at each of these ticks,
+/// until [`Crew::fill`] hands them out. Beside the changes of an interval live samples of one group
+/// can be taken. Contracts see the plans, how many changes each processor's clocks made and in
+/// which row they are, the moments whose times are ready, over how many ticks the crew goes at
+/// once, and what is watched.
 ///
-/// A crew that takes live samples has its clocks in rows. One that was made for them and watches nothing still has: who wants
-/// to take samples by readers of its own asks it for these, and settles and meets each with it between two intervals.
+/// A crew that takes live samples has its clocks in rows. One that was made for them and watches
+/// nothing still has: who wants to take samples by readers of its own asks it for these, and
+/// settles and meets each with it between two intervals.
 #[derive(Drop)]
 pub struct Crew<'a> {
     alloc: Global,
@@ -63,9 +66,9 @@ impl<'a> Model for Crew<'a> {
 }
 
 impl<'a> Crew<'a> {
-    /// The clocks of all processors before the first change, for 1 to 64 workers. A trace is to be taken to so many moments; they
-    /// bound what is kept. So many live samples of a processor are taken in an interval in which a group is watched. It takes
-    /// all the memory that a crew needs.
+    /// The clocks of all processors before the first change, for 1 to 64 workers. A trace is to be
+    /// taken to so many moments; they bound what is kept. So many live samples of a processor are
+    /// taken in an interval in which a group is watched. It takes all the memory that a crew needs.
     pub fn make(
         alloc: Global,
         plans: &'a Plans,
@@ -125,9 +128,9 @@ impl<'a> Crew<'a> {
         self.ticks.count - self.out
     }
 
-    /// Goes over ticks: each worker makes the changes of its processors up to each tick, those at the tick among them, and keeps
-    /// the times of all groups there. What was ready before isn't any more. Nothing is watched, and the samples of before are
-    /// gone. Takes no memory.
+    /// Goes over ticks: each worker makes the changes of its processors up to each tick, those at
+    /// the tick among them, and keeps the times of all groups there. What was ready before isn't
+    /// any more. Nothing is watched, and the samples of before are gone. Takes no memory.
     pub fn intervals<R: Threads + Sync, G: Gate>(&mut self, rt: &R, ticks: Ticks, gate: &G)
         requires some { 0 < ticks.count }
         requires within { ticks.count ≤ self.old.room }
@@ -149,7 +152,8 @@ impl<'a> Crew<'a> {
         self.out = 0;
     }
 
-    // Goes over ticks as `intervals` does, while beside the changes live samples of a slot are taken.
+    // Goes over ticks as `intervals` does, while beside the changes live samples of a slot are
+    // taken.
     fn intervals_beside<R: Threads + Sync, G: Gate>(
         &mut self,
         rt: &R,
@@ -179,9 +183,10 @@ impl<'a> Crew<'a> {
         self.out = 0;
     }
 
-    /// Makes the changes of all processors up to a moment (ns), those at the moment among them, and keeps the times of all groups
-    /// there. Where a slot is watched and the crew takes samples, so many of its clock are taken on each processor beside the
-    /// changes; the samples of before are gone. Takes no memory.
+    /// Makes the changes of all processors up to a moment (ns), those at the moment among them, and
+    /// keeps the times of all groups there. Where a slot is watched and the crew takes samples, so
+    /// many of its clock are taken on each processor beside the changes; the samples of before are
+    /// gone. Takes no memory.
     pub fn interval<R: Threads + Sync, G: Gate>(
         &mut self,
         rt: &R,
@@ -222,7 +227,8 @@ impl<'a> Crew<'a> {
         }
     }
 
-    /// Puts the times (ns) of all groups on all processors into a table, at the first moment that is ready. Takes no memory.
+    /// Puts the times (ns) of all groups on all processors into a table, at the first moment that
+    /// is ready. Takes no memory.
     pub fn fill(&mut self, at: Ns, rows: &mut Rows)
         requires first { slice_get self.old.ready 0 ≡ Some at }
         requires sizes { HasSizes (length self.old.plans.plans)
@@ -255,7 +261,8 @@ impl<'a> Crew<'a> {
         batch.lanes[cpu.0 as usize / workers].own(slot)
     }
 
-    /// A reader of a processor's row, which has seen the changes that were made. It may go to another thread.
+    /// A reader of a processor's row, which has seen the changes that were made. It may go to
+    /// another thread.
     pub fn reader(&mut self, cpu: Cpu) -> Result<ClockReader, NoMemory>
         requires cpu { cpu.0 < length self.old.plans.plans }
         requires in_row { is_some (row_at self.old.rows cpu.0) ≡ true }
@@ -269,8 +276,8 @@ impl<'a> Crew<'a> {
         batch.lanes[cpu.0 as usize / workers].reader()
     }
 
-    /// Tells a reader of a processor's row how many changes were made: it has then seen at least so many, and no fewer than
-    /// before. It takes no memory, and always answers Ok.
+    /// Tells a reader of a processor's row how many changes were made: it has then seen at least so
+    /// many, and no fewer than before. It takes no memory, and always answers Ok.
     pub fn meet(&mut self, cpu: Cpu, reader: &mut ClockReader) -> Result<(), NoMemory>
         requires cpu { cpu.0 < length self.old.plans.plans }
         requires own { Some reader.old.row ≡ row_at self.old.rows cpu.0 }
@@ -285,8 +292,8 @@ impl<'a> Crew<'a> {
         batch.lanes[cpu.0 as usize / workers].meet(reader)
     }
 
-    /// Learns from a reader of a processor's row what it has seen: that is at most the number of changes that were made. It
-    /// takes no memory, and always answers Ok.
+    /// Learns from a reader of a processor's row what it has seen: that is at most the number of
+    /// changes that were made. It takes no memory, and always answers Ok.
     pub fn settle(&mut self, cpu: Cpu, reader: &mut ClockReader) -> Result<(), NoMemory>
         requires cpu { cpu.0 < length self.old.plans.plans }
         requires own { Some reader.old.row ≡ row_at self.old.rows cpu.0 }

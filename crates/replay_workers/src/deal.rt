@@ -18,8 +18,8 @@ const MOST_AHEAD: u64 = 256;
 /// How many bytes the eight times of a group on a processor take.
 const TIMES_BYTES: u64 = 64;
 
-/// Over how many ticks a crew goes at once, where a trace is taken to so many moments: over as many as can be kept, no more than
-/// 256, and over one at least.
+/// Over how many ticks a crew goes at once, where a trace is taken to so many moments: over as many
+/// as can be kept, no more than 256, and over one at least.
 pub(crate) fn room_for(cpus: u32, slots: u32, moments: u64) -> u32
     requires { cpus ≤ 64 }
     ensures room { result ≡ room_of cpus slots moments }
@@ -30,8 +30,8 @@ pub(crate) fn room_for(cpus: u32, slots: u32, moments: u64) -> u32
     fits.min(moments).min(MOST_AHEAD).max(1) as u32
 }
 
-// The lanes of a worker, before any change: each processor whose number over that of the workers leaves the worker's own. Their
-// clocks are in rows or plain.
+// The lanes of a worker, before any change: each processor whose number over that of the workers
+// leaves the worker's own. Their clocks are in rows or plain.
 fn deal_batch<'a>(
     alloc: Global,
     plans: &'a Plans,
@@ -55,7 +55,8 @@ fn deal_batch<'a>(
     Ok(Batch { lanes })
 }
 
-/// All processors, dealt to so many workers, before any change, with clocks in rows where they are to be watched.
+/// All processors, dealt to so many workers, before any change, with clocks in rows where they are
+/// to be watched.
 pub(crate) fn deal<'a>(
     alloc: Global,
     plans: &'a Plans,

@@ -61,7 +61,8 @@ pub(crate) fn lane_in<'b, 'a>(batches: &'b [Batch<'a>], cpu: Cpu) -> &'b Lane<'a
     &batch.lanes[cpu.0 as usize / workers]
 }
 
-// Puts the times (ns) of a group on all processors into its row, those that are kept for the tick with a number from 0.
+// Puts the times (ns) of a group on all processors into its row, those that are kept for the tick
+// with a number from 0.
 fn fill_row(plans: &Plans, batches: &[Batch<'_>], tick: u32, slot: Slot, rows: &mut Rows)
     requires sizes { HasSizes (length plans.now.plans) (length plans.now.lives) rows.old }
     requires slot { slot.0 < length plans.now.lives }
@@ -83,8 +84,8 @@ fn fill_row(plans: &Plans, batches: &[Batch<'_>], tick: u32, slot: Slot, rows: &
     }
 }
 
-/// Puts the times (ns) of all groups on all processors at a moment into a table, those that are kept for the tick with a number
-/// from 0: row by row, as the table has them.
+/// Puts the times (ns) of all groups on all processors at a moment into a table, those that are
+/// kept for the tick with a number from 0: row by row, as the table has them.
 pub(crate) fn fill(plans: &Plans, batches: &[Batch<'_>], tick: u32, rows: &mut Rows)
     requires sizes { HasSizes (length plans.now.plans) (length plans.now.lives) rows.old }
     requires kept { (at : ℕ) × AreKept plans.now batches.now tick at }

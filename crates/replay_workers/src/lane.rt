@@ -13,14 +13,16 @@ use crate::ticks::Ticks;
 use crate::watch::Watcher;
 use clock_row::ClockReader;
 use cpu_clock::Clock;
+use outside::Gate;
 use pressure_spec::{TIMES, Times};
 use proc_plan::{Plan, Plans};
-use psi_base::{Cpu, Gate, NoMemory, Ns, Slot};
+use psi_base::{Cpu, NoMemory, Ns, Slot};
 use std::alloc::Global;
 use std::marker::Model;
 
-/// The clocks of one processor, and the times of all groups there at the ticks that they went over last. Contracts see the
-/// processor, the row if the clocks are in one, how many changes of which plan were made, and what is kept.
+/// The clocks of one processor, and the times of all groups there at the ticks that they went over
+/// last. Contracts see the processor, the row if the clocks are in one, how many changes of which
+/// plan were made, and what is kept.
 #[derive(Drop)]
 pub(crate) struct Lane<'a> {
     cpu: Cpu,
@@ -54,8 +56,8 @@ fn places(alloc: Global, count: usize) -> Result<Vec<Times>, NoMemory>
 }
 
 impl<'a> Lane<'a> {
-    /// A processor before its first change, with room for the times of so many ticks, and with clocks in a row where they are
-    /// to be watched. It takes all the memory that its changes need.
+    /// A processor before its first change, with room for the times of so many ticks, and with
+    /// clocks in a row where they are to be watched. It takes all the memory that its changes need.
     pub(crate) fn make(
         alloc: Global,
         plans: &'a Plans,
@@ -126,7 +128,8 @@ impl<'a> Lane<'a> {
         writer.reader()
     }
 
-    /// Tells a reader of the processor's row how many changes were made. It takes no memory, and always answers Ok.
+    /// Tells a reader of the processor's row how many changes were made. It takes no memory, and
+    /// always answers Ok.
     pub(crate) fn meet(&mut self, reader: &mut ClockReader) -> Result<(), NoMemory>
         requires { Some reader.old.row ≡ self.old.row }
         ensures ok { result ≡ Ok tt }
@@ -140,8 +143,8 @@ impl<'a> Lane<'a> {
         writer.meet(reader)
     }
 
-    /// Learns from a reader of the processor's row what it has seen: no more changes than were made. It takes no memory, and
-    /// always answers Ok.
+    /// Learns from a reader of the processor's row what it has seen: no more changes than were
+    /// made. It takes no memory, and always answers Ok.
     pub(crate) fn settle(&mut self, reader: &mut ClockReader) -> Result<(), NoMemory>
         requires { Some reader.old.row ≡ self.old.row }
         ensures ok { result ≡ Ok tt }
@@ -155,8 +158,8 @@ impl<'a> Lane<'a> {
         writer.settle(reader)
     }
 
-    /// A watcher of the processor, whose clocks are in a row. It is to take so many samples in an interval, and takes all the
-    /// memory that it needs.
+    /// A watcher of the processor, whose clocks are in a row. It is to take so many samples in an
+    /// interval, and takes all the memory that it needs.
     pub(crate) fn watcher(&mut self, alloc: Global, asked: u32) -> Result<Watcher, NoMemory>
         requires { IsInRow self.old }
         ensures same { self.new ≡ self.old }
@@ -169,7 +172,8 @@ impl<'a> Lane<'a> {
         Watcher::make(alloc, self.cpu, writer, asked)
     }
 
-    /// Meets the processor's watcher: it learns how many changes were made, and what the clock of a slot is after them.
+    /// Meets the processor's watcher: it learns how many changes were made, and what the clock of a
+    /// slot is after them.
     pub(crate) fn meet_watcher(&mut self, watcher: &mut Watcher, slot: Slot)
         requires row { Some watcher.old.row ≡ self.old.row }
         requires plan { watcher.old.knows.plan ≡ self.old.on.plan }

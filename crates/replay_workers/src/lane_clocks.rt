@@ -9,9 +9,10 @@ use crate::clocks::{make_until, own_times};
 use crate::ticks::Ticks;
 use clock_row::{ClockWriter, Row};
 use cpu_clock::Clock;
+use outside::Gate;
 use pressure_spec::Times;
 use proc_plan::{IrqClocks, PlainClocks, Plan, ProcClocks};
-use psi_base::{Cpu, Gate, NoMemory, Ns, Slot};
+use psi_base::{Cpu, NoMemory, Ns, Slot};
 use std::alloc::Global;
 
 /// The clocks of a processor. A change costs about twice as much where they are in a row.
@@ -23,8 +24,8 @@ pub(crate) enum LaneClocks<'a> {
     Row(ClockWriter<'a>),
 }
 
-// Keeps the times (ns) of all groups at the tick with a number from 0, whose moment this is. The clocks made all changes up to
-// the moment.
+// Keeps the times (ns) of all groups at the tick with a number from 0, whose moment this is. The
+// clocks made all changes up to the moment.
 fn keep_tick<C: IrqClocks>(clocks: &mut C, slots: u32, tick: u32, at: Ns, kept: &mut [Times])
     requires known { slots ≡ length (C.plan clocks.old).parents }
     requires whole { IsPlan (C.plan clocks.old) }
@@ -75,8 +76,8 @@ fn go_over<C: IrqClocks, G: Gate>(
 }
 
 impl<'a> LaneClocks<'a> {
-    /// The clocks before the first change of a plan that knows the parents of so many slots, in a row or plain. They take all
-    /// the memory that their changes need.
+    /// The clocks before the first change of a plan that knows the parents of so many slots, in a
+    /// row or plain. They take all the memory that their changes need.
     pub(crate) fn make(
         alloc: Global,
         plan: &'a Plan,

@@ -1,4 +1,5 @@
-//! The changes of all processors up to ticks, in the threads of workers, and the table of times that the clocks give at each.
+//! The changes of all processors up to ticks, in the threads of workers, and the table of times
+//! that the clocks give at each.
 #![tactic(auto)]
 
 mod batch;

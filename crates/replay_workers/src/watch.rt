@@ -11,13 +11,14 @@ ghost use Rattle.replay_workers.specs.Watches.{HasCleared, HasMet, HasSampled, I
 
 use clock_row::{ClockReader, ClockWriter, Sample};
 use cpu_clock::Clock;
+use outside::Gate;
 use proc_plan::ProcClocks;
-use psi_base::{Cpu, Gate, NoMemory, Slot};
+use psi_base::{Cpu, NoMemory, Slot};
 use std::alloc::Global;
 use std::marker::Model;
 
-/// A reader of one processor's row, and the samples that it took in the last interval. Contracts see the processor, the row,
-/// what the reader knows, and the samples.
+/// A reader of one processor's row, and the samples that it took in the last interval. Contracts
+/// see the processor, the row, what the reader knows, and the samples.
 #[derive(Drop)]
 pub(crate) struct Watcher {
     cpu: Cpu,
@@ -47,7 +48,8 @@ impl Model for Watcher {
     ghost invariant = { λ w. w.asked ≤ vec_capacity w.samples };
 }
 
-// Takes so many samples of a slot after the last one, and tells the gate of each. There is room for them.
+// Takes so many samples of a slot after the last one, and tells the gate of each. There is room for
+// them.
 fn sample_on<G: Gate>(
     reader: &mut ClockReader,
     samples: &mut Vec<Sample>,
@@ -86,8 +88,8 @@ fn sample_on<G: Gate>(
 }
 
 impl Watcher {
-    /// A watcher of a writer's row, which is to take so many samples of it in an interval. It takes all the memory that it
-    /// needs.
+    /// A watcher of a writer's row, which is to take so many samples of it in an interval. It takes
+    /// all the memory that it needs.
     pub(crate) fn make(
         alloc: Global,
         cpu: Cpu,
@@ -162,7 +164,8 @@ impl Watcher {
         let _told = writer.settle(&mut self.reader);
     }
 
-    /// Takes its samples of a slot, and tells the gate of each. Takes no memory, and at most eight tries for each.
+    /// Takes its samples of a slot, and tells the gate of each. Takes no memory, and at most eight
+    /// tries for each.
     pub(crate) fn sample<G: Gate>(&mut self, slot: Slot, gate: &G)
         requires { MaySample slot.0 self.old }
         ensures { HasSampled slot.0 self.old self.new }

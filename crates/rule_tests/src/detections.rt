@@ -1,4 +1,5 @@
-//! Detectors over rows of readings, each with what is wanted. The numbers are from the rules of detectors.
+//! Detectors over rows of readings, each with what is wanted. The numbers are from the rules of
+//! detectors.
 
 use crate::checks::MOST;
 use crate::readings::{NO_HOST, SECOND, bare_group, life, scanned, using};
@@ -12,7 +13,8 @@ use std::alloc::Global;
 use std::process::Abort;
 use std::test::Fail;
 
-/// A reading as a test has it: its moment (s), the host, the groups, and whether the detector is true at it.
+/// A reading as a test has it: its moment (s), the host, the groups, and whether the detector is
+/// true at it.
 #[derive(Clone, Copy, Debug)]
 struct Case {
     at_s: u32,
@@ -105,7 +107,8 @@ fn pressure_above(alloc: Global, text: &str, duration_s: u32) -> Result<Detector
     })
 }
 
-// Pressure over 60 s is above 40 percent for so many seconds, and that over 10 s is still 0.85 of the last one.
+// Pressure over 60 s is above 40 percent for so many seconds, and that over 10 s is still 0.85 of
+// the last one.
 fn pressure_rising(alloc: Global, text: &str, duration_s: u32) -> Result<DetectorSpec, Fail> {
     Ok(DetectorSpec::PressureRisingBeyond {
         cgroup: patterns(alloc, text)?,

@@ -1,5 +1,5 @@
-//! Rules over rows of readings, each with the kills that are wanted. What is wanted follows from the rules of chains and
-//! of rests.
+//! Rules over rows of readings, each with the kills that are wanted. What is wanted follows from
+//! the rules of chains and of rests.
 
 use crate::readings::{NO_HOST, SECOND, life, using};
 use crate::rig::Rig;
@@ -13,8 +13,8 @@ use std::alloc::Global;
 use std::process::Abort;
 use std::test::Fail;
 
-/// A reading as a test has it, five seconds after the one before: the group `/a`, if it is live, and the kills that are
-/// wanted, each as moment (s), ruleset, action and slot.
+/// A reading as a test has it, five seconds after the one before: the group `/a`, if it is live,
+/// and the kills that are wanted, each as moment (s), ruleset, action and slot.
 #[derive(Clone, Copy, Debug)]
 struct Case {
     group: Option<GroupReading>,

@@ -47,7 +47,8 @@ impl Rig {
         })
     }
 
-    /// The next reading, at a later moment (ns): the host, and the groups in the byte order of their paths.
+    /// The next reading, at a later moment (ns): the host, and the groups in the byte order of
+    /// their paths.
     pub fn read(
         &mut self,
         at: Ns,

@@ -1,4 +1,5 @@
-//! Choices over rows of readings, each with the victim that is wanted. The numbers are from the rules of victims.
+//! Choices over rows of readings, each with the victim that is wanted. The numbers are from the
+//! rules of victims.
 
 use crate::checks::{MOST, is_action};
 use crate::readings::{NO_HOST, SECOND, bare_group, life, scanned, using};
@@ -46,7 +47,8 @@ fn pressed(slot: u32, ten: u64, sixty: u64) -> Option<GroupReading> {
     Some(group)
 }
 
-/// The root, three groups below it, and two below the first of them, whose paths come before those of the others.
+/// The root, three groups below it, and two below the first of them, whose paths come before those
+/// of the others.
 fn lives(alloc: Global) -> Result<Vec<GroupLife>, Fail> {
     let mut lives = Vec::new(alloc);
     lives.push(life(alloc, "/", None)?)?;
@@ -67,7 +69,8 @@ fn after(recursive: bool) -> After {
     }
 }
 
-/// The groups right below the root, by size or growth: half of the memory of all, or a growth by 1.25.
+/// The groups right below the root, by size or growth: half of the memory of all, or a growth by
+/// 1.25.
 fn size_or_growth(alloc: Global, percentile: u32, recursive: bool) -> Result<Action, Fail> {
     Ok(Action::SizeOrGrowth {
         cgroup: Patterns::read(alloc, "*")?,
@@ -142,8 +145,8 @@ fn growth_is_over_the_mean_of_the_past(rt: HostRuntime) -> Result<(), Fail> {
     kills(&rt, rt.alloc(), &action, &[now], Some(Slot(1)))
 }
 
-// A reading at which the group wasn't live is left out, and so is the fifth size before the present one: over four sizes of 30
-// it grew by 1.23, and over three of them and one of 10 by 1.48.
+// A reading at which the group wasn't live is left out, and so is the fifth size before the present
+// one: over four sizes of 30 it grew by 1.23, and over three of them and one of 10 by 1.48.
 #[test]
 fn the_past_has_four_sizes(rt: HostRuntime) -> Result<(), Fail> {
     let first = [using(1, 40), using(2, 10), using(3, 40)];
@@ -167,7 +170,8 @@ fn the_past_has_four_sizes(rt: HostRuntime) -> Result<(), Fail> {
     )
 }
 
-// Of three groups one stands above the percentile 80: 0.6, rounded up. So the one that grew isn't looked at.
+// Of three groups one stands above the percentile 80: 0.6, rounded up. So the one that grew isn't
+// looked at.
 #[test]
 fn the_percentile_is_rounded_up(rt: HostRuntime) -> Result<(), Fail> {
     let before = [using(1, 40), using(2, 30), using(3, 30)];
@@ -188,7 +192,8 @@ fn the_percentile_is_rounded_up(rt: HostRuntime) -> Result<(), Fail> {
     )
 }
 
-// A group with half of all is taken though another grew; at a total of 0 each has its share, and the first path is taken.
+// A group with half of all is taken though another grew; at a total of 0 each has its share, and
+// the first path is taken.
 #[test]
 fn half_of_all_is_large(rt: HostRuntime) -> Result<(), Fail> {
     let before = [using(1, 50), using(2, 10), None];
@@ -297,7 +302,8 @@ fn pressure_and_scans_are_above_zero(rt: HostRuntime) -> Result<(), Fail> {
 
 // ---- children
 
-// The choice goes down to a child, though no pattern matches it, and stays where no child is eligible.
+// The choice goes down to a child, though no pattern matches it, and stays where no child is
+// eligible.
 #[test]
 fn recursive_goes_down(rt: HostRuntime) -> Result<(), Fail> {
     let sizes = [using(1, 60), using(4, 20), using(5, 40)];

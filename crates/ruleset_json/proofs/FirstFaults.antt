@@ -1,4 +1,5 @@
--- A list is read exactly where each item is, and refused exactly with the fault of its first item that is.
+-- A list is read exactly where each item is, and refused exactly with the fault of its first item
+-- that is.
 use Rattle.std.proofs.Common.{◌≡◌, ℕ, zero, suc, ◌+◌, ◌<◌, List, [], ◌∷◌, length, refl, sym, ap, subst, ◌∙◌, arith}
 use Rattle.std.specs.Prelude.{Some, Result, Ok, Err}
 use Rattle.std.specs.List.{slice_get}

@@ -1,4 +1,5 @@
--- The arguments of plugins: of what kind each is, what its text means, and what stands where it isn't there.
+-- The arguments of plugins: of what kind each is, what its text means, and what stands where it
+-- isn't there.
 use Rattle.std.specs.Prelude.{ℕ, List, [], ◌∷◌, Bool, true, false, codes, decimal, Option, None, Some, option_and_then, Result, Ok, Err}
 use Rattle.psi_base.specs.declared.event.Res.{Res}
 use Rattle.path_match.specs.Match.{patterns_of}
@@ -34,7 +35,8 @@ or_fault at what (Some x) = Ok x
 
 -- ---- kinds of arguments
 
--- patterns of paths; a resource; a number of at most so much; a ratio, in thousandths; a size; a truth
+-- patterns of paths; a resource; a number of at most so much; a ratio, in thousandths; a size; a
+-- truth
 pub data ArgumentKind : Type 0 where
   patterns : ArgumentKind
   resource : ArgumentKind
@@ -123,13 +125,14 @@ unfoldable pub argument_at : Place → (a : Argument) → Option Data → Result
 argument_at at a args = found_or at a.kind a.default (option_and_then (get (key_word a.key)) args)
 
 -- what is made of arguments: a function of a value of each of them, in their order
-abbrev pub Maker : List Argument → Type 0 → Type 0
-Maker [] Made = Made
-Maker (a ∷ known) Made = ArgumentValue a.kind → Maker known Made
+abbrev pub ArgumentsMaker : List Argument → Type 0 → Type 0
+ArgumentsMaker [] Made = Made
+ArgumentsMaker (a ∷ known) Made = ArgumentValue a.kind → ArgumentsMaker known Made
 
 -- what it gives for the arguments of a plugin, which are read in that order
-abbrev pub made_from : {Made : Type 0} → Place → (known : List Argument) → Maker known Made → Option Data → Result Made RulesFault
-made_from at [] made args = Ok made
-made_from at (a ∷ known) make args = do
+abbrev pub made_of_arguments : {Made : Type 0} → Place → (known : List Argument) → ArgumentsMaker known Made → Option Data
+    → Result Made RulesFault
+made_of_arguments at [] made args = Ok made
+made_of_arguments at (a ∷ known) make args = do
   value ← argument_at at a args
-  made_from at known (make value) args
+  made_of_arguments at known (make value) args

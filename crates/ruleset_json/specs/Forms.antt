@@ -1,4 +1,5 @@
--- The texts of arguments, as this profile has them after oomd's: numbers, ratios, sizes, truths and resources.
+-- The texts of arguments, as this profile has them after oomd's: numbers, ratios, sizes, truths and
+-- resources.
 use Rattle.std.specs.Prelude.{ℕ, ◌+◌, ◌-◌, ◌*◌, ◌/◌, ◌^◌, List, [], ◌∷◌, ◌++◌, take, length, slice_index, nat_lt, nat_le, ◌==◌, ◌&&◌, ◌||◌, Bool, true, false, if◌then◌else◌, codes, Option, None, Some, option_map}
 use Rattle.std.specs.List.{list_any}
 use Rattle.std.specs.Str.{bytes_eq}
@@ -43,8 +44,8 @@ pointed most (whole ∷ digits ∷ []) = do
   Some (n, fraction)
 pointed most (whole ∷ digits ∷ other ∷ parts) = None
 
--- the thousandths that a text spells: a number of at most so much, which may be followed by a point and one to three
--- digits
+-- the thousandths that a text spells: a number of at most so much, which may be followed by a point
+-- and one to three digits
 unfoldable pub thousandths_of : ℕ → List ℕ → Option ℕ
 thousandths_of most text = do
   parts ← pointed most (parts_at 46 text)
@@ -77,7 +78,8 @@ front text = take (length text - 1) text
 abbrev pub largest_size : ℕ
 largest_size = 2 ^ 60
 
--- the bytes that a number with this unit behind it is: it may have a point, and the bytes are rounded down
+-- the bytes that a number with this unit behind it is: it may have a point, and the bytes are
+-- rounded down
 unfoldable pub scaled : ℕ → List ℕ → Option ℕ
 scaled unit text = do
   thousandths ← thousandths_of (2 ^ 64 - 1) text

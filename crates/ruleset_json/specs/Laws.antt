@@ -1,4 +1,5 @@
--- What the walk through a list amounts to: all items are read, or the first that is refused gives the fault.
+-- What the walk through a list amounts to: all items are read, or the first that is refused gives
+-- the fault.
 use Rattle.std.specs.Prelude.{◌≡◌, ◌↔◌, ℕ, ◌+◌, ◌<◌, List, length, Some, Result, Ok, Err}
 use Rattle.std.specs.List.{slice_get}
 use Rattle.std.specs.Result.{IsOk}
@@ -12,7 +13,8 @@ pub record AreRead {A : Type 0} (read : ℕ → Data → Result A RulesFault) (f
   pub each : (k : ℕ) (item : Data) (x : A) → slice_get items k ≡ Some item → slice_get found k ≡ Some x → read (from + k) item ≡ Ok x
 
 -- some item is refused with this fault, and each before it is read
-pub record IsFirstFault {A : Type 0} (read : ℕ → Data → Result A RulesFault) (from : ℕ) (items : List Data) (fault : RulesFault) : Type 0 where
+pub record IsFirstFault {A : Type 0} (read : ℕ → Data → Result A RulesFault) (from : ℕ) (items : List Data)
+    (fault : RulesFault) : Type 0 where
   pub at : ℕ
   pub item : Data
   pub stands : slice_get items at ≡ Some item
@@ -21,8 +23,12 @@ pub record IsFirstFault {A : Type 0} (read : ℕ → Data → Result A RulesFaul
 
 -- A list is read exactly where each of its items is.
 abbrev pub ReadsEach : (A : Type 0) → Type 0
-ReadsEach A = (read : ℕ → Data → Result A RulesFault) (from : ℕ) (items : List Data) (found : List A) → (each read from items ≡ Ok found) ↔ AreRead read from items found
+ReadsEach A =
+    (read : ℕ → Data → Result A RulesFault) (from : ℕ) (items : List Data) (found : List A)
+    → (each read from items ≡ Ok found) ↔ AreRead read from items found
 
 -- A list is refused exactly with the fault of its first item that is.
 abbrev pub RefusesFirst : (A : Type 0) → Type 0
-RefusesFirst A = (read : ℕ → Data → Result A RulesFault) (from : ℕ) (items : List Data) (fault : RulesFault) → (each read from items ≡ Err fault) ↔ IsFirstFault read from items fault
+RefusesFirst A =
+    (read : ℕ → Data → Result A RulesFault) (from : ℕ) (items : List Data) (fault : RulesFault)
+    → (each read from items ≡ Err fault) ↔ IsFirstFault read from items fault

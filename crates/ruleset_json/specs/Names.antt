@@ -19,7 +19,9 @@ detector_word detector.Exists = codes "exists"
 
 -- the detectors that there are
 abbrev pub detector_names : List DetectorName
-detector_names = detector.PressureAbove ∷ detector.PressureRisingBeyond ∷ detector.MemoryAbove ∷ detector.MemoryReclaim ∷ detector.SwapFree ∷ detector.Exists ∷ []
+detector_names =
+    detector.PressureAbove ∷ detector.PressureRisingBeyond ∷ detector.MemoryAbove ∷ detector.MemoryReclaim ∷ detector.SwapFree
+    ∷ detector.Exists ∷ []
 
 -- the detector that is called so
 unfoldable pub detector_named : List ℕ → Option DetectorName

@@ -1,5 +1,5 @@
--- The parts that a drop-in file's bytes give, or the first fault on the walk through it. It is read as a rules file,
--- with one difference: a ruleset may lack its detectors, its actions, or both.
+-- The parts that a drop-in file's bytes give, or the first fault on the walk through it. It is read
+-- as a rules file, with one difference: a ruleset may lack its detectors, its actions, or both.
 use Rattle.std.specs.Prelude.{ℕ, List, codes, Option, None, Some, Result, Ok}
 use Rattle.serde_json.specs.Data.{Data}
 use Rattle.serde_json.specs.Find.{get}

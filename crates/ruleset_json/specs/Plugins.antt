@@ -1,5 +1,5 @@
--- The detectors and the actions: their arguments in the order in which they are read, and what these make. They are
--- core plugins of oomd, with the arguments that this profile knows of them.
+-- The detectors and the actions: their arguments in the order in which they are read, and what
+-- these make. They are core plugins of oomd, with the arguments that this profile knows of them.
 use Rattle.std.specs.Prelude.{ℕ, List, [], ◌∷◌, false}
 use Rattle.ruleset_json.specs.declared.name.DetectorName.{DetectorName}
 use Rattle.ruleset_json.specs.declared.name.DetectorName.TheVariants.{PressureAbove, PressureRisingBeyond, MemoryAbove, MemoryReclaim, SwapFree, Exists}
@@ -12,15 +12,15 @@ use Rattle.ruleset_json.specs.declared.types.DetectorSpec.{DetectorSpec}
 use Rattle.ruleset_json.specs.declared.types.DetectorSpec.TheVariants as detector
 use Rattle.ruleset_json.specs.declared.types.Action.{Action}
 use Rattle.ruleset_json.specs.declared.types.Action.TheVariants as action
-use Rattle.ruleset_json.specs.Arguments.{Argument, Maker, required, optional, patterns, resource, number, ratio, size, truth}
+use Rattle.ruleset_json.specs.Arguments.{Argument, ArgumentsMaker, required, optional, patterns, resource, number, ratio, size, truth}
 
 -- a plugin: its arguments, and what their values make
 pub record Plugin (Made : Type 0) : Type 0 where
   pub arguments : List Argument
-  pub make : Maker arguments Made
+  pub make : ArgumentsMaker arguments Made
 
 -- the plugin of these parts
-abbrev pub plugin : {Made : Type 0} (arguments : List Argument) → Maker arguments Made → Plugin Made
+abbrev pub plugin : {Made : Type 0} (arguments : List Argument) → ArgumentsMaker arguments Made → Plugin Made
 plugin arguments make = record { arguments = arguments; make = make }
 
 -- the greatest percentage
@@ -33,22 +33,36 @@ longest = 1000000
 
 -- the detectors
 unfoldable pub detector_of : DetectorName → Plugin DetectorSpec
-detector_of PressureAbove = plugin (required key.Cgroup patterns ∷ required key.Resource resource ∷ required key.Threshold (number percent) ∷ required key.Duration (number longest) ∷ []) detector.PressureAbove
-detector_of PressureRisingBeyond = plugin (required key.Cgroup patterns ∷ required key.Resource resource ∷ required key.Threshold (number percent) ∷ required key.Duration (number longest) ∷ optional key.FastFallRatio ratio 850 ∷ []) detector.PressureRisingBeyond
-detector_of MemoryAbove = plugin (required key.Cgroup patterns ∷ required key.Threshold size ∷ required key.Duration (number longest) ∷ []) detector.MemoryAbove
+detector_of PressureAbove =
+    plugin (required key.Cgroup patterns ∷ required key.Resource resource ∷ required key.Threshold (number percent)
+    ∷ required key.Duration (number longest) ∷ []) detector.PressureAbove
+detector_of PressureRisingBeyond =
+    plugin (required key.Cgroup patterns ∷ required key.Resource resource ∷ required key.Threshold (number percent)
+    ∷ required key.Duration (number longest) ∷ optional key.FastFallRatio ratio 850 ∷ []) detector.PressureRisingBeyond
+detector_of MemoryAbove =
+    plugin (required key.Cgroup patterns ∷ required key.Threshold size ∷ required key.Duration (number longest) ∷ []) detector.MemoryAbove
 detector_of MemoryReclaim = plugin (required key.Cgroup patterns ∷ required key.Duration (number longest) ∷ []) detector.MemoryReclaim
 detector_of SwapFree = plugin (required key.ThresholdPct (number percent) ∷ []) detector.SwapFree
 detector_of Exists = plugin (required key.Cgroup patterns ∷ optional key.Negate truth false ∷ []) detector.Exists
 
 -- the actions: what their own arguments make, once it is known what each says beside its choice
 unfoldable pub action_of : ActionName → Plugin (After → Action)
-action_of SizeOrGrowth = plugin (required key.Cgroup patterns ∷ optional key.SizeThreshold (number percent) 50 ∷ optional key.GrowingSizePercentile (number percent) 80 ∷ optional key.MinGrowthRatio ratio 1250 ∷ [])
+action_of SizeOrGrowth =
+    plugin (required key.Cgroup patterns ∷ optional key.SizeThreshold (number percent) 50
+    ∷ optional key.GrowingSizePercentile (number percent) 80 ∷ optional key.MinGrowthRatio ratio 1250 ∷ [])
     (λ cgroup threshold percentile ratio after. action.SizeOrGrowth cgroup threshold percentile ratio after)
-action_of SwapUsage = plugin (required key.Cgroup patterns ∷ optional key.Threshold size (bytes_or_percent.Bytes 1) ∷ []) (λ cgroup threshold after. action.SwapUsage cgroup threshold after)
-action_of Pressure = plugin (required key.Cgroup patterns ∷ required key.Resource resource ∷ []) (λ cgroup resource after. action.Pressure cgroup resource after)
+action_of SwapUsage =
+    plugin (required key.Cgroup patterns ∷ optional key.Threshold size (bytes_or_percent.Bytes 1) ∷ [])
+    (λ cgroup threshold after. action.SwapUsage cgroup threshold after)
+action_of Pressure =
+    plugin (required key.Cgroup patterns ∷ required key.Resource resource ∷ [])
+    (λ cgroup resource after. action.Pressure cgroup resource after)
 action_of PgScan = plugin (required key.Cgroup patterns ∷ []) (λ cgroup after. action.PgScan cgroup after)
 
--- what every action takes behind its own arguments, in a ruleset that rests for so long (s) after a kill
+-- what every action takes behind its own arguments, in a ruleset that rests for so long (s) after a
+-- kill
 unfoldable pub after_arguments : ℕ → Plugin After
-after_arguments delay = plugin (optional key.Recursive truth false ∷ optional key.AlwaysContinue truth false ∷ optional key.PostActionDelay (number longest) delay ∷ [])
+after_arguments delay =
+    plugin (optional key.Recursive truth false ∷ optional key.AlwaysContinue truth false
+    ∷ optional key.PostActionDelay (number longest) delay ∷ [])
     (λ recursive always_continue delay. record { recursive = recursive; always_continue = always_continue; delay_s = delay })

@@ -35,7 +35,8 @@ IsSize (size.Percent n) = IsPercent n
 -- a detector's arguments are in their ranges
 abbrev pub FitsDetector : DetectorSpec → Type 0
 FitsDetector (detector.PressureAbove cgroup resource threshold duration) = IsStallable resource × IsPercent threshold × IsTime duration
-FitsDetector (detector.PressureRisingBeyond cgroup resource threshold duration ratio) = IsStallable resource × IsPercent threshold × IsTime duration × IsRatio ratio
+FitsDetector (detector.PressureRisingBeyond cgroup resource threshold duration ratio) =
+    IsStallable resource × IsPercent threshold × IsTime duration × IsRatio ratio
 FitsDetector (detector.MemoryAbove cgroup threshold duration) = IsSize threshold × IsTime duration
 FitsDetector (detector.MemoryReclaim cgroup duration) = IsTime duration
 FitsDetector (detector.SwapFree threshold) = IsPercent threshold
@@ -43,7 +44,8 @@ FitsDetector (detector.Exists cgroup negate) = Unit {0}
 
 -- an action's arguments are in their ranges
 abbrev pub FitsAction : Action → Type 0
-FitsAction (action.SizeOrGrowth cgroup size_threshold percentile ratio after) = IsPercent size_threshold × IsPercent percentile × IsRatio ratio × IsTime after.delay_s
+FitsAction (action.SizeOrGrowth cgroup size_threshold percentile ratio after) =
+    IsPercent size_threshold × IsPercent percentile × IsRatio ratio × IsTime after.delay_s
 FitsAction (action.SwapUsage cgroup threshold after) = IsSize threshold × IsTime after.delay_s
 FitsAction (action.Pressure cgroup resource after) = IsStallable resource × IsTime after.delay_s
 FitsAction (action.PgScan cgroup after) = IsTime after.delay_s

@@ -8,7 +8,8 @@ use Rattle.ruleset_json.specs.declared.types.Rule.{Rule}
 abbrev pub replaced : Option (List DetectorGroup) → Option (List Action) → Rule → Rule
 replaced groups actions rule = record { name = rule.name; groups = unwrap_or groups rule.groups; actions = unwrap_or actions rule.actions }
 
--- rulesets, of which the one with this number has what is given in place of its groups and its actions
+-- rulesets, of which the one with this number has what is given in place of its groups and its
+-- actions
 abbrev pub replaced_at : ℕ → Option (List DetectorGroup) → Option (List Action) → List Rule → List Rule
 replaced_at n groups actions [] = []
 replaced_at zero groups actions (rule ∷ rules) = replaced groups actions rule ∷ rules

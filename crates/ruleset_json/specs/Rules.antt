@@ -1,4 +1,5 @@
--- The rules that a file's bytes give, or the first fault on the walk through it: down into each part before the next.
+-- The rules that a file's bytes give, or the first fault on the walk through it: down into each
+-- part before the next.
 use Rattle.std.specs.Prelude.{ℕ, ◌+◌, List, [], ◌∷◌, drop, length, nat_lt, if◌then◌else◌, codes, Option, None, Some, is_some, Result, Ok}
 use Rattle.std.specs.List.{slice_get}
 use Rattle.std.specs.Str.{is_utf8}
@@ -16,7 +17,7 @@ use Rattle.ruleset_json.specs.declared.types.DetectorGroup.{DetectorGroup}
 use Rattle.ruleset_json.specs.declared.types.Action.{Action}
 use Rattle.ruleset_json.specs.declared.types.Rule.{Rule}
 use Rattle.ruleset_json.specs.declared.types.Rules.{Rules}
-use Rattle.ruleset_json.specs.Arguments.{◌>>=◌, refused_for, or_fault, number, optional, argument_at, made_from}
+use Rattle.ruleset_json.specs.Arguments.{◌>>=◌, refused_for, or_fault, number, optional, argument_at, made_of_arguments}
 use Rattle.ruleset_json.specs.Names.{detector_named, action_named}
 use Rattle.ruleset_json.specs.Plugins.{Plugin, detector_of, action_of, after_arguments, longest}
 
@@ -68,7 +69,7 @@ arguments_in at (Some d) = do
 
 -- what a plugin makes of its arguments
 unfoldable pub made_at : {Made : Type 0} → Place → Plugin Made → Option Data → Result Made RulesFault
-made_at at known args = made_from at known.arguments known.make args
+made_at at known args = made_of_arguments at known.arguments known.make args
 
 -- what an action makes of its arguments, in a ruleset that rests for so long (s) after a kill
 unfoldable pub action_made_at : Place → ℕ → ActionName → Option Data → Result Action RulesFault
@@ -78,7 +79,8 @@ action_made_at at delay name args = do
   Ok (make after)
 
 -- what a plugin object makes, by the names of its kind and what each of these makes of arguments
-unfoldable pub plugin_at : {Name Made : Type 0} → (List ℕ → Option Name) → (Name → Option Data → Result Made RulesFault) → Place → Data → Result Made RulesFault
+unfoldable pub plugin_at : {Name Made : Type 0} → (List ℕ → Option Name) → (Name → Option Data → Result Made RulesFault) → Place
+    → Data → Result Made RulesFault
 plugin_at name_of made at d = do
   whole ← object_at at d
   found ← member_at at (codes "name") whole

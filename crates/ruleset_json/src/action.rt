@@ -19,7 +19,8 @@ use psi_base::Fault;
 use serde_json::Value;
 use std::alloc::Global;
 
-// What every action takes behind its own arguments, in a ruleset that rests for so long after a kill.
+// What every action takes behind its own arguments, in a ruleset that rests for so long after a
+// kill.
 #[tactic(auto, unfolding(crate::specs::Rules::made_at, crate::specs::Plugins::after_arguments))]
 fn after(args: &Arguments, delay_s: u32) -> Result<After, Fault<RulesFault>>
     requires { IsTime delay_s }

@@ -165,7 +165,8 @@ impl<'v> Arguments<'v> {
         }
     }
 
-    /// The arguments under the key `args` of a plugin, which is an object: none where it isn't there.
+    /// The arguments under the key `args` of a plugin, which is an object: none where it isn't
+    /// there.
     pub fn of_plugin(alloc: Global, plugin: &'v Value, place: Place) -> Result<Self, RulesFault>
         ensures found { ReadsBy (λ given. option_map (λ v. view v.now) given.found) result
             (arguments_in place (json.get (codes "args") (view plugin.now))) }

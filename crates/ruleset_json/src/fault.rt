@@ -13,7 +13,8 @@ pub enum Place {
     Rule(u32),
     /// A group of detectors, by the numbers of its ruleset and of itself.
     Group(u32, u32),
-    /// A detector, by the numbers of its ruleset, its group and itself. The group's name isn't counted.
+    /// A detector, by the numbers of its ruleset, its group and itself. The group's name isn't
+    /// counted.
     Detector(u32, u32, u32),
     /// An action, by the numbers of its ruleset and of itself.
     Action(u32, u32),
@@ -26,9 +27,11 @@ pub enum RulesCause {
     TooLong,
     /// The bytes aren't UTF-8, or are no JSON text that `serde_json` reads.
     BadJson,
-    /// A key or an argument that is required isn't there; or a group of detectors is empty, where its name is due.
+    /// A key or an argument that is required isn't there; or a group of detectors is empty, where
+    /// its name is due.
     MissingKey,
-    /// A value is of another JSON kind. A number that isn't a whole one from 0 to 2^64 - 1 is of another kind.
+    /// A value is of another JSON kind. A number that isn't a whole one from 0 to 2^64 - 1 is of
+    /// another kind.
     WrongKind,
     /// No plugin of this kind has the name.
     UnknownPlugin,

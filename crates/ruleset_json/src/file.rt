@@ -125,8 +125,8 @@ fn group(
     let place = Place::Group(rule, index);
     let items = list(value, MOST_PARTS + 1, place)?;
     let name = text(first(items, place)?, place)?;
-    let detectors = detectors(alloc, rule, index, rest(items))?;
     let name = Text::make(alloc, name.as_bytes())?;
+    let detectors = detectors(alloc, rule, index, rest(items))?;
     Ok(DetectorGroup { name, detectors })
 }
 
@@ -188,10 +188,10 @@ fn rule(alloc: Global, index: u32, value: &Value) -> Result<Rule, Fault<RulesFau
     let place = Place::Rule(index);
     let whole = object(value, place)?;
     let name = text(member(whole, "name", place)?, place)?;
+    let name = Text::make(alloc, name.as_bytes())?;
     let delay_s = delay(alloc, whole, place)?;
     let groups = groups_in(alloc, index, whole)?;
     let actions = actions_in(alloc, index, delay_s, whole)?;
-    let name = Text::make(alloc, name.as_bytes())?;
     Ok(Rule {
         name,
         groups,
@@ -240,10 +240,10 @@ fn part(alloc: Global, index: u32, value: &Value) -> Result<Part, Fault<RulesFau
     let place = Place::Rule(index);
     let whole = object(value, place)?;
     let name = text(member(whole, "name", place)?, place)?;
+    let name = Text::make(alloc, name.as_bytes())?;
     let delay_s = delay(alloc, whole, place)?;
     let groups = groups_if_there(alloc, index, whole)?;
     let actions = actions_if_there(alloc, index, delay_s, whole)?;
-    let name = Text::make(alloc, name.as_bytes())?;
     Ok(Part {
         name,
         groups,
@@ -312,11 +312,12 @@ fn value_in(alloc: Global, bytes: &[u8]) -> Result<Value, Fault<RulesFault>>
     value_of(alloc, bytes)
 }
 
-/// The rules that a file's bytes give, or the first fault on the walk through it, which goes down into each part
-/// before the next: the file, its list `rulesets`, and of each ruleset `name`, `post_action_delay`, `detectors` and
-/// `actions`. A list is taken before its items; of a plugin its name, its `args` and each argument in the order of
-/// its table. Beyond the length and UTF-8 the text is what `serde_json` reads of it: at most 127 nested lists and
-/// objects, and of a key that comes twice the last value. `NoMemory` comes only for a file that isn't too long.
+/// The rules that a file's bytes give, or the first fault on the walk through it, which goes down
+/// into each part before the next: the file, its list `rulesets`, and of each ruleset `name`,
+/// `post_action_delay`, `detectors` and `actions`. A list is taken before its items; of a plugin
+/// its name, its `args` and each argument in the order of its table. Beyond the length and UTF-8
+/// the text is what `serde_json` reads of it: at most 127 nested lists and objects, and of a key
+/// that comes twice the last value. `NoMemory` comes only for a file that isn't too long.
 #[tactic(auto, unfolding(crate::specs::Rules::rules_of))]
 pub fn read(alloc: Global, bytes: &[u8]) -> Result<Rules, Fault<RulesFault>>
     ensures exact { Gives result (rules_of bytes.now) }
@@ -327,9 +328,9 @@ pub fn read(alloc: Global, bytes: &[u8]) -> Result<Rules, Fault<RulesFault>>
     Ok(Rules { rules })
 }
 
-/// The parts that a drop-in file's bytes give, at most 64, or the first fault on the walk through it. The file is read
-/// as a rules file, by [`read`], but `detectors` and `actions` may be missing from a ruleset. Actions that give no
-/// `post_action_delay` have their part's, else 15 s.
+/// The parts that a drop-in file's bytes give, at most 64, or the first fault on the walk through
+/// it. The file is read as a rules file, by [`read`], but `detectors` and `actions` may be missing
+/// from a ruleset. Actions that give no `post_action_delay` have their part's, else 15 s.
 #[tactic(auto, unfolding(crate::specs::Parts::parts_of))]
 pub fn read_parts(alloc: Global, bytes: &[u8]) -> Result<Vec<Part>, Fault<RulesFault>>
     ensures exact { GivesBy (λ parts. parts.items) result (parts_of bytes.now) }

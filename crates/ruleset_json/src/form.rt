@@ -61,7 +61,8 @@ fn fraction(digits: &[u8]) -> Option<u32>
     }
 }
 
-// The thousandths of a number of at most so much, which may be followed by a point and one to three digits.
+// The thousandths of a number of at most so much, which may be followed by a point and one to three
+// digits.
 #[tactic(auto, unfolding(crate::specs::Forms::thousandths_of))]
 fn thousandths(text: &[u8], most: u64) -> Option<u128>
     ensures value { result ≡ form.thousandths_of most text.now }
@@ -78,7 +79,8 @@ fn thousandths(text: &[u8], most: u64) -> Option<u128>
     Some(whole + u128::from(fraction(digits)?))
 }
 
-/// A ratio in thousandths: a number of at most 1000, which may be followed by a point and one to three digits.
+/// A ratio in thousandths: a number of at most 1000, which may be followed by a point and one to
+/// three digits.
 pub fn ratio(text: &[u8]) -> Option<u32>
     ensures value { result ≡ form.ratio_of text.now }
     ensures range { IfSome result IsRatio }
@@ -131,8 +133,9 @@ fn bytes(text: &[u8], front: &[u8], last: u8) -> Option<u64>
     }
 }
 
-/// A size: a number of 0 to 100 and `%`; or at most 2^60 bytes, as a number, or as a number with or without a point
-/// and one of the letters `K`, `M`, `G`, `T` in either case, which are powers of 1024.
+/// A size: a number of 0 to 100 and `%`; or at most 2^60 bytes, as a number, or as a number with or
+/// without a point and one of the letters `K`, `M`, `G`, `T` in either case, which are powers of
+/// 1024.
 #[tactic(auto, using(crate::proofs::Texts::empty_size), unfolding(crate::specs::Forms::size_of))]
 pub fn size(text: &[u8]) -> Option<Size>
     ensures value { result ≡ form.size_of text.now }

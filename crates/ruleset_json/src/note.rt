@@ -1,11 +1,11 @@
 //! The text of a fault.
-ghost use Rattle.psi_base.specs.Outside.{PutsAll, HasCause};
+ghost use Rattle.outside.specs.Outside.{PutsAll, HasCause};
 ghost use Rattle.std.specs.Prelude.{◌≡◌};
 ghost use Rattle.ruleset_json.specs.FaultText.{fault_text, placed_text, rules_cause_name};
 
 use crate::fault::{Place, RulesCause, RulesFault};
 use itoa::Buffer;
-use psi_base::{Sink, WriteFailed, put_each};
+use outside::{Sink, WriteFailed, put_each};
 
 /// The name of a cause.
 pub fn cause_name(cause: RulesCause) -> &'static [u8]
@@ -22,8 +22,9 @@ pub fn cause_name(cause: RulesCause) -> &'static [u8]
     }
 }
 
-/// Writes what is told of a fault in a file: the word for the file, the place by the numbers of its ruleset, its group and
-/// its item or its action, which is nothing for the whole file, then `: ` and the name of the cause. Takes no memory.
+/// Writes what is told of a fault in a file: the word for the file, the place by the numbers of its
+/// ruleset, its group and its item or its action, which is nothing for the whole file, then `: `
+/// and the name of the cause. Takes no memory.
 pub fn put_placed<K: Sink>(
     out: &mut K,
     file: &[u8],
@@ -88,7 +89,8 @@ pub fn put_placed<K: Sink>(
     }
 }
 
-/// Writes what a fault of a rules file is told as: `rules`, its place and its cause. Takes no memory.
+/// Writes what a fault of a rules file is told as: `rules`, its place and its cause. Takes no
+/// memory.
 pub fn put_fault<K: Sink>(out: &mut K, fault: RulesFault) -> Result<(), WriteFailed>
     ensures bytes { PutsAll (K.has out.old) (K.has out.new) result (fault_text fault) }
     ensures cause { HasCause (K.faults out.old) (K.faults out.new) result }

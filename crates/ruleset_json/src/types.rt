@@ -12,7 +12,8 @@ pub enum Size {
     Percent(u32),
 }
 
-/// What every action says beside its choice: whether it goes down to children, and what comes after its kill.
+/// What every action says beside its choice: whether it goes down to children, and what comes after
+/// its kill.
 #[derive(Clone, Copy, Debug, PartialEq, Eq)]
 pub struct After {
     /// Whether the victim is looked for among the chosen group's children too.
@@ -23,19 +24,22 @@ pub struct After {
     pub delay_s: u32,
 }
 
-/// A detector: a condition on the groups or on the machine. A threshold in percent is at most 100, a duration in
-/// seconds at most 1,000,000, a ratio in thousandths at most 1,000,999, and a resource is IO or memory.
+/// A detector: a condition on the groups or on the machine. A threshold in percent is at most 100,
+/// a duration in seconds at most 1,000,000, a ratio in thousandths at most 1,000,999, and a
+/// resource is IO or memory.
 #[derive(Drop)]
 pub enum DetectorSpec {
-    /// `pressure_above`: full pressure over 10 s is above the threshold (percent), for the duration (s).
+    /// `pressure_above`: full pressure over 10 s is above the threshold (percent), for the duration
+    /// (s).
     PressureAbove {
         cgroup: Patterns,
         resource: Res,
         threshold: u32,
         duration_s: u32,
     },
-    /// `pressure_rising_beyond`: full pressure over 60 s is above the threshold (percent) for the duration (s); that over
-    /// 10 s is above it too, and at least this part (thousandths) of what it was at the evaluation before.
+    /// `pressure_rising_beyond`: full pressure over 60 s is above the threshold (percent) for the
+    /// duration (s); that over 10 s is above it too, and at least this part (thousandths) of what
+    /// it was at the evaluation before.
     PressureRisingBeyond {
         cgroup: Patterns,
         resource: Res,
@@ -65,13 +69,13 @@ pub enum DetectorSpec {
     },
 }
 
-/// An action: how the group to be killed is chosen. Percentages are at most 100, a ratio in thousandths at most
-/// 1,000,999, and a resource is IO or memory.
+/// An action: how the group to be killed is chosen. Percentages are at most 100, a ratio in
+/// thousandths at most 1,000,999, and a resource is IO or memory.
 #[derive(Drop)]
 pub enum Action {
-    /// `kill_by_memory_size_or_growth`: the largest group, if it has a share of the memory (percent); else the one that grew
-    /// most of those with at least this ratio (thousandths) of the mean of their past, among the largest above the
-    /// percentile; else the largest.
+    /// `kill_by_memory_size_or_growth`: the largest group, if it has a share of the memory
+    /// (percent); else the one that grew most of those with at least this ratio (thousandths) of
+    /// the mean of their past, among the largest above the percentile; else the largest.
     SizeOrGrowth {
         cgroup: Patterns,
         size_threshold: u32,
@@ -145,7 +149,8 @@ impl SpecList {
     }
 }
 
-/// A group of detectors with a name. It holds where all its detectors do; one without detectors always holds.
+/// A group of detectors with a name. It holds where all its detectors do; one without detectors
+/// always holds.
 #[derive(Drop)]
 pub struct DetectorGroup {
     /// Its name.
@@ -285,8 +290,8 @@ impl Rule {
     }
 }
 
-/// A ruleset of a drop-in file: what it puts in place of the groups, of the actions, or of both of a ruleset with its
-/// name.
+/// A ruleset of a drop-in file: what it puts in place of the groups, of the actions, or of both of
+/// a ruleset with its name.
 #[derive(Drop)]
 pub struct Part {
     /// The name of the ruleset that it speaks of.
@@ -336,8 +341,8 @@ impl RuleList {
         &self.rules
     }
 
-    /// Puts what is given in place of the groups and the actions of the ruleset with this number, from 0. All else
-    /// stays. Takes no memory.
+    /// Puts what is given in place of the groups and the actions of the ruleset with this number,
+    /// from 0. All else stays. Takes no memory.
     pub fn replace(&mut self, rule: u32, groups: Option<GroupList>, actions: Option<ActionList>)
         requires { rule < length self.old }
         ensures { self.new ≡ replaced_at rule groups actions self.old }

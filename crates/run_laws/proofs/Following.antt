@@ -21,7 +21,8 @@ use Rattle.run_laws.proofs.OneMore.{ticks_more}
 abbrev pub Relation : Type 1
 Relation = ℕ → ℕ → ℕ → Type 0
 
--- two lists of times are related at each place, where the times in each state and those of interrupts are, and at places outside
+-- two lists of times are related at each place, where the times in each state and those of
+-- interrupts are, and at places outside
 places : (R : Relation) (f g : State → ℕ) (x y : ℕ) → ((place : ℕ) → R place 0 0) → ((place : ℕ) (state : State) → R place (f state) (g state)) → R irq_place x y
     → (place : ℕ) → R place (slice_index (times_with f x) place) (slice_index (times_with g y) place)
 places R f g x y none each irq zero = each 0 IoSome
@@ -55,7 +56,8 @@ times_past : (cpus cpu slot : ℕ) (events : List Event) (at : ℕ) → cpus ≤
 times_past cpus cpu slot events at past =
     get_or_past (row_until cpus slot events at) cpu [] (let many = length-map-range_with_len (λ c. times_until c slot events at) 0 cpus in omega (arith, many, past))
 
--- times at two moments are related at each place of the tables, where stall times and interrupt times are
+-- times at two moments are related at each place of the tables, where stall times and interrupt
+-- times are
 tables : (R : Relation) (cpus : ℕ) (events : List Event) (at later : ℕ) → ((place : ℕ) → R place 0 0)
     → ((place : ℕ) (state : State) (cpu slot : ℕ) → R place (stall state cpu slot (up_to events at) at) (stall state cpu slot (up_to events later) later))
     → ((cpu slot : ℕ) → R irq_place (irq_time cpu slot (up_to events at)) (irq_time cpu slot (up_to events later)))

@@ -1,4 +1,5 @@
--- Live lines in the output of a replay: what is watched at a moment, and the text with its live lines tick by tick.
+-- Live lines in the output of a replay: what is watched at a moment, and the text with its live
+-- lines tick by tick.
 use Rattle.std.specs.Prelude.{◌≡◌, ℕ, ◌+◌, ◌≤◌, List, [], ◌∷◌, ◌++◌, bytes_eq, ◌&&◌, if◌then◌else◌, Option, None, Some}
 use Rattle.psi_base.specs.declared.event.Event.{Event}
 use Rattle.psi_spec.specs.declared.machine.GroupLife.{GroupLife}
@@ -10,10 +11,12 @@ use Rattle.run_spec.specs.Live.{IsLiveText, live_slot_at}
 use Rattle.run_spec.specs.Replay.{IsReplayText, Pace, last_line, replay_text, tick_count, tick_text, ticks_text, with_rules}
 use Rattle.ruleset_json.specs.declared.types.Rule.{Rule}
 
--- the slot of the group with a path that is live at a moment (ns), among lives whose slots are counted from this one on
+-- the slot of the group with a path that is live at a moment (ns), among lives whose slots are
+-- counted from this one on
 abbrev pub live_slot : ℕ → List GroupLife → List ℕ → ℕ → Option ℕ
 live_slot slot [] path at = None
-live_slot slot (life ∷ lives) path at = if is_live_at life at && bytes_eq life.path path then Some slot else live_slot (slot + 1) lives path at
+live_slot slot (life ∷ lives) path at =
+    if is_live_at life at && bytes_eq life.path path then Some slot else live_slot (slot + 1) lives path at
 
 -- a text is the lines of a tick, with live lines that it may have
 abbrev pub IsTickText : Trace → Pace → List Rule → ℕ → List ℕ → Type 0

@@ -12,11 +12,12 @@ use Rattle.pressure_spec.specs.Ticks.{tick_moment, ticks_of}
 use Rattle.pressure_spec.specs.Samples.{group_averages, life_of, totals_after}
 use Rattle.run_spec.specs.Replay.{Pace, files_text, lives_of, reports}
 
--- the report of the group in a slot at a moment (ns) in a trace of a version, where it is live then, by the totals (ns) and
--- averages of slots
+-- the report of the group in a slot at a moment (ns) in a trace of a version, where it is live
+-- then, by the totals (ns) and averages of slots
 abbrev pub slot_report : Version → ℕ → List GroupLife → (ℕ → List ℕ) → (ℕ → AverageState) → ℕ → List ℕ
 slot_report version at lives totals averages slot =
-    if is_live_at (life_of lives slot) at then files_text version at (path_at lives slot) slot (totals slot) (averages slot).averages else []
+    if is_live_at (life_of lives slot) at then files_text version at (path_at lives slot) slot (totals slot) (averages slot).averages
+    else []
 
 -- the reports of the live groups among these slots, in their order
 abbrev pub slot_reports : Version → ℕ → List GroupLife → (ℕ → List ℕ) → (ℕ → AverageState) → List ℕ → List ℕ
@@ -32,8 +33,10 @@ average_state_at trace pace i slot = group_averages trace.cpus (lives_of trace) 
 
 -- ---- laws
 
--- The reports of a tick are those of the slots that are live then, in any one order of all slots by path.
+-- The reports of a tick are those of the slots that are live then, in any one order of all slots by
+-- path.
 abbrev pub ReportsByOrder : Type 0
 ReportsByOrder = (limits : Limits) (trace : Trace) (pace : Pace) (i : ℕ) (order : List ℕ) →
     AreLegal limits first_world trace.events → IsPathOrder (lives_of trace) order →
-    reports trace pace i ≡ slot_reports trace.version (tick_moment pace.length i) (lives_of trace) (totals_at trace pace i) (average_state_at trace pace i) order
+    reports trace pace i ≡ slot_reports trace.version (tick_moment pace.length i) (lives_of trace) (totals_at trace pace i)
+    (average_state_at trace pace i) order

@@ -12,9 +12,11 @@ use Rattle.ruleset_json.specs.declared.types.Rule.{Rule}
 abbrev pub before_ticks : ℕ → List Event → Tick
 before_ticks cpus events = no_tick cpus (length (after events).groups)
 
--- The ticks of legal events come one after another, on no more processors than the world keeps a last moment of interrupts for.
+-- The ticks of legal events come one after another, on no more processors than the world keeps a
+-- last moment of interrupts for.
 abbrev pub TicksFollow : Type 0
-TicksFollow = (limits : Limits) (cpus : ℕ) (events : List Event) (length i : ℕ) → AreLegal limits first_world events → limits.cpus ≤ most_cpus →
+TicksFollow =
+    (limits : Limits) (cpus : ℕ) (events : List Event) (length i : ℕ) → AreLegal limits first_world events → limits.cpus ≤ most_cpus →
     0 < length → length ≤ longest_tick → tick_moment length (i + 1) ≤ last_moment →
     IsNextTick (last_tick (before_ticks cpus events) (ticks_of cpus events length i)) (tick_of cpus events length (i + 1))
 

@@ -3,8 +3,8 @@ ghost use Rattle.run_laws.specs.Live.{NoTextAtFirst, OneTextMore, OneTextUnwatch
 ghost use Rattle.run_laws.specs.Reports.{ReportsByOrder};
 ghost use Rattle.run_laws.specs.Ticking.{KillsMore, SignalsMore, TextMore, TicksFollow, TicksMore};
 
-/// The ticks of an accepted trace come one after another: no time falls, or grows by more than the time in between, and what
-/// interrupts took, by more than that and a second.
+/// The ticks of an accepted trace come one after another: no time falls, or grows by more than the
+/// time in between, and what interrupts took, by more than that and a second.
 pub fn law_next_tick()
     ensures { TicksFollow }
 {}
@@ -17,7 +17,8 @@ pub fn law_one_tick_more()
     ensures text { TextMore }
 {}
 
-/// The reports of a tick are those of the slots that are live then, in one order of all slots by path.
+/// The reports of a tick are those of the slots that are live then, in one order of all slots by
+/// path.
 pub fn law_reports()
     ensures { ReportsByOrder }
 {}
@@ -27,8 +28,8 @@ pub fn law_live_slot()
     ensures { SlotByLives }
 {}
 
-/// Lines with live samples, tick by tick: a tick more, the end behind all ticks, an output that goes on from some ticks, and
-/// none before the first.
+/// Lines with live samples, tick by tick: a tick more, the end behind all ticks, an output that
+/// goes on from some ticks, and none before the first.
 pub fn law_live_texts()
     ensures more { OneTextMore }
     ensures whole { WholeText }

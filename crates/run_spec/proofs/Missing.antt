@@ -2,7 +2,7 @@
 use Rattle.std.proofs.Common.{◌≡◌, ◌⊎◌, inl, inr, ℕ, List, refl, sym, ap, ◌∙◌, Option, true≢false, Some}
 use Rattle.std.specs.Prelude.{IsSome, is_some}
 use Rattle.psi_base.specs.Gives.{no_memory}
-use Rattle.psi_base.specs.Outside.{Files, Lacks}
+use Rattle.outside.specs.Outside.{Files, Lacks}
 use Rattle.ruleset_json.specs.declared.fault.RulesFault.{RulesFault}
 use Rattle.dropin_rules.specs.declared.fault.DropFault.{DropFault}
 use Rattle.run_spec.specs.declared.command.Command.{Command}

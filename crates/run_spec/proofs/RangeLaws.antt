@@ -15,7 +15,7 @@ use Rattle.std.proofs.Common.{lit≤}
 use Rattle.run_spec.specs.Words.{◌>>=◌, Given, at_word, said, value_given, is_name, number_within, number_or}
 use Rattle.run_spec.specs.Words.{needed, trace_given, rules_given, drop_in_given, live_given, tick_given, workers_given}
 use Rattle.run_spec.specs.Words.{options_of, shape_of, stall_of, check_of, replay_of, gen_of}
-use Rattle.run_spec.specs.Words.{stress_of, import_of, rules_command_of, whatif_of, IsOptionName, CommandForm, forms, command_of, IsWithin, AreOptions, IsShape}
+use Rattle.run_spec.specs.Words.{stress_of, import_command_of, rules_command_of, whatif_of, IsOptionName, CommandForm, forms, command_of, IsWithin, AreOptions, IsShape}
 use Rattle.run_spec.specs.Words.{IsCommand}
 use Rattle.run_spec.specs.Laws.{SpelledInRange}
 
@@ -217,9 +217,9 @@ stress_ranges given command is =
           workers.1,
     )
 
-pub import_ranges : (given : Given) (command : Command) → import_of given ≡ Some command
+pub import_ranges : (given : Given) (command : Command) → import_command_of given ≡ Some command
     → IsCommand command
-unfolding import_of
+unfolding import_command_of
 import_ranges given command is =
     let file = bind_some (trace_given given) _ command is in
     let cpus = bind_some (needed 1 64 (value_given (codes "cpus") given)) _ command file.2 in

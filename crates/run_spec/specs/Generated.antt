@@ -1,4 +1,5 @@
--- Generated traces: large valid ones, each from the few numbers of its shape, and the same at each time.
+-- Generated traces: large valid ones, each from the few numbers of its shape, and the same at each
+-- time.
 use Rattle.std.specs.Prelude.{ℕ, zero, suc, ◌+◌, ◌-◌, ◌*◌, ◌/◌, ◌%◌, ◌^◌, ◌==◌}
 use Rattle.std.specs.Prelude.{List, [], ◌∷◌, ◌++◌, map, codes, decimal, is_some}
 use Rattle.std.specs.Prelude.{Option, None, Some, if◌then◌else◌}

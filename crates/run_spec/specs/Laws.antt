@@ -1,4 +1,5 @@
--- What follows from what a run promises: laws of the words of commands, of missing files, and of traces without kills.
+-- What follows from what a run promises: laws of the words of commands, of missing files, and of
+-- traces without kills.
 use Rattle.std.specs.Prelude.{◌≡◌, ◌≢◌, ℕ, ◌≤◌, ◌<◌, List, [], ◌∷◌, ◌++◌, length, false, codes, Option, None, Some, Ok, Err, slice_get, ◌⊎◌}
 use Rattle.std.specs.List.{list_any}
 use Rattle.run_spec.specs.declared.command.Command.{Command}
@@ -7,7 +8,7 @@ use Rattle.psi_spec.specs.Trace.{Trace}
 use Rattle.ruleset_json.specs.declared.types.Rule.{Rule}
 use Rattle.run_spec.specs.Replay.{Pace}
 use Rattle.psi_base.specs.Gives.{no_memory}
-use Rattle.psi_base.specs.Outside.{Files, Lacks}
+use Rattle.outside.specs.Outside.{Files, Lacks}
 use Rattle.run_spec.specs.declared.status.Status.{Status}
 use Rattle.run_spec.specs.declared.status.Which.TheVariants.{DropInFile, RulesFile}
 use Rattle.ruleset_json.specs.declared.fault.RulesFault.{RulesFault}
@@ -50,22 +51,23 @@ ValueMayFollow = (before after : List (List ℕ)) (name value : List ℕ)
 
 -- ---- files that are missing
 
--- where the rules file of a command is told to be missing, a run says that it is, or tells of a failure
+-- where the rules file of a command is told to be missing, a run says that it is, or tells of a
+-- failure
 abbrev pub MissingRulesTell : Type 0
 MissingRulesTell = (command : Command) (files : Option Files) (old new : Option (List ℕ)) (result : Status) (name : List ℕ)
     → Ends command files old new result → rules_name command ≡ Some name → Lacks files name
     → (result ≡ status.NoFile RulesFile) ⊎ (result ≡ status.ReadFault) ⊎ (result ≡ status.NoMemory no_memory)
 
--- where the drop-in file over it is, a run says that one of the two is, or tells of a failure, or of a fault of the rules file,
--- which comes first
+-- where the drop-in file over it is, a run says that one of the two is, or tells of a failure, or
+-- of a fault of the rules file, which comes first
 abbrev pub MissingDropInTells : Type 0
 MissingDropInTells = (command : Command) (files : Option Files) (old new : Option (List ℕ)) (result : Status) (name : List ℕ)
     → Ends command files old new result → drop_in_name command ≡ Some name → Lacks files name
     → (result ≡ status.NoFile RulesFile) ⊎ (result ≡ status.NoFile DropInFile) ⊎ (result ≡ status.ReadFault)
     ⊎ (result ≡ status.NoMemory no_memory) ⊎ ((fault : RulesFault) × (result ≡ status.Rules fault))
 
--- where the file is that it takes its trace from, a run says that a file is, or tells of a failure, or of a fault of the rules or of
--- the drop-in file over them, which come first
+-- where the file is that it takes its trace from, a run says that a file is, or tells of a failure,
+-- or of a fault of the rules or of the drop-in file over them, which come first
 abbrev pub MissingSourceTells : Type 0
 MissingSourceTells = (command : Command) (files : Option Files) (old new : Option (List ℕ)) (result : Status) (name : List ℕ)
     → Ends command files old new result → source_name command ≡ Some name → Lacks files name
@@ -74,7 +76,8 @@ MissingSourceTells = (command : Command) (files : Option Files) (old new : Optio
 
 -- ---- traces without kills
 
--- Where a round finds no kill with its number, no later one does: what is left then is the last trace.
+-- Where a round finds no kill with its number, no later one does: what is left then is the last
+-- trace.
 abbrev pub LastWithoutKill : Type 0
 LastWithoutKill = (trace left : Trace) (pace : Pace) (rules : List Rule) (count : ℕ) → count ≤ most_rounds
     → length left.events ≤ most_events

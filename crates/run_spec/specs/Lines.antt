@@ -16,13 +16,14 @@ line_of words = joined words ++ codes "\n"
 
 -- ---- stall and check
 
--- the line of a group on a processor: its times (ns) in the states, in the states' order, and what is told behind them
+-- the line of a group on a processor: its times (ns) in the states, in the states' order, and what
+-- is told behind them
 abbrev pub stall_line : ℕ → List ℕ → List ℕ → List ℕ
 stall_line cpu path times =
     line_of (codes "stall" ∷ labelled (codes "cpu=") cpu ∷ path ∷ map decimal times)
 
--- the line of a trace of so many events, the end among them: how many lines there are, the header among
--- them, how many events, and the end moment (ns)
+-- the line of a trace of so many events, the end among them: how many lines there are, the header
+-- among them, how many events, and the end moment (ns)
 abbrev pub check_line : ℕ → ℕ → List ℕ
 check_line events end =
     line_of (codes "ok" ∷ labelled (codes "lines=") (events + 1) ∷ labelled (codes "events=") events
@@ -30,29 +31,30 @@ check_line events end =
 
 -- ---- replay
 
--- a sample of a clock of the watched group at a tick (ns): on which processor, after how many of its
--- changes, and its times (ns) in the states, in the states' order
+-- a sample of a clock of the watched group at a tick (ns): on which processor, after how many of
+-- its changes, and its times (ns) in the states, in the states' order
 abbrev pub live_line : ℕ → ℕ → ℕ → List ℕ → List ℕ
 live_line at cpu count seven =
     line_of (codes "live" ∷ decimal at ∷ labelled (codes "cpu=") cpu ∷ labelled (codes "count=") count
     ∷ map decimal seven)
 
--- a signal at a tick (ns): the number of the trigger, its group's path, and what it watches, with its
--- threshold and window (us)
+-- a signal at a tick (ns): the number of the trigger, its group's path, and what it watches, with
+-- its threshold and window (us)
 abbrev pub event_line : ℕ → ℕ → List ℕ → TriggerSpec → List ℕ
 event_line at index path trigger =
     line_of (codes "event" ∷ decimal at ∷ labelled (codes "trigger=") index ∷ path
     ∷ resource_word trigger.res ∷ level_word trigger.level
     ∷ decimal trigger.threshold_us ∷ decimal trigger.window_us ∷ [])
 
--- a kill at a tick (ns): the numbers of the ruleset and of its action, both from 0, and the victim's
--- path
+-- a kill at a tick (ns): the numbers of the ruleset and of its action, both from 0, and the
+-- victim's path
 abbrev pub kill_line : ℕ → ℕ → ℕ → List ℕ → List ℕ
 kill_line at rule action path =
     line_of (codes "kill" ∷ decimal at ∷ labelled (codes "ruleset=") rule
     ∷ labelled (codes "action=") action ∷ path ∷ [])
 
--- the line ahead of a pressure file: the tick (ns), the group's path and the word of what the file tells
+-- the line ahead of a pressure file: the tick (ns), the group's path and the word of what the file
+-- tells
 abbrev pub head_line : ℕ → List ℕ → List ℕ → List ℕ
 head_line at path word = line_of (codes "report" ∷ decimal at ∷ path ∷ word ∷ [])
 
@@ -66,7 +68,8 @@ abbrev pub report_text : ℕ → List ℕ → Res → Bool → List ℕ → List
 report_text at path res is_root totals averages =
     report_head at path res ++ file_text res is_root totals averages
 
--- a report on interrupts of a group at a tick (ns): its head, and the pressure file of these averages and total (ns)
+-- a report on interrupts of a group at a tick (ns): its head, and the pressure file of these
+-- averages and total (ns)
 abbrev pub irq_report : ℕ → List ℕ → List ℕ → ℕ → List ℕ
 irq_report at path averages total = head_line at path (codes "irq") ++ irq_text averages total
 

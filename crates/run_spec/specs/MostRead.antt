@@ -15,20 +15,23 @@ longest_line = 512
 abbrev pub read_ahead : ℕ
 read_ahead = 65536
 
--- the most bytes that are held behind the lines that were taken: a line that is begun, and what is read ahead
+-- the most bytes that are held behind the lines that were taken: a line that is begun, and what is
+-- read ahead
 abbrev pub most_held : ℕ
 most_held = longest_line + read_ahead
 
--- the most bytes that are read of a trace: no further than what is held behind the most lines that it can have
+-- the most bytes that are read of a trace: no further than what is held behind the most lines that
+-- it can have
 abbrev pub most_of_trace : ℕ
 most_of_trace = most_lines * (longest_line + 1) + most_held
 
--- the most bytes that are read of a text of ftrace: no further than what is held behind the most lines that it can have, and one
--- more, which is refused
+-- the most bytes that are read of a text of ftrace: no further than what is held behind the most
+-- lines that it can have, and one more, which is refused
 abbrev pub most_of_import : ℕ
 most_of_import = 16000001 * (longest_line + 1) + most_held
 
--- the most bytes that are read of a rules file or of a drop-in file: one more than it may have, so that a longer one is refused
+-- the most bytes that are read of a rules file or of a drop-in file: one more than it may have, so
+-- that a longer one is refused
 abbrev pub most_of_rules : ℕ
 most_of_rules = 1048577
 
@@ -37,7 +40,8 @@ abbrev pub most_if_named : ℕ → Option (List ℕ) → ℕ
 most_if_named most None = 0
 most_if_named most (Some name) = most
 
--- the most bytes that a command reads, of its rules file, of the drop-in file over that and of its trace, or of a text of ftrace
+-- the most bytes that a command reads, of its rules file, of the drop-in file over that and of its
+-- trace, or of a text of ftrace
 abbrev pub most_read : Command → ℕ
 most_read command =
     most_if_named most_of_rules (rules_name command) + most_if_named most_of_rules (drop_in_name command)

@@ -1,4 +1,5 @@
--- Which files a command reads, how long its ticks are, which trace it takes from a file, and what it prints of that.
+-- Which files a command reads, how long its ticks are, which trace it takes from a file, and what
+-- it prints of that.
 use Rattle.std.specs.Prelude.{◌≡◌, ℕ, ◌*◌, List, [], ◌∷◌, ◌++◌, codes, Option, None, Some, Result, Ok, Err}
 use Rattle.psi_base.specs.declared.event.Event.{Event}
 use Rattle.psi_base.specs.declared.event.Refusal.{Refusal}
@@ -83,7 +84,8 @@ tick_length (Replay trace options) = of_ms options.tick_ms
 tick_length (Whatif trace options) = of_ms options.tick_ms
 tick_length _ = of_seconds 2
 
--- the versions of traces that a command takes: `stall`, `check`, `replay` and `whatif` any, and each other the first alone
+-- the versions of traces that a command takes: `stall`, `check`, `replay` and `whatif` any, and
+-- each other the first alone
 abbrev pub versions_of : Command → List Version
 versions_of (Stall trace) = versions
 versions_of (Check trace tick_ms) = versions
@@ -91,25 +93,27 @@ versions_of (Replay trace options) = versions
 versions_of (Whatif trace options) = versions
 versions_of _ = One ∷ []
 
--- what a command accepts of a trace: one of a version that it takes, with all the verbs of that, at the length of its ticks
+-- what a command accepts of a trace: one of a version that it takes, with all the verbs of that, at
+-- the length of its ticks
 abbrev pub accepts_of : Command → Accepts
 accepts_of command = accepts_with (versions_of command) (tick_length command)
 
 -- a trace that was read, or the status that tells of its first refused line
-abbrev pub or_refused : Result Trace Refusal → Result Trace Status
-or_refused (Ok trace) = Ok trace
-or_refused (Err refusal) = Err (status.Trace refusal.line refusal.cause)
+abbrev pub or_refused_trace : Result Trace Refusal → Result Trace Status
+or_refused_trace (Ok trace) = Ok trace
+or_refused_trace (Err refusal) = Err (status.Trace refusal.line refusal.cause)
 
--- the trace of imported events, on so many processors, or the status that tells of the first refused line of their text
+-- the trace of imported events, on so many processors, or the status that tells of the first
+-- refused line of their text
 abbrev pub or_not_imported : ℕ → Result (List Event) Refused → Result Trace Status
 or_not_imported cpus (Ok events) = Ok (import_trace cpus events)
 or_not_imported cpus (Err refusal) = Err (status.Import refusal.line refusal.cause)
 
--- The trace that a command takes from the bytes of its file, or the status that tells of the first refused line: `import` makes
--- it of a text of ftrace, and each other command reads it.
+-- The trace that a command takes from the bytes of its file, or the status that tells of the first
+-- refused line: `import` makes it of a text of ftrace, and each other command reads it.
 abbrev pub taken_of : Command → List ℕ → Result Trace Status
 taken_of (Import file cpus) bytes = or_not_imported cpus (import_of cpus bytes)
-taken_of command bytes = or_refused (trace_of (accepts_of command) bytes)
+taken_of command bytes = or_refused_trace (trace_of (accepts_of command) bytes)
 
 -- rules that were read, or the status that tells of the first fault of the rules file
 abbrev pub or_rules_fault : Result types.Rules RulesFault → Result types.Rules Status
@@ -127,8 +131,9 @@ with_drop_in drop_in (Err why) = Err why
 with_drop_in None (Ok base) = Ok base
 with_drop_in (Some bytes) (Ok base) = or_drop_fault (dropped_in base bytes)
 
--- The rules that a command has: those that the bytes of its rules file give, with the bytes of its drop-in file over them, if it
--- has one; or the status that tells of the first fault, and in which of the two files it is.
+-- The rules that a command has: those that the bytes of its rules file give, with the bytes of its
+-- drop-in file over them, if it has one; or the status that tells of the first fault, and in which
+-- of the two files it is.
 abbrev pub rules_from : List ℕ → Option (List ℕ) → Result types.Rules Status
 rules_from bytes drop_in = with_drop_in drop_in (or_rules_fault (rules_of bytes))
 
@@ -164,11 +169,12 @@ stress_options workers = record {
   live_count = 1;
 }
 
--- A text is the whole output of a command for an accepted trace and rulesets. Of `replay` there may be more than one where a
--- group is watched, since a live sample may be of any number of changes from that of the tick before to that of its own. `gen` and
--- `stress` read no file: theirs is the trace that their shape gives. `import` prints its trace, which has as many processors as it
--- was told. `rules` has no trace, and prints its rulesets. `whatif` prints what `replay` prints of the last trace, from which the
--- victims of its kills were taken out.
+-- A text is the whole output of a command for an accepted trace and rulesets. Of `replay` there may
+-- be more than one where a group is watched, since a live sample may be of any number of changes
+-- from that of the tick before to that of its own. `gen` and `stress` read no file: theirs is the
+-- trace that their shape gives. `import` prints its trace, which has as many processors as it was
+-- told. `rules` has no trace, and prints its rulesets. `whatif` prints what `replay` prints of the
+-- last trace, from which the victims of its kills were taken out.
 abbrev pub IsOutput : Command → Trace → List Rule → List ℕ → Type 0
 IsOutput (Stall name) trace rules text = text ≡ stall_text trace
 IsOutput (Check name tick_ms) trace rules text = text ≡ check_text trace
@@ -187,8 +193,8 @@ abbrev pub status_of_last : Result Trace ℕ → Status
 status_of_last (Ok last) = status.Done
 status_of_last (Err events) = status.TooLarge events
 
--- How a command ends for an accepted trace and rulesets, where nothing else is against it: it is done, unless a round of `whatif`
--- leaves more events than a trace may have.
+-- How a command ends for an accepted trace and rulesets, where nothing else is against it: it is
+-- done, unless a round of `whatif` leaves more events than a trace may have.
 abbrev pub outcome_of : Command → Trace → List Rule → Status
 outcome_of (Whatif name options) trace rules = status_of_last (last_trace trace (pace_of options) rules)
 outcome_of command trace rules = status.Done

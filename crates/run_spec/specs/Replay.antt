@@ -1,5 +1,5 @@
--- What `replay` prints: at each tick live lines, the signals of triggers, where an evaluation is due the kills of rules, and
--- where a report is due the pressure files of all live groups.
+-- What `replay` prints: at each tick live lines, the signals of triggers, where an evaluation is
+-- due the kills of rules, and where a report is due the pressure files of all live groups.
 use Rattle.std.specs.Prelude.{◌≡◌, ℕ, ◌-◌, ◌≤◌, List, [], ◌++◌, length, sum_by, ◌==◌, Option, None, Some, if◌then◌else◌, slice_get, slice_index, slice_index_or, codes}
 use Rattle.std.specs.List.{flat_map, range_with_len}
 use Rattle.psi_base.specs.declared.event.TriggerSpec.{TriggerSpec}
@@ -21,15 +21,16 @@ use Rattle.run_spec.specs.Lines.{end_line, event_line, irq_report, kill_line, re
 use Rattle.run_spec.specs.Text.{end_of}
 use Rattle.run_spec.specs.Live.{IsLiveText, LiveWatch}
 
--- How a trace is replayed: the length of a tick (ns), the period of reports (ns), 0 for none, the interval of evaluations (ns),
--- and which group is watched, if one is.
+-- How a trace is replayed: the length of a tick (ns), the period of reports (ns), 0 for none, the
+-- interval of evaluations (ns), and which group is watched, if one is.
 pub record Pace : Type 0 where
   pub length : ℕ
   pub report : ℕ
   pub interval : ℕ
   pub watch : Option LiveWatch
 
--- What a replay has beside its trace: the lines of live samples at the tick with a number, and rulesets.
+-- What a replay has beside its trace: the lines of live samples at the tick with a number, and
+-- rulesets.
 pub record Beside : Type 0 where
   pub live : ℕ → List ℕ
   pub rules : List Rule
@@ -51,7 +52,8 @@ lives_of trace = (after trace.events).groups
 -- the numbers of the triggers that signal at a tick
 abbrev pub fired_in : Trace → Pace → ℕ → List ℕ
 fired_in trace pace i =
-    fired_at trace.cpus (lives_of trace) (triggers_of trace.events) (ticks_of trace.cpus trace.events pace.length (i - 1)) (tick_of trace.cpus trace.events pace.length i)
+    fired_at trace.cpus (lives_of trace) (triggers_of trace.events) (ticks_of trace.cpus trace.events pace.length (i - 1))
+    (tick_of trace.cpus trace.events pace.length i)
 
 -- the line of a trigger that signals at a moment (ns), if there is such a trigger
 abbrev pub signal_line : ℕ → List GroupLife → ℕ → Option TriggerSpec → List ℕ
@@ -68,7 +70,8 @@ signals_until trace pace count = sum_by (λ i. length (fired_in trace pace i)) (
 
 -- ---- kills
 
--- the kills at a tick: those of the rulesets at an evaluation, after the readings of all evaluations before it
+-- the kills at a tick: those of the rulesets at an evaluation, after the readings of all
+-- evaluations before it
 abbrev pub kills_in : Trace → Pace → List Rule → ℕ → List Kill
 kills_in trace pace rules i =
     if is_evaluation pace.interval pace.length i
@@ -152,7 +155,8 @@ IsReplayText trace pace rules text =
 abbrev pub root_group : List ℕ × ℕ
 root_group = (codes "/", 0)
 
--- the text of `stress`: the report of the root at the last tick, if there is a tick, and the last line
+-- the text of `stress`: the report of the root at the last tick, if there is a tick, and the last
+-- line
 abbrev pub stress_text : Trace → Pace → List ℕ
 stress_text trace pace =
     (if tick_count trace pace == 0 then [] else group_report trace pace (tick_count trace pace) root_group)

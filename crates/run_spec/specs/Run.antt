@@ -1,7 +1,8 @@
--- What a run of a command promises: what each status says of the files and of the output, and which counts of failures rose.
+-- What a run of a command promises: what each status says of the files and of the output, and which
+-- counts of failures rose.
 use Rattle.std.specs.Prelude.{◌≡◌, ℕ, List, [], Option, None, Some, IsSome, MatchOption, option_map, Ok, Err, ⊤}
 use Rattle.std.specs.Io.KnownBytes.{Appends, Keeps}
-use Rattle.psi_base.specs.Outside.{Files, told, Lacks, Rose, AppendsFront, ShelfCounts, counts_of}
+use Rattle.outside.specs.Outside.{Files, told, Lacks, Rose, AppendsFront, ShelfCounts, counts_of}
 use Rattle.psi_spec.specs.Fields.{IsAmong}
 use Rattle.psi_spec.specs.Trace.{AreKnown, IsAccepted, IsCpuCount, Trace, limits_of}
 use Rattle.run_spec.specs.declared.command.Command.{Command}
@@ -36,7 +37,8 @@ pub record RisesWhere (Happened : Type 0) (before now : ℕ) : Type 0 where
 abbrev pub IsNoFile : Status → Type 0
 IsNoFile result = (which : Which) × (result ≡ status.NoFile which)
 
--- Each count rose exactly where the status tells of its failure: so no failure is passed over in silence.
+-- Each count rose exactly where the status tells of its failure: so no failure is passed over in
+-- silence.
 pub record FailuresAreCounted (before now : RunCounts) (result : Status) : Type 0 where
   pub faults : RisesWhere (result ≡ status.ReadFault) before.shelf.faults now.shelf.faults
   pub absent : RisesWhere (IsNoFile result) before.shelf.absent now.shelf.absent
@@ -53,7 +55,8 @@ abbrev pub told_if_named : Option Files → Option (List ℕ) → Option (Option
 told_if_named files None = Some None
 told_if_named files (Some name) = option_map (λ bytes. Some bytes) (told files name)
 
--- the bytes of a command's drop-in file are told to be these, or it reads no such file, and there are none
+-- the bytes of a command's drop-in file are told to be these, or it reads no such file, and there
+-- are none
 abbrev pub DropInTold : Command → Option Files → Option (List ℕ) → Type 0
 DropInTold command files drop_in = told_if_named files (drop_in_name command) ≡ Some drop_in
 
@@ -62,8 +65,8 @@ abbrev pub HasTrace : Command → Type 0
 HasTrace (words.Rules file drop_in) = ⊥
 HasTrace _ = ⊤
 
--- A command takes a trace: its version and the verbs of its events are accepted, the events make up a trace, and it is the one
--- that the command takes from its file's bytes, where these are told.
+-- A command takes a trace: its version and the verbs of its events are accepted, the events make up
+-- a trace, and it is the one that the command takes from its file's bytes, where these are told.
 pub record TakesTrace (command : Command) (files : Option Files) (trace : Trace) : Type 0 where
   pub version : IsAmong trace.version (accepts_of command).versions
   pub cpus : IsCpuCount trace.cpus
@@ -71,8 +74,8 @@ pub record TakesTrace (command : Command) (files : Option Files) (trace : Trace)
   pub accepted : IsAccepted (limits_of (accepts_of command).tick trace.cpus) trace.events
   pub read : (bytes : List ℕ) → IsTold command (source_of command) files bytes → taken_of command bytes ≡ Ok trace
 
--- A command takes rulesets: each in its ranges, those of the bytes of its rules file and of the drop-in file over it, where these
--- are told, and none where it reads no rules file.
+-- A command takes rulesets: each in its ranges, those of the bytes of its rules file and of the
+-- drop-in file over it, where these are told, and none where it reads no rules file.
 pub record TakesRules (command : Command) (files : Option Files) (rules : List Rule) : Type 0 where
   pub fit : FitsRules rules
   pub none : rules_name command ≡ None → rules ≡ []
@@ -83,8 +86,8 @@ pub record TakesRules (command : Command) (files : Option Files) (rules : List R
 abbrev pub TakesBase : Command → Option Files → Rules → Type 0
 TakesBase command files base = (bytes : List ℕ) → IsTold command RulesFile files bytes → rules_of bytes ≡ Ok base
 
--- the rulesets of a command are told to be these: those of its rules file with the drop-in file over it, if it reads one, or none
--- where it reads no rules file
+-- the rulesets of a command are told to be these: those of its rules file with the drop-in file
+-- over it, if it reads one, or none where it reads no rules file
 abbrev pub RulesTold : Command → Option Files → List Rule → Type 0
 RulesTold command files rules = MatchOption (rules_name command) (rules ≡ [])
     (λ name. (bytes : List ℕ) × (drop_in : Option (List ℕ)) × (told files name ≡ Some bytes) × DropInTold command files drop_in
@@ -100,16 +103,16 @@ IsThere command files which = (name : List ℕ) → file_of command which ≡ So
 abbrev pub RulesAreThere : Command → Option Files → Type 0
 RulesAreThere command files = IsThere command files RulesFile × IsThere command files DropInFile
 
--- A command's whole output for an accepted trace and rulesets has some property, and no file of it is missing. Where a command has
--- no trace, its output says nothing of one.
+-- A command's whole output for an accepted trace and rulesets has some property, and no file of it
+-- is missing. Where a command has no trace, its output says nothing of one.
 abbrev pub HasOutput : Command → Option Files → (List ℕ → Type 0) → Type 0
 HasOutput command files IsSo =
     (trace : Trace) × (rules : List Rule) × (HasTrace command → TakesTrace command files trace) × TakesRules command files rules
     × RulesAreThere command files × IsThere command files (source_of command)
     × ((text : List ℕ) × IsOutput command trace rules text × IsSo text)
 
--- Where nothing else is against it, a command ends with this status for an accepted trace and rulesets, and no file of it is
--- missing.
+-- Where nothing else is against it, a command ends with this status for an accepted trace and
+-- rulesets, and no file of it is missing.
 pub record ComesTo (command : Command) (files : Option Files) (result : Status) : Type 0 where
   pub trace : Trace
   pub rules : List Rule
@@ -119,27 +122,30 @@ pub record ComesTo (command : Command) (files : Option Files) (result : Status) 
   pub there : IsThere command files (source_of command)
   pub outcome : outcome_of command trace rules ≡ result
 
--- What comes before a command reads its file of this kind is in order: the rules file comes first, then the drop-in file over it,
--- then any other. The files before it are there.
+-- What comes before a command reads its file of this kind is in order: the rules file comes first,
+-- then the drop-in file over it, then any other. The files before it are there.
 abbrev pub IsPassed : Command → Option Files → Which → Type 0
 IsPassed command files RulesFile = ⊤
-IsPassed command files DropInFile = (base : Rules) × IsSome (rules_name command) × TakesBase command files base × IsThere command files RulesFile
+IsPassed command files DropInFile =
+    (base : Rules) × IsSome (rules_name command) × TakesBase command files base × IsThere command files RulesFile
 IsPassed command files _ = (rules : List Rule) × TakesRules command files rules × RulesAreThere command files
 
 -- a command reads a file of some kind
 abbrev pub ReadsFiles : Command → Type 0
 ReadsFiles command = (which : Which) × IsSome (file_of command which)
 
--- Nothing was written, and a status tells of the first refused line of a command's file of this kind, behind what comes before it.
+-- Nothing was written, and a status tells of the first refused line of a command's file of this
+-- kind, behind what comes before it.
 abbrev pub Refuses : Command → Option Files → Option (List ℕ) → Option (List ℕ) → Which → Status → Type 0
 Refuses command files old new which result =
     Keeps old new × IsSome (file_of command which) × IsPassed command files which × IsThere command files which
     × ((bytes : List ℕ) → IsTold command which files bytes → taken_of command bytes ≡ Err result)
 
--- What a status says of a command, whose files the shelf may tell, and of what the sink held before and holds now: the whole
--- output or a front of it, for an accepted trace and rulesets; the first fault of the rules file, or of the drop-in file over it;
--- behind the rules the first refused line of the trace, or of a text of ftrace; that what a round left of the trace is too large; or
--- a name that isn't there. Where it isn't Done or WriteFault, the sink is as it was.
+-- What a status says of a command, whose files the shelf may tell, and of what the sink held before
+-- and holds now: the whole output or a front of it, for an accepted trace and rulesets; the first
+-- fault of the rules file, or of the drop-in file over it; behind the rules the first refused line
+-- of the trace, or of a text of ftrace; that what a round left of the trace is too large; or a name
+-- that isn't there. Where it isn't Done or WriteFault, the sink is as it was.
 abbrev pub Ends : Command → Option Files → Option (List ℕ) → Option (List ℕ) → Status → Type 0
 Ends command files old new status.Done = HasOutput command files (λ text. Appends old new text)
 Ends command files old new status.WriteFault = HasOutput command files (λ text. AppendsFront old new text)
@@ -160,6 +166,7 @@ Ends command files old new (status.NoMemory _) = Keeps old new
 Ends command files old new status.Usage = ⊥
 
 -- A run of a command: what its status says, and the counts.
-pub record Runs (command : Command) (files : Option Files) (before now : RunCounts) (old new : Option (List ℕ)) (result : Status) : Type 0 where
+pub record Runs (command : Command) (files : Option Files) (before now : RunCounts) (old new : Option (List ℕ))
+    (result : Status) : Type 0 where
   pub ends : Ends command files old new result
   pub counts : FailuresAreCounted before now result

@@ -23,14 +23,16 @@ end_of events = (after events).last
 abbrev pub stall_times : ℕ → ℕ → List Event → List ℕ
 stall_times cpu slot events = map (λ state. stall state cpu slot events (end_of events)) states
 
--- the times (ns) that are told of a group on a processor: the stall times and, in version 2, behind them the interrupt time
+-- the times (ns) that are told of a group on a processor: the stall times and, in version 2, behind
+-- them the interrupt time
 abbrev pub told_times : Version → ℕ → ℕ → List Event → List ℕ
 told_times One cpu slot events = stall_times cpu slot events
 told_times Two cpu slot events = stall_times cpu slot events ++ irq_time cpu slot events ∷ []
 
 -- the lines of a processor
 abbrev pub stall_lines : Version → ℕ → List Event → List ℕ
-stall_lines version cpu events = flat_map (λ (pair : List ℕ × ℕ). stall_line cpu pair.0 (told_times version cpu pair.1 events)) (live_groups (after events).groups)
+stall_lines version cpu events =
+    flat_map (λ (pair : List ℕ × ℕ). stall_line cpu pair.0 (told_times version cpu pair.1 events)) (live_groups (after events).groups)
 
 -- the text of `stall`: the lines of all processors
 unfoldable pub stall_text : Trace → List ℕ

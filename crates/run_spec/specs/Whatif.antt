@@ -1,4 +1,5 @@
--- What is left of a trace where the victims of its kills are taken out of it, one kill after the other.
+-- What is left of a trace where the victims of its kills are taken out of it, one kill after the
+-- other.
 use Rattle.std.specs.Prelude.{ℕ, zero, suc, List, length, nat_lt, if◌then◌else◌, Option, None, Some, Result, Ok, Err, slice_get}
 use Rattle.std.specs.List.{flat_map, range_with_len}
 use Rattle.psi_spec.specs.World.{most_events}
@@ -29,7 +30,8 @@ without_kill trace (Some kill) = trace_without trace kill.at kill.victim.0
 abbrev pub bounded_trace : Trace → Result Trace ℕ
 bounded_trace trace = if nat_lt most_events (length trace.events) then Err (length trace.events) else Ok trace
 
--- What one round leaves of a trace: it takes out the kill with this number, from 0, where the trace has so many.
+-- What one round leaves of a trace: it takes out the kill with this number, from 0, where the trace
+-- has so many.
 abbrev pub round : Pace → List Rule → ℕ → Trace → Result Trace ℕ
 round pace rules number trace = bounded_trace (without_kill trace (slice_get (all_kills trace pace rules) number))
 
@@ -38,12 +40,14 @@ abbrev pub then_round : Pace → List Rule → ℕ → Result Trace ℕ → Resu
 then_round pace rules number (Err events) = Err events
 then_round pace rules number (Ok trace) = round pace rules number trace
 
--- What the first so many rounds leave of a trace, each of what the one before it left: the first takes out the first kill, the
--- second the second kill of what is left then, and so on. Where one leaves more events than a trace may have, it is how many.
+-- What the first so many rounds leave of a trace, each of what the one before it left: the first
+-- takes out the first kill, the second the second kill of what is left then, and so on. Where one
+-- leaves more events than a trace may have, it is how many.
 unfoldable pub after_rounds : Trace → Pace → List Rule → ℕ → Result Trace ℕ
 after_rounds trace pace rules zero = Ok trace
 after_rounds trace pace rules (suc count) = then_round pace rules count (after_rounds trace pace rules count)
 
--- the trace that is left when all kills were taken, 64 at most, or how many events a round left that left too many
+-- the trace that is left when all kills were taken, 64 at most, or how many events a round left
+-- that left too many
 abbrev pub last_trace : Trace → Pace → List Rule → Result Trace ℕ
 last_trace trace pace rules = after_rounds trace pace rules most_rounds

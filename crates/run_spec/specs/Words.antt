@@ -1,5 +1,5 @@
--- The command that words spell: they say options and a positional, read from left to right, and then
--- each command has one table.
+-- The command that words spell: they say options and a positional, read from left to right, and
+-- then each command has one table.
 use Rattle.std.specs.Prelude.{◌≡◌, ◌≢◌, ℕ, ◌-◌, ◌^◌, ◌≤◌, ◌<◌, List, [], ◌∷◌, length, drop}
 use Rattle.std.specs.Prelude.{find, nat_eq, nat_lt, nat_le, ◌==◌, ◌&&◌, not, Bool}
 use Rattle.std.specs.Prelude.{true, false, if◌then◌else◌, codes, Option, None, Some, IfSome, IsSome}
@@ -150,7 +150,8 @@ rules_given None = Some None
 rules_given (Some name) =
     if is_name name && not (bytes_eq name (codes "-")) then Some (Some name) else None
 
--- the name of the drop-in file over a rules file, or that there is none: without rules there is nothing that it could change
+-- the name of the drop-in file over a rules file, or that there is none: without rules there is
+-- nothing that it could change
 abbrev pub drop_in_given : Option (List ℕ) → Option (List ℕ) → Option (Option (List ℕ))
 drop_in_given rules None = Some None
 drop_in_given None (Some name) = None
@@ -237,8 +238,8 @@ stress_of given = do
   Some (Stress shape workers)
 
 -- `import` needs a file, and how many processors the machine has
-unfoldable pub import_of : Given → Option Command
-import_of given = do
+unfoldable pub import_command_of : Given → Option Command
+import_command_of given = do
   file ← trace_given given
   cpus ← needed 1 64 (value_given (codes "cpus") given)
   Some (Import file cpus)
@@ -250,7 +251,8 @@ rules_command_of given = do
   drop_in ← rules_given (value_given (codes "drop-in") given)
   Some (Rules file drop_in)
 
--- `whatif` needs a trace and rules, and has the other options of `replay` but those on what is watched
+-- `whatif` needs a trace and rules, and has the other options of `replay` but those on what is
+-- watched
 unfoldable pub whatif_of : Given → Option Command
 whatif_of given = do
   trace ← trace_given given
@@ -300,7 +302,7 @@ stress_form = record { word = codes "stress"; options = stress_names; command = 
 
 -- `import FILE`, with one option
 abbrev pub import_form : CommandForm
-import_form = record { word = codes "import"; options = codes "cpus" ∷ []; command = import_of }
+import_form = record { word = codes "import"; options = codes "cpus" ∷ []; command = import_command_of }
 
 -- `rules FILE`, with one option
 abbrev pub rules_form : CommandForm

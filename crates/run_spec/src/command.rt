@@ -52,7 +52,8 @@ pub enum Command {
         /// The name of the drop-in file over it, by default none.
         drop_in: Option<Text>,
     },
-    /// Replay what is left of the trace where the victims of its kills are taken out of it, one kill after the other.
+    /// Replay what is left of the trace where the victims of its kills are taken out of it, one
+    /// kill after the other.
     Whatif {
         /// The name of the trace's file, or `-` for standard input.
         trace: Text,
@@ -70,10 +71,11 @@ pub struct Options {
     pub drop_in: Option<Text>,
     /// The length of a tick in ms: 1 to 60,000, by default 2,000.
     pub tick_ms: u32,
-    /// The interval of evaluations in seconds: one comes at the first tick at or after each multiple. 1 to 3,600, by default 5.
+    /// The interval of evaluations in seconds: one comes at the first tick at or after each
+    /// multiple. 1 to 3,600, by default 5.
     pub interval_s: u32,
-    /// The period of reports in seconds: one comes at the first tick at or after each multiple. 0 to 3,600, by default 10. The
-    /// last tick always has one, and with 0 no other.
+    /// The period of reports in seconds: one comes at the first tick at or after each multiple. 0
+    /// to 3,600, by default 10. The last tick always has one, and with 0 no other.
     pub report_s: u32,
     /// How many threads replay at most: 1 to 64, by default 64.
     pub workers: u32,

@@ -1,8 +1,11 @@
-//! What a run of the program promises: its command words, what each command prints, and what each status says.
+//! What a run of the program promises: its command words, what each command prints, and what each
+//! status says.
 //!
-//! In `specs/`, in the order of reading: `Words` (which words are a command), `Lines`, `Text`, `Generated`, `Live` and `Replay`
-//! (what is printed), `Whatif` (what is left of a trace without the victims of its kills), `Outputs` (which files a command reads, and its whole output), `MostRead` (how many bytes are read),
-//! `Status` (exit status and note), `Run` (what a run promises); and `Laws`, what follows.
+//! In `specs/`, in the order of reading: `Words` (which words are a command), `Lines`, `Text`,
+//! `Generated`, `Live` and `Replay` (what is printed), `Whatif` (what is left of a trace without
+//! the victims of its kills), `Outputs` (which files a command reads, and its whole output),
+//! `MostRead` (how many bytes are read), `Status` (exit status and note), `Run` (what a run
+//! promises); and `Laws`, what follows.
 #![tactic(auto)]
 
 mod command;

@@ -69,9 +69,9 @@ impl Status {
     }
 }
 
-/// Where a file of a command is told to be missing, a run says so, or tells of a failure. Where it is the one that the trace is
-/// taken from, a run may also tell of a fault of the rules, or of the drop-in file over them, which come first; and where it is
-/// the drop-in file, of one of the rules.
+/// Where a file of a command is told to be missing, a run says so, or tells of a failure. Where it
+/// is the one that the trace is taken from, a run may also tell of a fault of the rules, or of the
+/// drop-in file over them, which come first; and where it is the drop-in file, of one of the rules.
 pub fn law_missing_files()
     ensures rules { MissingRulesTell }
     ensures drop_in { MissingDropInTells }

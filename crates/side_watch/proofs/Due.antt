@@ -58,7 +58,8 @@ seen_due limits events (Some before) at legal turn =
     let are = sides_up_to limits events legal before in
     ap (filter (is_due at)) are ∙ due_again before at (sides_of events) turn ∙ sym are
 
--- those that were taken and those that are due behind them are the sides of the events up to the moment
+-- those that were taken and those that are due behind them are the sides of the events up to the
+-- moment
 pub taken_on : (limits : Limits) (events : List Event) (moment : Option ℕ) (at taken : ℕ) → AreLegal limits first_world events → IsNotAfter moment at → take taken (sides_of events) ≡ sides_of (seen_events events moment) →
     sides_of (seen_events events moment) ++ due_by at (drop taken (sides_of events)) ≡ sides_of (up_to events at)
 taken_on limits events moment at taken legal turn front =

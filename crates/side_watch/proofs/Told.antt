@@ -20,7 +20,7 @@ use Rattle.psi_spec.specs.Changes.{before}
 use Rattle.psi_counts.proofs.CountLaws.{any_counted}
 use Rattle.kill_spec.specs.declared.reading.HostReading.{HostReading}
 use Rattle.kill_spec.specs.Readings.{no_host}
-use Rattle.kill_spec.specs.Evaluations.{MemorySample, last_or, no_memory, memory_told, preference_told, host_told}
+use Rattle.kill_spec.specs.Evaluations.{MemorySample, last_or, no_memory_sample, memory_told, preference_told, host_told}
 use Rattle.proc_plan.specs.declared.side.Side.{Side}
 use Rattle.proc_plan.specs.declared.side.SideAct.{SideAct}
 use Rattle.proc_plan.specs.declared.side.SideAct.TheVariants as side
@@ -76,7 +76,7 @@ sample_host at groups (act.Group path) = refl
 sample_host at groups _ = refl
 
 pub memory_is_last : MemoryIsLastSide
-memory_is_last events slot = ap (last_or no_memory) (all_tell (memory_in slot) (memory_told slot) (λ of added. refl) (sample_memory slot) first_world events)
+memory_is_last events slot = ap (last_or no_memory_sample) (all_tell (memory_in slot) (memory_told slot) (λ of added. refl) (sample_memory slot) first_world events)
 
 pub preference_is_last : PreferenceIsLastSide
 preference_is_last events slot = ap (last_or Plain) (all_tell (preference_in slot) (preference_told slot) (λ of added. refl) (sample_preference slot) first_world events)

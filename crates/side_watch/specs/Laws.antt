@@ -7,7 +7,7 @@ use Rattle.psi_base.specs.declared.event.Preference.TheVariants.{Plain}
 use Rattle.psi_spec.specs.World.{after}
 use Rattle.kill_spec.specs.declared.reading.HostReading.{HostReading}
 use Rattle.kill_spec.specs.Readings.{no_host}
-use Rattle.kill_spec.specs.Evaluations.{MemorySample, last_or, no_memory}
+use Rattle.kill_spec.specs.Evaluations.{MemorySample, last_or, no_memory_sample}
 use Rattle.kill_spec.specs.Evaluations.{memory_of, preference_of, host_of, is_populated}
 use Rattle.proc_plan.specs.declared.side.Side.{Side}
 use Rattle.proc_plan.specs.declared.side.SideAct.{SideAct}
@@ -39,7 +39,7 @@ told_in tells sides = flat_map (λ (side : Side). tells side.what) sides
 -- The last memory sample of a group among the sides of events is its last among the events.
 abbrev pub MemoryIsLastSide : Type 0
 MemoryIsLastSide = (events : List Event) (slot : ℕ) →
-    memory_of slot events ≡ last_or no_memory (told_in (memory_in slot) (sides_of events))
+    memory_of slot events ≡ last_or no_memory_sample (told_in (memory_in slot) (sides_of events))
 
 -- So is its last preference,
 abbrev pub PreferenceIsLastSide : Type 0

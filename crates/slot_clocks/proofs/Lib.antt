@@ -1,6 +1,6 @@
 mod ChainLaws
 mod CountsTable
-mod GateLaws
+mod AccountLaws
 mod StartLaws
 mod TurnLaws
 mod WalkLaws

@@ -16,21 +16,22 @@ at_slot : {A : Type 0} (side : Option (Slot × A)) → MayStartAt side (height (
 at_slot None = tt
 at_slot (Some pair) = refl
 
--- the first chain, where it stands for a gate, and where it stands for counts that are taken
-at_gate : (gate : Option (Slot × Bool)) (minus : Option (Slot × Counts)) → MayStartAt gate (height (option_or (slot_in gate) (slot_in minus)))
-at_gate None minus = tt
-at_gate (Some switched) minus = refl
+-- the first chain, where it stands for a switched account, and where it stands for counts that are
+-- taken
+at_account : (account : Option (Slot × Bool)) (minus : Option (Slot × Counts)) → MayStartAt account (height (option_or (slot_in account) (slot_in minus)))
+at_account None minus = tt
+at_account (Some switched) minus = refl
 
-at_minus : (gate : Option (Slot × Bool)) (minus : Option (Slot × Counts)) → IfSome gate (λ _. minus ≡ None) → MayStartAt minus (height (option_or (slot_in gate) (slot_in minus)))
-at_minus gate None alone = tt
+at_minus : (account : Option (Slot × Bool)) (minus : Option (Slot × Counts)) → IfSome account (λ _. minus ≡ None) → MayStartAt minus (height (option_or (slot_in account) (slot_in minus)))
+at_minus account None alone = tt
 at_minus None (Some part) alone = refl
 at_minus (Some switched) (Some part) alone = absurd (cc alone)
 
 -- the chains of a change may start at their slots
-pub may_start : (current : Option (Slot × Bool)) (change : Change) → IfSome change.gate (λ _. change.minus ≡ None) → MayStart current change (chains_of current change)
+pub may_start : (current : Option (Slot × Bool)) (change : Change) → IfSome change.account (λ _. change.minus ≡ None) → MayStart current change (chains_of current change)
 may_start current change alone = record {
-  gate = at_gate change.gate change.minus;
-  minus = at_minus change.gate change.minus alone;
+  account = at_account change.account change.minus;
+  minus = at_minus change.account change.minus alone;
   plus = at_slot change.plus;
   before = inl (at_slot current);
   after = refl;
@@ -50,13 +51,13 @@ moved_before current change true other same either = inr (same refl)
 moved_before current change false other same either = inl (moved current (height (slot_in current)) other (at_slot current) either)
 
 -- the chains of a change may start at one height, where each stands there or nowhere
-pub start_together : (current : Option (Slot × Bool)) (change : Change) (stays : Bool) (other : ℕ) → (stays ≡ true → current ≡ change.current) → IfSome change.gate (λ _. change.minus ≡ None) → (chains : Chains) → chains ≡ chains_of current change
+pub start_together : (current : Option (Slot × Bool)) (change : Change) (stays : Bool) (other : ℕ) → (stays ≡ true → current ≡ change.current) → IfSome change.account (λ _. change.minus ≡ None) → (chains : Chains) → chains ≡ chains_of current change
     → (chains.minus ≡ 0) ⊎ (chains.minus ≡ other) → (chains.plus ≡ 0) ⊎ (chains.plus ≡ other) → ((if stays then 0 else chains.before) ≡ 0) ⊎ ((if stays then 0 else chains.before) ≡ other)
     → MayStart current change (record { minus = other; plus = other; before = other; after = chains.after })
 start_together current change stays other same alone chains is minus plus before =
     let start = may_start current change alone in
     record {
-      gate = moved change.gate (chains_of current change).minus other start.gate (rw is at minus);
+      account = moved change.account (chains_of current change).minus other start.account (rw is at minus);
       minus = moved change.minus (chains_of current change).minus other start.minus (rw is at minus);
       plus = moved change.plus (chains_of current change).plus other start.plus (rw is at plus);
       before = moved_before current change stays other same (rw is at before);
@@ -69,14 +70,14 @@ side_low : {A : Type 0} (side : Option (Slot × A)) (slots : ℕ) → IfSome sid
 side_low None slots below = omega arith
 side_low (Some pair) slots below = omega (arith, below)
 
-first_low : (gate : Option (Slot × Bool)) (minus : Option (Slot × Counts)) (slots : ℕ) → IfSome gate (λ switched. switched.0.0 < slots) → IfSome minus (λ part. part.0.0 < slots) → height (option_or (slot_in gate) (slot_in minus)) ≤ slots
+first_low : (account : Option (Slot × Bool)) (minus : Option (Slot × Counts)) (slots : ℕ) → IfSome account (λ switched. switched.0.0 < slots) → IfSome minus (λ part. part.0.0 < slots) → height (option_or (slot_in account) (slot_in minus)) ≤ slots
 first_low None minus slots below part_below = side_low minus slots part_below
 first_low (Some switched) minus slots below part_below = omega (arith, below)
 
 -- no chain of a change stands above all slots
 pub starts_low : (current : Option (Slot × Bool)) (change : Change) (slots : ℕ) → HasSlotsBelow slots change → IfSome current (λ running. running.0.0 < slots) → top (chains_of current change) ≤ slots
 starts_low current change slots below running =
-    let minus = first_low change.gate change.minus slots below.gate below.minus in
+    let minus = first_low change.account change.minus slots below.account below.minus in
     let plus = side_low change.plus slots below.plus in
     let before = side_low current slots running in
     let after = side_low change.current slots below.current in

@@ -49,19 +49,19 @@ not_in : (parents : List (Option ℕ)) (slot : ℕ) (current : Option (Slot × B
 not_in parents slot None place start reached = refl
 not_in parents slot (Some running) place start reached = ap (λ (h : ℕ). reaches parents h slot) (sym start) ∙ reached
 
--- no gate is for a group that isn't reached from where the walk to it may start
-pub is_apart : (parents : List (Option ℕ)) (slot : ℕ) (gate : Option (Slot × Bool)) (place : ℕ) → AreOlder parents → MayStartAt gate place → reaches parents place slot ≡ false → IsApart gate slot
+-- no switched account is for a group that isn't reached from where the walk to it may start
+pub is_apart : (parents : List (Option ℕ)) (slot : ℕ) (account : Option (Slot × Bool)) (place : ℕ) → AreOlder parents → MayStartAt account place → reaches parents place slot ≡ false → IsApart account slot
 is_apart parents slot None place older start reached = tt
-is_apart parents slot (Some gate) place older start reached = λ same. cc (reached, stands parents place slot older (place_is place gate.0.0 slot start same))
+is_apart parents slot (Some account) place older start reached = λ same. cc (reached, stands parents place slot older (place_is place account.0.0 slot start same))
   where
     place_is : (place number slot : ℕ) → place ≡ suc number → slot ≡ number → place ≡ slot + 1
     place_is place number slot is same = omega (arith, is, same)
 
 -- a group that no chain of a change reaches stays as it is
 pub stays_turned : (parents : List (Option ℕ)) (current : Option (Slot × Bool)) (change : Change) (starts : Chains) (slot : ℕ) (cell : Cell) → MayStart current change starts → reaches parents starts.minus slot ≡ false → reaches parents starts.plus slot ≡ false
-    → reaches parents starts.before slot ≡ false → reaches parents starts.after slot ≡ false → AreOlder parents → (IsApart change.gate slot → MaskTells parents current slot cell) → IsUpTo change.at cell.clock → IsTurned parents change slot cell cell
+    → reaches parents starts.before slot ≡ false → reaches parents starts.after slot ≡ false → AreOlder parents → (IsApart change.account slot → MaskTells parents current slot cell) → IsUpTo change.at cell.clock → IsTurned parents change slot cell cell
 stays_turned parents current change starts slot cell start minus plus before after older told_apart up_to =
-    let told = told_apart (is_apart parents slot change.gate starts.minus older start.gate minus) in
+    let told = told_apart (is_apart parents slot change.account starts.minus older start.account minus) in
     let taken : on_chain parents slot change.minus ≡ no_counts = chain_is parents slot change.minus starts.minus false start.minus minus in
     let added : on_chain parents slot change.plus ≡ no_counts = chain_is parents slot change.plus starts.plus false start.plus plus in
     let runs : is_current_in parents slot change.current ≡ false = current_is parents slot change.current false (ap (λ (h : ℕ). reaches parents h slot) (sym start.after) ∙ after) in

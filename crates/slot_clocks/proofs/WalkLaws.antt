@@ -80,7 +80,7 @@ pub record IsShare (parents : List (Option ℕ)) (change : Change) (chains : Cha
   pub minus : on_chain parents slot change.minus ≡ (if chains.minus == here then counts_in change.minus else no_counts)
   pub plus : on_chain parents slot change.plus ≡ (if chains.plus == here then counts_in change.plus else no_counts)
   pub after : is_current_in parents slot change.current ≡ (chains.after == here)
-  pub gate : (chains.minus == here) ≡ false → IsApart change.gate slot
+  pub account : (chains.minus == here) ≡ false → IsApart change.account slot
 
 pub share_at_top : (parents : List (Option ℕ)) (current : Option (Slot × Bool)) (change : Change) (starts chains : Chains) (here slot : ℕ) → AreOlder parents → MayStart current change starts → here ≡ slot + 1 → top chains ≡ here → IsAhead parents starts chains slot → IsShare parents change chains here slot
 share_at_top parents current change starts chains here slot older start at is ahead =
@@ -90,7 +90,7 @@ share_at_top parents current change starts chains here slot older start at is ah
       minus = chain_is parents slot change.minus starts.minus (chains.minus == here) start.minus (sym ahead.minus ∙ stands_here chains.minus within.minus);
       plus = chain_is parents slot change.plus starts.plus (chains.plus == here) start.plus (sym ahead.plus ∙ stands_here chains.plus within.plus);
       after = current_is parents slot change.current (chains.after == here) (ap (λ (h : ℕ). reaches parents h slot) (sym start.after) ∙ sym ahead.after ∙ stands_here chains.after within.after);
-      gate = λ off. is_apart parents slot change.gate starts.minus older start.gate (sym ahead.minus ∙ stands_here chains.minus within.minus ∙ off);
+      account = λ off. is_apart parents slot change.account starts.minus older start.account (sym ahead.minus ∙ stands_here chains.minus within.minus ∙ off);
     }
 
 -- ---- one step
@@ -167,7 +167,7 @@ top_passed parents chains parent here slot older up at is =
 -- ---- the end
 
 -- behind the roots each group went through the change
-pub all_walked : (parents : List (Option ℕ)) (current : Option (Slot × Bool)) (change : Change) (starts chains : Chains) (slot : ℕ) (old now : Cell) → AreOlder parents → MayStart current change starts → top chains ≡ 0 → (IsApart change.gate slot → MaskTells parents current slot old) → IsUpTo change.at old.clock
+pub all_walked : (parents : List (Option ℕ)) (current : Option (Slot × Bool)) (change : Change) (starts chains : Chains) (slot : ℕ) (old now : Cell) → AreOlder parents → MayStart current change starts → top chains ≡ 0 → (IsApart change.account slot → MaskTells parents current slot old) → IsUpTo change.at old.clock
     → IsWalked parents change starts chains slot old now → IsTurned parents change slot old now
 all_walked parents current change starts chains slot old now older start is told up_to (inl done) = done.0
 all_walked parents current change starts chains slot old now older start is told up_to (inr ahead) =
@@ -219,9 +219,9 @@ can_turn parents change chains here slot old now share same fits =
     (subst (λ m. CanFollow old.counts m (on_chain parents slot change.plus)) share.minus fits))
 
 -- its mask tells what its counts do once the change was made, where the running task stays
-pub told_here : (parents : List (Option ℕ)) (current : Option (Slot × Bool)) (change : Change) (chains : Chains) (here slot : ℕ) (old now : Cell) → IsShare parents change chains here slot → now ≡ old → (IsApart change.gate slot → MaskTells parents current slot old) → current ≡ change.current → (chains.minus == here) ≡ false
+pub told_here : (parents : List (Option ℕ)) (current : Option (Slot × Bool)) (change : Change) (chains : Chains) (here slot : ℕ) (old now : Cell) → IsShare parents change chains here slot → now ≡ old → (IsApart change.account slot → MaskTells parents current slot old) → current ≡ change.current → (chains.minus == here) ≡ false
     → (state : State) → mask_holds now.clock.mask state ≡ (now.on && tells state now.counts (chains.after == here) (is_current_stalled change.current))
 told_here parents current change chains here slot old now share same told stays off =
-    let told_then : MaskTells parents change.current slot old = subst (λ c. MaskTells parents c slot old) stays (told (share.gate off)) in
+    let told_then : MaskTells parents change.current slot old = subst (λ c. MaskTells parents c slot old) stays (told (share.account off)) in
     subst (λ (n : Cell). (state : State) → mask_holds n.clock.mask state ≡ (n.on && tells state n.counts (chains.after == here) (is_current_stalled change.current))) (sym same)
     (λ state. told_then state ∙ ap (λ runs. old.on && tells state old.counts runs (is_current_stalled change.current)) share.after)

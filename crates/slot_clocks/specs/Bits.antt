@@ -17,7 +17,8 @@ abbrev pub running_at : ℕ → Bool → Option (Slot × Bool)
 running_at zero stalled = None
 running_at (suc slot) stalled = Some (slot_by slot, stalled)
 
--- the running task that a number stands for: twice the height of its slot, and one more where it is in a memory stall
+-- the running task that a number stands for: twice the height of its slot, and one more where it is
+-- in a memory stall
 abbrev pub running_by : ℕ → Option (Slot × Bool)
 running_by number = running_at (number / 2) (number % 2 == 1)
 

@@ -8,7 +8,7 @@ use Rattle.psi_counts.specs.Counts.{mask_holds, tells}
 use Rattle.psi_counts.specs.Clock.{ClockFollows, ClockView, IsWholeClock, opened_time, zero_clock}
 use Rattle.psi_spec.specs.Trace.{last_moment}
 use Rattle.psi_spec.specs.Stall.{number_of_slot}
-use Rattle.psi_counts.specs.Touch.{Follows, gated, is_current_in, is_current_stalled, no_counts, on_chain}
+use Rattle.psi_counts.specs.Touch.{Follows, on_with, is_current_in, is_current_stalled, no_counts, on_chain}
 use Rattle.slot_clocks.specs.declared.cell.Cell.{Cell}
 
 -- ---- parents
@@ -19,13 +19,14 @@ parent_numbers parents = map number_of_slot parents
 
 -- ---- clocks
 
--- a group that no change has reached: no task is counted, its account is on, and no state held for any time
+-- a group that no change has reached: no task is counted, its account is on, and no state held for
+-- any time
 abbrev pub zero_cell : Cell
 zero_cell = record { counts = no_counts; on = true; clock = zero_clock }
 
--- The clocks of a processor: the counts and the clock of each group and whether its account is on, by its slot; the slot of the
--- task that runs there and whether it is in a memory stall; and the moment (ns) of the last change. No change has reached a group
--- beyond the list.
+-- The clocks of a processor: the counts and the clock of each group and whether its account is on,
+-- by its slot; the slot of the task that runs there and whether it is in a memory stall; and the
+-- moment (ns) of the last change. No change has reached a group beyond the list.
 pub record ClocksView : Type 0 where
   pub cells : List Cell
   pub current : Option (Slot × Bool)
@@ -43,9 +44,12 @@ cell_in cells slot = slice_index_or cells slot zero_cell
 abbrev pub cell_at : ClocksView → ℕ → Cell
 cell_at clocks slot = cell_in clocks.cells slot
 
--- a cell's mask has the states that its counts tell, with the task that runs, and none where its account is off
+-- a cell's mask has the states that its counts tell, with the task that runs, and none where its
+-- account is off
 abbrev pub MaskTells : List (Option ℕ) → Option (Slot × Bool) → ℕ → Cell → Type 0
-MaskTells parents current slot cell = (state : State) → mask_holds cell.clock.mask state ≡ (cell.on && tells state cell.counts (is_current_in parents slot current) (is_current_stalled current))
+MaskTells parents current slot cell =
+    (state : State) → mask_holds cell.clock.mask state ≡
+    (cell.on && tells state cell.counts (is_current_in parents slot current) (is_current_stalled current))
 
 -- so it is of each group
 abbrev pub AreTold : List (Option ℕ) → ClocksView → Type 0
@@ -53,24 +57,29 @@ AreTold parents clocks = (slot : ℕ) → MaskTells parents clocks.current slot 
 
 -- ---- changes
 
--- counts can follow a change: what is taken is no more than what was there and what is added, and that fits 32 bits
+-- counts can follow a change: what is taken is no more than what was there and what is added, and
+-- that fits 32 bits
 pub record CanFollow (counts minus plus : Counts) : Type 0 where
   pub io : (minus.io ≤ counts.io + plus.io) × (counts.io + plus.io < 2 ^ 32)
   pub stalled : (minus.stalled ≤ counts.stalled + plus.stalled) × (counts.stalled + plus.stalled < 2 ^ 32)
   pub running : (minus.running ≤ counts.running + plus.running) × (counts.running + plus.running < 2 ^ 32)
-  pub stalled_running : (minus.stalled_running ≤ counts.stalled_running + plus.stalled_running) × (counts.stalled_running + plus.stalled_running < 2 ^ 32)
+  pub stalled_running : (minus.stalled_running ≤ counts.stalled_running + plus.stalled_running)
+      × (counts.stalled_running + plus.stalled_running < 2 ^ 32)
 
 -- the counts of each group can follow what a change takes and adds on its chains
 abbrev pub AllCanFollow : List (Option ℕ) → Change → ClocksView → Type 0
-AllCanFollow parents change clocks = (slot : ℕ) → CanFollow (cell_at clocks slot).counts (on_chain parents slot change.minus) (on_chain parents slot change.plus)
+AllCanFollow parents change clocks =
+    (slot : ℕ) → CanFollow (cell_at clocks slot).counts (on_chain parents slot change.minus) (on_chain parents slot change.plus)
 
 -- the counts of each group followed what a change takes and adds on its chains
 abbrev pub AllFollow : List (Option ℕ) → Change → ClocksView → ClocksView → Type 0
-AllFollow parents change old new = (slot : ℕ) → Follows (cell_at old slot).counts (on_chain parents slot change.minus) (on_chain parents slot change.plus) (cell_at new slot).counts
+AllFollow parents change old new =
+    (slot : ℕ) → Follows (cell_at old slot).counts (on_chain parents slot change.minus) (on_chain parents slot change.plus)
+    (cell_at new slot).counts
 
--- which accounts are on follows the gate of a change
-abbrev pub AllGated : Change → ClocksView → ClocksView → Type 0
-AllGated change old new = (slot : ℕ) → (cell_at new slot).on ≡ gated slot (cell_at old slot).on change.gate
+-- which accounts are on follows the one that a change switches
+abbrev pub AllOnWith : Change → ClocksView → ClocksView → Type 0
+AllOnWith change old new = (slot : ℕ) → (cell_at new slot).on ≡ on_with slot (cell_at old slot).on change.account
 
 -- the clock of each group followed over a change at a moment
 abbrev pub AllClocksFollow : ℕ → ClocksView → ClocksView → Type 0
@@ -90,7 +99,8 @@ AreWhole clocks = (slot : ℕ) → IsWholeClock (cell_at clocks slot).clock
 
 -- ---- what is kept of each clock
 
--- a whole clock started at a moment (ns) or before it, and no state held for longer than up to the moment
+-- a whole clock started at a moment (ns) or before it, and no state held for longer than up to the
+-- moment
 pub record IsUpTo (at : ℕ) (clock : ClockView) : Type 0 where
   pub whole : IsWholeClock clock
   pub start : clock.start ≤ at

@@ -26,12 +26,12 @@ irq_by Task low high = 0
 irq_by SwitchedOn low high = 0
 irq_by SwitchedOff low high = 0
 
--- the gate of a change, if it switches the account of a slot
-abbrev pub gate_by : Kind → ℕ → Option (Slot × Bool)
-gate_by SwitchedOn slot = Some (slot_by slot, true)
-gate_by SwitchedOff slot = Some (slot_by slot, false)
-gate_by Task slot = None
-gate_by Irq slot = None
+-- the account that a change switches, if it switches that of a slot
+abbrev pub account_by : Kind → ℕ → Option (Slot × Bool)
+account_by SwitchedOn slot = Some (slot_by slot, true)
+account_by SwitchedOff slot = Some (slot_by slot, false)
+account_by Task slot = None
+account_by Irq slot = None
 
 -- four bits are those of what a change takes or adds, and 0 where that is nothing
 abbrev pub IsPart : Kind → ℕ → ℕ → Type 0

@@ -8,7 +8,7 @@ use Rattle.psi_counts.specs.Clock.{ClockFollows}
 use Rattle.psi_spec.specs.Groups.{AreOlder}
 use Rattle.psi_spec.specs.Stall.{is_under}
 use Rattle.psi_spec.specs.Trace.{last_moment}
-use Rattle.psi_counts.specs.Touch.{Follows, gated, is_current_stalled, no_counts, on_chain}
+use Rattle.psi_counts.specs.Touch.{Follows, on_with, is_current_stalled, no_counts, on_chain}
 use Rattle.slot_clocks.specs.declared.cell.Cell.{Cell}
 use Rattle.slot_clocks.specs.declared.chains.Chains.{Chains}
 use Rattle.slot_clocks.specs.declared.chains.Parts.{Parts}
@@ -24,8 +24,8 @@ abbrev pub counts_in : Option (Slot × Counts) → Counts
 counts_in None = no_counts
 counts_in (Some part) = part.1
 
--- How high a walk up the chain of a slot stands: one more than the slot where it is, and 0 behind the root, or where there is
--- no slot.
+-- How high a walk up the chain of a slot stands: one more than the slot where it is, and 0 behind
+-- the root, or where there is no slot.
 abbrev pub height : Option Slot → ℕ
 height None = 0
 height (Some slot) = suc slot.0
@@ -35,20 +35,29 @@ abbrev pub reaches : List (Option ℕ) → ℕ → ℕ → Bool
 reaches parents zero slot = false
 reaches parents (suc place) slot = is_under parents place slot
 
--- how high the walks up the chains of a change stand at first: the chains of the counts that it takes and adds, and of the
--- task that ran before and of the one that runs after. A change with a gate takes none, and the first walk begins there.
+-- how high the walks up the chains of a change stand at first: the chains of the counts that it
+-- takes and adds, and of the task that ran before and of the one that runs after. A change with a
+-- switched account takes none, and the first walk begins there.
 abbrev pub chains_of : Option (Slot × Bool) → Change → Chains
-chains_of current change = record { minus = height (option_or (slot_in change.gate) (slot_in change.minus)); plus = height (slot_in change.plus); before = height (slot_in current); after = height (slot_in change.current) }
+chains_of current change =
+    record {
+      minus = height (option_or (slot_in change.account) (slot_in change.minus));
+      plus = height (slot_in change.plus);
+      before = height (slot_in current);
+      after = height (slot_in change.current);
+    }
 
--- a chain may start at a height for what a change tells of a slot: at the slot's, or anywhere where nothing is told
+-- a chain may start at a height for what a change tells of a slot: at the slot's, or anywhere where
+-- nothing is told
 abbrev pub MayStartAt : {A : Type 0} → Option (Slot × A) → ℕ → Type 0
 MayStartAt None place = Unit {0}
 MayStartAt (Some pair) place = place ≡ suc pair.0.0
 
--- Chains may start so for a change, each of them. That of the task that ran may start anywhere where what is told of the running
--- task stays. The walk comes to the slot of a gate, as to one whose counts are taken.
+-- Chains may start so for a change, each of them. That of the task that ran may start anywhere
+-- where what is told of the running task stays. The walk comes to the slot of a switched account,
+-- as to one whose counts are taken.
 pub record MayStart (current : Option (Slot × Bool)) (change : Change) (starts : Chains) : Type 0 where
-  pub gate : MayStartAt change.gate starts.minus
+  pub account : MayStartAt change.account starts.minus
   pub minus : MayStartAt change.minus starts.minus
   pub plus : MayStartAt change.plus starts.plus
   pub before : MayStartAt current starts.before ⊎ (current ≡ change.current)
@@ -73,13 +82,20 @@ passed here parent place = if place == here then parent else place
 
 -- chains after the walk passed a height
 abbrev pub all_passed : ℕ → ℕ → Chains → Chains
-all_passed here parent chains = record { minus = passed here parent chains.minus; plus = passed here parent chains.plus; before = passed here parent chains.before; after = passed here parent chains.after }
+all_passed here parent chains =
+    record {
+      minus = passed here parent chains.minus;
+      plus = passed here parent chains.plus;
+      before = passed here parent chains.before;
+      after = passed here parent chains.after;
+    }
 
 -- the greatest height of four chains
 abbrev pub top : Chains → ℕ
 top chains = max (max chains.minus chains.plus) (max chains.before chains.after)
 
--- a group after a change whose gate, if it has one, was taken already: its counts, its clock and its states
+-- a group after a change whose switched account, if it has one, was taken already: its counts, its
+-- clock and its states
 pub record IsTurned (parents : List (Option ℕ)) (change : Change) (slot : ℕ) (old new : Cell) : Type 0 where
   pub counts : Follows old.counts (on_chain parents slot change.minus) (on_chain parents slot change.plus) new.counts
   pub on : new.on ≡ old.on
@@ -92,29 +108,32 @@ pub record IsTurned (parents : List (Option ℕ)) (change : Change) (slot : ℕ)
 abbrev pub AreTurned : List (Option ℕ) → Change → List Cell → List Cell → Type 0
 AreTurned parents change olds news = (slot : ℕ) → IsTurned parents change slot (cell_in olds slot) (cell_in news slot)
 
--- a gate, if there is one, is for another slot
+-- a switched account, if there is one, is for another slot
 abbrev pub IsApart : Option (Slot × Bool) → ℕ → Type 0
 IsApart None slot = Unit {0}
-IsApart (Some gate) slot = slot ≢ gate.0.0
+IsApart (Some account) slot = slot ≢ account.0.0
 
--- a group after a gate, if there is one, was taken: whether its account is on follows that, and its counts and its clock are as
--- before
-pub record IsGated (gate : Option (Slot × Bool)) (slot : ℕ) (old new : Cell) : Type 0 where
+-- a group after a switched account, if there is one, was taken: whether its account is on follows
+-- that, and its counts and its clock are as before
+pub record IsOnWith (account : Option (Slot × Bool)) (slot : ℕ) (old new : Cell) : Type 0 where
   pub counts : new.counts ≡ old.counts
-  pub on : new.on ≡ gated slot old.on gate
+  pub on : new.on ≡ on_with slot old.on account
   pub clock : new.clock ≡ old.clock
 
 -- all groups after it
-abbrev pub AreGated : Option (Slot × Bool) → List Cell → List Cell → Type 0
-AreGated gate olds news = (slot : ℕ) → IsGated gate slot (cell_in olds slot) (cell_in news slot)
+abbrev pub AreOnWith : Option (Slot × Bool) → List Cell → List Cell → Type 0
+AreOnWith account olds news = (slot : ℕ) → IsOnWith account slot (cell_in olds slot) (cell_in news slot)
 
--- groups can go through a change whose gate was taken, where this task ran up to it and chains start so
-pub record CanClimb (parents : List (Option Slot)) (current : Option (Slot × Bool)) (change : Change) (starts : Chains) (cells : List Cell) : Type 0 where
+-- groups can go through a change whose switched account was taken, where this task ran up to it and
+-- chains start so
+pub record CanClimb (parents : List (Option Slot)) (current : Option (Slot × Bool)) (change : Change) (starts : Chains)
+    (cells : List Cell) : Type 0 where
   pub older : AreOlder (parent_numbers parents)
   pub start : MayStart current change starts
   pub slots : top starts ≤ length parents
   pub room : length parents ≤ length cells
-  pub told : (slot : ℕ) → IsApart change.gate slot → MaskTells (parent_numbers parents) current slot (cell_in cells slot)
-  pub fits : (slot : ℕ) → CanFollow (cell_in cells slot).counts (on_chain (parent_numbers parents) slot change.minus) (on_chain (parent_numbers parents) slot change.plus)
+  pub told : (slot : ℕ) → IsApart change.account slot → MaskTells (parent_numbers parents) current slot (cell_in cells slot)
+  pub fits : (slot : ℕ) → CanFollow (cell_in cells slot).counts (on_chain (parent_numbers parents) slot change.minus)
+      (on_chain (parent_numbers parents) slot change.plus)
   pub up_to : (slot : ℕ) → IsUpTo change.at (cell_in cells slot).clock
   pub early : change.at ≤ last_moment

@@ -20,7 +20,8 @@ pub(crate) const NO_COUNTS: Counts = Counts {
     stalled_running: 0,
 };
 
-/// The counts and the clock of a group on a processor. They go on while its account is off, but then no state holds.
+/// The counts and the clock of a group on a processor. They go on while its account is off, but
+/// then no state holds.
 #[derive(Clone, Copy, Debug)]
 pub(crate) struct Cell {
     pub(crate) counts: Counts,
@@ -82,8 +83,8 @@ impl Cell {
         }
     }
 
-    /// Follows a change at a moment (ns), by what it takes and adds for this group. The clock stays where no state
-    /// changes.
+    /// Follows a change at a moment (ns), by what it takes and adds for this group. The clock stays
+    /// where no state changes.
     #[inline(always)]
     pub(crate) fn turn(
         &mut self,

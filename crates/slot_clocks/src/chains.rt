@@ -7,7 +7,7 @@ ghost use Rattle.psi_counts.specs.Counts.{mask_holds, tells};
 ghost use Rattle.psi_spec.specs.Trace.{last_moment};
 ghost use Rattle.psi_counts.specs.Touch.{Follows, no_counts};
 ghost use Rattle.slot_clocks.specs.Clocks.{CanFollow, IsUpTo, StaysByMask, parent_numbers};
-ghost use Rattle.slot_clocks.specs.Walk.{AreGated, AreParts, AreTogether, AreTurned, CanClimb, MayStart, all_passed, chains_of, height, passed, top};
+ghost use Rattle.slot_clocks.specs.Walk.{AreOnWith, AreParts, AreTogether, AreTurned, CanClimb, MayStart, all_passed, chains_of, height, passed, top};
 
 use crate::cell::Cell;
 use crate::packed::PackedChange;
@@ -15,8 +15,9 @@ use crate::part::Part;
 use crate::running::Running;
 use psi_base::{Ns, Slot};
 
-/// How high the walks up the chains of the four slots stand that a change concerns. A height is one more than the slot, so
-/// that one comparison tells both whether a chain stands somewhere and where; it is 0 behind the root.
+/// How high the walks up the chains of the four slots stand that a change concerns. A height is one
+/// more than the slot, so that one comparison tells both whether a chain stands somewhere and
+/// where; it is 0 behind the root.
 #[derive(Clone, Copy)]
 pub(crate) struct Chains {
     /// Of the counts that are taken.
@@ -40,7 +41,8 @@ pub(crate) struct Parts {
     plus: Part,
     /// The running task is in a memory stall from the change on.
     stalled: bool,
-    /// What is told of the running task stays: its group, and whether it is in a memory stall; or none runs before and after.
+    /// What is told of the running task stays: its group, and whether it is in a memory stall; or
+    /// none runs before and after.
     stays: bool,
 }
 
@@ -69,14 +71,15 @@ fn fits(place: u64, other: u64) -> bool
 }
 
 impl Chains {
-    /// The chains of a change, at their slots. The current task is the one that ran up to it. A change with a gate takes no
-    /// counts, and the chain of those begins at the slot of the gate: the walk has to come there.
+    /// The chains of a change, at their slots. The current task is the one that ran up to it. A
+    /// change with a switched account takes no counts, and the chain of those begins at the slot of
+    /// the switched account: the walk has to come there.
     fn of(current: &Running, change: &PackedChange) -> Chains
         ensures { result ≡ chains_of current.now change.now }
     {
-        let gate = change.gate().map(|(slot, _)| slot);
+        let account = change.account().map(|(slot, _)| slot);
         Chains {
-            minus: height(gate.or(change.minus().map(|(slot, _)| slot))),
+            minus: height(account.or(change.minus().map(|(slot, _)| slot))),
             plus: height(change.plus().map(|(slot, _)| slot)),
             before: current.height(),
             after: change.running().height(),
@@ -92,8 +95,8 @@ impl Chains {
         counted.max(running)
     }
 
-    // Takes the chains that stand at a height to that of the parent. Where those of the counts and of the task that ran go
-    // together, they are one.
+    // Takes the chains that stand at a height to that of the parent. Where those of the counts and
+    // of the task that ran go together, they are one.
     fn pass(&mut self, here: u64, parent: u64, together: bool)
         requires together { together ≡ true → AreTogether self.old }
         ensures { self.new ≡ all_passed here parent self.old }
@@ -109,9 +112,10 @@ impl Chains {
         }
     }
 
-    // The chains of a change of a task with those of the counts and of the task that ran together, where these stand at one slot.
-    // One that stands nowhere may go with the others, and so may that of the task that ran where what is told of the running
-    // task stays: it has nothing to tell then.
+    // The chains of a change of a task with those of the counts and of the task that ran together,
+    // where these stand at one slot. One that stands nowhere may go with the others, and so may
+    // that of the task that ran where what is told of the running task stays: it has nothing to
+    // tell then.
     #[tactic(auto, using(crate::proofs::StartLaws::start_together))]
     #[inline(always)]
     fn together(current: &Running, change: &PackedChange, stays: bool) -> Option<Chains>
@@ -153,8 +157,9 @@ impl Parts {
     }
 }
 
-// Takes the group at a height through a change. Where the change takes and adds nothing there, and what is told of the running
-// task stays, there is nothing to do: it is on the chain of that task alone.
+// Takes the group at a height through a change. Where the change takes and adds nothing there, and
+// what is told of the running task stays, there is nothing to do: it is on the chain of that task
+// alone.
 #[inline(always)]
 fn turn_at(cell: &mut Cell, parts: &Parts, chains: &Chains, here: u64)
     requires fits { CanFollow cell.old.counts
@@ -193,9 +198,10 @@ fn turn_at(cell: &mut Cell, parts: &Parts, chains: &Chains, here: u64)
     );
 }
 
-// Takes the groups on the chains of a change through it, from where the chains may start. A parent has a smaller number, so they
-// are climbed side by side, always from the greatest slot on, and each group is come to once. Where it is known from the
-// start that they go together, the compiler makes two chains of the four.
+// Takes the groups on the chains of a change through it, from where the chains may start. A parent
+// has a smaller number, so they are climbed side by side, always from the greatest slot on, and
+// each group is come to once. Where it is known from the start that they go together, the compiler
+// makes two chains of the four.
 #[inline(always)]
 fn climb(
     cells: &mut [Cell],
@@ -242,19 +248,21 @@ fn climb_each(
     climb(cells, parents, current, change, &parts, starts, false);
 }
 
-/// Takes the gate of a change, if it has one. Counts and clocks stay until the walk comes there.
-pub(crate) fn switch(cells: &mut [Cell], gate: Option<(Slot, bool)>)
-    requires made { IfSome gate (λ g. g.0.0 < length cells.old) }
-    ensures gated { AreGated gate cells.old cells.new }
+/// Takes the account that a change switches, if it switches one. Counts and clocks stay until the
+/// walk comes there.
+pub(crate) fn switch(cells: &mut [Cell], account: Option<(Slot, bool)>)
+    requires made { IfSome account (λ g. g.0.0 < length cells.old) }
+    ensures on_with { AreOnWith account cells.old cells.new }
     ensures room { length cells.new ≡ length cells.old }
 {
-    if let Some((slot, on)) = gate {
+    if let Some((slot, on)) = account {
         cells[slot.0 as usize].on = on;
     }
 }
 
-/// Takes the groups on the chains of a change through it. For most changes two chains are enough, where there could be four:
-/// the one of the task that runs from then on, and one for the counts and the task that ran.
+/// Takes the groups on the chains of a change through it. For most changes two chains are enough,
+/// where there could be four: the one of the task that runs from then on, and one for the counts
+/// and the task that ran.
 #[inline(always)]
 pub(crate) fn walk(
     cells: &mut [Cell],

@@ -5,7 +5,7 @@ ghost use Rattle.psi_counts.specs.Clock.{IsInTime};
 ghost use Rattle.psi_spec.specs.Groups.{AreOlder};
 ghost use Rattle.psi_spec.specs.Trace.{last_moment};
 ghost use Rattle.psi_counts.specs.Touch.{HasSlotsBelow};
-ghost use Rattle.slot_clocks.specs.Clocks.{AllCanFollow, AllClocksFollow, AllFollow, AllGated, AllStayByMask, AreTold, AreWhole, cell_at, first_clocks, parent_numbers};
+ghost use Rattle.slot_clocks.specs.Clocks.{AllCanFollow, AllClocksFollow, AllFollow, AllOnWith, AllStayByMask, AreTold, AreWhole, cell_at, first_clocks, parent_numbers};
 
 use crate::cell::Cell;
 use crate::chains::{switch, walk};
@@ -16,8 +16,9 @@ use psi_base::{NoMemory, Ns, Slot};
 use std::alloc::Global;
 use std::marker::Model;
 
-/// The clocks of all groups on one processor, as the changes of that processor so far left them. A contract sees the counts
-/// and the clock of each slot, the processor's running task, and the moment of the last change.
+/// The clocks of all groups on one processor, as the changes of that processor so far left them. A
+/// contract sees the counts and the clock of each slot, the processor's running task, and the
+/// moment of the last change.
 #[derive(Drop)]
 pub struct SlotClocks {
     /// By slot, as many as were made at first.
@@ -51,27 +52,28 @@ impl SlotClocks {
         })
     }
 
-    /// Makes a change of the processor: the counts of the groups on the chains of the change follow it, and so do their
-    /// clocks. Where the change has a gate, the account of that group is switched, and it has to take no counts. `parents` has
-    /// the parent of each slot, None for the root; there must be clocks for all of them. Takes no memory.
+    /// Makes a change of the processor: the counts of the groups on the chains of the change follow
+    /// it, and so do their clocks. Where the change switches an account, it is that of its group,
+    /// and it has to take no counts. `parents` has the parent of each slot, None for the root;
+    /// there must be clocks for all of them. Takes no memory.
     ///
-    /// It takes time for each group on the chains of four slots: of the counts that are taken, of those that are added, of
-    /// the task that ran and of the task that runs.
-    #[tactic(auto, using(crate::proofs::GateLaws::turned_since))]
+    /// It takes time for each group on the chains of four slots: of the counts that are taken, of
+    /// those that are added, of the task that ran and of the task that runs.
+    #[tactic(auto, using(crate::proofs::AccountLaws::turned_since))]
     pub fn apply(&mut self, parents: &[Option<Slot>], change: &PackedChange)
         requires older { AreOlder (parent_numbers parents.now) }
         requires room { length parents.now ≤ length self.old.cells }
         requires slots { HasSlotsBelow (length parents.now) change.now }
         requires current { IfSome self.old.current (λ running. running.0.0 < length parents.now) }
         requires told { AreTold (parent_numbers parents.now) self.old }
-        requires alone { IfSome change.now.gate (λ _. change.now.minus ≡ None) }
+        requires alone { IfSome change.now.account (λ _. change.now.minus ≡ None) }
         requires fits { AllCanFollow (parent_numbers parents.now) change.now self.old }
         requires later { self.old.last ≤ change.now.at }
         requires early { change.now.at ≤ last_moment }
 
         // Each group follows the change, whether it is on a chain of it or not.
         ensures counts { AllFollow (parent_numbers parents.now) change.now self.old self.new }
-        ensures gates { AllGated change.now self.old self.new }
+        ensures accounts { AllOnWith change.now self.old self.new }
         ensures clocks { AllClocksFollow change.now.at self.old self.new }
         ensures kept { AllStayByMask self.old self.new }
         ensures whole { AreWhole self.new }
@@ -81,13 +83,14 @@ impl SlotClocks {
         ensures last { self.new.last ≡ change.now.at }
         ensures room { length self.new.cells ≡ length self.old.cells }
     {
-        switch(&mut self.cells, change.gate());
+        switch(&mut self.cells, change.account());
         walk(&mut self.cells, parents, &self.current, change);
         self.current = change.running().again();
         self.last = change.at();
     }
 
-    /// The account of a group is on, by the changes that were made; it is for a slot beyond the last.
+    /// The account of a group is on, by the changes that were made; it is for a slot beyond the
+    /// last.
     pub fn is_on(&self, slot: Slot) -> bool
         ensures { result ≡ (cell_at self.now slot.0).on }
     {
@@ -97,8 +100,8 @@ impl SlotClocks {
         }
     }
 
-    /// The clock of a group, and the zero clock for a slot beyond the last. It may be opened to any moment from the last
-    /// change on.
+    /// The clock of a group, and the zero clock for a slot beyond the last. It may be opened to any
+    /// moment from the last change on.
     pub fn clock(&self, slot: Slot) -> Clock
         ensures value { result ≡ (cell_at self.now slot.0).clock }
         ensures in_time { (at : ℕ) → self.now.last ≤ at → at ≤ last_moment →

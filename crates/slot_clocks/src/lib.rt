@@ -1,7 +1,8 @@
 //! The clocks of all groups on one processor, which follow the changes of that processor.
 //!
-//! [`SlotClocks`] stands for the kernel's `psi_group_cpu` of each group on a processor: a change walks up the chains of
-//! groups that it concerns, as `psi_group_change` is called for each group above a task.
+//! [`SlotClocks`] stands for the kernel's `psi_group_cpu` of each group on a processor: a change
+//! walks up the chains of groups that it concerns, as `psi_group_change` is called for each group
+//! above a task.
 #![tactic(auto)]
 
 mod cell;

@@ -26,16 +26,17 @@ enum Kind {
     SwitchedOff,
 }
 
-/// A change in 16 bytes, which can only be one of a single task, or tell of interrupts or of a gate alone. Contracts see the
-/// change.
+/// A change in 16 bytes, which can only be one of a single task, or tell of interrupts or of a
+/// switched account alone. Contracts see the change.
 ///
-/// In a plan of 4,000,000 changes each byte counts: a page of memory that is touched for the first time costs more than what is
-/// written there. So a slot stands as its height, the counts of a task as four bits, and what a change of a task has no use for
-/// stands where it has its slots.
+/// In a plan of 4,000,000 changes each byte counts: a page of memory that is touched for the first
+/// time costs more than what is written there. So a slot stands as its height, the counts of a task
+/// as four bits, and what a change of a task has no use for stands where it has its slots.
 #[derive(Drop)]
 pub struct PackedChange {
     at: Ns,
-    /// The height of the slot whose counts are taken. Or the slot of a gate, or the lower half of the time of interrupts.
+    /// The height of the slot whose counts are taken. Or the slot of a switched account, or the
+    /// lower half of the time of interrupts.
     first: u16,
     /// The height of the slot whose counts are added. Or the upper half of the time of interrupts.
     second: u16,
@@ -48,7 +49,7 @@ pub struct PackedChange {
 impl Model for PackedChange {
     ghost use Rattle.std.specs.Prelude.{◌/◌, ◌%◌};
     ghost use Rattle.psi_counts.specs.declared.changes.Change.{Change};
-    ghost use Rattle.slot_clocks.specs.Packed.{IsPart, gate_by, irq_by, task_part};
+    ghost use Rattle.slot_clocks.specs.Packed.{IsPart, account_by, irq_by, task_part};
 
     ghost Value = { Change };
 
@@ -58,7 +59,7 @@ impl Model for PackedChange {
       plus = task_part p.kind p.second (p.bits % 16);
       current = p.current;
       irq = irq_by p.kind p.first p.second;
-      gate = gate_by p.kind p.first;
+      account = account_by p.kind p.first;
     } };
 
     ghost invariant = { λ p.
@@ -92,15 +93,16 @@ fn unpack_part(height: u16, bits: u8) -> Option<(Slot, Counts)>
 }
 
 impl PackedChange {
-    /// A change, packed. It must be of one task, or tell of interrupts or of a gate alone, and its slots have to fit.
+    /// A change, packed. It must be of one task, or tell of interrupts or of a switched account
+    /// alone, and its slots have to fit.
     #[inline(always)]
     pub fn new(change: Change) -> PackedChange
         requires one { IsOfOne change }
         requires low { HasSlotsBelow most_groups change }
         ensures { result ≡ change }
     {
-        match change.gate {
-            Some(gate) => PackedChange::of_gate(change.at, change.current, gate),
+        match change.account {
+            Some(account) => PackedChange::of_account(change.at, change.current, account),
             None if change.irq > 0 => PackedChange::of_irq(change.at, change.current, change.irq),
             None => PackedChange::of_task(change.at, change.current, change.minus, change.plus),
         }
@@ -123,7 +125,7 @@ impl PackedChange {
           plus = plus;
           current = current;
           irq = 0;
-          gate = None;
+          account = None;
         } }
     {
         let (first, taken) = pack_part(minus);
@@ -138,7 +140,8 @@ impl PackedChange {
         }
     }
 
-    // A change that tells of interrupts alone. That is rare, so it stands aside, and so does the next.
+    // A change that tells of interrupts alone. That is rare, so it stands aside, and so does the
+    // next.
     #[inline(never)]
     fn of_irq(at: Ns, current: Option<(Slot, bool)>, irq: u64) -> PackedChange
         requires running { IfSome current (λ current. current.0.0 < most_groups) }
@@ -149,7 +152,7 @@ impl PackedChange {
           plus = None;
           current = current;
           irq = irq;
-          gate = None;
+          account = None;
         } }
     {
         PackedChange {
@@ -162,21 +165,21 @@ impl PackedChange {
         }
     }
 
-    // A change with a gate alone.
+    // A change with a switched account alone.
     #[inline(never)]
-    fn of_gate(at: Ns, current: Option<(Slot, bool)>, gate: (Slot, bool)) -> PackedChange
+    fn of_account(at: Ns, current: Option<(Slot, bool)>, account: (Slot, bool)) -> PackedChange
         requires running { IfSome current (λ current. current.0.0 < most_groups) }
-        requires low { gate.0.0 < most_groups }
+        requires low { account.0.0 < most_groups }
         ensures { result ≡ record {
           at = at;
           minus = None;
           plus = None;
           current = current;
           irq = 0;
-          gate = Some gate;
+          account = Some account;
         } }
     {
-        let (slot, on) = gate;
+        let (slot, on) = account;
         PackedChange {
             at,
             first: slot.0 as u16,
@@ -237,10 +240,10 @@ impl PackedChange {
         }
     }
 
-    /// Its gate, if it has one.
+    /// The account that it switches, if it switches one.
     #[inline(always)]
-    pub fn gate(&self) -> Option<(Slot, bool)>
-        ensures { result ≡ self.now.gate }
+    pub fn account(&self) -> Option<(Slot, bool)>
+        ensures { result ≡ self.now.account }
     {
         match self.kind {
             Kind::SwitchedOn => Some((Slot(u32::from(self.first)), true)),
@@ -259,14 +262,14 @@ impl PackedChange {
             plus: self.plus(),
             current: self.current(),
             irq: self.irq(),
-            gate: self.gate(),
+            account: self.account(),
         }
     }
 
     /// The heights of the slots whose counts a change of a task takes and adds. None for another.
     #[inline(always)]
     pub(crate) fn heights(&self) -> Option<(u64, u64)>
-        ensures task { IfSome result (λ _. self.now.gate ≡ None) }
+        ensures task { IfSome result (λ _. self.now.account ≡ None) }
         ensures minus { IfSome result (λ heights. heights.0 ≡ height (slot_in self.now.minus)) }
         ensures plus { IfSome result (λ heights. heights.1 ≡ height (slot_in self.now.plus)) }
     {

@@ -7,8 +7,8 @@ ghost use Rattle.slot_clocks.specs.Bits.{counts_by};
 use psi_counts::Counts;
 use std::marker::Model;
 
-// The counts that four bits stand for, in the order of their fields. They are numbers alone: a table of a struct is built
-// anew at each use.
+// The counts that four bits stand for, in the order of their fields. They are numbers alone: a
+// table of a struct is built anew at each use.
 const COUNTS: [u32; 64] = [
     0, 0, 0, 0, 1, 0, 0, 0, 0, 1, 0, 0, 1, 1, 0, 0, 0, 0, 1, 0, 1, 0, 1, 0, 0, 1, 1, 0, 1, 1, 1, 0,
     0, 0, 0, 1, 1, 0, 0, 1, 0, 1, 0, 1, 1, 1, 0, 1, 0, 0, 1, 1, 1, 0, 1, 1, 0, 1, 1, 1, 1, 1, 1, 1,
@@ -41,8 +41,8 @@ pub(crate) fn counts_at(bits: u8) -> Counts
 
 /// The counts of one part of a change, taken or added. A contract sees these.
 ///
-/// A group finds its own by whether their chain stands there, and nothing else at place 0: a look-up, with no branch, since
-/// where four chains go is hard to foresee.
+/// A group finds its own by whether their chain stands there, and nothing else at place 0: a
+/// look-up, with no branch, since where four chains go is hard to foresee.
 #[derive(Drop)]
 pub(crate) struct Part(u8);
 

@@ -8,7 +8,8 @@ ghost use Rattle.slot_clocks.specs.Walk.{height, slot_in};
 use psi_base::Slot;
 use std::marker::Model;
 
-/// The slot of the running task, and whether it is in a memory stall, or that none runs. Contracts see that.
+/// The slot of the running task, and whether it is in a memory stall, or that none runs. Contracts
+/// see that.
 ///
 /// It is twice the height of the slot, and one more where the task is in a stall.
 #[derive(Drop)]

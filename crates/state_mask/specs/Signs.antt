@@ -1,4 +1,5 @@
--- The signs in counts by which a processor's states are told apart, and where each choice of signs stands in a table.
+-- The signs in counts by which a processor's states are told apart, and where each choice of signs
+-- stands in a table.
 use Rattle.std.specs.Prelude.{ℕ, ◌+◌, ◌*◌, nat_lt, ◌==◌, ◌&&◌, ◌||◌, not, Bool, if◌then◌else◌}
 use Rattle.psi_base.specs.declared.event.State.{State}
 use Rattle.psi_base.specs.declared.event.State.TheVariants.{IoSome, IoFull, MemSome, MemFull, CpuSome, CpuFull, Nonidle}
@@ -8,16 +9,20 @@ use Rattle.psi_counts.specs.declared.changes.Counts.{Counts}
 abbrev pub bit_of : Bool → ℕ
 bit_of so = if so then 1 else 0
 
--- The place of seven signs, the first of them in the lowest bit: some wait for IO, some are in a memory stall, some are ready
--- or run, all of these are in a stall, the running task is one of them, it is in a stall, and one beside it is ready.
+-- The place of seven signs, the first of them in the lowest bit: some wait for IO, some are in a
+-- memory stall, some are ready or run, all of these are in a stall, the running task is one of
+-- them, it is in a stall, and one beside it is ready.
 abbrev pub place_of : (waits stalls ready all_stalled on_cpu current_stalled beside : Bool) → ℕ
 place_of waits stalls ready all_stalled on_cpu current_stalled beside =
-    bit_of waits + 2 * bit_of stalls + 4 * bit_of ready + 8 * bit_of all_stalled + 16 * bit_of on_cpu + 32 * bit_of current_stalled + 64 * bit_of beside
+    bit_of waits + 2 * bit_of stalls + 4 * bit_of ready + 8 * bit_of all_stalled + 16 * bit_of on_cpu + 32 * bit_of current_stalled
+    + 64 * bit_of beside
 
 -- the place of the signs in counts
 abbrev pub place_by : Counts → Bool → Bool → ℕ
 place_by counts on_cpu current_stalled =
-    place_of (nat_lt 0 counts.io) (nat_lt 0 counts.stalled) (nat_lt 0 counts.running) (counts.running == counts.stalled_running) on_cpu current_stalled (if on_cpu then nat_lt 1 counts.running else nat_lt 0 counts.running)
+    place_of (nat_lt 0 counts.io) (nat_lt 0 counts.stalled) (nat_lt 0 counts.running)
+    (counts.running == counts.stalled_running) on_cpu current_stalled
+    (if on_cpu then nat_lt 1 counts.running else nat_lt 0 counts.running)
 
 -- the states by the signs
 abbrev pub tells_by : State → (waits stalls ready all_stalled on_cpu current_stalled beside : Bool) → Bool

@@ -8,8 +8,8 @@ ghost use Rattle.psi_spec.specs.Stall.{state_number};
 use psi_base::State;
 use std::marker::Model;
 
-/// The states that hold, one bit for each: the kernel's `state_mask`. A contract sees a mask as the number of its bits,
-/// so two masks with the same states are equal.
+/// The states that hold, one bit for each: the kernel's `state_mask`. A contract sees a mask as the
+/// number of its bits, so two masks with the same states are equal.
 #[derive(Clone, Copy, Debug, PartialEq, Eq)]
 pub struct Mask(u8);
 

@@ -1,5 +1,5 @@
 -- The causes by verb are the causes in their order, and what their absence says.
-use Rattle.std.proofs.Common.{◌≡◌, ℕ, ◌<◌, ◌≤◌, List, refl, ◌∙◌, sym, Bool, true, false, arith, Option, None, Some, is_some}
+use Rattle.std.proofs.Common.{◌≡◌, ℕ, ◌<◌, ◌≤◌, List, refl, ap, ◌∙◌, sym, Bool, true, false, arith, Option, None, Some, is_some}
 use Rattle.std.proofs.lemmas.Bool.Decides.{nat_tests}
 use Rattle.std.specs.Prelude.{IfSome, nat_lt, nat_le, not, ◌&&◌, ◌||◌, if◌then◌else◌}
 use Rattle.psi_base.specs.declared.event.Pid.{Pid}
@@ -16,7 +16,7 @@ use Rattle.psi_spec.specs.World.{World, Limits, Tasks, task_of, running_on, task
 use Rattle.psi_spec.specs.Refusal.{cause_of, has_child, has_member, is_wrong, is_exit, isnt_ready, lacks_group, lacks_task}
 use Rattle.psi_spec.proofs.RefusalLaws.{not_false}
 use Rattle.group_tree.specs.Tree.{pressure_cause, remove_cause}
-use Rattle.task_table.specs.Causes.{act_cause, fork_cause, groups_cause, how_cause, line_cause, migrate_cause, move_cause, or_cause, switch_cause, wake_cause, next_cause}
+use Rattle.task_table.specs.Causes.{act_cause, event_cause, fork_cause, groups_cause, how_cause, line_cause, migrate_cause, move_cause, or_cause, switch_cause, wake_cause, next_cause}
 use Rattle.task_table.specs.Named.{next_task}
 
 -- a busy group, in two parts
@@ -41,24 +41,48 @@ switch_parts cpus tasks cpu (Some pid) rest = either (not (is_some (task_of task
 before_act : (a b c d : Bool) (rest other : Option Cause) → rest ≡ other → (if a then Some cause.AfterEnd else if b then Some cause.TimeBack else if c then Some cause.TimeTooLate else if d then Some cause.TooManyEvents else rest) ≡ (if a then Some cause.AfterEnd else if b then Some cause.TimeBack else if c then Some cause.TimeTooLate else if d then Some cause.TooManyEvents else other)
 before_act a b c d rest other same = rw same refl
 
+-- the causes of an event in a row, those of its act by verb
+abbrev in_a_row : Limits → World → ℕ → Act → Option Cause
+in_a_row limits w at a =
+    if w.ended then Some cause.AfterEnd else if nat_lt at w.last then Some cause.TimeBack else if nat_lt limits.latest at then Some cause.TimeTooLate else if nat_le 4000000 w.lines then Some cause.TooManyEvents else
+    act_cause limits.cpus w.groups w.tasks w.irqs w.triggers w.pressures at a
+
 -- for each act, both compute to the same
-by_verb : (limits : Limits) (w : World) (at : ℕ) (a : Act) → cause_of limits w (record { at = at; act = a }) ≡ line_cause limits w (record { at = at; act = a })
+by_verb : (limits : Limits) (w : World) (at : ℕ) (a : Act) → cause_of limits w (record { at = at; act = a }) ≡ in_a_row limits w at a
 unfolding cause_of
 by_verb limits w at (act.Remove path) = before_act w.ended (nat_lt at w.last) (nat_lt limits.latest at) (nat_le 4000000 w.lines) _ _ (busy_parts (lacks_group w.groups (Some path)) (is_root path) (has_child w.groups (slot_of w.groups path)) (has_member w.tasks (slot_of w.groups path)))
 by_verb limits w at (act.Switch cpu next how) = before_act w.ended (nat_lt at w.last) (nat_lt limits.latest at) (nat_le 4000000 w.lines) _ _ (switch_parts limits.cpus w.tasks cpu.0 next (how_cause how (running_on w.tasks cpu.0)))
 by_verb limits w at _ = refl
 
--- the first cause in the order of causes is the first by verbs
-pub first_is : (limits : Limits) (w : World) (event : Event) → cause_of limits w event ≡ line_cause limits w event
-first_is limits w event = by_verb limits w event.at event.act
+-- a row of causes, in two parts
+row_parts : (a b c d : Bool) (rest : Option Cause) → (if a then Some cause.AfterEnd else if b then Some cause.TimeBack else if c then Some cause.TimeTooLate else if d then Some cause.TooManyEvents else rest)
+    ≡ or_cause (if a then Some cause.AfterEnd else if b then Some cause.TimeBack else if c then Some cause.TimeTooLate else if d then Some cause.TooManyEvents else None) rest
+row_parts true b c d rest = refl
+row_parts false true c d rest = refl
+row_parts false false true d rest = refl
+row_parts false false false true rest = refl
+row_parts false false false false rest = refl
 
--- where no cause comes that any line can have, the first is the first of the act
+-- the first cause in the order of causes is the first of those of any line, and then of those by
+-- verbs
+pub first_is : (limits : Limits) (w : World) (event : Event) → cause_of limits w event ≡ event_cause limits w event
+first_is limits w event = by_verb limits w event.at event.act ∙ row_parts w.ended (nat_lt event.at w.last) (nat_lt limits.latest event.at) (nat_le 4000000 w.lines) _
+
+-- a cause that any line can have is the first
+pub first_of_line : (limits : Limits) (w : World) (event : Event) (why : Cause) → line_cause limits w event.at ≡ Some why → cause_of limits w event ≡ Some why
+first_of_line limits w event why h = first_is limits w event ∙ ap (λ first. or_cause first (act_cause limits.cpus w.groups w.tasks w.irqs w.triggers w.pressures event.at event.act)) h
+
+-- where none comes that any line can have, the first is the first of the act
+pub first_of_verb : (limits : Limits) (w : World) (event : Event) → line_cause limits w event.at ≡ None → cause_of limits w event ≡ act_cause limits.cpus w.groups w.tasks w.irqs w.triggers w.pressures event.at event.act
+first_of_verb limits w event h = first_is limits w event ∙ ap (λ first. or_cause first (act_cause limits.cpus w.groups w.tasks w.irqs w.triggers w.pressures event.at event.act)) h
+
+-- the same, by what a line's causes ask
 pub first_of_act : (limits : Limits) (w : World) (event : Event) → w.ended ≡ false → w.last ≤ event.at → event.at ≤ limits.latest → w.lines < 4000000 → cause_of limits w event ≡ act_cause limits.cpus w.groups w.tasks w.irqs w.triggers w.pressures event.at event.act
 first_of_act limits w event running forward early room =
     let on_time : nat_lt event.at w.last ≡ false = grind (arith, nat_tests) in
     let in_time : nat_lt limits.latest event.at ≡ false = grind (arith, nat_tests) in
     let few : nat_le 4000000 w.lines ≡ false = grind (arith, nat_tests) in
-    first_is limits w event ∙ rw (running, on_time, in_time, few) refl
+    first_of_verb limits w event (rw (running, on_time, in_time, few) refl)
 
 -- ---- what a cause that doesn't come says
 
@@ -74,17 +98,14 @@ third a b c x y z rest h =
     let two = past b y (if c then Some z else rest) one.1 in
     past c z rest two.1
 
--- no cause of its act comes against a legal event
-pub let_through : (limits : Limits) (w : World) (event : Event) → cause_of limits w event ≡ None → act_cause limits.cpus w.groups w.tasks w.irqs w.triggers w.pressures event.at event.act ≡ None
-let_through limits w event h =
-    let rest = third w.ended (nat_lt event.at w.last) (nat_lt limits.latest event.at) cause.AfterEnd cause.TimeBack cause.TimeTooLate
-    (if nat_le 4000000 w.lines then Some cause.TooManyEvents else act_cause limits.cpus w.groups w.tasks w.irqs w.triggers w.pressures event.at event.act) (sym (first_is limits w event) ∙ h) in
-    (past (nat_le 4000000 w.lines) cause.TooManyEvents (act_cause limits.cpus w.groups w.tasks w.irqs w.triggers w.pressures event.at event.act) rest.1).1
-
 -- no cause, and no other
 no_causes : (first other : Option Cause) → or_cause first other ≡ None → (first ≡ None) × (other ≡ None)
 no_causes None other h = (refl, h)
 no_causes (Some why) other h = cc h
+
+-- no cause of its act comes against a legal event
+pub let_through : (limits : Limits) (w : World) (event : Event) → cause_of limits w event ≡ None → act_cause limits.cpus w.groups w.tasks w.irqs w.triggers w.pressures event.at event.act ≡ None
+let_through limits w event h = (no_causes (line_cause limits w event.at) _ (sym (first_is limits w event) ∙ h)).1
 
 -- nor of the groups
 pub groups_through : (cpus : ℕ) (groups : List GroupLife) (tasks : Tasks) (irqs : List ℕ) (triggers pressures at : ℕ) (a : Act) → act_cause cpus groups tasks irqs triggers pressures at a ≡ None → groups_cause groups a ≡ None

@@ -150,8 +150,8 @@ index_kept running tasks index pid new old_off new_off = record {
   each = λ q c. stays tasks pid new (slice_index_or running c None) c (old_off c) (new_off c) (λ k. index.each k c) q;
 }
 
--- What is so of one place, where the task of a number changes: it has no other task, and then it has the new one where
--- that runs there; elsewhere neither the old one runs nor the new one.
+-- What is so of one place, where the task of a number changes: it has no other task, and then it
+-- has the new one where that runs there; elsewhere neither the old one runs nor the new one.
 pub record ChangesAt (running : List (Option (ℕ × Task))) (tasks : Tasks) (pid : ℕ) (new : Option Task) (cpu : ℕ) (place : Option (ℕ × Task)) : Type 0 where
   pub room : cpu < length running
   pub free : (q : ℕ) → (q == pid) ≡ false → task_with q (slice_index_or running cpu None) ≡ None

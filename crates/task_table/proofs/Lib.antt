@@ -1,6 +1,7 @@
 pub mod CauseLaws
 pub mod Index
 pub mod MemberLaws
+pub mod QuickLaws
 pub mod Replacing
 pub mod Tabled
 pub mod Touching

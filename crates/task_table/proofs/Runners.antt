@@ -51,7 +51,8 @@ counted_if test (e ∷ es) pid task is passes =
 same_number : (a b : ℕ) → (a == b) ≡ true → b ≡ a
 same_number a b is = grind (arith, nat_tests)
 
--- where one entry passes at most, the one that is found by the test has the number of a task that passes
+-- where one entry passes at most, the one that is found by the test has the number of a task that
+-- passes
 only_found : (test : Task → Bool) (es : List (ℕ × Task)) (pid : ℕ) (task : Task) (e : ℕ × Task) → tasks_by.find nat_cmp pid es ≡ Some task → test task ≡ true → find (λ e. test e.1) es ≡ Some e → passing test es ≤ 1 → e.0 ≡ pid
 only_found test [] pid task e is passes found once = absurd (cc is)
 only_found test (x ∷ es) pid task e is passes found once =

@@ -26,7 +26,8 @@ or_cause (Some why) other = Some why
 
 -- a group isn't to be removed: as the tree says, or a live task is in it
 abbrev pub empty_cause : List GroupLife → Tasks → List ℕ → Option Cause
-empty_cause groups tasks path = or_cause (remove_cause groups path) (if has_member tasks (slot_of groups path) then Some cause.GroupBusy else None)
+empty_cause groups tasks path =
+    or_cause (remove_cause groups path) (if has_member tasks (slot_of groups path) then Some cause.GroupBusy else None)
 
 -- no live group has the path
 abbrev pub path_cause : List GroupLife → List ℕ → Option Cause
@@ -47,7 +48,8 @@ wake_cause cpus task cpu =
     if nat_le cpus cpu then Some cause.BadCpu else
     if is_some_and task (λ task. is_active task.mode) then Some cause.NotBlocked else None
 
--- the running task can't leave so: none may run where a processor idles and one must elsewhere, and none exits in a stall
+-- the running task can't leave so: none may run where a processor idles and one must elsewhere, and
+-- none exits in a stall
 abbrev pub how_cause : How → Option (ℕ × Task) → Option Cause
 how_cause how running =
     if is_wrong how running then Some cause.WrongHow else
@@ -114,16 +116,19 @@ abbrev pub act_cause : ℕ → List GroupLife → Tasks → List ℕ → ℕ →
 act_cause cpus groups tasks irqs triggers pressures at (act.Group path) = add_cause groups path
 act_cause cpus groups tasks irqs triggers pressures at (act.Remove path) = empty_cause groups tasks path
 act_cause cpus groups tasks irqs triggers pressures at (act.Prefer path preference) = path_cause groups path
-act_cause cpus groups tasks irqs triggers pressures at (act.Fork pid path cpu) = fork_cause cpus groups (tasks_by.len tasks) (task_of tasks pid.0) path cpu.0
+act_cause cpus groups tasks irqs triggers pressures at (act.Fork pid path cpu) =
+    fork_cause cpus groups (tasks_by.len tasks) (task_of tasks pid.0) path cpu.0
 act_cause cpus groups tasks irqs triggers pressures at (act.Wake pid cpu) = wake_cause cpus (task_of tasks pid.0) cpu.0
-act_cause cpus groups tasks irqs triggers pressures at (act.Switch cpu next how) = switch_cause cpus cpu.0 next (next_task tasks next) how (running_on tasks cpu.0)
+act_cause cpus groups tasks irqs triggers pressures at (act.Switch cpu next how) =
+    switch_cause cpus cpu.0 next (next_task tasks next) how (running_on tasks cpu.0)
 act_cause cpus groups tasks irqs triggers pressures at (act.Stall pid) = stall_cause (task_of tasks pid.0)
 act_cause cpus groups tasks irqs triggers pressures at (act.Unstall pid) = unstall_cause (task_of tasks pid.0)
 act_cause cpus groups tasks irqs triggers pressures at (act.Migrate pid cpu) = migrate_cause cpus (task_of tasks pid.0) cpu.0
 act_cause cpus groups tasks irqs triggers pressures at (act.Move pid path) = move_cause groups (task_of tasks pid.0) path
 act_cause cpus groups tasks irqs triggers pressures at (act.Mem path current swap scan) = path_cause groups path
 act_cause cpus groups tasks irqs triggers pressures at (act.Host mem_total swap_total swap_free) = None
-act_cause cpus groups tasks irqs triggers pressures at (act.Trigger path res level threshold_us window_us) = trigger_cause groups triggers path threshold_us window_us
+act_cause cpus groups tasks irqs triggers pressures at (act.Trigger path res level threshold_us window_us) =
+    trigger_cause groups triggers path threshold_us window_us
 act_cause cpus groups tasks irqs triggers pressures at (act.Irq cpu ns) = irq_cause cpus irqs at cpu ns
 act_cause cpus groups tasks irqs triggers pressures at (act.Pressure path on) = account_cause groups pressures path
 act_cause cpus groups tasks irqs triggers pressures at act.End = None
@@ -135,14 +140,18 @@ groups_cause groups (act.Remove path) = remove_cause groups path
 groups_cause groups (act.Pressure path on) = pressure_cause groups path
 groups_cause groups _ = None
 
--- the first cause against a line: those that any line can have, and then those of its act
-abbrev pub line_cause : Limits → World → Event → Option Cause
-line_cause limits w event =
+-- the first cause that any line at a moment (ns) can have
+abbrev pub line_cause : Limits → World → ℕ → Option Cause
+line_cause limits w at =
     if w.ended then Some cause.AfterEnd else
-    if nat_lt event.at w.last then Some cause.TimeBack else
-    if nat_lt limits.latest event.at then Some cause.TimeTooLate else
-    if nat_le most_events w.lines then Some cause.TooManyEvents else
-    act_cause limits.cpus w.groups w.tasks w.irqs w.triggers w.pressures event.at event.act
+    if nat_lt at w.last then Some cause.TimeBack else
+    if nat_lt limits.latest at then Some cause.TimeTooLate else
+    if nat_le most_events w.lines then Some cause.TooManyEvents else None
+
+-- the first cause against an event: those that any line can have, and then those of its act
+abbrev pub event_cause : Limits → World → Event → Option Cause
+event_cause limits w event =
+    or_cause (line_cause limits w event.at) (act_cause limits.cpus w.groups w.tasks w.irqs w.triggers w.pressures event.at event.act)
 
 -- the act makes a group
 abbrev pub makes_group : Act → Bool
@@ -155,7 +164,8 @@ takes_memory (act.Fork pid path cpu) = true
 takes_memory (act.Group path) = true
 takes_memory _ = false
 
--- the fault is the first cause; memory is wanted only where there is no cause, and for acts that take some
+-- the fault is the first cause; memory is wanted only where there is no cause, and for acts that
+-- take some
 abbrev pub IsFault : Option Cause → Act → Fault Cause → Type 0
 IsFault why a (fault.Refused cause) = why ≡ Some cause
 IsFault why a (fault.NoMemory _) = (why ≡ None) × (takes_memory a ≡ true)

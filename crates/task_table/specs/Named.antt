@@ -1,5 +1,6 @@
 -- The task whose number an act names, and the task that an act changes.
-use Rattle.std.specs.Prelude.{◌≡◌, ℕ, ◌<◌, List, Option, None, Some, IfSome}
+use Rattle.std.specs.Prelude.{◌≡◌, ℕ, ◌<◌, List, Option, None, Some, IfSome, slice_index_or}
+use Rattle.psi_base.specs.declared.event.Cpu.{Cpu}
 use Rattle.psi_base.specs.declared.event.Pid.{Pid}
 use Rattle.psi_base.specs.declared.event.Act.{Act}
 use Rattle.psi_base.specs.declared.event.Act.TheVariants as act
@@ -16,7 +17,8 @@ abbrev pub next_task : Tasks → Option Pid → Option Task
 next_task tasks None = None
 next_task tasks (Some pid) = task_of tasks pid.0
 
--- the live task with the number that an act names, also where that is the number of a new one or of the next to run
+-- the live task with the number that an act names, also where that is the number of a new one or of
+-- the next to run
 abbrev pub named_task : Tasks → Act → Option Task
 named_task tasks (act.Fork pid path cpu) = task_of tasks pid.0
 named_task tasks (act.Wake pid cpu) = task_of tasks pid.0
@@ -32,8 +34,8 @@ pub record IsChanged (groups : List GroupLife) (tasks : Tasks) (a : Act) (change
   pub old : changed.old ≡ before tasks a
   pub new : changed.new ≡ task_after groups tasks a
 
--- A task may take the place of another: it runs on the same processor, or on none as that one, and its slot is one of so
--- many.
+-- A task may take the place of another: it runs on the same processor, or on none as that one, and
+-- its slot is one of so many.
 pub record MayReplace (slots : ℕ) (old new : Task) : Type 0 where
   pub runs : (cpu : ℕ) → is_running_on cpu new ≡ is_running_on cpu old
   pub room : new.slot.0 < slots
@@ -42,7 +44,14 @@ pub record MayReplace (slots : ℕ) (old new : Task) : Type 0 where
 abbrev pub MayReplaceIf : ℕ → Option Task → Option Task → Type 0
 MayReplaceIf slots old new = IfSome old (λ o. IfSome new (λ n. MayReplace slots o n))
 
--- the change of a processor at a moment (ns) by an act that switches no account: by the task that it changes, the task that runs
--- there afterwards and the time (ns) that interrupts took there
+-- the change of a processor at a moment (ns) by an act that switches no account: by the task that
+-- it changes, the task that runs there afterwards and the time (ns) that interrupts took there
 abbrev pub change_for : ℕ → TaskUpdate → Option (ℕ × Task) → ℕ → ℕ → Change
-change_for at changed running irq cpu = record { at = at; minus = part cpu changed.old; plus = part cpu changed.new; current = shown running; irq = irq; gate = None }
+change_for at changed running irq cpu =
+    record { at = at; minus = part cpu changed.old; plus = part cpu changed.new; current = shown running; irq = irq; account = None }
+
+-- the change of a processor, if there is one, with its number, by an act that tells of no
+-- interrupts
+abbrev pub touched_change : ℕ → TaskUpdate → List (Option (ℕ × Task)) → Option Cpu → Option (Cpu × Change)
+touched_change at changed running None = None
+touched_change at changed running (Some cpu) = Some (cpu, change_for at changed (slice_index_or running cpu.0 None) 0 cpu.0)

@@ -50,8 +50,9 @@ is_of slot task = task.slot.0 == slot
 pub record AreMembers (members : List ℕ) (tasks : Tasks) : Type 0 where
   pub each : (slot : ℕ) → slice_index_or members slot 0 ≡ how_many (is_of slot) (tasks_by.values tasks)
 
--- What is true of each table: its world is legal, it has a place for each processor, of which there are at most 64, and
--- for each group, and the lists tell which tasks run and how many are in each group.
+-- What is true of each table: its world is legal, it has a place for each processor, of which there
+-- are at most 64, and for each group, and the lists tell which tasks run and how many are in each
+-- group.
 pub record IsTable (table : TableView) (running : List (Option (ℕ × Task))) (members : List ℕ) : Type 0 where
   pub legal : IsLegalWorld table.limits table.world
   pub index : IsIndex running table.world.tasks
@@ -59,8 +60,9 @@ pub record IsTable (table : TableView) (running : List (Option (ℕ × Task))) (
   pub cover : length table.world.groups ≤ length members
   pub cpus : length running ≤ 64
 
--- A table has played an event: it is legal in a legal world, and the world after it is the one that it makes. That is legal
--- too, it has no more lines than a trace may have, and its last moment is neither too late nor before the old one.
+-- A table has played an event: it is legal in a legal world, and the world after it is the one that
+-- it makes. That is legal too, it has no more lines than a trace may have, and its last moment is
+-- neither too late nor before the old one.
 pub record HasPlayed (old : TableView) (event : Event) (new : TableView) : Type 0 where
   pub limits : new.limits ≡ old.limits
   pub legal : cause_of old.limits old.world event ≡ None
@@ -81,7 +83,8 @@ abbrev pub PlaysEvent : {T : Type 0} → TableView → Event → TableView → R
 PlaysEvent old event new (Ok x) = HasPlayed old event new
 PlaysEvent old event new (Err why) = HasRefused old event new why
 
--- An event is legal in a table, and these are its tasks: the one with the number that its act names, and the one that it changes.
+-- An event is legal in a table, and these are its tasks: the one with the number that its act
+-- names, and the one that it changes.
 pub record IsFinding (table : TableView) (event : Event) (finding : Finding) : Type 0 where
   pub legal : cause_of table.limits table.world event ≡ None
   pub room : table.world.lines < most_events
@@ -95,7 +98,8 @@ abbrev pub Judges : TableView → Event → Result Finding Cause → Type 0
 Judges table event (Ok finding) = IsFinding table event finding
 Judges table event (Err why) = cause_of table.limits table.world event ≡ Some why
 
--- the table plays a legal event, or memory is wanting for the task or the group that it makes, and nothing has changed
+-- the table plays a legal event, or memory is wanting for the task or the group that it makes, and
+-- nothing has changed
 abbrev pub PlaysLegal : {T : Type 0} → TableView → Event → TableView → Result T NoMemory → Type 0
 PlaysLegal old event new (Ok x) = HasPlayed old event new
 PlaysLegal old event new (Err none) = (new ≡ old) × (takes_memory event.act ≡ true)
@@ -104,17 +108,40 @@ PlaysLegal old event new (Err none) = (new ≡ old) × (takes_memory event.act �
 abbrev pub table_of : ℕ → ℕ → Tasks → List GroupLife → List ℕ → ℕ → ℕ → ℕ → ℕ → Bool → TableView
 table_of cpus latest tasks groups irqs triggers pressures lines last ended = record {
   limits = record { cpus = cpus; latest = latest };
-  world = record { tasks = tasks; groups = groups; irqs = irqs; triggers = triggers; pressures = pressures; lines = lines; last = last; ended = ended };
+  world = record {
+    tasks = tasks;
+    groups = groups;
+    irqs = irqs;
+    triggers = triggers;
+    pressures = pressures;
+    lines = lines;
+    last = last;
+    ended = ended;
+  };
 }
 
 -- a world as nested pairs, by which proofs tell values apart
 abbrev pub world_code : Coded World
 world_code =
-    code_by (Tasks × (List GroupLife × (List ℕ × (ℕ × (ℕ × (ℕ × (ℕ × Bool))))))) (coded× (tasks_by.code coded_ℕ task_row.the_row.coded) (coded× (coded_list group_row.the_row.coded) (coded× (coded_list coded_ℕ) (coded× coded_ℕ (coded× coded_ℕ (coded× coded_ℕ (coded× coded_ℕ coded_bool)))))))
-    (λ w. (w.tasks, (w.groups, (w.irqs, (w.triggers, (w.pressures, (w.lines, (w.last, w.ended)))))))) (λ p. record { tasks = p.0; groups = p.1.0; irqs = p.1.1.0; triggers = p.1.1.1.0; pressures = p.1.1.1.1.0; lines = p.1.1.1.1.1.0; last = p.1.1.1.1.1.1.0; ended = p.1.1.1.1.1.1.1 }) (λ _. refl)
+    code_by (Tasks × (List GroupLife × (List ℕ × (ℕ × (ℕ × (ℕ × (ℕ × Bool)))))))
+    (coded× (tasks_by.code coded_ℕ task_row.the_row.coded)
+    (coded× (coded_list group_row.the_row.coded) (coded× (coded_list coded_ℕ)
+    (coded× coded_ℕ (coded× coded_ℕ (coded× coded_ℕ (coded× coded_ℕ coded_bool)))))))
+    (λ w. (w.tasks, (w.groups, (w.irqs, (w.triggers, (w.pressures, (w.lines, (w.last, w.ended))))))))
+    (λ p. record {
+      tasks = p.0;
+      groups = p.1.0;
+      irqs = p.1.1.0;
+      triggers = p.1.1.1.0;
+      pressures = p.1.1.1.1.0;
+      lines = p.1.1.1.1.1.0;
+      last = p.1.1.1.1.1.1.0;
+      ended = p.1.1.1.1.1.1.1;
+    }) (λ _. refl)
 
 -- a table's value as nested pairs
 abbrev pub view_code : Coded TableView
 view_code =
     code_by ((ℕ × ℕ) × World) (coded× (coded× coded_ℕ coded_ℕ) world_code)
-    (λ v. ((v.limits.cpus, v.limits.latest), v.world)) (λ p. record { limits = record { cpus = p.0.0; latest = p.0.1 }; world = p.1 }) (λ _. refl)
+    (λ v. ((v.limits.cpus, v.limits.latest), v.world)) (λ p. record { limits = record { cpus = p.0.0; latest = p.0.1 }; world = p.1 })
+    (λ _. refl)

@@ -1,14 +1,17 @@
 //! Why an act is refused, asked in the order of causes.
-ghost use Rattle.std.specs.Prelude.{◌≡◌, if◌then◌else◌, nat_le, length, slice_index_or, None, Some};
+ghost use Rattle.std.specs.Prelude.{◌≡◌, ℕ, List, if◌then◌else◌, nat_le, length, slice_index_or, None, Some};
 ghost use Rattle.psi_base.specs.declared.event.Cause.TheVariants as cause;
 ghost use Rattle.psi_spec.specs.Refusal.{has_member, is_window};
 ghost use Rattle.psi_spec.specs.World.{Tasks, most_tasks, slot_of};
+ghost use Rattle.psi_spec.specs.declared.machine.GroupLife.{GroupLife};
+ghost use Rattle.task_table.specs.Acts.{act_by};
 ghost use Rattle.task_table.specs.Causes.{act_cause, account_cause, empty_cause, fork_cause, how_cause, irq_cause, migrate_cause, move_cause, next_cause, path_cause, stall_cause, switch_cause, trigger_cause, unstall_cause, wake_cause};
 ghost use Rattle.task_table.specs.Named.{named_task};
 ghost use Rattle.task_table.specs.Stands.{AreMembers, IsIndex};
 
 use crate::members::Members;
 use crate::running::{Running, running_at};
+use crate::task_act::TaskAct;
 use crate::task_map::TaskMap;
 use group_tree::Tree;
 use psi_base::{Act, Cause, Cpu, Event, How, Ns, Path, Pid};
@@ -282,8 +285,8 @@ fn account_refused(tree: &Tree, pressures: u32, path: &Path) -> Option<Cause>
     tree.pressure_cause(path)
 }
 
-/// Why interrupts can't have taken so long (ns) up to a moment (ns) on a processor. `irqs` has the moments of the last `irq`
-/// lines.
+/// Why interrupts can't have taken so long (ns) up to a moment (ns) on a processor. `irqs` has the
+/// moments of the last `irq` lines.
 fn irq_refused(irqs: &[Ns], cpus: usize, at: Ns, cpu: Cpu, ns: u64) -> Option<Cause>
     ensures { result ≡ irq_cause cpus irqs.now at cpu ns }
 {
@@ -297,8 +300,32 @@ fn irq_refused(irqs: &[Ns], cpus: usize, at: Ns, cpu: Cpu, ns: u64) -> Option<Ca
     None
 }
 
-/// Why the act of an event isn't legal. `irqs` has the moments of the last `irq` lines, and `named` is the task with the number
-/// that the act names.
+/// Why a quick act isn't legal. `named` is the task with the number that it names.
+#[inline(always)]
+pub(crate) fn task_act_refused(
+    running: &[Running],
+    act: TaskAct,
+    named: Option<Task>,
+) -> Option<Cause>
+    ensures { (groups : List GroupLife) (tasks : Tasks) (irqs : List ℕ)
+        (triggers pressures at : ℕ) →
+        IsIndex running.now tasks →
+        named ≡ named_task tasks (act_by act) →
+        result ≡ act_cause (length running.now) groups tasks irqs triggers pressures at
+        (act_by act) }
+{
+    let cpus = running.len();
+    match act {
+        TaskAct::Wake { cpu, .. } => wake_refused(named, cpus, cpu.0),
+        TaskAct::Switch { cpu, next, how } => switch_refused(running, cpu.0, next, named, how),
+        TaskAct::Stall { .. } => stall_refused(named),
+        TaskAct::Unstall { .. } => unstall_refused(named),
+        TaskAct::Migrate { cpu, .. } => migrate_refused(named, cpus, cpu.0),
+    }
+}
+
+/// Why the act of an event isn't legal. `irqs` has the moments of the last `irq` lines, and `named`
+/// is the task with the number that the act names.
 #[inline(always)]
 pub(crate) fn act_refused(
     tree: &Tree,

@@ -1,4 +1,5 @@
-//! What a legal switch does to tasks: the running one leaves its processor, and the next starts there.
+//! What a legal switch does to tasks: the running one leaves its processor, and the next starts
+//! there.
 ghost use Rattle.std.specs.Prelude.{◌≡◌, ◌≢◌, ℕ, ◌<◌, List, None, IfSome, true, false, length, slice_index_or};
 ghost use Rattle.psi_spec.specs.World.{is_ready, is_running, leave, left_by, running_on, start, task_part};
 ghost use Rattle.psi_counts.specs.Touch.{left_if};

@@ -3,7 +3,9 @@ ghost use Rattle.std.specs.Prelude.{◌≡◌, ℕ, ◌+◌, ◌<◌, ◌≤◌,
 ghost use Rattle.std.specs.FinMap as tasks_by;
 ghost use Rattle.psi_spec.specs.World.{change, ends, groups_after, irqs_after, is_pressure, is_running, is_trigger, most_tasks, new_group, new_task, put, readied, slot_of, task_of, tasks_after};
 ghost use Rattle.psi_counts.specs.Touch.{changed};
+ghost use Rattle.psi_spec.specs.declared.machine.GroupLife.{GroupLife};
 ghost use Rattle.group_tree.specs.Tree.{add_cause};
+ghost use Rattle.task_table.specs.Acts.{act_by};
 ghost use Rattle.task_table.specs.Causes.{act_cause, groups_cause, makes_group, takes_memory};
 ghost use Rattle.task_table.specs.Named.{IsChanged, MayReplaceIf, named_task};
 ghost use Rattle.task_table.specs.Stands.{AreMembers, IsIndex};
@@ -11,6 +13,7 @@ ghost use Rattle.task_table.specs.Stands.{AreMembers, IsIndex};
 use crate::context_switch::switch;
 use crate::members::Members;
 use crate::running::{Running, set_running};
+use crate::task_act::TaskAct;
 use crate::task_map::TaskMap;
 use crate::task_update::TaskUpdate;
 use group_tree::Tree;
@@ -152,6 +155,18 @@ pub(crate) fn named_task(tasks: &TaskMap, act: &Act) -> Option<Task>
     }
 }
 
+/// The task with the number that a quick act names.
+#[tactic(auto, using(crate::proofs::QuickLaws::named_quick))]
+#[inline(always)]
+pub(crate) fn named_by(tasks: &TaskMap, act: TaskAct) -> Option<Task>
+    ensures { result ≡ named_task tasks.now (act_by act) }
+{
+    match act.pid() {
+        Some(pid) => tasks.get(pid.0),
+        None => None,
+    }
+}
+
 /// A task takes the place of another with the same number, if there are both.
 // Inline, so that the two tasks needn't go through memory.
 #[inline(always)]
@@ -241,8 +256,8 @@ fn add_group(tree: &mut Tree, members: &mut Members, path: &Path, at: Ns) -> Res
     }
 }
 
-/// What a legal act does to tasks, done. `named` is the task with the number that the act names. Only a fork takes memory;
-/// where there is none, nothing changes.
+/// What a legal act does to tasks, done. `named` is the task with the number that the act names.
+/// Only a fork takes memory; where there is none, nothing changes.
 #[inline(always)]
 pub(crate) fn change_tasks(
     tasks: &mut TaskMap,
@@ -306,8 +321,47 @@ pub(crate) fn change_tasks(
     }
 }
 
-/// What a legal act at a moment (ns) does to groups, done. Only a new group takes memory; where there is none, nothing
-/// changes.
+/// What a legal quick act does to tasks, done. `named` is the task with the number that it names.
+#[inline(always)]
+pub(crate) fn change_task(
+    tasks: &mut TaskMap,
+    running: &mut [Running],
+    members: &mut Members,
+    act: TaskAct,
+    named: Option<Task>,
+) -> TaskUpdate
+    requires index { IsIndex running.old tasks.old }
+    requires members { AreMembers members.old tasks.old }
+    requires few { tasks_by.len tasks.old ≤ most_tasks }
+    requires named { named ≡ named_task tasks.old (act_by act) }
+    requires legal { (groups : List GroupLife) × (irqs : List ℕ) × (triggers : ℕ)
+        × (pressures : ℕ) × (at : ℕ)
+        × (act_cause (length running.old) groups tasks.old irqs triggers pressures at (act_by act)
+        ≡ None) }
+    ensures tasks { (groups : List GroupLife) →
+        tasks.new ≡ tasks_after groups tasks.old (act_by act) }
+    ensures changed { (groups : List GroupLife) →
+        IsChanged groups tasks.old (act_by act) result }
+    ensures index { IsIndex running.new tasks.new }
+    ensures members { AreMembers members.new tasks.new }
+    ensures cover { length members.new ≡ length members.old }
+    ensures length { length running.new ≡ length running.old }
+{
+    // A task that stays is replaced in one place, whichever the act is, so that this stands in the
+    // code once.
+    let (pid, new) = match act {
+        TaskAct::Switch { cpu, next, how } => {
+            return switch(tasks, running, members, cpu.0, next, named, how);
+        }
+        TaskAct::Wake { pid, cpu } | TaskAct::Migrate { pid, cpu } => (pid, readied(named, cpu)),
+        TaskAct::Stall { pid } => (pid, with_stall(named, true)),
+        TaskAct::Unstall { pid } => (pid, with_stall(named, false)),
+    };
+    replace(tasks, running, members, pid.0, named, new)
+}
+
+/// What a legal act at a moment (ns) does to groups, done. Only a new group takes memory; where
+/// there is none, nothing changes.
 #[inline(always)]
 pub(crate) fn change_groups(
     tree: &mut Tree,

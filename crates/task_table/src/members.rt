@@ -5,7 +5,8 @@ use psi_base::{NoMemory, Slot};
 use std::alloc::Global;
 use std::marker::Model;
 
-/// The numbers of live tasks by the slots of their groups. Contracts see the list of them; where it ends, there are none.
+/// The numbers of live tasks by the slots of their groups. Contracts see the list of them; where it
+/// ends, there are none.
 #[derive(Drop)]
 pub(crate) struct Members {
     counts: Vec<u32>,

@@ -1,24 +1,27 @@
 //! The table of tasks.
-ghost use Rattle.std.specs.Prelude.{◌≡◌, ◌<◌, ◌≤◌, IfNone, IfOk, length, nat_le};
+ghost use Rattle.std.specs.Prelude.{◌≡◌, ◌<◌, ◌≤◌, IfNone, IfOk, None, length, nat_le};
 ghost use Rattle.std.specs.FinMap as tasks_by;
 ghost use Rattle.psi_spec.specs.World.{first_world, most_events, most_tasks, running_on, task_of, task_part};
 ghost use Rattle.psi_counts.specs.Touch.{AllTouched, HasSlotsBelow, IsOfOne, IsTouch, shown};
 ghost use Rattle.psi_spec.specs.Changes.{before};
 ghost use Rattle.psi_spec.specs.Refusal.{cause_of};
 ghost use Rattle.task_table.specs.Named.{IsChanged, named_task};
-ghost use Rattle.task_table.specs.Stands.{IsFinding, Judges, PlaysEvent, PlaysLegal};
+ghost use Rattle.task_table.specs.Acts.{act_by, event_by};
+ghost use Rattle.task_table.specs.Causes.{line_cause};
+ghost use Rattle.task_table.specs.Stands.{HasPlayed, IsFinding, Judges, PlaysEvent, PlaysLegal};
 
-use crate::causes::{act_refused, is_full};
+use crate::causes::{act_refused, is_full, task_act_refused};
 use crate::effects::{
-    MOST_CPUS, change_groups, change_tasks, has_ended, named_task, note_irq, pressures_with,
-    triggers_with,
+    MOST_CPUS, change_groups, change_task, change_tasks, has_ended, named_by, named_task, note_irq,
+    pressures_with, triggers_with,
 };
 use crate::finding::Finding;
 use crate::members::Members;
 use crate::running::{Running, running_at};
+use crate::task_act::TaskAct;
 use crate::task_map::TaskMap;
 use crate::task_update::TaskUpdate;
-use crate::touch::{current_on, gate_of, gate_touch, touch_of};
+use crate::touch::{account_of, account_touch, current_on, touch_by, touch_of};
 use group_tree::Tree;
 use psi_base::{Act, Cause, Cpu, Event, Fault, NoMemory, Ns, Pid, Slot};
 use psi_counts::Touch;
@@ -70,7 +73,8 @@ impl Model for Table {
 }
 
 impl Table {
-    /// The world before a trace with 1 to 64 processors, in which no event is later than `latest` (ns).
+    /// The world before a trace with 1 to 64 processors, in which no event is later than `latest`
+    /// (ns).
     pub fn new(alloc: Global, cpus: u32, latest: Ns) -> Result<Table, NoMemory>
         requires some { 1 ≤ cpus }
         requires few { cpus ≤ 64 }
@@ -165,7 +169,8 @@ impl Table {
         }
     }
 
-    /// What a change of a processor shows of the task that runs there: its group, and whether it is in a memory stall.
+    /// What a change of a processor shows of the task that runs there: its group, and whether it is
+    /// in a memory stall.
     #[tactic(auto, using(crate::proofs::Index::running_told))]
     pub fn current(&self, cpu: Cpu) -> Option<(Slot, bool)>
         ensures { result ≡ shown (running_on self.now.world.tasks cpu.0) }
@@ -173,8 +178,31 @@ impl Table {
         current_on(&self.running, cpu)
     }
 
+    /// The first cause that any line can have, at this moment (ns).
+    #[tactic(auto, using(std::proofs::lemmas::Bool::Decides::nat_tests))]
+    #[inline(always)]
+    fn line_refused(&self, at: Ns) -> Option<Cause>
+        ensures cause { result ≡ line_cause self.now.limits self.now.world at }
+        ensures room { IfNone result (self.now.world.lines < most_events) }
+        ensures forward { IfNone result (self.now.world.last ≤ at) }
+        ensures early { IfNone result (at ≤ self.now.limits.latest) }
+    {
+        if self.ended {
+            return Some(Cause::AfterEnd);
+        }
+        if at < self.last {
+            return Some(Cause::TimeBack);
+        }
+        if self.latest < at {
+            return Some(Cause::TimeTooLate);
+        }
+        if self.lines >= MOST_EVENTS {
+            return Some(Cause::TooManyEvents);
+        }
+        None
+    }
+
     /// The first cause against an event whose act names this task.
-    #[tactic(auto, using(crate::proofs::CauseLaws::first_is, std::proofs::lemmas::Bool::Decides::nat_tests))]
     #[inline(always)]
     fn refused(&self, event: &Event, named: Option<Task>) -> Option<Cause>
         requires { named ≡ named_task self.now.world.tasks event.now.act }
@@ -183,17 +211,8 @@ impl Table {
         ensures forward { IfNone result (self.now.world.last ≤ event.now.at) }
         ensures early { IfNone result (event.now.at ≤ self.now.limits.latest) }
     {
-        if self.ended {
-            return Some(Cause::AfterEnd);
-        }
-        if event.at < self.last {
-            return Some(Cause::TimeBack);
-        }
-        if self.latest < event.at {
-            return Some(Cause::TimeTooLate);
-        }
-        if self.lines >= MOST_EVENTS {
-            return Some(Cause::TooManyEvents);
+        if let Some(cause) = self.line_refused(event.at) {
+            return Some(cause);
         }
         act_refused(
             &self.tree,
@@ -208,7 +227,23 @@ impl Table {
         )
     }
 
-    /// The one task whose counts an act changes, as it is before the act. `named` is the one with the number that the act names.
+    /// The first cause against a quick act that names this task, at this moment (ns).
+    #[inline(always)]
+    fn task_refused(&self, at: Ns, act: TaskAct, named: Option<Task>) -> Option<Cause>
+        requires { named ≡ named_task self.now.world.tasks (act_by act) }
+        ensures cause { result ≡ cause_of self.now.limits self.now.world (event_by at act) }
+        ensures room { IfNone result (self.now.world.lines < most_events) }
+        ensures forward { IfNone result (self.now.world.last ≤ at) }
+        ensures early { IfNone result (at ≤ self.now.limits.latest) }
+    {
+        if let Some(cause) = self.line_refused(at) {
+            return Some(cause);
+        }
+        task_act_refused(&self.running, act, named)
+    }
+
+    /// The one task whose counts an act changes, as it is before the act. `named` is the one with
+    /// the number that the act names.
     #[inline(always)]
     fn task_before(&self, act: &Act, named: Option<Task>) -> Option<Task>
         requires { named ≡ named_task self.now.world.tasks act.now }
@@ -221,8 +256,20 @@ impl Table {
         }
     }
 
-    /// Judges an event: what is found of its tasks where it is legal, and else the first cause against it, in this profile's
-    /// order of causes.
+    /// The same of a quick act.
+    #[inline(always)]
+    fn quick_before(&self, act: TaskAct, named: Option<Task>) -> Option<Task>
+        requires { named ≡ named_task self.now.world.tasks (act_by act) }
+        ensures { result ≡ before self.now.world.tasks (act_by act) }
+    {
+        match act {
+            TaskAct::Switch { cpu, .. } => self.running(cpu),
+            _ => named,
+        }
+    }
+
+    /// Judges an event: what is found of its tasks where it is legal, and else the first cause
+    /// against it, in this profile's order of causes.
     #[inline(always)]
     pub fn judge(&self, event: &Event) -> Result<Finding, Cause>
         ensures { Judges self.now event.now result }
@@ -237,7 +284,23 @@ impl Table {
         })
     }
 
-    /// The first cause against the event, in this profile's order of causes, or none where it is legal.
+    /// Judges a quick act at a moment (ns), as [`Table::judge`] the event for which it stands.
+    #[inline(always)]
+    pub fn judge_task(&self, at: Ns, act: TaskAct) -> Result<Finding, Cause>
+        ensures { Judges self.now (event_by at act) result }
+    {
+        let named = named_by(&self.tasks, act);
+        if let Some(cause) = self.task_refused(at, act, named) {
+            return Err(cause);
+        }
+        Ok(Finding {
+            named,
+            before: self.quick_before(act, named),
+        })
+    }
+
+    /// The first cause against the event, in this profile's order of causes, or none where it is
+    /// legal.
     pub fn check(&self, event: &Event) -> Option<Cause>
         ensures cause { result ≡ cause_of self.now.limits self.now.world event.now }
         ensures room { IfNone result (self.now.world.lines < most_events) }
@@ -247,10 +310,33 @@ impl Table {
         self.judge(event).err()
     }
 
-    /// The world after the event. Where it is refused, or there is no memory for a new task or group, nothing changes:
-    /// `Refused` with the first cause, and `NoMemory` for a legal fork or a legal new group alone.
+    /// The world after the event. Where it is refused, or there is no memory for a new task or
+    /// group, nothing changes: `Refused` with the first cause, and `NoMemory` for a legal fork or a
+    /// legal new group alone.
     #[inline(always)]
     pub fn play(&mut self, event: &Event) -> Result<(), Fault<Cause>>
+        ensures { PlaysEvent self.old event.now self.new result }
+    {
+        match TaskAct::of(&event.act) {
+            Some(act) => self.play_task(event.at, act),
+            None => self.play_other(event),
+        }
+    }
+
+    /// The same of a quick act at a moment (ns).
+    #[inline(always)]
+    fn play_task(&mut self, at: Ns, act: TaskAct) -> Result<(), Fault<Cause>>
+        ensures { PlaysEvent self.old (event_by at act) self.new result }
+    {
+        let finding = self.judge_task(at, act)?;
+        self.advance_task(at, act, finding);
+        Ok(())
+    }
+
+    /// The same of any event. It stands aside, so that the quick way is small enough to be inlined
+    /// whole.
+    #[inline(never)]
+    fn play_other(&mut self, event: &Event) -> Result<(), Fault<Cause>>
         ensures { PlaysEvent self.old event.now self.new result }
     {
         let finding = self.judge(event)?;
@@ -258,8 +344,8 @@ impl Table {
         Ok(())
     }
 
-    /// The world after the event as [`Table::play`] makes it, and what the event changes on each processor that it
-    /// touches.
+    /// The world after the event as [`Table::play`] makes it, and what the event changes on each
+    /// processor that it touches.
     pub fn step(&mut self, event: &Event) -> Result<Touch, Fault<Cause>>
         ensures plays { PlaysEvent self.old event.now self.new result }
         ensures touch { IfOk result (λ touch.
@@ -276,8 +362,9 @@ impl Table {
         Ok(self.perform(event, finding)?)
     }
 
-    /// Does what a legal event does, of which this was found: what it changes on each processor that it touches. Only a fork
-    /// and a new group take memory; where there is none, nothing changes.
+    /// Does what a legal event does, of which this was found: what it changes on each processor
+    /// that it touches. Only a fork and a new group take memory; where there is none, nothing
+    /// changes.
     #[inline(always)]
     pub fn perform(&mut self, event: &Event, finding: Finding) -> Result<Touch, NoMemory>
         requires { IsFinding self.old event.now finding }
@@ -292,15 +379,53 @@ impl Table {
         ensures moment { IfOk result
             (λ touch. AllTouched (λ cpu change. change.at ≡ event.now.at) touch) }
     {
-        let gate = gate_of(&self.tree, &event.act);
+        let account = account_of(&self.tree, &event.act);
         let changed = self.advance(event, finding)?;
-        if let Some(gate) = gate {
-            return Ok(gate_touch(gate));
+        if let Some(account) = account {
+            return Ok(account_touch(account));
         }
         Ok(touch_of(event.at, &event.act, changed, &self.running))
     }
 
-    /// The world after a legal event, and the task that the event changes. Where there is no memory, nothing changes.
+    /// Does what a legal quick act at a moment (ns) does, as [`Table::perform`] for its event. It
+    /// takes no memory.
+    #[inline(always)]
+    pub fn perform_task(&mut self, at: Ns, act: TaskAct, finding: Finding) -> Touch
+        requires { IsFinding self.old (event_by at act) finding }
+        ensures plays { HasPlayed self.old (event_by at act) self.new }
+        ensures touch { IsTouch self.old.limits.cpus self.old.world (event_by at act) result }
+        ensures cpus { AllTouched (λ cpu change. cpu < self.old.limits.cpus) result }
+        ensures slots { AllTouched
+            (λ cpu change. HasSlotsBelow (length self.old.world.groups) change) result }
+        ensures ones { AllTouched (λ cpu change. IsOfOne change) result }
+        ensures moment { AllTouched (λ cpu change. change.at ≡ at) result }
+        ensures account { result.account ≡ None }
+    {
+        let changed = self.advance_task(at, act, finding);
+        touch_by(at, act, changed, &self.running)
+    }
+
+    /// The world after a legal quick act at a moment (ns), and the task that it changes.
+    #[inline(always)]
+    fn advance_task(&mut self, at: Ns, act: TaskAct, finding: Finding) -> TaskUpdate
+        requires { IsFinding self.old (event_by at act) finding }
+        ensures plays { HasPlayed self.old (event_by at act) self.new }
+        ensures changed { IsChanged self.old.world.groups self.old.world.tasks (act_by act) result }
+    {
+        let changed = change_task(
+            &mut self.tasks,
+            &mut self.running,
+            &mut self.members,
+            act,
+            finding.named,
+        );
+        self.lines += 1;
+        self.last = at;
+        changed
+    }
+
+    /// The world after a legal event, and the task that the event changes. Where there is no
+    /// memory, nothing changes.
     #[inline(always)]
     fn advance(&mut self, event: &Event, finding: Finding) -> Result<TaskUpdate, NoMemory>
         requires { IsFinding self.old event.now finding }

@@ -13,7 +13,8 @@ use std::marker::Model;
 /// How many numbers have a place in the list of tasks: as many as tasks may live at once.
 const PLACES: usize = 65_536;
 
-/// The live tasks, found by number. A list finds those with small numbers by one load, where a map needs three or four.
+/// The live tasks, found by number. A list finds those with small numbers by one load, where a map
+/// needs three or four.
 #[derive(Drop)]
 pub(crate) struct TaskMap {
     /// The tasks with the numbers below `PLACES`, each in the place with its number.
@@ -120,7 +121,8 @@ fn empty_places(alloc: Global, count: usize) -> Result<Vec<Option<Task>>, NoMemo
     Ok(vec![in alloc; None; count]?)
 }
 
-/// Puts a task under a number, and gives the one that it had. Where there is no memory for it, nothing changes.
+/// Puts a task under a number, and gives the one that it had. Where there is no memory for it,
+/// nothing changes.
 fn put(
     listed: &mut [Option<Task>],
     others: &mut HashMap<u32, Task>,

@@ -1,15 +1,17 @@
-//! What an act changes on the processors that it touches, read off the task that it changes and off the running
-//! ones: no walk over the tasks.
+//! What an act changes on the processors that it touches, read off the task that it changes and off
+//! the running ones: no walk over the tasks.
 ghost use Rattle.std.specs.Prelude.{◌≡◌, ℕ, if◌then◌else◌, Some, None, [], ◌∷◌, slice_index_or};
 ghost use Rattle.psi_counts.specs.Counts.{counts_among};
-ghost use Rattle.psi_counts.specs.Touch.{gate_of, part, shown, told_of, IsBeside};
+ghost use Rattle.psi_counts.specs.Touch.{account_of, part, shown, told_of, IsBeside};
 ghost use Rattle.psi_spec.specs.Names.{names};
 ghost use Rattle.psi_spec.specs.Changes.{touched};
 ghost use Rattle.psi_spec.specs.Stall.{irq_told};
-ghost use Rattle.task_table.specs.Named.{change_for};
+ghost use Rattle.task_table.specs.Acts.{act_by, cpu_in, cpus_by, unless_on};
+ghost use Rattle.task_table.specs.Named.{change_for, touched_change};
 
 use crate::effects::slot_named;
 use crate::running::{Running, running_at};
+use crate::task_act::TaskAct;
 use crate::task_update::TaskUpdate;
 use group_tree::Tree;
 use psi_base::{Act, Cpu, Ns, Slot};
@@ -20,33 +22,20 @@ use psi_spec::{Mode, Task};
 const NOWHERE: Touch = Touch {
     first: None,
     second: None,
-    gate: None,
+    account: None,
 };
 
 /// What a task counts as by itself.
 fn counts_of(task: Task) -> Counts
     ensures { result ≡ counts_among (task ∷ []) }
 {
-    let stalled = u32::from(task.stalled);
-    match task.mode {
-        Mode::Blocked => Counts {
-            io: 0,
-            stalled,
-            running: 0,
-            stalled_running: 0,
-        },
-        Mode::Waiting => Counts {
-            io: 1,
-            stalled,
-            running: 0,
-            stalled_running: 0,
-        },
-        Mode::Ready | Mode::Running => Counts {
-            io: 0,
-            stalled,
-            running: 1,
-            stalled_running: stalled,
-        },
+    // Without branches: modes come in no order that a processor could foresee.
+    let active = (task.mode == Mode::Ready) | (task.mode == Mode::Running);
+    Counts {
+        io: u32::from(task.mode == Mode::Waiting),
+        stalled: u32::from(task.stalled),
+        running: u32::from(active),
+        stalled_running: u32::from(active & task.stalled),
     }
 }
 
@@ -70,8 +59,8 @@ pub(crate) fn current_on(running: &[Running], cpu: Cpu) -> Option<(Slot, bool)>
     }
 }
 
-/// The change of a processor at a moment (ns), by the task that an act changes and by the tasks that run after it. No interrupts
-/// took time.
+/// The change of a processor at a moment (ns), by the task that an act changes and by the tasks
+/// that run after it. No interrupts took time.
 #[inline(always)]
 fn change_of(at: Ns, changed: TaskUpdate, running: &[Running], cpu: Cpu) -> Change
     ensures { result ≡ change_for at changed (slice_index_or running.now cpu.0 None) 0 cpu.0 }
@@ -82,14 +71,14 @@ fn change_of(at: Ns, changed: TaskUpdate, running: &[Running], cpu: Cpu) -> Chan
         plus: part_on(cpu, changed.new),
         current: current_on(running, cpu),
         irq: 0,
-        gate: None,
+        account: None,
     }
 }
 
 /// The slot of the live group whose account an act switches, and whether on, if it switches one.
 #[inline(always)]
-pub(crate) fn gate_of(tree: &Tree, act: &Act) -> Option<(Slot, bool)>
-    ensures { result ≡ gate_of tree.now act.now }
+pub(crate) fn account_of(tree: &Tree, act: &Act) -> Option<(Slot, bool)>
+    ensures { result ≡ account_of tree.now act.now }
 {
     match act {
         Act::Pressure { path, on } => Some((slot_named(tree, path), *on)),
@@ -97,20 +86,21 @@ pub(crate) fn gate_of(tree: &Tree, act: &Act) -> Option<(Slot, bool)>
     }
 }
 
-/// The touch of an act that switches an account: its gate is on every processor.
-pub(crate) fn gate_touch(gate: (Slot, bool)) -> Touch
+/// The touch of an act that switches an account, which it does on every processor.
+pub(crate) fn account_touch(account: (Slot, bool)) -> Touch
     ensures first { result.first ≡ None }
     ensures second { result.second ≡ None }
-    ensures gate { result.gate ≡ Some gate }
+    ensures account { result.account ≡ Some account }
 {
     Touch {
-        gate: Some(gate),
+        account: Some(account),
         ..NOWHERE
     }
 }
 
-/// The changes at a moment (ns) of the processors that an act touches, by the task that it changes and by the tasks that
-/// run after it. Where a task comes from another processor, that one is the second. The act switches no account.
+/// The changes at a moment (ns) of the processors that an act touches, by the task that it changes
+/// and by the tasks that run after it. Where a task comes from another processor, that one is the
+/// second. The act switches no account.
 #[inline(always)]
 pub(crate) fn touch_of(at: Ns, act: &Act, changed: TaskUpdate, running: &[Running]) -> Touch
     requires { (names act.now).switched ≡ None }
@@ -120,7 +110,7 @@ pub(crate) fn touch_of(at: Ns, act: &Act, changed: TaskUpdate, running: &[Runnin
         then Some (change_for at changed (slice_index_or running.now cpu None)
         (irq_told cpu act.now) cpu) else None) }
     ensures beside { IsBeside result.first result.second }
-    ensures gate { result.gate ≡ None }
+    ensures account { result.account ≡ None }
 {
     match act {
         Act::Fork { cpu, .. } | Act::Switch { cpu, .. } => Touch {
@@ -156,5 +146,77 @@ pub(crate) fn touch_of(at: Ns, act: &Act, changed: TaskUpdate, running: &[Runnin
             None => NOWHERE,
         },
         _ => NOWHERE,
+    }
+}
+
+/// The processor of a task, if there is one and it isn't that other one.
+#[inline(always)]
+fn cpu_unless(other: Cpu, task: Option<Task>) -> Option<Cpu>
+    ensures { result ≡ unless_on other task }
+{
+    match task {
+        Some(task) if task.cpu.0 == other.0 => None,
+        Some(task) => Some(task.cpu),
+        None => None,
+    }
+}
+
+/// The processor of a task, if there is one.
+#[inline(always)]
+fn cpu_of(task: Option<Task>) -> Option<Cpu>
+    ensures { result ≡ cpu_in task }
+{
+    match task {
+        Some(task) => Some(task.cpu),
+        None => None,
+    }
+}
+
+/// The processors that a quick act touches, by the task that it changes as it is before.
+#[inline(always)]
+fn cpus_by(act: TaskAct, old: Option<Task>) -> (Option<Cpu>, Option<Cpu>)
+    ensures { result ≡ cpus_by act old }
+{
+    match act {
+        TaskAct::Switch { cpu, .. } => (Some(cpu), None),
+        TaskAct::Wake { cpu, .. } | TaskAct::Migrate { cpu, .. } => {
+            (Some(cpu), cpu_unless(cpu, old))
+        }
+        TaskAct::Stall { .. } | TaskAct::Unstall { .. } => (cpu_of(old), None),
+    }
+}
+
+/// The change of a processor, if there is one, with its number.
+#[inline(always)]
+fn touched_change(
+    at: Ns,
+    changed: TaskUpdate,
+    running: &[Running],
+    cpu: Option<Cpu>,
+) -> Option<(Cpu, Change)>
+    ensures { result ≡ touched_change at changed running.now cpu }
+{
+    match cpu {
+        Some(cpu) => Some((cpu, change_of(at, changed, running, cpu))),
+        None => None,
+    }
+}
+
+/// What [`touch_of`] gives of the act for which a quick one stands.
+#[inline(always)]
+pub(crate) fn touch_by(at: Ns, act: TaskAct, changed: TaskUpdate, running: &[Running]) -> Touch
+    ensures told { (cpu : ℕ) →
+        told_of result cpu
+        ≡ (if touched (act_by act) changed.old cpu
+        then Some (change_for at changed (slice_index_or running.now cpu None)
+        (irq_told cpu (act_by act)) cpu) else None) }
+    ensures beside { IsBeside result.first result.second }
+    ensures account { result.account ≡ None }
+{
+    let (first, second) = cpus_by(act, changed.old);
+    Touch {
+        first: touched_change(at, changed, running, first),
+        second: touched_change(at, changed, running, second),
+        account: None,
     }
 }

@@ -13,7 +13,7 @@ use Rattle.pressure_spec.specs.Samples.{growths, row_at}
 use Rattle.pressure_spec.proofs.WithinLaws.{growths_next, irq_sum_most, totals_kept, totals_sampled}
 use Rattle.tick_engine.specs.declared.group.Group.{Group}
 use Rattle.tick_engine.specs.declared.watch.TriggerWatch.{TriggerWatch}
-use Rattle.aggregate.specs.Table.{HasSizes}
+use Rattle.aggregate.specs.Table.{HaveSameSizes}
 use Rattle.tick_engine.specs.Tables.{tick_at}
 use Rattle.tick_engine.specs.Step.{AreGroupsWithin, AreStatesWithin, AreTotalsWithin, fired_among, group_step, is_live_group, no_group, sampled, watch_in, watch_signals}
 
@@ -29,7 +29,8 @@ map_all f (x ∷ xs) (z ∷ zs) d e long each =
 
 -- ---- totals
 
--- the growths of a group at the next tick are no longer than the longest tick, and those of interrupts a second more
+-- the growths of a group at the next tick are no longer than the longest tick, and those of
+-- interrupts a second more
 pub growths_short : (last tick : Tick) (slot : ℕ) → IsNextTick last tick → All (AreTimesWithin longest_tick (longest_tick + longest_irq)) (growths (row_at last slot) (row_at tick slot))
 growths_short last tick slot next = λ cpu d below.
     let within = growths_next last tick slot next cpu d below in
@@ -119,18 +120,18 @@ row_taken last tick mixed rows count takes below is = record {
       ap (λ table. get_or table slot []) is ∙ get_or-set_other mixed.table count slot (row_at tick count) [] (λ same. omega (arith, same, late)) ∙ takes.left slot (omega (arith, late));
 }
 
--- a table keeps its sizes then
-pub sizes_stay : (cpus slots : ℕ) (table rows : List (List (List ℕ))) (slot : ℕ) (row : List (List ℕ)) → HasSizes cpus slots table → slot < slots → length row ≡ cpus → rows ≡ set table slot row → HasSizes cpus slots rows
-sizes_stay cpus slots table rows slot row has below wide is =
-    let long : length rows ≡ length table = ap length is ∙ length-set table slot row in
+-- a table keeps the sizes of the one whose row it takes
+pub sizes_stay : (table next rows : List (List (List ℕ))) (slot : ℕ) → slot < length table → HaveSameSizes table next → rows ≡ set table slot (get_or next slot []) → HaveSameSizes rows next
+sizes_stay table next rows slot below same is =
+    let row = get_or next slot [] in
     record {
-      slots_are = long ∙ has.slots_are;
-      cpus_are = λ other d inside.
+      slots = ap length is ∙ length-set table slot row ∙ same.slots;
+      cpus = λ other.
           let case : (other ≡ slot) ⊎ (other ≢ slot) = grind arith in
-          ap (λ t. length (get_or t other d)) is
+          ap (λ t. length (get_or t other [])) is
           ∙ ⊎_elim
-          (λ same. ap (λ s. length (get_or (set table slot row) s d)) same ∙ ap length (get_or-set_same table slot row d (omega (arith, below, has.slots_are))) ∙ wide)
-          (λ apart. ap length (get_or-set_other table slot other row d apart) ∙ has.cpus_are other d (omega (arith, inside, long)))
+          (λ here. rw here (ap length (get_or-set_same table slot row [] below)))
+          (λ apart. ap length (get_or-set_other table slot other row [] apart) ∙ same.cpus other)
           case;
     }
 

@@ -14,8 +14,8 @@ use Rattle.tick_engine.specs.declared.group.Group.{Group}
 use Rattle.tick_engine.specs.declared.watch.TriggerWatch.{TriggerWatch}
 use Rattle.tick_engine.specs.Step.{AreGroupsWithin, engine_group}
 
--- An engine: for how many processors it is, the last tick, what it keeps of each group and of each trigger, and the numbers
--- of the triggers that signalled at the last tick.
+-- An engine: for how many processors it is, the last tick, what it keeps of each group and of each
+-- trigger, and the numbers of the triggers that signalled at the last tick.
 pub record EngineView : Type 0 where
   pub cpus : ℕ
   pub last : Tick
@@ -39,7 +39,13 @@ averages_in engine slot = (engine_group engine.groups slot).averages
 
 -- what is kept of the group in a slot after ticks
 abbrev pub group_after : ℕ → List GroupLife → List Tick → ℕ → Group
-group_after cpus lives ticks slot = record { made = (life_of lives slot).made; gone = (life_of lives slot).gone; totals = totals_after cpus lives ticks slot; averages = group_averages cpus lives ticks slot }
+group_after cpus lives ticks slot =
+    record {
+      made = (life_of lives slot).made;
+      gone = (life_of lives slot).gone;
+      totals = totals_after cpus lives ticks slot;
+      averages = group_averages cpus lives ticks slot;
+    }
 
 -- a trigger has begun: some tick isn't before its line
 abbrev pub has_begun : List Tick → TriggerSpec → Bool
@@ -47,12 +53,18 @@ has_begun ticks trigger = list_any (λ (tick : Tick). nat_le trigger.at tick.at)
 
 -- what is kept of a trigger after ticks
 abbrev pub watch_after : ℕ → List GroupLife → List Tick → TriggerSpec → TriggerWatch
-watch_after cpus lives ticks trigger = record { spec = trigger; trigger = if has_begun ticks trigger then Some (trigger_over trigger (history_of cpus lives ticks trigger.slot.0)) else None }
+watch_after cpus lives ticks trigger =
+    record {
+      spec = trigger;
+      trigger = if has_begun ticks trigger
+          then Some (trigger_over trigger (history_of cpus lives ticks trigger.slot.0)) else None;
+    }
 
--- An engine stands for ticks, of groups with these lives on so many processors and with these triggers: the ticks come one
--- after another, and it has the last tick, each group and each trigger as they are after all of them, and what signalled
--- at the last.
-pub record StandsFor (engine : EngineView) (cpus : ℕ) (lives : List GroupLife) (triggers : List TriggerSpec) (ticks : List Tick) : Type 0 where
+-- An engine stands for ticks, of groups with these lives on so many processors and with these
+-- triggers: the ticks come one after another, and it has the last tick, each group and each trigger
+-- as they are after all of them, and what signalled at the last.
+pub record StandsFor (engine : EngineView) (cpus : ℕ) (lives : List GroupLife) (triggers : List TriggerSpec)
+    (ticks : List Tick) : Type 0 where
   pub ordered : AreNextTicks (no_tick cpus (length lives)) ticks
   pub cpus_are : engine.cpus ≡ cpus
   pub last : engine.last ≡ last_tick (no_tick cpus (length lives)) ticks
@@ -73,8 +85,8 @@ EngineTakes old tick new = (cpus : ℕ) (lives : List GroupLife) (triggers : Lis
 abbrev pub AreWatchesWithin : ℕ → List TriggerWatch → Type 0
 AreWatchesWithin slots watches = All (λ watch. IsTriggerWithin last_moment slots watch.spec) watches
 
--- What holds of each engine: its processors, groups and triggers are few, the last table has its sizes, no total is longer
--- than what passed up to the last tick, and the triggers are in range.
+-- What holds of each engine: its processors, groups and triggers are few, the last table has its
+-- sizes, no total is longer than what passed up to the last tick, and the triggers are in range.
 pub record IsEngine (engine : EngineView) : Type 0 where
   pub few_cpus : engine.cpus ≤ 64
   pub few_groups : length engine.groups ≤ most_groups

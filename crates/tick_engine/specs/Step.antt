@@ -34,14 +34,21 @@ is_live_group group at = nat_le group.made at && not (is_gone_by group.gone at)
 
 -- a group with shares (ns) added to its totals, which its averages take at a moment (ns)
 abbrev pub sampled : Group → ℕ → List ℕ → Group
-sampled group now added = record { made = group.made; gone = group.gone; totals = plus group.totals added; averages = average_step group.averages now (plus group.totals added) }
+sampled group now added =
+    record {
+      made = group.made;
+      gone = group.gone;
+      totals = plus group.totals added;
+      averages = average_step group.averages now (plus group.totals added);
+    }
 
 -- a group after a tick: sampled where it is live
 abbrev pub group_step : Tick → Tick → ℕ → Group → Group
-group_step last tick slot group = if is_live_group group tick.at then sampled group tick.at (shares (growths (row_at last slot) (row_at tick slot))) else group
+group_step last tick slot group =
+    if is_live_group group tick.at then sampled group tick.at (shares (growths (row_at last slot) (row_at tick slot))) else group
 
--- no total (ns) of the group in a slot is longer than what passed up to a tick: those of states are within its moment, and that
--- of interrupts within the interrupt times of the processors together
+-- no total (ns) of the group in a slot is longer than what passed up to a tick: those of states are
+-- within its moment, and that of interrupts within the interrupt times of the processors together
 abbrev pub AreTotalsWithin : Tick → ℕ → Group → Type 0
 AreTotalsWithin tick slot group = AreAmountsWithin tick.at (time_sum (row_at tick slot) irq_place) group.totals
 
@@ -67,10 +74,12 @@ new_watch spec = record { spec = spec; trigger = None }
 abbrev pub watched_total : List Group → TriggerSpec → ℕ
 watched_total groups spec = at_state (engine_group groups spec.slot.0).totals (watched_state spec)
 
--- a trigger that begins at the first tick that isn't before its line, with the total at the tick before
+-- a trigger that begins at the first tick that isn't before its line, with the total at the tick
+-- before
 abbrev pub begun_trigger : List Group → ℕ → TriggerSpec → Option TriggerState → Option TriggerState
 begun_trigger groups now spec (Some trigger) = Some trigger
-begun_trigger groups now spec None = if nat_le spec.at now then Some (new_trigger spec.at (watched_total groups spec) spec.threshold_us spec.window_us) else None
+begun_trigger groups now spec None =
+    if nat_le spec.at now then Some (new_trigger spec.at (watched_total groups spec) spec.threshold_us spec.window_us) else None
 
 -- a trigger that has begun, after a tick at a moment (ns) with a total (ns)
 abbrev pub stepped : Option TriggerState → ℕ → ℕ → Option TriggerState
@@ -92,7 +101,12 @@ is_watching groups now watch = is_live_group (engine_group groups watch.spec.slo
 
 -- a watch after a tick: its trigger is stepped where its group is live
 abbrev pub watch_stepped : List Group → ℕ → TriggerWatch → TriggerWatch
-watch_stepped groups now watch = record { spec = watch.spec; trigger = if is_watching groups now watch then stepped watch.trigger now (watched_total groups watch.spec) else watch.trigger }
+watch_stepped groups now watch =
+    record {
+      spec = watch.spec;
+      trigger = if is_watching groups now watch
+          then stepped watch.trigger now (watched_total groups watch.spec) else watch.trigger;
+    }
 
 -- a watch signals at a tick
 abbrev pub watch_signals : List Group → ℕ → TriggerWatch → Bool
@@ -100,7 +114,10 @@ watch_signals groups now watch = is_watching groups now watch && begun_signals w
 
 -- a watch that there isn't, in place of one
 abbrev pub no_watch : TriggerWatch
-no_watch = record { spec = record { at = 0; slot = record { 0 = 0 }; res = Io; level = SomeStalled; threshold_us = 0; window_us = 0 }; trigger = None }
+no_watch = record {
+  spec = record { at = 0; slot = record { 0 = 0 }; res = Io; level = SomeStalled; threshold_us = 0; window_us = 0 };
+  trigger = None;
+}
 
 -- the watch of the trigger with a number
 abbrev pub watch_in : List TriggerWatch → ℕ → TriggerWatch

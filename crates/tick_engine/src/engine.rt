@@ -16,22 +16,22 @@ use crate::last::LastTick;
 use crate::watch::{TriggerWatch, begin_all, step_all};
 use aggregate::Rows;
 use fixed_average::Averages;
-use pressure_spec::{Amounts, TIMES, Times};
+use pressure_spec::Amounts;
 use psi_base::{NoMemory, Ns, Slot, TriggerSpec};
 use psi_spec::GroupLife;
 use std::alloc::Global;
 use std::marker::Model;
 
-/// The totals and averages of all groups and the signals of all triggers, as the ticks so far left them: the kernel's
-/// `psi_avgs_work` and `update_triggers`, here on one grid of moments for all groups. It takes all memory at first, and none
-/// at a tick.
+/// The totals and averages of all groups and the signals of all triggers, as the ticks so far left
+/// them: the kernel's `psi_avgs_work` and `update_triggers`, here on one grid of moments for all
+/// groups. It takes all memory at first, and none at a tick.
 #[derive(Drop)]
 pub struct Engine {
     last: LastTick,
     groups: Vec<Group>,
     watches: Vec<TriggerWatch>,
-    /// Room for what the times of a group grow by, one place a processor.
-    growths: Vec<Times>,
+    /// How many processors the tables have.
+    cpus: u32,
     /// The numbers of the triggers that signalled at the last tick, with room for all of them.
     fired: Vec<u32>,
 }
@@ -43,10 +43,10 @@ impl Model for Engine {
     ghost Value = { EngineView };
 
     ghost view = { λ e.
-        seen_as (length e.growths.items) e.last e.groups.items e.watches.items e.fired.items };
+        seen_as e.cpus e.last e.groups.items e.watches.items e.fired.items };
 
     ghost invariant = { λ e. IsRoom (length e.watches.items) (vec_capacity e.fired) × IsEngine
-        (seen_as (length e.growths.items) e.last e.groups.items e.watches.items e.fired.items) };
+        (seen_as e.cpus e.last e.groups.items e.watches.items e.fired.items) };
 }
 
 /// The groups, before the first tick.
@@ -61,13 +61,6 @@ fn groups_of(alloc: Global, lives: &[GroupLife]) -> Result<Vec<Group>, NoMemory>
     Ok(groups)
 }
 
-/// Room for what the times of a group grow by, one place a processor.
-fn no_growths(alloc: Global, cpus: u32) -> Result<Vec<Times>, NoMemory>
-    ensures { IfOk result (λ growths. length growths.items ≡ cpus) }
-{
-    Ok(vec![in alloc; [0u64; TIMES]; cpus as usize]?)
-}
-
 /// The triggers, before the first tick.
 fn watches_of(alloc: Global, triggers: &[TriggerSpec]) -> Result<Vec<TriggerWatch>, NoMemory>
     ensures { IfOk result (λ watches. watches.items ≡ map new_watch triggers.now) }
@@ -80,8 +73,8 @@ fn watches_of(alloc: Global, triggers: &[TriggerSpec]) -> Result<Vec<TriggerWatc
 }
 
 impl Engine {
-    /// An engine of groups with these lives, by slot, with these triggers, on so many processors, before the first tick.
-    /// Takes all memory that it will need.
+    /// An engine of groups with these lives, by slot, with these triggers, on so many processors,
+    /// before the first tick. Takes all memory that it will need.
     pub fn make(
         alloc: Global,
         lives: &[GroupLife],
@@ -102,14 +95,15 @@ impl Engine {
             },
             groups: groups_of(alloc, lives)?,
             watches: watches_of(alloc, triggers)?,
-            growths: no_growths(alloc, cpus)?,
+            cpus,
             fired: Vec::with_capacity(alloc, triggers.len())?,
         })
     }
 
-    /// The next tick: its moment (ns), and the times (ns) of all groups on all processors up to it. Each trigger whose line
-    /// isn't later begins, if it hasn't; each group that is live is sampled; and each trigger that has begun, and whose
-    /// group is live, is stepped. Takes no memory.
+    /// The next tick: its moment (ns), and the times (ns) of all groups on all processors up to it.
+    /// Each trigger whose line isn't later begins, if it hasn't; each group that is live is
+    /// sampled; and each trigger that has begun, and whose group is live, is stepped. Takes no
+    /// memory.
     pub fn tick(&mut self, now: Ns, rows: &Rows)
         requires sizes { HasSizes self.old.cpus (length self.old.groups) rows.now }
         requires next { IsNextTick self.old.last (tick_at now rows.now) }
@@ -121,13 +115,7 @@ impl Engine {
         ensures slots { length self.new.groups ≡ length self.old.groups }
     {
         begin_all(&mut self.watches, &self.groups, now);
-        tick_all(
-            &mut self.groups,
-            &mut self.growths,
-            &mut self.last,
-            now,
-            rows,
-        );
+        tick_all(&mut self.groups, &mut self.last, now, rows);
         step_all(&mut self.watches, &self.groups, now, &mut self.fired);
     }
 
@@ -147,7 +135,8 @@ impl Engine {
         &self.groups[slot.0 as usize].averages
     }
 
-    /// The numbers of the triggers that signalled at the last tick, ascending; none before the first.
+    /// The numbers of the triggers that signalled at the last tick, ascending; none before the
+    /// first.
     pub fn fired(&self) -> &[u32]
         ensures { result.now ≡ self.now.fired }
     {

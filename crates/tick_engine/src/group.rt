@@ -1,20 +1,19 @@
 //! What is kept of one group.
 
-ghost use Rattle.std.specs.Prelude.{◌≡◌, ◌≤◌, ◌<◌, ◌+◌, All, length};
-ghost use Rattle.aggregate.specs.Table.{HasSizes};
+ghost use Rattle.std.specs.Prelude.{◌≡◌, ℕ, ◌≤◌, ◌<◌, length};
+ghost use Rattle.aggregate.specs.Table.{HaveSameSizes};
 ghost use Rattle.pressure_spec.specs.Samples.{row_at};
-ghost use Rattle.pressure_spec.specs.Share.{AreAmountsWithin, AreTimesWithin, most_irq_total, plus, shares};
+ghost use Rattle.pressure_spec.specs.Share.{AreAmountsWithin, most_irq_total, plus};
 ghost use Rattle.pressure_spec.specs.Ticks.{IsNextTick};
-ghost use Rattle.psi_spec.specs.Trace.{last_moment, longest_tick};
-ghost use Rattle.psi_spec.specs.World.{most_groups, longest_irq};
+ghost use Rattle.psi_spec.specs.Trace.{last_moment};
+ghost use Rattle.psi_spec.specs.World.{most_groups};
 ghost use Rattle.tick_engine.specs.Step.{AreGroupsWithin, AreStepped, AreTotalsWithin, group_step, is_live_group, sampled, unsampled_group};
 ghost use Rattle.tick_engine.specs.Tables.{tick_at};
 
-use crate::growth::put_growths;
 use crate::last::LastTick;
-use aggregate::{Rows, Totals, share};
+use aggregate::{Rows, Totals, share_since};
 use fixed_average::Averages;
-use pressure_spec::Times;
+use pressure_spec::Amounts;
 use psi_base::{Ns, Slot};
 use psi_spec::GroupLife;
 
@@ -52,27 +51,23 @@ impl Group {
         self.made <= at && !is_gone
     }
 
-    /// Adds the shares of an interval to the totals, of what the times of each processor grew by in it (ns), and has the
-    /// averages take them at the interval's end.
-    pub(crate) fn sample(&mut self, now: Ns, growths: &[Times])
-        requires few { length growths.now ≤ 64 }
-        requires short { All (AreTimesWithin longest_tick (longest_tick + longest_irq))
-            growths.now }
+    /// Adds the shares of an interval (ns) to the totals, and has the averages take them at the
+    /// interval's end.
+    fn sample(&mut self, now: Ns, shares: Amounts)
         requires early { now ≤ last_moment }
-        requires fits { AreAmountsWithin last_moment most_irq_total
-            (plus self.old.totals (shares growths.now)) }
-        ensures { self.new ≡ sampled self.old now (shares growths.now) }
+        requires fits { AreAmountsWithin last_moment most_irq_total (plus self.old.totals shares) }
+        ensures { self.new ≡ sampled self.old now shares }
     {
-        self.totals.add(share(growths));
+        self.totals.add(shares);
         self.averages.update(now, self.totals.get());
     }
 
-    /// Samples the group at a tick, by what its times grew by since the last one, where it is live. Else it stays as it is,
-    /// and costs no share.
-    fn tick(&mut self, slot: Slot, growths: &mut [Times], last: &LastTick, now: Ns, rows: &Rows)
-        requires few { length growths.old ≤ 64 }
-        requires last { length (row_at last.now slot.0) ≡ length growths.old }
-        requires row { length (row_at (tick_at now rows.now) slot.0) ≡ length growths.old }
+    /// Samples the group at a tick, by what its times grew by since the last one, where it is live.
+    /// Else it stays as it is, and costs no share.
+    fn tick(&mut self, slot: Slot, last: &LastTick, now: Ns, rows: &Rows)
+        requires few { length (row_at (tick_at now rows.now) slot.0) ≤ 64 }
+        requires each { length (row_at last.now slot.0)
+            ≡ length (row_at (tick_at now rows.now) slot.0) }
         requires last_slot { slot.0 < length last.now.table }
         requires slot { slot.0 < length rows.now }
         requires next { IsNextTick last.now (tick_at now rows.now) }
@@ -83,24 +78,18 @@ impl Group {
         if !self.is_live(now) {
             return;
         }
-        put_growths(growths, rows.row(slot), last.rows.row(slot));
-        self.sample(now, growths);
+        let shares = share_since(rows.row(slot), last.rows.row(slot));
+        self.sample(now, shares);
     }
 }
 
-/// Takes all groups over a tick, and takes the place of the last one: a group's times are taken over when it has been sampled by
-/// what they grew by.
-pub(crate) fn tick_all(
-    groups: &mut [Group],
-    growths: &mut [Times],
-    last: &mut LastTick,
-    now: Ns,
-    rows: &Rows,
-)
-    requires few { length growths.old ≤ 64 }
+/// Takes all groups over a tick, and takes the place of the last one: a group's times are taken
+/// over when it has been sampled by what they grew by.
+pub(crate) fn tick_all(groups: &mut [Group], last: &mut LastTick, now: Ns, rows: &Rows)
+    requires few { (slot : ℕ) → length (row_at (tick_at now rows.now) slot) ≤ 64 }
     requires slots { length groups.old ≤ most_groups }
-    requires last { HasSizes (length growths.old) (length groups.old) last.old.table }
-    requires sizes { HasSizes (length growths.old) (length groups.old) rows.now }
+    requires rows { length rows.now ≡ length groups.old }
+    requires sizes { HaveSameSizes last.old.table rows.now }
     requires next { IsNextTick last.old (tick_at now rows.now) }
     requires totals { AreGroupsWithin last.old groups.old }
     ensures last { last.new ≡ tick_at now rows.now }
@@ -109,7 +98,7 @@ pub(crate) fn tick_all(
 {
     'groups: for (slot, group) in groups.iter_mut().enumerate() {
         let slot = Slot(slot as u32);
-        group.tick(slot, growths, last, now, rows);
+        group.tick(slot, last, now, rows);
         last.rows.set_row(slot, rows.row(slot));
     }
     last.at = now;

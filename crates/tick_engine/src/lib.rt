@@ -3,7 +3,6 @@
 
 mod engine;
 mod group;
-mod growth;
 mod last;
 mod watch;
 

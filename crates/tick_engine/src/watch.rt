@@ -12,7 +12,8 @@ use crate::group::Group;
 use psi_base::{Ns, State, TriggerSpec};
 use window_trigger::Trigger;
 
-/// A trigger as the trace sets it, and the trigger itself from the first tick on that isn't before its line.
+/// A trigger as the trace sets it, and the trigger itself from the first tick on that isn't before
+/// its line.
 #[derive(Drop)]
 pub(crate) struct TriggerWatch {
     pub(crate) spec: TriggerSpec,
@@ -52,7 +53,8 @@ impl TriggerWatch {
         }
     }
 
-    /// Begins the trigger at the first tick that isn't before its line, with its total at the tick before.
+    /// Begins the trigger at the first tick that isn't before its line, with its total at the tick
+    /// before.
     fn begin(&mut self, groups: &[Group], now: Ns)
         requires spec { IsTriggerWithin last_moment (length groups.now) self.old.spec }
         requires totals { All (λ group. AreStatesWithin last_moment group) groups.now }
@@ -83,7 +85,8 @@ impl TriggerWatch {
     }
 }
 
-/// Begins each trigger whose line isn't later than a tick and that hasn't begun, with its total at the tick before.
+/// Begins each trigger whose line isn't later than a tick and that hasn't begun, with its total at
+/// the tick before.
 pub(crate) fn begin_all(watches: &mut [TriggerWatch], groups: &[Group], now: Ns)
     requires watches { AreWatchesWithin (length groups.now) watches.old }
     requires totals { All (λ group. AreStatesWithin last_moment group) groups.now }
@@ -107,7 +110,8 @@ fn add_where(fired: &mut Vec<u32>, number: u32, has_signalled: bool)
     }
 }
 
-/// Steps each trigger that has begun and whose group is live, and puts in the numbers of those that signal.
+/// Steps each trigger that has begun and whose group is live, and puts in the numbers of those that
+/// signal.
 pub(crate) fn step_all(
     watches: &mut [TriggerWatch],
     groups: &[Group],

@@ -1,4 +1,5 @@
--- The events that make groups and tasks: each may be spelled and is legal in its turn, and then all tasks live.
+-- The events that make groups and tasks: each may be spelled and is legal in its turn, and then all
+-- tasks live.
 use Rattle.std.proofs.Common.{◌≡◌, ◌≢◌, ℕ, zero, suc, ◌+◌, ◌-◌, ◌*◌, ◌/◌, ◌%◌, ◌^◌, ◌<◌, ◌≤◌, List, [], ◌∷◌, ◌++◌, refl, ◌∙◌, subst, arith, cond, true, false, Option, None, Some, ◌==◌, length, map, ◌⊎◌, ⊎_elim}
 use Rattle.std.specs.Prelude.{is_some, nat_le, IfSome, IsSome, if◌then◌else◌, codes}
 use Rattle.std.specs.List.{range_with_len}
@@ -32,7 +33,8 @@ use Rattle.trace_gen.proofs.Naming.{numbered_apart, numbered_is_path, numbered_p
 
 -- ---- numbered events in a row
 
--- an event may be spelled and is legal, and what holds of its number in the world before it holds of the next one after
+-- an event may be spelled and is legal, and what holds of its number in the world before it holds
+-- of the next one after
 record IsGood (limits : Limits) (Holds : ℕ → World → Type 0) (number : ℕ) (w : World) (event : Event) : Type 0 where
   fits : Fits event
   known : IsKnown first_verbs event
@@ -292,7 +294,8 @@ group_turn shape shaped number room =
     let so = in_row (limits_in shape) (HasGroups shape) number (λ i. at_start (made_group i)) (λ i w below. group_good shape shaped i w (omega (arith, below, room))) number 0 (omega arith) first_world (no_groups shape shaped) in
     (group_good shape shaped number (after_from first_world (made_groups shape number)) room so.later).legal
 
--- the event that makes the next task is legal behind those that made all groups and the tasks before it
+-- the event that makes the next task is legal behind those that made all groups and the tasks
+-- before it
 task_turn : (shape : Shape) → IsShape shape → (pid : ℕ) → pid < task_count shape → cause_of (limits_in shape) (after_from first_world (made_groups shape shape.groups ++ map (λ i. at_start (made_task shape i)) (range_with_len 1 pid))) (at_start (made_task shape (pid + 1))) ≡ None
 task_turn shape shaped pid room =
     let groups = made_groups shape shape.groups in
@@ -309,7 +312,8 @@ group_legal shape shaped number room table events event limits world are is = rw
 pub task_legal : (shape : Shape) → IsShape shape → (pid : ℕ) → pid < task_count shape → (table : TableView) (events : List Event) (event : Event) → table.limits ≡ limits_in shape → table.world ≡ after events → events ≡ made_groups shape shape.groups ++ map (λ i. at_start (made_task shape i)) (range_with_len 1 pid) → event ≡ at_start (made_task shape (pid + 1)) → cause_of table.limits table.world event ≡ None
 task_legal shape shaped pid room table events event limits world are is = rw (limits, world, are, is) (task_turn shape shaped pid room)
 
--- the events that make all groups and tasks go on from the first world, and then the world is as it should be
+-- the events that make all groups and tasks go on from the first world, and then the world is as it
+-- should be
 pub record AreFounded (shape : Shape) : Type 0 where
   pub go : Go (limits_in shape) first_world (first_events shape)
   pub later : IsGenerating shape 0 (after_from first_world (first_events shape))

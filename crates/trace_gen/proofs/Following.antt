@@ -1,5 +1,5 @@
--- The events behind those that make groups and tasks: each may be spelled and is legal in its turn, and the end is the
--- last.
+-- The events behind those that make groups and tasks: each may be spelled and is legal in its turn,
+-- and the end is the last.
 use Rattle.std.proofs.Common.{◌≡◌, ℕ, zero, suc, ◌+◌, ◌<◌, ◌≤◌, List, [], ◌∷◌, ◌++◌, refl, ap, ◌∙◌, sym, arith, append_assoc, false, None, length}
 use Rattle.std.proofs.Math.Nat.{mod-lt}
 use Rattle.psi_base.specs.declared.event.Act.TheVariants as act

@@ -4,8 +4,8 @@ use Rattle.std.specs.Prelude.{Result, Ok, Err}
 use Rattle.std.specs.Io.KnownBytes.{Appends, Keeps}
 use Rattle.std.proofs.lemmas.List.{append-nil}
 use Rattle.psi_base.specs.declared.event.Event.{Event}
-use Rattle.psi_base.specs.Outside.{AppendsFront, PutsAll}
-use Rattle.psi_base.proofs.Grows.{Appends-none, Appends-then, AppendsFront-last, AppendsFront-then}
+use Rattle.outside.specs.Outside.{AppendsFront, PutsAll}
+use Rattle.outside.proofs.Grows.{Appends-none, Appends-then, AppendsFront-last, AppendsFront-then}
 use Rattle.trace_laws.proofs.GrammarReads.{spelled_in_line}
 use Rattle.psi_spec.specs.Grammar.{Fits, spelling}
 use Rattle.psi_spec.specs.Trace.{AllFit, lines_of}

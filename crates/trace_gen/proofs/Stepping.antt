@@ -89,8 +89,9 @@ switch_live shape tasks are cpu room next how stays =
 
 -- ---- what a task does next
 
--- an act may be spelled, its verb is one of every version, and no cause of its own is against it, whatever groups, `irq` lines,
--- triggers and `pressure` lines there are and whenever it is; all tasks live on after it, and it isn't the end and takes no memory
+-- an act may be spelled, its verb is one of every version, and no cause of its own is against it,
+-- whatever groups, `irq` lines, triggers and `pressure` lines there are and whenever it is; all
+-- tasks live on after it, and it isn't the end and takes no memory
 pub record IsStep (shape : Shape) (tasks : Tasks) (a : Act) : Type 0 where
   pub legal : (groups : List GroupLife) (irqs : List ℕ) (triggers pressures at : ℕ) → act_cause shape.cpus groups tasks irqs triggers pressures at a ≡ None
   pub fits : ActFits a

@@ -20,7 +20,8 @@ first_count shape = shape.groups + task_count shape
 abbrev pub event_count : Shape → ℕ
 event_count shape = first_count shape + shape.events + 1
 
--- what a generated trace can name: its processors, and the moments that the default tick of 2 s allows
+-- what a generated trace can name: its processors, and the moments that the default tick of 2 s
+-- allows
 abbrev pub limits_in : Shape → Limits
 limits_in shape = limits_of (of_seconds 2) shape.cpus
 
@@ -35,8 +36,8 @@ pub record AreLive (shape : Shape) (tasks : Tasks) : Type 0 where
   pub live : (pid : ℕ) → 1 ≤ pid → pid ≤ task_count shape → IsSome (task_of tasks pid)
   pub within : (pid : ℕ) → IfSome (task_of tasks pid) (λ task. task.cpu.0 < shape.cpus)
 
--- The world of a shape after so many events behind those that made its groups and tasks: all tasks live, each event was
--- a line, the last moment is at most 2 ms for each, and none was the end.
+-- The world of a shape after so many events behind those that made its groups and tasks: all tasks
+-- live, each event was a line, the last moment is at most 2 ms for each, and none was the end.
 pub record IsGenerating (shape : Shape) (count : ℕ) (w : World) : Type 0 where
   pub tasks : AreLive shape w.tasks
   pub lines : w.lines ≡ first_count shape + count
@@ -45,11 +46,13 @@ pub record IsGenerating (shape : Shape) (count : ℕ) (w : World) : Type 0 where
 
 -- ---- laws
 
--- Each generated text is one of the generated trace, which is of the first version, and accepted at the default tick.
+-- Each generated text is one of the generated trace, which is of the first version, and accepted at
+-- the default tick.
 abbrev pub GeneratedIsTrace : Type 0
 GeneratedIsTrace = (shape : Shape) → IsShape shape
     → IsTrace (accepts_with (One ∷ []) (of_seconds 2)) (gen_text shape) (generated shape)
 
--- A generated trace has an event for each group and each task, as many more as were asked for, and the end.
+-- A generated trace has an event for each group and each task, as many more as were asked for, and
+-- the end.
 abbrev pub GeneratedCount : Type 0
 GeneratedCount = (shape : Shape) → length (generated shape).events ≡ event_count shape

@@ -13,14 +13,14 @@ use Rattle.trace_gen.specs.Generating.{IsGenerating, limits_in}
 abbrev pub drawn_act : Act → ℕ → Drawn
 drawn_act a state = record { act = a; state = state }
 
--- the events that are left: some of those that make groups and tasks, and unless the end was given, so many more from a
--- world and a state on, and the end
+-- the events that are left: some of those that make groups and tasks, and unless the end was given,
+-- so many more from a world and a state on, and the end
 abbrev pub events_left : Shape → List Event → World → ℕ → ℕ → Bool → List Event
 events_left shape first w state left ended =
     first ++ (if ended then [] else drawn_events shape left w state)
 
--- What is true of each generator: its shape is in range, and its table has the limits of the shape and a world of it, in
--- which so many events are left.
+-- What is true of each generator: its shape is in range, and its table has the limits of the shape
+-- and a world of it, in which so many events are left.
 pub record IsGenerator (shape : Shape) (table : TableView) (left : ℕ) : Type 0 where
   pub shaped : IsShape shape
   pub limits : table.limits ≡ limits_in shape

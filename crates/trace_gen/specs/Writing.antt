@@ -1,7 +1,7 @@
 -- What writing a generated text gives.
 use Rattle.std.specs.Prelude.{◌≡◌, ℕ, List, Option, Result, Ok, Err}
 use Rattle.std.specs.Io.KnownBytes.{Appends, Keeps}
-use Rattle.psi_base.specs.Outside.{AppendsFront, Rose}
+use Rattle.outside.specs.Outside.{AppendsFront, Rose}
 use Rattle.psi_base.specs.declared.event.Fault.{Fault}
 use Rattle.psi_base.specs.declared.event.Fault.TheVariants.{NoMemory, Refused}
 use Rattle.run_spec.specs.declared.command.Shape.{Shape}
@@ -11,14 +11,15 @@ abbrev pub shape_by : ℕ → ℕ → ℕ → ℕ → Shape
 shape_by seed cpus groups events =
     record { seed = seed; cpus = cpus; groups = groups; events = events }
 
--- a text that couldn't be written: a front of it was where a write failed, and the count of failed writes rose; without
--- memory none of it was, and the count is as before
+-- a text that couldn't be written: a front of it was where a write failed, and the count of failed
+-- writes rose; without memory none of it was, and the count is as before
 abbrev pub Misses : {E : Type 0} → List ℕ → ℕ → ℕ → Option (List ℕ) → Option (List ℕ) → Fault E
     → Type 0
 Misses text before now had has (Refused failed) = AppendsFront had has text × Rose before now
 Misses text before now had has (NoMemory _) = Keeps had has × (now ≡ before)
 
--- what writing a text gave: all of it, with the count of failed writes as before; or what Misses says of a fault
+-- what writing a text gave: all of it, with the count of failed writes as before; or what Misses
+-- says of a fault
 abbrev pub WritesWhole :
     {T E : Type 0} → List ℕ → ℕ → ℕ → Option (List ℕ) → Option (List ℕ) → Result T (Fault E) → Type 0
 WritesWhole text before now had has (Ok done) = Appends had has text × (now ≡ before)

@@ -4,8 +4,8 @@ ghost use Rattle.run_spec.specs.Generated.{drawn, next_state};
 
 use std::marker::Model;
 
-/// The state behind random numbers, which contracts see as a number: a linear congruence of 64 bits, with the constants
-/// of Knuth's MMIX.
+/// The state behind random numbers, which contracts see as a number: a linear congruence of 64
+/// bits, with the constants of Knuth's MMIX.
 #[derive(Drop)]
 pub(crate) struct Draws {
     state: u64,

@@ -131,7 +131,8 @@ fn make_tasks(
     Ok(())
 }
 
-/// The events that make all groups and tasks of a shape, in the order in which they are played in a new table.
+/// The events that make all groups and tasks of a shape, in the order in which they are played in a
+/// new table.
 pub(crate) fn found(
     alloc: Global,
     shape: Shape,

@@ -53,8 +53,8 @@ impl Model for Generator {
 }
 
 impl Generator {
-    /// All events of a shape: seed, processors, groups and the number of events are in range. It takes all memory that
-    /// they need.
+    /// All events of a shape: seed, processors, groups and the number of events are in range. It
+    /// takes all memory that they need.
     pub fn make(alloc: Global, shape: Shape) -> Result<Generator, NoMemory>
         requires { IsShape shape }
         ensures { IfOk result (λ g. g ≡ (generated shape).events) }

@@ -1,7 +1,9 @@
-//! Generated traces: large valid ones, each from the few numbers of its shape, and the same at each time.
+//! Generated traces: large valid ones, each from the few numbers of its shape, and the same at each
+//! time.
 //!
-//! [`Generator`] gives the events one by one, [`generate`] writes their text, and [`law_generated`] says that the text is
-//! accepted. [`put_header`] and [`put_event`] write one line of a trace, and take no memory.
+//! [`Generator`] gives the events one by one, [`generate`] writes their text, and [`law_generated`]
+//! says that the text is accepted. [`put_header`] and [`put_event`] write one line of a trace, and
+//! take no memory.
 #![tactic(auto)]
 
 mod draws;

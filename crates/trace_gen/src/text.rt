@@ -1,6 +1,6 @@
 //! The text of a generated trace.
 ghost use Rattle.std.specs.Prelude.{◌≡◌, ◌≤◌, ◌++◌, ◌∷◌, [], vec_capacity};
-ghost use Rattle.psi_base.specs.Outside.{HasCause, PutsAll, StaysOver};
+ghost use Rattle.outside.specs.Outside.{HasCause, PutsAll, StaysOver};
 ghost use Rattle.psi_spec.specs.Grammar.{Fits, header, spelling};
 ghost use Rattle.psi_spec.specs.Trace.{AllFit, lines_of};
 ghost use Rattle.run_spec.specs.Generated.{gen_text};
@@ -8,7 +8,8 @@ ghost use Rattle.run_spec.specs.Words.{IsShape};
 ghost use Rattle.trace_gen.specs.Writing.{WritesWhole, shape_by};
 
 use crate::generator::Generator;
-use psi_base::{Event, Fault, Sink, WriteFailed, put_all};
+use outside::{Sink, WriteFailed, put_all};
+use psi_base::{Event, Fault};
 use psi_trace::{write_event, write_header};
 use run_spec::Shape;
 use std::alloc::Global;
@@ -16,7 +17,8 @@ use std::alloc::Global;
 /// How many bytes the line of an event has at most, with its newline.
 const ROOM: usize = 513;
 
-/// Makes the line the header for so many processors. It takes no memory, since there is room for it.
+/// Makes the line the header for so many processors. It takes no memory, since there is room for
+/// it.
 #[tactic(auto, using(psi_trace::proofs::Headers::header_short))]
 fn make_header(cpus: u32, line: &mut Vec<u8>)
     requires { 513 ≤ vec_capacity line.old }
@@ -45,7 +47,8 @@ fn make_line(event: &Event, line: &mut Vec<u8>)
     }
 }
 
-/// Writes the line of the header for so many processors. It takes no memory, since there is room for it.
+/// Writes the line of the header for so many processors. It takes no memory, since there is room
+/// for it.
 pub fn put_header<K: Sink>(cpus: u32, line: &mut Vec<u8>, out: &mut K) -> Result<(), WriteFailed>
     requires room { 513 ≤ vec_capacity line.old }
     ensures room { 513 ≤ vec_capacity line.new }
@@ -102,7 +105,7 @@ fn put_events<K: Sink>(
 }
 
 /// Writes the header for so many processors, and the lines of the events that a generator has left.
-#[tactic(auto, using(psi_base::proofs::Grows::chain))]
+#[tactic(auto, using(outside::proofs::Grows::chain))]
 fn put_trace<K: Sink>(
     cpus: u32,
     generator: &mut Generator,
@@ -120,10 +123,12 @@ fn put_trace<K: Sink>(
     put_events(generator, line, out)
 }
 
-/// Writes the text of the trace that is generated from these numbers: any seed, 1 to 64 processors, at most 1,000 groups
-/// and 3,900,000 events. It is sent line by line, with one write a line or more.
+/// Writes the text of the trace that is generated from these numbers: any seed, 1 to 64 processors,
+/// at most 1,000 groups and 3,900,000 events. It is sent line by line, with one write a line or
+/// more.
 ///
-/// `Refused` where a write failed: then a front of the text was written. `NoMemory` before anything is.
+/// `Refused` where a write failed: then a front of the text was written. `NoMemory` before anything
+/// is.
 pub fn generate<K: Sink>(
     alloc: Global,
     seed: u64,

@@ -1,8 +1,8 @@
 //! Laws of the grammar of traces: what the definitions of `Grammar` amount to.
 ghost use Rattle.psi_spec.specs.LineLaws.{FindsCauses, HeadedByLine, HeadersSpelled, ReadsSpelled, SpelledApart, SpelledInLine};
 
-/// Event lines: a line is read exactly where it is the one spelling of an event in range, and is refused exactly for
-/// what is wrong first from the left.
+/// Event lines: a line is read exactly where it is the one spelling of an event in range, and is
+/// refused exactly for what is wrong first from the left.
 pub fn law_event_lines()
     ensures reads { ReadsSpelled }
     ensures refuses { FindsCauses }

@@ -1,5 +1,5 @@
-//! Laws of the grammar and of whole traces, which psi_spec defines: what the reader of lines, the generator and a run rest on.
-//! Nothing that plays events waits for them.
+//! Laws of the grammar and of whole traces, which psi_spec defines: what the reader of lines, the
+//! generator and a run rest on. Nothing that plays events waits for them.
 #![tactic(auto)]
 
 mod grammar;

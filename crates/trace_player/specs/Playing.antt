@@ -16,9 +16,13 @@ pub record IsPlayed (limits_now : Limits) (w : World) (limits : Limits) (events 
   pub limits_are : limits_now ≡ limits
   pub world : w ≡ after events
 
--- What an event does to a player that has played any events: it is legal and played behind them, and there were fewer
--- than 4,000,000; or it is refused with the first cause. Of want of memory nothing is said.
+-- What an event does to a player that has played any events: it is legal and played behind them,
+-- and there were fewer than 4,000,000; or it is refused with the first cause. Of want of memory
+-- nothing is said.
 abbrev pub PlayerTakes : Plays → Plays → Event → Result (Unit {0}) (Fault Cause) → Type 0
-PlayerTakes Before After event (Ok x) = (limits : Limits) (events : List Event) → Before limits events → (cause_of limits (after events) event ≡ None) × After limits (events ++ event ∷ []) × (length events < most_events)
-PlayerTakes Before After event (Err (fault.Refused why)) = (limits : Limits) (events : List Event) → Before limits events → cause_of limits (after events) event ≡ Some why
+PlayerTakes Before After event (Ok x) =
+    (limits : Limits) (events : List Event) → Before limits events
+    → (cause_of limits (after events) event ≡ None) × After limits (events ++ event ∷ []) × (length events < most_events)
+PlayerTakes Before After event (Err (fault.Refused why)) =
+    (limits : Limits) (events : List Event) → Before limits events → cause_of limits (after events) event ≡ Some why
 PlayerTakes Before After event (Err (fault.NoMemory _)) = ⊤

@@ -14,15 +14,16 @@ pub trait Player: Sized {
     /// It has played these events of a trace with these limits.
     ghost Played: { Self → Limits → List Event → Type 0 };
 
-    /// The machine before a trace with so many processors, 1 to 64, in which no event is later than `latest` (ns).
+    /// The machine before a trace with so many processors, 1 to 64, in which no event is later than
+    /// `latest` (ns).
     fn start(alloc: Global, cpus: u32, latest: Ns) -> Result<Self, NoMemory>
         requires counted { IsCpuCount cpus }
         requires short { latest ≤ last_moment }
         ensures { IfOk result (λ player.
             Self.Played player (record { cpus = cpus; latest = latest }) []) };
 
-    /// Plays one event more, whose numbers are in the ranges of the grammar: `Refused` with the first cause against it, where it
-    /// isn't legal.
+    /// Plays one event more, whose numbers are in the ranges of the grammar: `Refused` with the
+    /// first cause against it, where it isn't legal.
     fn take(&mut self, event: &Event) -> Result<(), Fault<Cause>>
         requires { Fits event.now }
         ensures { PlayerTakes (Self.Played self.old) (Self.Played self.new) event.now result };

@@ -20,8 +20,9 @@ use psi_base::Slot;
 use psi_spec::GroupLife;
 use ruleset_json::Action;
 
-// The choice by size or growth: the largest group of the best preference, if it has a share of the memory of all; else the
-// one of its preference that has grown most, if one is growing; else the largest all the same.
+// The choice by size or growth: the largest group of the best preference, if it has a share of the
+// memory of all; else the one of its preference that has grown most, if one is growing; else the
+// largest all the same.
 fn by_size_or_growth(
     scope: &Scope<'_>,
     reading: &Reading,
@@ -68,7 +69,8 @@ fn choose(scope: &Scope<'_>, reading: &Reading, past: &Past) -> Option<GroupRead
     }
 }
 
-// The group at which choices end that are made again and again among the children of the one that was chosen.
+// The group at which choices end that are made again and again among the children of the one that
+// was chosen.
 fn descend(scope: &Scope<'_>, reading: &Reading, past: &Past, chosen: GroupReading) -> GroupReading
     requires { IsUse scope.now reading.now past.now }
     ensures { Descends scope.now reading.now.seen past.now (length scope.now.lives) chosen result }
@@ -83,10 +85,12 @@ fn descend(scope: &Scope<'_>, reading: &Reading, past: &Past, chosen: GroupReadi
     last
 }
 
-/// The group that an action kills at a reading, after those for which the past stands, if it has a victim: the choice among
-/// the populated groups that its patterns match, which its table tells, and for a recursive action again and again among the children of the one
-/// that was chosen. It takes no memory. A choice by a measure walks the groups of its scope once; one by size or growth up to four times,
-/// and as `grown_most` says. A recursive action chooses once for each level, and there among the children alone.
+/// The group that an action kills at a reading, after those for which the past stands, if it has a
+/// victim: the choice among the populated groups that its patterns match, which its table tells,
+/// and for a recursive action again and again among the children of the one that was chosen. It
+/// takes no memory. A choice by a measure walks the groups of its scope once; one by size or growth
+/// up to four times, and as `grown_most` says. A recursive action chooses once for each level, and
+/// there among the children alone.
 pub fn victim(
     action: &Action,
     table: &MatchTable,

@@ -63,8 +63,8 @@ fn measured_in(
     measured(scope.action(), host, past, group)
 }
 
-/// The eligible group that none beats: by preference, then by the action's measure, then by path. It walks the
-/// groups of the scope once.
+/// The eligible group that none beats: by preference, then by the action's measure, then by path.
+/// It walks the groups of the scope once.
 pub(crate) fn foremost(scope: &Scope<'_>, reading: &Reading, past: &Past) -> Option<GroupReading>
     requires { IsUse scope.now reading.now past.now }
     ensures choice { result

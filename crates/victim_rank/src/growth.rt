@@ -12,8 +12,8 @@ use crate::size::{is_among_largest, is_in_rank};
 use detectors::Reading;
 use kill_spec::GroupReading;
 
-/// A group, its size times the number of sizes of its past, and their sum. The quotient is its size over the mean of its
-/// past.
+/// A group, its size times the number of sizes of its past, and their sum. The quotient is its size
+/// over the mean of its past.
 #[derive(Clone, Copy)]
 pub(crate) struct Grown {
     group: GroupReading,
@@ -80,8 +80,9 @@ fn leads_any(next: &Grown, best: Option<Grown>) -> bool
     }
 }
 
-/// The growing group that has grown most, among the so many largest of a scope and a rank. It walks the groups once, and once
-/// more for each growing one that leads the best found before it, also where it isn't among the largest.
+/// The growing group that has grown most, among the so many largest of a scope and a rank. It walks
+/// the groups once, and once more for each growing one that leads the best found before it, also
+/// where it isn't among the largest.
 pub(crate) fn grown_most(
     scope: &Scope<'_>,
     best_rank: u8,

@@ -1,7 +1,8 @@
-//! Which group an action kills: its choice among the groups of a reading, after those that came before.
+//! Which group an action kills: its choice among the groups of a reading, after those that came
+//! before.
 //!
-//! [`Past`] keeps what later choices need of each reading, and [`victim`] chooses. Both take no memory once a past is
-//! made.
+//! [`Past`] keeps what later choices need of each reading, and [`victim`] chooses. Both take no
+//! memory once a past is made.
 #![tactic(auto)]
 
 mod choice;

@@ -82,8 +82,8 @@ fn take_scans(scans: &mut [Option<u64>], reading: &Reading)
     }
 }
 
-/// What is kept of each group, by its slot: its sizes (bytes) at the last four evaluations at which it was live, and
-/// its count of scans at the last evaluation, if it was live then.
+/// What is kept of each group, by its slot: its sizes (bytes) at the last four evaluations at which
+/// it was live, and its count of scans at the last evaluation, if it was live then.
 #[derive(Drop)]
 pub struct Past {
     sizes: Vec<Sizes>,
@@ -122,7 +122,8 @@ impl Past {
         take_scans(&mut self.scans, reading);
     }
 
-    // How many pages were scanned for a group since the last evaluation, and 0 where it wasn't live at it.
+    // How many pages were scanned for a group since the last evaluation, and 0 where it wasn't live
+    // at it.
     pub(crate) fn rise(&self, group: &GroupReading) -> u64
         ensures { result ≡ rise_from self.now group.now }
     {

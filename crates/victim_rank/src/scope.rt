@@ -15,8 +15,8 @@ use psi_spec::GroupLife;
 use ruleset_json::{Action, After};
 use std::marker::Model;
 
-/// Among which groups a choice of an action is made, of all groups that a trace ever makes: its candidates, or the children
-/// of a group in which or below which some task is live.
+/// Among which groups a choice of an action is made, of all groups that a trace ever makes: its
+/// candidates, or the children of a group in which or below which some task is live.
 #[derive(Drop)]
 pub(crate) struct Scope<'a> {
     lives: &'a [GroupLife],
@@ -113,8 +113,8 @@ impl<'a> Scope<'a> {
         self.lives
     }
 
-    /// The places of the groups of a reading among which those of the scope are found, in order: of the children of the
-    /// group above, or else of all.
+    /// The places of the groups of a reading among which those of the scope are found, in order: of
+    /// the children of the group above, or else of all.
     pub(crate) fn places<'r>(&self, reading: &'r Reading) -> &'r [u32]
         requires { reading.now.lives ≡ self.now.lives }
         ensures groups { filter (is_in_view self.now)

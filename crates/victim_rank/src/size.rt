@@ -77,7 +77,8 @@ fn is_larger(lives: &[GroupLife], first: &GroupReading, second: &GroupReading) -
     lives[first.slot.0 as usize].path < lives[second.slot.0 as usize].path
 }
 
-/// Fewer groups of a scope and a rank than so many are larger than a group. It walks the groups until so many are found.
+/// Fewer groups of a scope and a rank than so many are larger than a group. It walks the groups
+/// until so many are found.
 pub(crate) fn is_among_largest(
     scope: &Scope<'_>,
     best_rank: u8,

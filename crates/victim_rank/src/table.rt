@@ -10,8 +10,8 @@ use ruleset_json::Action;
 use std::alloc::Global;
 use std::marker::Model;
 
-/// Which groups the patterns of an action match, of all that a trace ever makes. Patterns are matched once, and not at each
-/// evaluation.
+/// Which groups the patterns of an action match, of all that a trace ever makes. Patterns are
+/// matched once, and not at each evaluation.
 #[derive(Drop)]
 pub struct MatchTable {
     /// By slot.

@@ -1,4 +1,5 @@
--- What stays of a trace without the tasks of a group: the events up to the moment, the groups, the triggers and the end.
+-- What stays of a trace without the tasks of a group: the events up to the moment, the groups, the
+-- triggers and the end.
 use Rattle.std.proofs.Common.{◌≡◌, ℕ, ◌+◌, ◌≤◌, ◌<◌, List, [], ◌∷◌, ◌++◌, refl, ap, ◌∙◌, sym, subst, arith, append_assoc, cond, Bool, true, false, Option, None, Some, length}
 use Rattle.std.specs.Prelude.{filter, if◌then◌else◌, nat_le, nat_lt, not}
 use Rattle.std.proofs.lemmas.Bool.Decides.{nat_tests}
@@ -19,7 +20,7 @@ use Rattle.psi_spec.specs.Trace.{EndsLast, IsAccepted}
 use Rattle.psi_spec.specs.World.{Limits, World, after, after_event, after_from, first_world, groups_after, is_active, is_running, running_on, task_of, up_to, events_at}
 use Rattle.psi_spec.proofs.Following.{after_from-append}
 use Rattle.plan_laws.proofs.PlanUpTo.{past_it}
-use Rattle.whatif_spec.specs.Without.{act_without, acts_if, behind, dead_after, exit_acts, exit_of, exits_from, if_alive, is_alive, is_among, making_room, members, pid_part, rest_without, switch_without, without}
+use Rattle.whatif_spec.specs.Without.{act_without, acts_if, behind, dead_after, exit_acts, exit_of, exits_from, if_alive, is_alive, is_pid_among, making_room, members, pid_part, rest_without, switch_without, without}
 use Rattle.whatif_trace.proofs.Resting.{Begins, in_time}
 use Rattle.whatif_trace.proofs.Together.{Holds, IsCut, cut_at, cut_world, dead_of, end_at, exits_of, holds, rest_of, three_parts}
 use Rattle.whatif_trace.proofs.Whole.{rest_both}
@@ -194,8 +195,8 @@ none_switch dead cpu leaving next how =
       | false ↦ elim (is_alive dead next) as (λ b. SetNone (cond b (act.Switch cpu next Idle ∷ []) [])) [ true ↦ (λ at groups. refl, λ at groups. refl, tt) | false ↦ tt ]
     ]
 
-of_pid : (dead : List ℕ) (w v : World) (at : ℕ) (pid : Pid) (what : Act) → v.groups ≡ w.groups → SetNone (what ∷ []) → TellsSame dead w v at what (acts_if (not (is_among dead pid.0)) (what ∷ []))
-of_pid dead w v at pid what same none = left_same dead w v at what (acts_if (not (is_among dead pid.0)) (what ∷ [])) same (none_if (not (is_among dead pid.0)) what none) none
+of_pid : (dead : List ℕ) (w v : World) (at : ℕ) (pid : Pid) (what : Act) → v.groups ≡ w.groups → SetNone (what ∷ []) → TellsSame dead w v at what (acts_if (not (is_pid_among dead pid.0)) (what ∷ []))
+of_pid dead w v at pid what same none = left_same dead w v at what (acts_if (not (is_pid_among dead pid.0)) (what ∷ [])) same (none_if (not (is_pid_among dead pid.0)) what none) none
 
 act_tells : (dead : List ℕ) (w v : World) (at : ℕ) (what : Act) → v.groups ≡ w.groups → TellsSame dead w v at what (act_without dead w what)
 act_tells dead w v at (act.Wake pid cpu) same = of_pid dead w v at pid (act.Wake pid cpu) same (λ at groups. refl, λ at groups. refl, tt)

@@ -26,7 +26,7 @@ use Rattle.whatif_laws.proofs.Same.{IsSame, is_same}
 -- ---- moments
 
 -- an earlier tick isn't later
-tick_before : (length j i : ℕ) → j ≤ i → tick_moment length j ≤ tick_moment length i
+pub tick_before : (length j i : ℕ) → j ≤ i → tick_moment length j ≤ tick_moment length i
 tick_before length j i low = mul-le-mul_right length low
 
 -- what is the same at each number of a range

@@ -1,13 +1,29 @@
 -- What is printed up to the moment from which on the tasks of a group are taken out of a trace.
-use Rattle.std.specs.Prelude.{◌≡◌, ℕ, ◌≤◌, ◌<◌, length}
+use Rattle.std.specs.Prelude.{◌≡◌, ℕ, suc, ◌≤◌, List, length, Some, Ok, slice_get}
 use Rattle.psi_spec.specs.World.{Limits, after, most_events}
 use Rattle.psi_spec.specs.Trace.{IsAccepted, Trace}
 use Rattle.pressure_spec.specs.Ticks.{tick_moment}
-use Rattle.run_spec.specs.Replay.{Beside, Pace, tick_count, tick_text}
+use Rattle.ruleset_json.specs.declared.types.Rule.{Rule}
+use Rattle.kill_spec.specs.declared.kill.Kill.{Kill}
+use Rattle.run_spec.specs.Replay.{Beside, Pace, tick_count, tick_text, ticks_text}
+use Rattle.run_spec.specs.Whatif.{after_rounds, all_kills}
 use Rattle.whatif_spec.specs.Without.{trace_without, without}
 
--- It has as many ticks, and up to and with the moment, at which a kill is, each tick prints the same.
+-- It has as many ticks, and up to and with the moment, at which a kill is, each tick prints the
+-- same.
 abbrev pub SameUntilKill : Type 0
-SameUntilKill = (limits : Limits) (trace : Trace) (pace : Pace) (beside : Beside) (at victim : ℕ) → IsAccepted limits trace.events → length (without trace.events at victim) ≤ most_events →
+SameUntilKill =
+    (limits : Limits) (trace : Trace) (pace : Pace) (beside : Beside) (at victim : ℕ) → IsAccepted limits trace.events
+    → length (without trace.events at victim) ≤ most_events →
     (tick_count (trace_without trace at victim) pace ≡ tick_count trace pace)
     × ((i : ℕ) → tick_moment pace.length i ≤ at → tick_text (trace_without trace at victim) pace beside i ≡ tick_text trace pace beside i)
+
+-- So it is of rounds: what a round leaves, which takes a kill out of what the rounds before it
+-- left, has as many ticks as that, and up to and with the tick of the kill it prints the same.
+abbrev pub SameUntilRound : Type 0
+SameUntilRound = (limits : Limits) (trace left next : Trace) (pace : Pace) (rules : List Rule) (beside : Beside) (number : ℕ)
+    (kill : Kill) → IsAccepted limits left.events → after_rounds trace pace rules number ≡ Ok left
+    → slice_get (all_kills left pace rules) number ≡ Some kill → after_rounds trace pace rules (suc number) ≡ Ok next
+    → (tick_count next pace ≡ tick_count left pace)
+    × ((count : ℕ) → tick_moment pace.length count ≤ kill.at
+    → ticks_text next pace beside count ≡ ticks_text left pace beside count)

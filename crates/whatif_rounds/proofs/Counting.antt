@@ -55,7 +55,8 @@ three_parts trace pace rules i left =
 
 -- ---- a replay that looks for a kill
 
--- A replay has made some ticks, and passed all kills at them: so many are still before the one with a number.
+-- A replay has made some ticks, and passed all kills at them: so many are still before the one with
+-- a number.
 pub record HasSearched (replay : ReplayView) (trace : Trace) (pace : Pace) (rules : List Rule) (left number : ℕ) : Type 0 where
   pub is : IsReplay replay trace pace rules replay.made
   pub counted : left + length (kills_by trace pace rules replay.made) ≡ number

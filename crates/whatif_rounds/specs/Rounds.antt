@@ -37,7 +37,8 @@ trace_from number cpus events = record { version = version_of number; cpus = cpu
 abbrev pub ArePlansOf : PlansView → Options → Trace → Type 0
 ArePlansOf plans options trace = IsPlanned plans trace (pace_of options)
 
--- What a round finds in a trace: the kill with its number, or that it has none, and then the plans of the trace.
+-- What a round finds in a trace: the kill with its number, or that it has none, and then the plans
+-- of the trace.
 abbrev pub Finds : Options → List Rule → ℕ → Trace → Round → Type 0
 Finds options rules number trace (found.Kill kill) = slice_get (all_kills trace (pace_of options) rules) number ≡ Some kill
 Finds options rules number trace (found.Last plans) =

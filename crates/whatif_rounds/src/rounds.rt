@@ -114,9 +114,10 @@ fn take_out(
     )
 }
 
-/// The plans of what is left of an accepted trace, of a version, on so many processors and with these events, where the victims of
-/// its kills by these rules are taken out of it, one kill after the other, at most 64. It is replayed for that as options say.
-/// `TooLarge` exactly where more than 4,000,000 events are left behind a kill.
+/// The plans of what is left of an accepted trace, of a version, on so many processors and with
+/// these events, where the victims of its kills by these rules are taken out of it, one kill after
+/// the other, at most 64. It is replayed for that as options say. `TooLarge` exactly where more
+/// than 4,000,000 events are left behind a kill.
 pub fn last_plans<R: Threads + Sync>(
     rt: &R,
     alloc: Global,

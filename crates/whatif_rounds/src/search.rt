@@ -14,8 +14,9 @@ ghost use Rattle.replay_ticks.specs.Replays.{IsReplay};
 ghost use Rattle.whatif_rounds.specs.Rounds.{MayReplay};
 
 use kill_spec::Kill;
+use outside::OpenGate;
 use proc_plan::Plans;
-use psi_base::{NoMemory, OpenGate};
+use psi_base::NoMemory;
 use replay_ticks::{Replay, prepare};
 use ruleset_json::Rules;
 use run_spec::Options;
@@ -41,8 +42,8 @@ fn kill_of<R: Threads + Sync>(rt: &R, replay: &mut Replay<'_>, number: usize) ->
     None
 }
 
-/// The kill with a number, from 0, by tick, ruleset and action, of the trace of plans, which has a version, where it is replayed
-/// with these rules as options say.
+/// The kill with a number, from 0, by tick, ruleset and action, of the trace of plans, which has a
+/// version, where it is replayed with these rules as options say.
 pub(crate) fn find_kill<R: Threads + Sync>(
     rt: &R,
     alloc: Global,

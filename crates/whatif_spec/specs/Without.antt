@@ -1,5 +1,5 @@
--- A trace without the tasks of a group that is killed: its events up to the kill, the exits of the tasks, and the rest without
--- them.
+-- A trace without the tasks of a group that is killed: its events up to the kill, the exits of the
+-- tasks, and the rest without them.
 use Rattle.std.specs.Prelude.{ℕ, ◌+◌, List, [], ◌∷◌, ◌++◌, drop, length, map, filter, nat_lt, ◌==◌, not, Bool, true, false, if◌then◌else◌, Option, None, Some}
 use Rattle.std.specs.List.{list_any}
 use Rattle.std.specs.FinMap as tasks_by
@@ -36,8 +36,8 @@ making_room (Some pid) = Preempt
 abbrev pub acts_if : Bool → List Act → List Act
 acts_if test acts = if test then acts else []
 
--- How a task exits, where this task runs on its processor, if one does: it wakes if it sleeps, runs if it doesn't yet, ends its
--- stall, and exits; then the task that made room for it runs on.
+-- How a task exits, where this task runs on its processor, if one does: it wakes if it sleeps, runs
+-- if it doesn't yet, ends its stall, and exits; then the task that made room for it runs on.
 abbrev pub exit_acts : ℕ → Task → Option Pid → List Act
 exit_acts pid task running =
     acts_if (not (is_active task.mode)) (act.Wake (record { 0 = pid }) task.cpu ∷ [])
@@ -50,7 +50,8 @@ abbrev pub exit_of : World → ℕ → Option Task → List Act
 exit_of w pid None = []
 exit_of w pid (Some task) = exit_acts pid task (pid_part (running_on w.tasks task.cpu.0))
 
--- the exits of tasks at a moment (ns), one after the other, each in the world that those before it left
+-- the exits of tasks at a moment (ns), one after the other, each in the world that those before it
+-- left
 abbrev pub exits_from : ℕ → World → List ℕ → List Event
 exits_from at w [] = []
 exits_from at w (pid ∷ pids) =
@@ -60,20 +61,21 @@ exits_from at w (pid ∷ pids) =
 -- ---- the rest
 
 -- a number is among these
-abbrev pub is_among : List ℕ → ℕ → Bool
-is_among pids pid = list_any (λ dead. pid == dead) pids
+abbrev pub is_pid_among : List ℕ → ℕ → Bool
+is_pid_among pids pid = list_any (λ dead. pid == dead) pids
 
 -- a task, if there is one, isn't dead
 abbrev pub is_alive : List ℕ → Option Pid → Bool
 is_alive dead None = false
-is_alive dead (Some pid) = not (is_among dead pid.0)
+is_alive dead (Some pid) = not (is_pid_among dead pid.0)
 
 -- a task that isn't dead, and none for one that is
 abbrev pub if_alive : List ℕ → Option Pid → Option Pid
 if_alive dead next = if is_alive dead next then next else None
 
--- A switch without dead tasks, by the task that leaves, if one does: a dead one neither leaves nor comes. Where none is left
--- that leaves, the processor idled; where none comes either, nothing happens.
+-- A switch without dead tasks, by the task that leaves, if one does: a dead one neither leaves nor
+-- comes. Where none is left that leaves, the processor idled; where none comes either, nothing
+-- happens.
 abbrev pub switch_without : List ℕ → Cpu → Option Pid → Option Pid → How → List Act
 switch_without dead cpu leaving next how =
     if is_alive dead leaving then act.Switch cpu (if_alive dead next) how ∷ [] else
@@ -81,7 +83,7 @@ switch_without dead cpu leaving next how =
 
 -- an act of a task, if that isn't dead
 abbrev pub act_of : List ℕ → Pid → Act → List Act
-act_of dead pid what = acts_if (not (is_among dead pid.0)) (what ∷ [])
+act_of dead pid what = acts_if (not (is_pid_among dead pid.0)) (what ∷ [])
 
 -- What is left of an act in a world of the trace where these tasks are dead.
 abbrev pub act_without : List ℕ → World → Act → List Act
@@ -98,7 +100,8 @@ abbrev pub without_pid : List ℕ → Option Pid → List ℕ
 without_pid dead None = dead
 without_pid dead (Some pid) = filter (λ other. not (other == pid.0)) dead
 
--- The tasks that are dead behind an act: the number of one that exits in the trace may be given again.
+-- The tasks that are dead behind an act: the number of one that exits in the trace may be given
+-- again.
 abbrev pub dead_after : List ℕ → World → Act → List ℕ
 dead_after dead w (act.Switch cpu next Exit) = without_pid dead (pid_part (running_on w.tasks cpu.0))
 dead_after dead w what = dead
@@ -116,8 +119,9 @@ rest_without dead w (event ∷ events) =
 abbrev pub behind : List Event → ℕ → List Event
 behind events at = drop (length (up_to events at)) events
 
--- The events of a trace without the tasks that are in a group or below it at a moment (ns): those up to the moment, the exits of
--- these tasks a nanosecond later, and the rest without them. Where the moment isn't before the end, all stays.
+-- The events of a trace without the tasks that are in a group or below it at a moment (ns): those
+-- up to the moment, the exits of these tasks a nanosecond later, and the rest without them. Where
+-- the moment isn't before the end, all stays.
 unfoldable pub without : List Event → ℕ → ℕ → List Event
 without events at victim =
     if nat_lt at (after events).last

@@ -7,7 +7,7 @@ use Rattle.std.specs.Ordering.{nat_cmp}
 use Rattle.std.specs.Cmp.{unsigned_tied}
 use Rattle.std.proofs.lemmas.Bool.Decides.{eqb_tells}
 use Rattle.psi_spec.specs.World.{World}
-use Rattle.whatif_spec.specs.Without.{is_among}
+use Rattle.whatif_spec.specs.Without.{is_pid_among}
 use Rattle.whatif_trace.specs.Left.{is_member}
 use Rattle.whatif_trace.proofs.Killed.{among_keys, flipped}
 
@@ -18,10 +18,10 @@ either_or false true = refl
 either_or false false = refl
 
 -- a number was put into a set
-pub put_in : (old new : List ℕ) (pid : ℕ) → ((k : ℕ) → list_any (is_at (nat_cmp k)) new ≡ cond (is_at (nat_cmp pid) k) true (list_any (is_at (nat_cmp k)) old)) → (k : ℕ) → is_among new k ≡ (is_among old k || (k == pid && true))
+pub put_in : (old new : List ℕ) (pid : ℕ) → ((k : ℕ) → list_any (is_at (nat_cmp k)) new ≡ cond (is_at (nat_cmp pid) k) true (list_any (is_at (nat_cmp k)) old)) → (k : ℕ) → is_pid_among new k ≡ (is_pid_among old k || (k == pid && true))
 put_in old new pid is k =
     sym (among_keys new k) ∙ is k ∙ ap (λ b. cond b true (list_any (is_at (nat_cmp k)) old)) (unsigned_tied pid k ∙ flipped pid k)
-    ∙ ap (cond (k == pid) true) (among_keys old k) ∙ either_or (k == pid) (is_among old k)
+    ∙ ap (cond (k == pid) true) (among_keys old k) ∙ either_or (k == pid) (is_pid_among old k)
 
 or_nothing : (b c : Bool) → b ≡ (b || (c && false))
 or_nothing true c = refl
@@ -29,8 +29,8 @@ or_nothing false true = refl
 or_nothing false false = refl
 
 -- none was
-pub none_in : (old : List ℕ) (pid k : ℕ) → is_among old k ≡ (is_among old k || (k == pid && false))
-none_in old pid k = or_nothing (is_among old k) (k == pid)
+pub none_in : (old : List ℕ) (pid k : ℕ) → is_pid_among old k ≡ (is_pid_among old k || (k == pid && false))
+none_in old pid k = or_nothing (is_pid_among old k) (k == pid)
 
 -- the number that is added is that of the task
 pub same_member : (w : World) (slot k pid : ℕ) → (k == pid && is_member w slot pid) ≡ (k == pid && is_member w slot k)

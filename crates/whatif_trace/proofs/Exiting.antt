@@ -20,7 +20,7 @@ use Rattle.psi_counts.specs.Touch.{RunsOnce}
 use Rattle.psi_counts.proofs.TouchCounts.{running_found}
 use Rattle.task_table.specs.Causes.{wake_cause}
 use Rattle.task_table.proofs.Runners.{runs_there}
-use Rattle.whatif_spec.specs.Without.{acts_if, exit_of, exits_from, is_among, making_room, pid_part}
+use Rattle.whatif_spec.specs.Without.{acts_if, exit_of, exits_from, is_pid_among, making_room, pid_part}
 use Rattle.whatif_trace.specs.Rest.{IsWithout, kept}
 use Rattle.whatif_trace.proofs.Steps.{event_at, of_tasks}
 use Rattle.whatif_trace.proofs.Switching.{next_apart}
@@ -201,7 +201,7 @@ both_gone false true o = refl
 both_gone false false o = refl
 
 one_more : (pid : ℕ) (pids : List ℕ) (v u x : World) → ((k : ℕ) → task_of u.tasks k ≡ cond (k == pid) None (task_of v.tasks k)) → IsWithout pids u x → (k : ℕ) → task_of x.tasks k ≡ kept (pid ∷ pids) k (task_of v.tasks k)
-one_more pid pids v u x first rest k = rest.tasks k ∙ ap (kept pids k) (first k) ∙ both_gone (is_among pids k) (k == pid) (task_of v.tasks k)
+one_more pid pids v u x first rest k = rest.tasks k ∙ ap (kept pids k) (first k) ∙ both_gone (is_pid_among pids k) (k == pid) (task_of v.tasks k)
 
 pub exits_go : (limits : Limits) (at room : ℕ) (v : World) (pids : List ℕ) → IsReady limits at (room + length (exits_from at v pids)) v → ExitsGo limits at room v pids
 exits_go limits at room v [] ready = record {

@@ -12,7 +12,7 @@ use Rattle.psi_spec.proofs.TaskLaws.{found, get_remove, same_tasks}
 use Rattle.psi_counts.specs.Touch.{RunsOnce}
 use Rattle.psi_counts.proofs.TouchCounts.{running_found}
 use Rattle.task_table.proofs.Runners.{only_runs, runs_there}
-use Rattle.whatif_spec.specs.Without.{is_among}
+use Rattle.whatif_spec.specs.Without.{is_pid_among}
 use Rattle.whatif_trace.specs.Rest.{kept}
 
 -- tasks among which these aren't found are the others
@@ -30,7 +30,7 @@ taken_is : (tasks : Tasks) (dead : List ℕ) → AreWithout dead tasks (taken ta
 taken_is tasks [] pid = refl
 taken_is tasks (first ∷ dead) pid =
     get_remove (taken tasks dead) first pid
-    ∙ elim (pid == first) as (λ b. cond b None (task_of (taken tasks dead) pid) ≡ cond (b || is_among dead pid) None (task_of tasks pid)) [
+    ∙ elim (pid == first) as (λ b. cond b None (task_of (taken tasks dead) pid) ≡ cond (b || is_pid_among dead pid) None (task_of tasks pid)) [
       | true ↦ refl
       | false ↦ taken_is tasks dead pid
     ]
@@ -57,11 +57,11 @@ no_more dead tasks fewer are =
 -- ---- one that is found
 
 -- one that isn't dead is found as before
-pub found_kept : (dead : List ℕ) (tasks fewer : Tasks) → AreWithout dead tasks fewer → (pid : ℕ) → is_among dead pid ≡ false → task_of fewer pid ≡ task_of tasks pid
+pub found_kept : (dead : List ℕ) (tasks fewer : Tasks) → AreWithout dead tasks fewer → (pid : ℕ) → is_pid_among dead pid ≡ false → task_of fewer pid ≡ task_of tasks pid
 found_kept dead tasks fewer are pid alive = are pid ∙ ap (λ b. cond b None (task_of tasks pid)) alive
 
 -- a dead one isn't
-pub found_dead : (dead : List ℕ) (tasks fewer : Tasks) → AreWithout dead tasks fewer → (pid : ℕ) → is_among dead pid ≡ true → task_of fewer pid ≡ None
+pub found_dead : (dead : List ℕ) (tasks fewer : Tasks) → AreWithout dead tasks fewer → (pid : ℕ) → is_pid_among dead pid ≡ true → task_of fewer pid ≡ None
 found_dead dead tasks fewer are pid is = are pid ∙ ap (λ b. cond b None (task_of tasks pid)) is
 
 -- what is found among them is alive, and is found among all
@@ -69,8 +69,8 @@ if_found : (b : Bool) (o : Option Task) (task : Task) → cond b None o ≡ Some
 if_found true o task is = absurd (let no : ⊥ = cc is in no)
 if_found false o task is = (refl, is)
 
-pub found_before : (dead : List ℕ) (tasks fewer : Tasks) → AreWithout dead tasks fewer → (pid : ℕ) (task : Task) → task_of fewer pid ≡ Some task → (is_among dead pid ≡ false) × (task_of tasks pid ≡ Some task)
-found_before dead tasks fewer are pid task is = if_found (is_among dead pid) (task_of tasks pid) task (sym (are pid) ∙ is)
+pub found_before : (dead : List ℕ) (tasks fewer : Tasks) → AreWithout dead tasks fewer → (pid : ℕ) (task : Task) → task_of fewer pid ≡ Some task → (is_pid_among dead pid ≡ false) × (task_of tasks pid ≡ Some task)
+found_before dead tasks fewer are pid task is = if_found (is_pid_among dead pid) (task_of tasks pid) task (sym (are pid) ∙ is)
 
 -- ---- members of a group
 
@@ -117,14 +117,14 @@ no_member dead tasks fewer are slot none =
 -- the running task, if it isn't dead
 abbrev pub if_kept : List ℕ → Option (ℕ × Task) → Option (ℕ × Task)
 if_kept dead None = None
-if_kept dead (Some e) = if is_among dead e.0 then None else Some e
+if_kept dead (Some e) = if is_pid_among dead e.0 then None else Some e
 
 none_runs : (o other : Option (ℕ × Task)) → (is_some other ≡ true → is_some o ≡ true) → o ≡ None → other ≡ None
 none_runs o None some none = refl
 none_runs o (Some e) some none = absurd (let on = some refl in let no : ⊥ = cc (on, none) in no)
 
 -- one that runs among fewer runs among all, and isn't dead
-runs_before : (dead : List ℕ) (tasks fewer : Tasks) → AreWithout dead tasks fewer → (cpu : ℕ) (x : ℕ × Task) → running_on fewer cpu ≡ Some x → (is_among dead x.0 ≡ false) × (task_of tasks x.0 ≡ Some x.1) × (is_running_on cpu x.1 ≡ true)
+runs_before : (dead : List ℕ) (tasks fewer : Tasks) → AreWithout dead tasks fewer → (cpu : ℕ) (x : ℕ × Task) → running_on fewer cpu ≡ Some x → (is_pid_among dead x.0 ≡ false) × (task_of tasks x.0 ≡ Some x.1) × (is_running_on cpu x.1 ≡ true)
 runs_before dead tasks fewer are cpu x is =
     let there = running_found fewer cpu x is in
     let before = found_before dead tasks fewer are x.0 x.1 there.0 in
@@ -135,7 +135,7 @@ same_entry e x number task = let pair : (x.0, x.1) ≡ (e.0, e.1) = rw (number, 
 
 some_kept : (dead : List ℕ) (tasks fewer : Tasks) → AreWithout dead tasks fewer → RunsOnce tasks → (cpu : ℕ) (e : ℕ × Task) → running_on tasks cpu ≡ Some e → (o : Option (ℕ × Task)) → running_on fewer cpu ≡ o → o ≡ if_kept dead (Some e)
 some_kept dead tasks fewer are once cpu e is None none =
-    elim (is_among dead e.0) as (λ b. is_among dead e.0 ≡ b → None ≡ cond b None (Some e)) [
+    elim (is_pid_among dead e.0) as (λ b. is_pid_among dead e.0 ≡ b → None ≡ cond b None (Some e)) [
       | true ↦ λ _. refl
       | false ↦ λ alive.
           let there = running_found tasks cpu e is in
@@ -146,7 +146,7 @@ some_kept dead tasks fewer are once cpu e is (Some x) some =
     let before = runs_before dead tasks fewer are cpu x some in
     let number : e.0 ≡ x.0 = only_runs tasks once cpu x.0 x.1 e before.1 before.2 is in
     let there = running_found tasks cpu e is in
-    let alive : is_among dead e.0 ≡ false = ap (is_among dead) number ∙ before.0 in
+    let alive : is_pid_among dead e.0 ≡ false = ap (is_pid_among dead) number ∙ before.0 in
     let found : Some e.1 ≡ Some x.1 = sym there.0 ∙ ap (task_of tasks) number ∙ before.1 in
     let task : e.1 ≡ x.1 = cc found in
     rw alive (ap Some (same_entry e x number task))

@@ -22,7 +22,7 @@ use Rattle.psi_spec.specs.World.{Tasks, World, after_event, after_from, change_t
 use Rattle.psi_spec.proofs.TaskLaws.{firstT, found, get_put, lower, secondT, task_placed}
 use Rattle.psi_counts.specs.Touch.{changed}
 use Rattle.psi_counts.proofs.TouchCounts.{running_found}
-use Rattle.whatif_spec.specs.Without.{is_among, members, without_pid}
+use Rattle.whatif_spec.specs.Without.{is_pid_among, members, without_pid}
 use Rattle.whatif_trace.specs.Left.{AreForked, is_made, is_member, makes}
 use Rattle.whatif_trace.proofs.Leaving.{found_changed}
 
@@ -41,7 +41,7 @@ itself_is : (a : ℕ) → (a == a) ≡ true
 itself_is a = grind (arith, nat_tests)
 
 -- a number that isn't above another isn't among those above it
-none_above : (x : ℕ) (ys : List ℕ) (k : ℕ) → AllByRecursion (λ y. nat_cmp x y ≡ Less) ys → k ≤ x → is_among ys k ≡ false
+none_above : (x : ℕ) (ys : List ℕ) (k : ℕ) → AllByRecursion (λ y. nat_cmp x y ≡ Less) ys → k ≤ x → is_pid_among ys k ≡ false
 none_above x [] k above low = refl
 none_above x (y ∷ ys) k above low = rw (later k x y low (less_is x y above.0)) (none_above x ys k above.1 low)
 
@@ -50,11 +50,11 @@ both_ways true b one other = sym (one refl)
 both_ways false true one other = other refl
 both_ways false false one other = refl
 
-at_front : (x : ℕ) (xs : List ℕ) → is_among (x ∷ xs) x ≡ true
+at_front : (x : ℕ) (xs : List ℕ) → is_pid_among (x ∷ xs) x ≡ true
 at_front x xs = rw (itself_is x) refl
 
-behind_front : (x y : ℕ) (ys : List ℕ) → (x == y) ≡ false → is_among (y ∷ ys) x ≡ true → is_among ys x ≡ true
-behind_front x y ys apart is = sym (ap (λ b. b || is_among ys x) apart) ∙ is
+behind_front : (x y : ℕ) (ys : List ℕ) → (x == y) ≡ false → is_pid_among (y ∷ ys) x ≡ true → is_pid_among ys x ≡ true
+behind_front x y ys apart is = sym (ap (λ b. b || is_pid_among ys x) apart) ∙ is
 
 no_both : (b : Bool) → b ≡ true → b ≡ false → ⊥
 no_both b on off = cc (on, off)
@@ -65,38 +65,38 @@ order x y = grind arith
 turned_round : (x y : ℕ) → (x == y) ≡ false → (y == x) ≡ false
 turned_round x y off = grind (arith, nat_tests)
 
-same_head : (x y : ℕ) (xs ys : List ℕ) → AllByRecursion (λ k. nat_cmp x k ≡ Less) xs → AllByRecursion (λ k. nat_cmp y k ≡ Less) ys → ((k : ℕ) → is_among (x ∷ xs) k ≡ is_among (y ∷ ys) k) → x ≡ y
+same_head : (x y : ℕ) (xs ys : List ℕ) → AllByRecursion (λ k. nat_cmp x k ≡ Less) xs → AllByRecursion (λ k. nat_cmp y k ≡ Less) ys → ((k : ℕ) → is_pid_among (x ∷ xs) k ≡ is_pid_among (y ∷ ys) k) → x ≡ y
 same_head x y xs ys above higher same =
     elim (x == y) as (λ b. (x == y) ≡ b → x ≡ y) [
       | true ↦ λ is. equal_is x y is
       | false ↦ λ apart.
           let one = behind_front x y ys apart (sym (same x) ∙ at_front x xs) in
           let other = behind_front y x xs (turned_round x y apart) (same y ∙ at_front y ys) in
-          absurd (⊎_elim (λ low. no_both (is_among ys x) one (none_above y ys x higher low)) (λ low. no_both (is_among xs y) other (none_above x xs y above low)) (order x y))
+          absurd (⊎_elim (λ low. no_both (is_pid_among ys x) one (none_above y ys x higher low)) (λ low. no_both (is_pid_among xs y) other (none_above x xs y above low)) (order x y))
     ] refl
 
-in_tail : (x : ℕ) (xs ys : List ℕ) → AllByRecursion (λ k. nat_cmp x k ≡ Less) xs → AllByRecursion (λ k. nat_cmp x k ≡ Less) ys → ((k : ℕ) → is_among (x ∷ xs) k ≡ is_among (x ∷ ys) k) → (k : ℕ) → is_among xs k ≡ is_among ys k
+in_tail : (x : ℕ) (xs ys : List ℕ) → AllByRecursion (λ k. nat_cmp x k ≡ Less) xs → AllByRecursion (λ k. nat_cmp x k ≡ Less) ys → ((k : ℕ) → is_pid_among (x ∷ xs) k ≡ is_pid_among (x ∷ ys) k) → (k : ℕ) → is_pid_among xs k ≡ is_pid_among ys k
 in_tail x xs ys above higher same k =
-    elim (k == x) as (λ b. (k == x) ≡ b → is_among xs k ≡ is_among ys k) [
+    elim (k == x) as (λ b. (k == x) ≡ b → is_pid_among xs k ≡ is_pid_among ys k) [
       | true ↦ λ is. let low : k ≤ x = omega (arith, equal_is k x is) in none_above x xs k above low ∙ sym (none_above x ys k higher low)
-      | false ↦ λ apart. sym (ap (λ b. b || is_among xs k) apart) ∙ same k ∙ ap (λ b. b || is_among ys k) apart
+      | false ↦ λ apart. sym (ap (λ b. b || is_pid_among xs k) apart) ∙ same k ∙ ap (λ b. b || is_pid_among ys k) apart
     ] refl
 
 -- ascending numbers among which are the same ones are the same
-pub same_numbers : (xs ys : List ℕ) → IsStrictlySortedBy nat_cmp xs → IsStrictlySortedBy nat_cmp ys → ((k : ℕ) → is_among xs k ≡ is_among ys k) → xs ≡ ys
+pub same_numbers : (xs ys : List ℕ) → IsStrictlySortedBy nat_cmp xs → IsStrictlySortedBy nat_cmp ys → ((k : ℕ) → is_pid_among xs k ≡ is_pid_among ys k) → xs ≡ ys
 unfolding IsStrictlySortedBy
 same_numbers [] [] one other same = refl
-same_numbers [] (y ∷ ys) one other same = absurd (no_both (is_among [] y) (same y ∙ at_front y ys) refl)
-same_numbers (x ∷ xs) [] one other same = absurd (no_both (is_among [] x) (sym (same x) ∙ at_front x xs) refl)
+same_numbers [] (y ∷ ys) one other same = absurd (no_both (is_pid_among [] y) (same y ∙ at_front y ys) refl)
+same_numbers (x ∷ xs) [] one other same = absurd (no_both (is_pid_among [] x) (sym (same x) ∙ at_front x xs) refl)
 same_numbers (x ∷ xs) (y ∷ ys) one other same =
     let head = same_head x y xs ys one.0 other.0 same in
     let above : AllByRecursion (λ k. nat_cmp x k ≡ Less) ys = subst (λ n. AllByRecursion (λ k. nat_cmp n k ≡ Less) ys) (sym head) other.0 in
-    let all : (k : ℕ) → is_among (x ∷ xs) k ≡ is_among (x ∷ ys) k = λ k. same k ∙ ap (λ n. is_among (n ∷ ys) k) (sym head) in
+    let all : (k : ℕ) → is_pid_among (x ∷ xs) k ≡ is_pid_among (x ∷ ys) k = λ k. same k ∙ ap (λ n. is_pid_among (n ∷ ys) k) (sym head) in
     ap (λ n. n ∷ xs) head ∙ ap (λ ns. y ∷ ns) (same_numbers xs ys one.1 other.1 (in_tail x xs ys one.0 above all))
 
 -- ---- a set of numbers
 
-pub among_keys : (keys : List ℕ) (pid : ℕ) → list_any (is_at (nat_cmp pid)) keys ≡ is_among keys pid
+pub among_keys : (keys : List ℕ) (pid : ℕ) → list_any (is_at (nat_cmp pid)) keys ≡ is_pid_among keys pid
 among_keys [] pid = refl
 among_keys (k ∷ keys) pid = ap (λ b. b || list_any (is_at (nat_cmp pid)) keys) (unsigned_tied pid k) ∙ ap (λ b. (pid == k) || b) (among_keys keys pid)
 
@@ -148,12 +148,12 @@ sorted_entries test (e ∷ es) sorted =
     ]
 
 -- who is among the numbers of the entries that pass passes
-passes_if : (tasks : Tasks) (test : Task → Bool) (es : List (ℕ × Task)) → AllByRecursion (λ e. task_of tasks e.0 ≡ Some e.1) es → (pid : ℕ) → is_among (map (λ e. e.0) (filter (λ e. test e.1) es)) pid ≡ true → is_some_and (task_of tasks pid) test ≡ true
+passes_if : (tasks : Tasks) (test : Task → Bool) (es : List (ℕ × Task)) → AllByRecursion (λ e. task_of tasks e.0 ≡ Some e.1) es → (pid : ℕ) → is_pid_among (map (λ e. e.0) (filter (λ e. test e.1) es)) pid ≡ true → is_some_and (task_of tasks pid) test ≡ true
 passes_if tasks test [] each pid is = absurd (let no : ⊥ = cc is in no)
 passes_if tasks test (e ∷ es) each pid is =
-    elim (test e.1) as (λ b. test e.1 ≡ b → is_among (map (λ e. e.0) (cond b (e ∷ filter (λ e. test e.1) es) (filter (λ e. test e.1) es))) pid ≡ true → is_some_and (task_of tasks pid) test ≡ true) [
+    elim (test e.1) as (λ b. test e.1 ≡ b → is_pid_among (map (λ e. e.0) (cond b (e ∷ filter (λ e. test e.1) es) (filter (λ e. test e.1) es))) pid ≡ true → is_some_and (task_of tasks pid) test ≡ true) [
       | true ↦ λ on among.
-          elim (pid == e.0) as (λ b. (pid == e.0) ≡ b → (b || is_among (map (λ e. e.0) (filter (λ e. test e.1) es)) pid) ≡ true → is_some_and (task_of tasks pid) test ≡ true) [
+          elim (pid == e.0) as (λ b. (pid == e.0) ≡ b → (b || is_pid_among (map (λ e. e.0) (filter (λ e. test e.1) es)) pid) ≡ true → is_some_and (task_of tasks pid) test ≡ true) [
             | true ↦ λ same _. ap (λ o. is_some_and o test) (ap (task_of tasks) (equal_is pid e.0 same) ∙ each.0) ∙ on
             | false ↦ λ _ rest. passes_if tasks test es each.1 pid rest
           ] refl among
@@ -161,23 +161,23 @@ passes_if tasks test (e ∷ es) each pid is =
     ] refl is
 
 -- and who passes is among them
-among_if : (test : Task → Bool) (es : List (ℕ × Task)) (pid : ℕ) → is_some_and (tasks_by.find nat_cmp pid es) test ≡ true → is_among (map (λ e. e.0) (filter (λ e. test e.1) es)) pid ≡ true
+among_if : (test : Task → Bool) (es : List (ℕ × Task)) (pid : ℕ) → is_some_and (tasks_by.find nat_cmp pid es) test ≡ true → is_pid_among (map (λ e. e.0) (filter (λ e. test e.1) es)) pid ≡ true
 among_if test [] pid is = absurd (let no : ⊥ = cc is in no)
 among_if test (e ∷ es) pid is =
-    elim (pid == e.0) as (λ b. (pid == e.0) ≡ b → is_some_and (cond b (Some e.1) (tasks_by.find nat_cmp pid es)) test ≡ true → is_among (map (λ e. e.0) (cond (test e.1) (e ∷ filter (λ e. test e.1) es) (filter (λ e. test e.1) es))) pid ≡ true) [
+    elim (pid == e.0) as (λ b. (pid == e.0) ≡ b → is_some_and (cond b (Some e.1) (tasks_by.find nat_cmp pid es)) test ≡ true → is_pid_among (map (λ e. e.0) (cond (test e.1) (e ∷ filter (λ e. test e.1) es) (filter (λ e. test e.1) es))) pid ≡ true) [
       | true ↦ λ same on. rw (on, same) refl
       | false ↦ λ other i.
           let rest = among_if test es pid i in
-          elim (test e.1) as (λ b. is_among (map (λ e. e.0) (cond b (e ∷ filter (λ e. test e.1) es) (filter (λ e. test e.1) es))) pid ≡ true) [
+          elim (test e.1) as (λ b. is_pid_among (map (λ e. e.0) (cond b (e ∷ filter (λ e. test e.1) es) (filter (λ e. test e.1) es))) pid ≡ true) [
             | true ↦ rw other rest
             | false ↦ rest
           ]
     ] refl (ap (λ b. is_some_and (cond b (Some e.1) (tasks_by.find nat_cmp pid es)) test) (sym (unsigned_tied pid e.0)) ∙ is)
 
-member_is : (w : World) (slot pid : ℕ) → is_among (members w slot) pid ≡ is_member w slot pid
+member_is : (w : World) (slot pid : ℕ) → is_pid_among (members w slot) pid ≡ is_member w slot pid
 member_is w slot pid =
     let test : Task → Bool = λ task. is_under (parents_of w.groups) task.slot.0 slot in
-    both_ways (is_among (members w slot) pid) (is_member w slot pid)
+    both_ways (is_pid_among (members w slot) pid) (is_member w slot pid)
     (passes_if w.tasks test (tasks_by.entries w.tasks) (found w.tasks) pid)
     (λ is. among_if test (tasks_by.entries w.tasks) pid (ap (λ o. is_some_and o test) (sym (tasks_by.get-entries w.tasks pid)) ∙ is))
 
@@ -194,7 +194,7 @@ made_member true false if = refl
 made_member false false if = refl
 
 -- numbers in a set of all that were made, and live in the group or below it
-pub members_are : (w : World) (slot : ℕ) (events : List Event) (keys : List ℕ) → AreForked w.tasks events → IsStrictlySortedBy nat_cmp keys → ((pid : ℕ) → is_among keys pid ≡ (is_made pid events && is_member w slot pid)) → keys ≡ members w slot
+pub members_are : (w : World) (slot : ℕ) (events : List Event) (keys : List ℕ) → AreForked w.tasks events → IsStrictlySortedBy nat_cmp keys → ((pid : ℕ) → is_pid_among keys pid ≡ (is_made pid events && is_member w slot pid)) → keys ≡ members w slot
 members_are w slot events keys forked sorted are =
     same_numbers keys (members w slot) sorted (members_sorted w slot)
     (λ pid. are pid ∙ made_member (is_made pid events) (is_member w slot pid) (λ is. forked pid (if_passed (task_of w.tasks pid) (λ task. is_under (parents_of w.groups) task.slot.0 slot) is)) ∙ sym (member_is w slot pid))

@@ -10,12 +10,12 @@ use Rattle.psi_base.specs.declared.event.Pid.{Pid}
 use Rattle.psi_spec.specs.declared.machine.Task.{Task}
 use Rattle.psi_spec.specs.World.{Tasks, World, change_to, leave, placed, running_on, start, task_of, tasks_after}
 use Rattle.psi_spec.proofs.TaskLaws.{get_put, get_remove}
-use Rattle.whatif_spec.specs.Without.{dead_after, is_among, pid_part, without_pid}
+use Rattle.whatif_spec.specs.Without.{dead_after, is_pid_among, pid_part, without_pid}
 use Rattle.whatif_trace.proofs.Changing.{among_less}
 
 -- these tasks are live
 abbrev pub AreLive : List ℕ → Tasks → Type 0
-AreLive dead tasks = (pid : ℕ) → is_among dead pid ≡ true → is_some (task_of tasks pid) ≡ true
+AreLive dead tasks = (pid : ℕ) → is_pid_among dead pid ≡ true → is_some (task_of tasks pid) ≡ true
 
 some_or : (b : Bool) (task : Task) (o : Option Task) → is_some o ≡ true → is_some (cond b (Some task) o) ≡ true
 some_or true task o some = refl
@@ -40,7 +40,7 @@ both_true false c is = absurd (let no : ⊥ = cc is in no)
 -- one that exits is dead no more
 exit_live : (dead : List ℕ) (tasks : Tasks) (k : ℕ) → AreLive dead tasks → AreLive (filter (λ other. not (other == k)) dead) (placed tasks k None)
 exit_live dead tasks k live pid is =
-    let parts = both_true (is_among dead pid) (pid == k) (sym (among_less dead k pid) ∙ is) in
+    let parts = both_true (is_pid_among dead pid) (pid == k) (sym (among_less dead k pid) ∙ is) in
     ap is_some (get_remove tasks k pid ∙ ap (λ b. cond b None (task_of tasks pid)) parts.1) ∙ live pid parts.0
 
 -- ---- by acts

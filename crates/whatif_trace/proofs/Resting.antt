@@ -19,7 +19,7 @@ use Rattle.psi_counts.proofs.LegalLaws.{legal_kept}
 use Rattle.task_table.proofs.CauseLaws.{let_through}
 use Rattle.task_table.specs.Causes.{migrate_cause, path_cause, stall_cause, unstall_cause, wake_cause}
 use Rattle.group_tree.specs.Tree.{add_cause}
-use Rattle.whatif_spec.specs.Without.{act_without, dead_after, is_among, rest_without}
+use Rattle.whatif_spec.specs.Without.{act_without, dead_after, is_pid_among, rest_without}
 use Rattle.whatif_trace.specs.Rest.{IsWithout, dead_behind}
 use Rattle.whatif_trace.proofs.Fewer.{either, found_kept, no_more}
 use Rattle.whatif_trace.proofs.Changing.{change_alive, change_dead, placed_alive}
@@ -28,8 +28,8 @@ use Rattle.whatif_trace.proofs.Steps.{Goes, HasRoom, NoneAgainst, event_at, fork
 use Rattle.whatif_trace.proofs.Switching.{switch_goes}
 
 -- a number that no task has is of no dead one
-new_alive : (dead : List ℕ) (tasks : Tasks) (pid : ℕ) → AreLive dead tasks → task_of tasks pid ≡ None → is_among dead pid ≡ false
-new_alive dead tasks pid live none = either (is_among dead pid) (λ is. let some = live pid is in let no : ⊥ = cc (some, none) in no)
+new_alive : (dead : List ℕ) (tasks : Tasks) (pid : ℕ) → AreLive dead tasks → task_of tasks pid ≡ None → is_pid_among dead pid ≡ false
+new_alive dead tasks pid live none = either (is_pid_among dead pid) (λ is. let some = live pid is in let no : ⊥ = cc (some, none) in no)
 
 -- what is left of a legal act is legal, and the worlds stay beside each other
 pub act_goes : (limits : Limits) (dead : List ℕ) (w v : World) (at : ℕ) (what : Act) → IsWithout dead w v → RunsOnce w.tasks → AreLive dead w.tasks → HasRoom limits v at → NoneAgainst limits w at what

@@ -19,7 +19,7 @@ use Rattle.psi_spec.specs.World.{Limits, Tasks, World, after_event, after_from, 
 use Rattle.psi_spec.proofs.TaskLaws.{get_put, task_placed}
 use Rattle.psi_counts.specs.Touch.{changed}
 use Rattle.psi_counts.proofs.TouchCounts.{running_found}
-use Rattle.whatif_spec.specs.Without.{act_without, acts_if, dead_after, exit_acts, exit_of, exits_from, is_alive, is_among, if_alive, making_room, pid_part, rest_without, switch_without}
+use Rattle.whatif_spec.specs.Without.{act_without, acts_if, dead_after, exit_acts, exit_of, exits_from, is_alive, is_pid_among, if_alive, making_room, pid_part, rest_without, switch_without}
 use Rattle.whatif_trace.proofs.Doing.{IsReady, ready_for}
 use Rattle.whatif_trace.proofs.Exiting.{exit_goes}
 use Rattle.whatif_trace.proofs.Leaving.{found_changed}
@@ -135,11 +135,11 @@ fit_switch dead cpu leaving next how fit =
     ]
 
 fit_act : (dead : List ℕ) (w : World) (what : Act) → ActFits what → ActsFit (act_without dead w what)
-fit_act dead w (act.Wake pid cpu) fit = fit_if (not (is_among dead pid.0)) (act.Wake pid cpu) fit
-fit_act dead w (act.Stall pid) fit = fit_if (not (is_among dead pid.0)) (act.Stall pid) fit
-fit_act dead w (act.Unstall pid) fit = fit_if (not (is_among dead pid.0)) (act.Unstall pid) fit
-fit_act dead w (act.Migrate pid cpu) fit = fit_if (not (is_among dead pid.0)) (act.Migrate pid cpu) fit
-fit_act dead w (act.Move pid path) fit = fit_if (not (is_among dead pid.0)) (act.Move pid path) fit
+fit_act dead w (act.Wake pid cpu) fit = fit_if (not (is_pid_among dead pid.0)) (act.Wake pid cpu) fit
+fit_act dead w (act.Stall pid) fit = fit_if (not (is_pid_among dead pid.0)) (act.Stall pid) fit
+fit_act dead w (act.Unstall pid) fit = fit_if (not (is_pid_among dead pid.0)) (act.Unstall pid) fit
+fit_act dead w (act.Migrate pid cpu) fit = fit_if (not (is_pid_among dead pid.0)) (act.Migrate pid cpu) fit
+fit_act dead w (act.Move pid path) fit = fit_if (not (is_pid_among dead pid.0)) (act.Move pid path) fit
 fit_act dead w (act.Switch cpu next how) fit = fit_switch dead cpu (pid_part (running_on w.tasks cpu.0)) next how fit
 fit_act dead w (act.Group path) fit = (fit, tt)
 fit_act dead w (act.Remove path) fit = (fit, tt)

@@ -1,4 +1,5 @@
--- One event of the rest: what is left of it is legal without the dead tasks, and the worlds stay beside each other.
+-- One event of the rest: what is left of it is legal without the dead tasks, and the worlds stay
+-- beside each other.
 use Rattle.std.proofs.Common.{◌≡◌, ℕ, ◌+◌, ◌≤◌, ◌<◌, List, [], ◌∷◌, refl, ap, ◌∙◌, sym, arith, Bool, true, false, Option, None, Some}
 use Rattle.std.specs.Prelude.{◌||◌, is_some, not, nat_le, if◌then◌else◌}
 use Rattle.std.proofs.lemmas.Bool.Decides.{nat_tests}
@@ -14,7 +15,7 @@ use Rattle.psi_spec.specs.World.{Limits, Tasks, World, after_event, after_from, 
 use Rattle.group_tree.specs.Tree.{remove_cause}
 use Rattle.task_table.specs.Causes.{act_cause, empty_cause, fork_cause, move_cause, or_cause}
 use Rattle.task_table.proofs.CauseLaws.{first_of_act}
-use Rattle.whatif_spec.specs.Without.{acts_if, is_among}
+use Rattle.whatif_spec.specs.Without.{acts_if, is_pid_among}
 use Rattle.whatif_trace.specs.Rest.{IsWithout}
 use Rattle.whatif_trace.proofs.Fewer.{AreWithout, no_member}
 
@@ -30,7 +31,8 @@ pub record HasRoom (limits : Limits) (v : World) (at : ℕ) : Type 0 where
   pub early : at ≤ limits.latest
   pub few : v.lines < 4000000
 
--- These acts are legal, and the world behind them is that of the trace behind its act, without the tasks that are dead then.
+-- These acts are legal, and the world behind them is that of the trace behind its act, without the
+-- tasks that are dead then.
 pub record Goes (limits : Limits) (dead : List ℕ) (w v : World) (at : ℕ) (what : Act) (acts : List Act) : Type 0 where
   pub legal : AreLegal limits v (events_at at acts)
   pub later : IsWithout dead (after_event w (event_at at what)) (after_from v (events_at at acts))
@@ -152,12 +154,12 @@ forked_still cpus groups live fewer task path cpu less none =
 
 -- an act of a task: one that isn't dead acts in both, and a dead one in the trace alone
 pub of_pid : (limits : Limits) (dead : List ℕ) (w v : World) (at : ℕ) (pid : Pid) (what : Act) → IsWithout dead w v → HasRoom limits v at → IsOfTasks at what
-    → (is_among dead pid.0 ≡ false → NoneAgainst limits v at what)
-    → (is_among dead pid.0 ≡ false → AreWithout dead (tasks_after w.groups w.tasks what) (tasks_after v.groups v.tasks what))
-    → (is_among dead pid.0 ≡ true → AreWithout dead (tasks_after w.groups w.tasks what) v.tasks)
-    → Goes limits dead w v at what (acts_if (not (is_among dead pid.0)) (what ∷ []))
+    → (is_pid_among dead pid.0 ≡ false → NoneAgainst limits v at what)
+    → (is_pid_among dead pid.0 ≡ false → AreWithout dead (tasks_after w.groups w.tasks what) (tasks_after v.groups v.tasks what))
+    → (is_pid_among dead pid.0 ≡ true → AreWithout dead (tasks_after w.groups w.tasks what) v.tasks)
+    → Goes limits dead w v at what (acts_if (not (is_pid_among dead pid.0)) (what ∷ []))
 of_pid limits dead w v at pid what is room of none both one =
-    elim (is_among dead pid.0) as (λ b. is_among dead pid.0 ≡ b → Goes limits dead w v at what (acts_if (not b) (what ∷ []))) [
+    elim (is_pid_among dead pid.0) as (λ b. is_pid_among dead pid.0 ≡ b → Goes limits dead w v at what (acts_if (not b) (what ∷ []))) [
       | true ↦ λ gone. left_out limits dead dead w v at what is of (one gone)
       | false ↦ λ alive. same_act limits dead dead w v at what is room (none alive) (both alive)
     ] refl

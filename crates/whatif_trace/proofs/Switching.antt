@@ -17,7 +17,7 @@ use Rattle.psi_spec.proofs.TaskLaws.{get_remove}
 use Rattle.task_table.specs.Causes.{how_cause, next_cause, switch_cause}
 use Rattle.task_table.specs.Named.{next_task}
 use Rattle.task_table.proofs.CauseLaws.{may_switch}
-use Rattle.whatif_spec.specs.Without.{dead_after, is_alive, is_among, if_alive, pid_part, switch_without}
+use Rattle.whatif_spec.specs.Without.{dead_after, is_alive, is_pid_among, if_alive, pid_part, switch_without}
 use Rattle.whatif_trace.specs.Rest.{IsWithout}
 use Rattle.whatif_trace.proofs.Fewer.{AreWithout, found_kept, if_kept, runs_kept}
 use Rattle.whatif_trace.proofs.Changing.{among_less, exits_alive, exits_dead, placed_alive, placed_dead, start_alive, start_dead, start_kept}
@@ -42,7 +42,7 @@ next_may cpus cpu (Some pid) task there ready = rw (ready_some task cpu ready, t
 -- the next task without the dead ones is ready as it is in the trace
 ready_kept : (dead : List ℕ) (tasks fewer : Tasks) (cpu : ℕ) (next : Option Pid) → AreWithout dead tasks fewer → is_alive dead next ≡ true → IfSome next (λ _. is_some_and (next_task tasks next) (is_ready_on cpu) ≡ true) → IfSome next (λ _. is_some_and (next_task fewer next) (is_ready_on cpu) ≡ true)
 ready_kept dead tasks fewer cpu None are alive ready = tt
-ready_kept dead tasks fewer cpu (Some pid) are alive ready = ap (λ o. is_some_and o (is_ready_on cpu)) (found_kept dead tasks fewer are pid.0 (not_true (is_among dead pid.0) alive)) ∙ ready
+ready_kept dead tasks fewer cpu (Some pid) are alive ready = ap (λ o. is_some_and o (is_ready_on cpu)) (found_kept dead tasks fewer are pid.0 (not_true (is_pid_among dead pid.0) alive)) ∙ ready
 
 ready_if : (dead : List ℕ) (tasks fewer : Tasks) (cpu : ℕ) (next : Option Pid) → AreWithout dead tasks fewer → IfSome next (λ _. is_some_and (next_task tasks next) (is_ready_on cpu) ≡ true) → IfSome (if_alive dead next) (λ _. is_some_and (next_task fewer (if_alive dead next)) (is_ready_on cpu) ≡ true)
 ready_if dead tasks fewer cpu next are ready =
@@ -116,17 +116,17 @@ none_ran limits dead w v at cpu next how so =
 
 -- ---- one that isn't dead ran
 
-led_alive : (dead : List ℕ) (tasks fewer : Tasks) (how : How) (e : ℕ × Task) → AreWithout dead tasks fewer → is_among dead e.0 ≡ false → AreWithout dead (leave how tasks (Some e)) (leave how fewer (Some e))
+led_alive : (dead : List ℕ) (tasks fewer : Tasks) (how : How) (e : ℕ × Task) → AreWithout dead tasks fewer → is_pid_among dead e.0 ≡ false → AreWithout dead (leave how tasks (Some e)) (leave how fewer (Some e))
 led_alive dead tasks fewer how e are alive = placed_alive dead tasks fewer e.0 (left_by how e.1) are alive
 
-by_exit : (dead : List ℕ) (tasks fewer : Tasks) (how : How) (e : ℕ × Task) → is_among dead e.0 ≡ false → AreWithout dead tasks fewer → AreWithout (dead_by how dead (Some e)) tasks fewer
+by_exit : (dead : List ℕ) (tasks fewer : Tasks) (how : How) (e : ℕ × Task) → is_pid_among dead e.0 ≡ false → AreWithout dead tasks fewer → AreWithout (dead_by how dead (Some e)) tasks fewer
 by_exit dead tasks fewer Exit e alive are = exits_alive dead tasks fewer e.0 are alive
 by_exit dead tasks fewer Preempt e alive are = are
 by_exit dead tasks fewer Sleep e alive are = are
 by_exit dead tasks fewer IoWait e alive are = are
 by_exit dead tasks fewer Idle e alive are = are
 
-one_leaves : (limits : Limits) (dead : List ℕ) (w v : World) (at : ℕ) (cpu : Cpu) (next : Option Pid) (how : How) (e : ℕ × Task) → IsSwitch limits dead w v at cpu next how (Some e) → is_among dead e.0 ≡ false
+one_leaves : (limits : Limits) (dead : List ℕ) (w v : World) (at : ℕ) (cpu : Cpu) (next : Option Pid) (how : How) (e : ℕ × Task) → IsSwitch limits dead w v at cpu next how (Some e) → is_pid_among dead e.0 ≡ false
     → Goes limits (dead_by how dead (Some e)) w v at (act.Switch cpu next how) (act.Switch cpu (if_alive dead next) how ∷ [])
 one_leaves limits dead w v at cpu next how e so alive =
     let runs : running_on v.tasks cpu.0 ≡ Some e = so.kept ∙ ap (λ b. cond b None (Some e)) alive in
@@ -141,7 +141,7 @@ one_leaves limits dead w v at cpu next how e so alive =
 
 -- ---- a dead one ran
 
-led_dead : (dead : List ℕ) (tasks fewer : Tasks) (how : How) (e : ℕ × Task) → AreWithout dead tasks fewer → is_among dead e.0 ≡ true → AreWithout (dead_by how dead (Some e)) (leave how tasks (Some e)) fewer
+led_dead : (dead : List ℕ) (tasks fewer : Tasks) (how : How) (e : ℕ × Task) → AreWithout dead tasks fewer → is_pid_among dead e.0 ≡ true → AreWithout (dead_by how dead (Some e)) (leave how tasks (Some e)) fewer
 led_dead dead tasks fewer Exit e are gone = exits_dead dead tasks fewer e.0 are gone
 led_dead dead tasks fewer Preempt e are gone = placed_dead dead tasks fewer e.0 (left_by Preempt e.1) are gone
 led_dead dead tasks fewer Sleep e are gone = placed_dead dead tasks fewer e.0 (left_by Sleep e.1) are gone
@@ -164,7 +164,7 @@ next_apart tasks cpu pid e ready runs =
 same_alive : (dead : List ℕ) (tasks : Tasks) (cpu : ℕ) (next : Option Pid) (e : ℕ × Task) → IfSome next (λ _. is_some_and (next_task tasks next) (is_ready_on cpu) ≡ true) → running_on tasks cpu ≡ Some e
     → is_alive (filter (λ other. not (other == e.0)) dead) next ≡ is_alive dead next
 same_alive dead tasks cpu None e ready runs = refl
-same_alive dead tasks cpu (Some pid) e ready runs = ap not (among_less dead e.0 pid.0 ∙ true_and (is_among dead pid.0) (pid.0 == e.0) (next_apart tasks cpu pid.0 e ready runs))
+same_alive dead tasks cpu (Some pid) e ready runs = ap not (among_less dead e.0 pid.0 ∙ true_and (is_pid_among dead pid.0) (pid.0 == e.0) (next_apart tasks cpu pid.0 e ready runs))
 
 alive_by : (dead : List ℕ) (tasks : Tasks) (cpu : ℕ) (next : Option Pid) (how : How) (e : ℕ × Task) → IfSome next (λ _. is_some_and (next_task tasks next) (is_ready_on cpu) ≡ true) → running_on tasks cpu ≡ Some e
     → is_alive (dead_by how dead (Some e)) next ≡ is_alive dead next
@@ -174,7 +174,7 @@ alive_by dead tasks cpu next Sleep e ready runs = refl
 alive_by dead tasks cpu next IoWait e ready runs = refl
 alive_by dead tasks cpu next Idle e ready runs = refl
 
-dead_leaves : (limits : Limits) (dead : List ℕ) (w v : World) (at : ℕ) (cpu : Cpu) (next : Option Pid) (how : How) (e : ℕ × Task) → IsSwitch limits dead w v at cpu next how (Some e) → is_among dead e.0 ≡ true
+dead_leaves : (limits : Limits) (dead : List ℕ) (w v : World) (at : ℕ) (cpu : Cpu) (next : Option Pid) (how : How) (e : ℕ × Task) → IsSwitch limits dead w v at cpu next how (Some e) → is_pid_among dead e.0 ≡ true
     → Goes limits (dead_by how dead (Some e)) w v at (act.Switch cpu next how) (if is_alive dead next then act.Switch cpu next Idle ∷ [] else [])
 dead_leaves limits dead w v at cpu next how e so gone =
     none_leaves limits dead (dead_by how dead (Some e)) w v at cpu next how (Some e) so (ap (λ b. cond b None (Some e)) gone)
@@ -185,7 +185,7 @@ dead_leaves limits dead w v at cpu next how e so gone =
 some_ran : (limits : Limits) (dead : List ℕ) (w v : World) (at : ℕ) (cpu : Cpu) (next : Option Pid) (how : How) (e : ℕ × Task) → IsSwitch limits dead w v at cpu next how (Some e)
     → Goes limits (dead_by how dead (Some e)) w v at (act.Switch cpu next how) (switch_without dead cpu (pid_part (Some e)) next how)
 some_ran limits dead w v at cpu next how e so =
-    elim (is_among dead e.0) as (λ b. is_among dead e.0 ≡ b → Goes limits (dead_by how dead (Some e)) w v at (act.Switch cpu next how) (if not b then act.Switch cpu (if_alive dead next) how ∷ [] else if is_alive dead next then act.Switch cpu next Idle ∷ [] else [])) [
+    elim (is_pid_among dead e.0) as (λ b. is_pid_among dead e.0 ≡ b → Goes limits (dead_by how dead (Some e)) w v at (act.Switch cpu next how) (if not b then act.Switch cpu (if_alive dead next) how ∷ [] else if is_alive dead next then act.Switch cpu next Idle ∷ [] else [])) [
       | true ↦ λ gone. dead_leaves limits dead w v at cpu next how e so gone
       | false ↦ λ alive. one_leaves limits dead w v at cpu next how e so alive
     ] refl

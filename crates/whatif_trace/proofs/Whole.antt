@@ -1,4 +1,5 @@
--- A trace without the tasks of a group is legal, and its worlds are those of the trace without them.
+-- A trace without the tasks of a group is legal, and its worlds are those of the trace without
+-- them.
 use Rattle.std.proofs.Common.{◌≡◌, ℕ, ◌+◌, List, [], ◌∷◌, ◌++◌, refl, ap, ◌∙◌, sym, subst, arith, append_assoc, cond, Bool, true, false, Some, ◌==◌, length, drop, map}
 use Rattle.std.specs.Prelude.{◌||◌, filter, is_some, nat_le}
 use Rattle.std.specs.List.{AllByRecursion}
@@ -11,7 +12,7 @@ use Rattle.psi_spec.specs.Stall.{is_under, parents_of}
 use Rattle.psi_spec.specs.World.{Limits, Tasks, World, after_event, after_from, first_world, task_of, up_to, events_at}
 use Rattle.psi_spec.proofs.TaskLaws.{found}
 use Rattle.plan_laws.proofs.PlanUpTo.{none_later, past_it}
-use Rattle.whatif_spec.specs.Without.{act_without, behind, dead_after, is_among, members, rest_without}
+use Rattle.whatif_spec.specs.Without.{act_without, behind, dead_after, is_pid_among, members, rest_without}
 use Rattle.whatif_trace.specs.Rest.{dead_behind}
 use Rattle.whatif_trace.proofs.Living.{AreLive}
 use Rattle.whatif_trace.proofs.Resting.{Begins}
@@ -48,12 +49,12 @@ legal_rest limits w (event ∷ front) rest legal = legal_rest limits (after_even
 -- ---- the members
 
 -- who is among the numbers of some entries is found in them
-among_entries : (tasks : Tasks) (test : ℕ × Task → Bool) (es : List (ℕ × Task)) → AllByRecursion (λ e. task_of tasks e.0 ≡ Some e.1) es → (pid : ℕ) → is_among (map (λ e. e.0) (filter test es)) pid ≡ true → is_some (task_of tasks pid) ≡ true
+among_entries : (tasks : Tasks) (test : ℕ × Task → Bool) (es : List (ℕ × Task)) → AllByRecursion (λ e. task_of tasks e.0 ≡ Some e.1) es → (pid : ℕ) → is_pid_among (map (λ e. e.0) (filter test es)) pid ≡ true → is_some (task_of tasks pid) ≡ true
 among_entries tasks test [] each pid is = absurd (let no : ⊥ = cc is in no)
 among_entries tasks test (e ∷ es) each pid is =
-    elim (test e) as (λ b. is_among (map (λ e. e.0) (cond b (e ∷ filter test es) (filter test es))) pid ≡ true → is_some (task_of tasks pid) ≡ true) [
+    elim (test e) as (λ b. is_pid_among (map (λ e. e.0) (cond b (e ∷ filter test es) (filter test es))) pid ≡ true → is_some (task_of tasks pid) ≡ true) [
       | true ↦ λ among.
-          elim (pid == e.0) as (λ b. (pid == e.0) ≡ b → (b || is_among (map (λ e. e.0) (filter test es)) pid) ≡ true → is_some (task_of tasks pid) ≡ true) [
+          elim (pid == e.0) as (λ b. (pid == e.0) ≡ b → (b || is_pid_among (map (λ e. e.0) (filter test es)) pid) ≡ true → is_some (task_of tasks pid) ≡ true) [
             | true ↦ λ same _. let number : pid ≡ e.0 = grind (arith, nat_tests) in ap is_some (ap (task_of tasks) number ∙ each.0)
             | false ↦ λ _ rest. among_entries tasks test es each.1 pid rest
           ] refl among

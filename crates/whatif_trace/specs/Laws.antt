@@ -3,23 +3,32 @@ use Rattle.std.specs.Prelude.{◌≡◌, ℕ, ◌+◌, ◌<◌, ◌≤◌, List,
 use Rattle.psi_base.specs.declared.event.Event.{Event}
 use Rattle.psi_spec.specs.World.{Limits, after, after_from, most_cpus, most_events, task_of, up_to}
 use Rattle.psi_spec.specs.Trace.{IsAccepted}
-use Rattle.whatif_spec.specs.Without.{behind, exits_from, is_among, members, rest_without, without}
+use Rattle.whatif_spec.specs.Without.{behind, exits_from, is_pid_among, members, rest_without, without}
 use Rattle.whatif_trace.specs.Rest.{IsWithout, dead_behind}
 
--- Of an accepted trace what is left without the tasks of a group is accepted, where it isn't too long.
+-- Of an accepted trace what is left without the tasks of a group is accepted, where it isn't too
+-- long.
 abbrev pub WithoutIsAccepted : Type 0
-WithoutIsAccepted = (limits : Limits) (events : List Event) (at victim : ℕ) → limits.cpus ≤ most_cpus → IsAccepted limits events → length (without events at victim) ≤ most_events → IsAccepted limits (without events at victim)
+WithoutIsAccepted =
+    (limits : Limits) (events : List Event) (at victim : ℕ) → limits.cpus ≤ most_cpus → IsAccepted limits events
+    → length (without events at victim) ≤ most_events → IsAccepted limits (without events at victim)
 
 -- Behind the exits none of the tasks is live.
 abbrev pub ExitsLeaveNone : Type 0
-ExitsLeaveNone = (limits : Limits) (events : List Event) (at victim : ℕ) → IsAccepted limits events → at < (after events).last → length (without events at victim) ≤ most_events →
-    (pid : ℕ) → is_among (members (after (up_to events at)) victim) pid ≡ true →
-    task_of (after (up_to events at ++ exits_from (at + 1) (after (up_to events at)) (members (after (up_to events at)) victim))).tasks pid ≡ None
+ExitsLeaveNone =
+    (limits : Limits) (events : List Event) (at victim : ℕ) → IsAccepted limits events → at < (after events).last
+    → length (without events at victim) ≤ most_events →
+    (pid : ℕ) → is_pid_among (members (after (up_to events at)) victim) pid ≡ true →
+    task_of (after (up_to events at ++ exits_from (at + 1) (after (up_to events at))
+    (members (after (up_to events at)) victim))).tasks pid ≡ None
 
--- The world behind each part of the rest is that of the trace without the tasks that are dead then, but for the number of lines
--- and the last moment.
+-- The world behind each part of the rest is that of the trace without the tasks that are dead then,
+-- but for the number of lines and the last moment.
 abbrev pub WorldsWithout : Type 0
-WorldsWithout = (limits : Limits) (events : List Event) (at victim : ℕ) → IsAccepted limits events → at < (after events).last → length (without events at victim) ≤ most_events →
+WorldsWithout =
+    (limits : Limits) (events : List Event) (at victim : ℕ) → IsAccepted limits events → at < (after events).last
+    → length (without events at victim) ≤ most_events →
     (some more : List Event) → behind events at ≡ some ++ more →
     IsWithout (dead_behind (members (after (up_to events at)) victim) (after (up_to events at)) some) (after (up_to events at ++ some))
-    (after_from (after (up_to events at ++ exits_from (at + 1) (after (up_to events at)) (members (after (up_to events at)) victim))) (rest_without (members (after (up_to events at)) victim) (after (up_to events at)) some))
+    (after_from (after (up_to events at ++ exits_from (at + 1) (after (up_to events at)) (members (after (up_to events at)) victim)))
+    (rest_without (members (after (up_to events at)) victim) (after (up_to events at)) some))

@@ -3,13 +3,14 @@ use Rattle.std.specs.Prelude.{◌≡◌, ℕ, List, [], ◌∷◌, if◌then◌e
 use Rattle.psi_base.specs.declared.event.Event.{Event}
 use Rattle.psi_spec.specs.declared.machine.Task.{Task}
 use Rattle.psi_spec.specs.World.{World, after_event, task_of}
-use Rattle.whatif_spec.specs.Without.{dead_after, is_among}
+use Rattle.whatif_spec.specs.Without.{dead_after, is_pid_among}
 
 -- what is found under a number, where these tasks are dead
 abbrev pub kept : List ℕ → ℕ → Option Task → Option Task
-kept dead pid found = if is_among dead pid then None else found
+kept dead pid found = if is_pid_among dead pid then None else found
 
--- A world is another without the dead tasks: all else is the same, but for the number of lines and the last moment.
+-- A world is another without the dead tasks: all else is the same, but for the number of lines and
+-- the last moment.
 pub record IsWithout (dead : List ℕ) (w v : World) : Type 0 where
   pub tasks : (pid : ℕ) → task_of v.tasks pid ≡ kept dead pid (task_of w.tasks pid)
   pub groups : v.groups ≡ w.groups

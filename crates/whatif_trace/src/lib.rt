@@ -1,7 +1,7 @@
 //! Traces without the tasks of a group that is killed, and laws of what is left.
 //!
-//! In `specs/`: `Rest` (how the worlds of both traces stand beside each other), `Left` (what is left, by who runs on each
-//! processor), `Bounded` and `Laws`.
+//! In `specs/`: `Rest` (how the worlds of both traces stand beside each other), `Left` (what is
+//! left, by who runs on each processor), `Bounded` and `Laws`.
 #![tactic(auto)]
 
 mod copies;

@@ -2,7 +2,7 @@
 ghost use Rattle.std.specs.Prelude.{◌≡◌, ◌&&◌, ◌||◌, ◌==◌, ℕ, IfOk, OnOk};
 ghost use Rattle.std.specs.List.Sorted.{IsStrictlySortedBy};
 ghost use Rattle.std.specs.Ordering.{nat_cmp};
-ghost use Rattle.whatif_spec.specs.Without.{is_among, members};
+ghost use Rattle.whatif_spec.specs.Without.{is_pid_among, members};
 ghost use Rattle.whatif_trace.specs.Left.{AreForked, is_member, makes};
 
 use psi_base::{Act, Event, NoMemory, Pid, Slot};
@@ -25,8 +25,8 @@ fn is_member(table: &Table, pid: Pid, victim: Slot) -> bool
 fn add_if(members: &mut BTreeSet<u32>, test: bool, pid: Pid) -> Result<(), NoMemory>
     requires sorted { IsStrictlySortedBy nat_cmp members.old.keys }
     ensures sorted { OnOk result (IsStrictlySortedBy nat_cmp members.new.keys) }
-    ensures among { OnOk result ((k : ℕ) → is_among members.new.keys k
-        ≡ (is_among members.old.keys k || (k == pid.0 && test))) }
+    ensures among { OnOk result ((k : ℕ) → is_pid_among members.new.keys k
+        ≡ (is_pid_among members.old.keys k || (k == pid.0 && test))) }
 {
     if test {
         members.insert(pid.0)?;
@@ -44,8 +44,8 @@ fn add_forked(
 ) -> Result<(), NoMemory>
     requires sorted { IsStrictlySortedBy nat_cmp members.old.keys }
     ensures sorted { OnOk result (IsStrictlySortedBy nat_cmp members.new.keys) }
-    ensures among { OnOk result ((k : ℕ) → is_among members.new.keys k
-        ≡ (is_among members.old.keys k
+    ensures among { OnOk result ((k : ℕ) → is_pid_among members.new.keys k
+        ≡ (is_pid_among members.old.keys k
         || (makes k act.now && is_member table.now.world victim.0 k))) }
 {
     match act {
@@ -54,7 +54,8 @@ fn add_forked(
     }
 }
 
-/// The numbers of the live tasks that are in a group or below it. The events are those up to the world of the table.
+/// The numbers of the live tasks that are in a group or below it. The events are those up to the
+/// world of the table.
 pub(crate) fn members(
     alloc: Global,
     table: &Table,

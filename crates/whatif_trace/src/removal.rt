@@ -1,11 +1,11 @@
 //! A trace without the tasks of a group that is killed.
-ghost use Rattle.std.specs.Prelude.{◌≡◌, ◌<◌, ◌≤◌, IfOk, MatchResult, None, OnOk, Ok, drop, length, nat_lt, take};
+ghost use Rattle.std.specs.Prelude.{◌≡◌, ◌++◌, ◌<◌, ◌≤◌, IfOk, MatchResult, None, OnOk, Ok, drop, length, nat_lt, take};
 ghost use Rattle.psi_base.specs.Gives.{FaultOf};
 ghost use Rattle.psi_spec.specs.Refusal.{AreLegal, cause_of};
 ghost use Rattle.psi_spec.specs.Trace.{IsAccepted};
 ghost use Rattle.psi_spec.specs.World.{after, after_event, after_from};
-ghost use Rattle.whatif_spec.specs.Without.{without};
-ghost use Rattle.whatif_trace.specs.Left.{front_length, turned_by};
+ghost use Rattle.whatif_spec.specs.Without.{members, without};
+ghost use Rattle.whatif_trace.specs.Left.{Adds, AreForked, exits_left, front_length, rest_left, turned_by};
 ghost use Rattle.whatif_trace.specs.Bounded.{bounded};
 
 use crate::copies::keep_copies;
@@ -108,6 +108,48 @@ fn play_all(
     Ok(())
 }
 
+/// Keeps the exits of a set of tasks at a moment (ns), where these run.
+fn keep_all_exits(
+    alloc: Global,
+    kept: &mut Vec<Event>,
+    at: Ns,
+    table: &Table,
+    runners: &[Option<Pid>],
+    dead: &BTreeSet<u32>,
+) -> Result<(), NoMemory>
+    ensures { Adds kept.old.items kept.new.items result
+        (exits_left at table.now.world.tasks runners.now dead.now.keys) }
+{
+    let pids = numbers_of(alloc, dead)?;
+    let runners_then = Vec::from_slice(alloc, runners)?;
+    keep_exits(kept, at, table, runners_then, &pids)
+}
+
+/// What is left of events, cut in two, without the tasks that are in a group or below it between
+/// the two.
+fn left_of(
+    alloc: Global,
+    table: &Table,
+    runners: Vec<Option<Pid>>,
+    front: &[Event],
+    rest: &[Event],
+    at: Ns,
+    victim: Slot,
+) -> Result<Vec<Event>, NoMemory>
+    requires { AreForked table.now.world.tasks front.now }
+    ensures { IfOk result (λ left. left.items
+        ≡ (front.now ++ exits_left at table.now.world.tasks runners.items
+        (members table.now.world victim.0))
+        ++ rest_left (members table.now.world victim.0) runners.items rest.now) }
+{
+    let dead = members(alloc, table, front, victim)?;
+    let mut kept: Vec<Event> = Vec::new(alloc);
+    keep_copies(alloc, &mut kept, front)?;
+    keep_all_exits(alloc, &mut kept, at, table, &runners, &dead)?;
+    keep_rest(alloc, &mut kept, dead, runners, rest)?;
+    Ok(kept)
+}
+
 /// The events without the tasks that are in a group or below it at a moment (ns) before the end.
 fn cut_down(
     alloc: Global,
@@ -129,14 +171,7 @@ fn cut_down(
     let mut table = Table::new(alloc, cpus, latest)?;
     let mut runners = no_runners(alloc, cpus)?;
     play_all(&mut table, &mut runners, front)?;
-    let dead = members(alloc, &table, front, victim)?;
-    let pids = numbers_of(alloc, &dead)?;
-    let runners_then = Vec::from_slice(alloc, &runners)?;
-    let mut kept: Vec<Event> = Vec::new(alloc);
-    keep_copies(alloc, &mut kept, front)?;
-    keep_exits(&mut kept, at + 1, &table, runners_then, &pids)?;
-    keep_rest(alloc, &mut kept, dead, runners, rest)?;
-    Ok(kept)
+    left_of(alloc, &table, runners, front, rest, at + 1, victim)
 }
 
 /// The events without the tasks that are in a group or below it at a moment (ns).
@@ -161,10 +196,11 @@ fn all_left(
     Ok(kept)
 }
 
-/// The events of a trace without the tasks that are in a group or below it at a moment (ns): those up to the moment, the
-/// exits of these tasks a nanosecond later, and the rest without them; all events where the moment isn't before the end.
-/// The trace has 1 to 64 processors, and no event is later than `latest` (ns). `TooLarge` exactly where more than
-/// 4,000,000 events are left, and else `NoMemory`.
+/// The events of a trace without the tasks that are in a group or below it at a moment (ns): those
+/// up to the moment, the exits of these tasks a nanosecond later, and the rest without them; all
+/// events where the moment isn't before the end. The trace has 1 to 64 processors, and no event is
+/// later than `latest` (ns). `TooLarge` exactly where more than 4,000,000 events are left, and else
+/// `NoMemory`.
 pub fn without(
     alloc: Global,
     cpus: u32,

@@ -1,6 +1,6 @@
 //! What is left of the events behind the exits.
 ghost use Rattle.std.specs.Prelude.{◌≡◌};
-ghost use Rattle.whatif_spec.specs.Without.{if_alive, is_alive, is_among, switch_without, without_pid};
+ghost use Rattle.whatif_spec.specs.Without.{if_alive, is_alive, is_pid_among, switch_without, without_pid};
 ghost use Rattle.psi_spec.specs.World.{events_at};
 ghost use Rattle.whatif_trace.specs.Left.{Adds, act_left, dead_left, doer, left_if, rest_left};
 
@@ -13,7 +13,7 @@ use std::collections::BTreeSet;
 /// A number is among those of the dead tasks.
 #[tactic(auto, using(crate::proofs::Killed::among_keys))]
 fn is_dead(dead: &BTreeSet<u32>, pid: Pid) -> bool
-    ensures { result ≡ is_among dead.now.keys pid.0 }
+    ensures { result ≡ is_pid_among dead.now.keys pid.0 }
 {
     dead.contains(&pid.0)
 }

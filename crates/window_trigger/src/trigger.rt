@@ -11,8 +11,9 @@ use std::marker::Model;
 /// How many ns a microsecond has.
 const MICROSECOND: Ns = 1000;
 
-/// A watch on the growth of a group's stall time in a window that slides with time, as a user sets it by writing to a
-/// pressure file: the kernel's `psi_trigger`. Its events are signalled at least a window apart.
+/// A watch on the growth of a group's stall time in a window that slides with time, as a user sets
+/// it by writing to a pressure file: the kernel's `psi_trigger`. Its events are signalled at least
+/// a window apart.
 #[derive(Drop)]
 pub struct Trigger {
     /// How much growth makes an event (ns).
@@ -53,8 +54,9 @@ impl Model for Trigger {
     ghost invariant = { λ t. IsTrigger t.size t.previous t.last_event };
 }
 
-/// How much a total grew in the window, which isn't over: besides the growth since it began, a part of the growth in
-/// the window before, as large as the part of the window that is left. The product has up to 89 bits.
+/// How much a total grew in the window, which isn't over: besides the growth since it began, a part
+/// of the growth in the window before, as large as the part of the window that is left. The product
+/// has up to 89 bits.
 fn slid(growth: u64, previous: u64, size: Ns, elapsed: Ns) -> u64
     requires growth { growth ≤ last_moment }
     requires previous { previous ≤ last_moment }
@@ -67,8 +69,9 @@ fn slid(growth: u64, previous: u64, size: Ns, elapsed: Ns) -> u64
 }
 
 impl Trigger {
-    /// A trigger that is set at the moment `at` (ns), where the total is `value` (ns), with its threshold and its
-    /// window (us). BadWindow, where the window isn't from 500 ms to 10 s, or the threshold isn't from 1 us up to it.
+    /// A trigger that is set at the moment `at` (ns), where the total is `value` (ns), with its
+    /// threshold and its window (us). BadWindow, where the window isn't from 500 ms to 10 s, or the
+    /// threshold isn't from 1 us up to it.
     pub fn new(at: Ns, value: u64, threshold_us: u64, window_us: u64) -> Result<Trigger, Cause>
         requires at { at ≤ last_moment }
         requires value { value ≤ last_moment }
@@ -95,7 +98,8 @@ impl Trigger {
         })
     }
 
-    /// A tick at the moment `now` (ns) with the total `value` (ns). True where the trigger's event is signalled.
+    /// A tick at the moment `now` (ns) with the total `value` (ns). True where the trigger's event
+    /// is signalled.
     #[tactic(auto, unfolding(pressure_spec::specs::Signal::trigger_step, pressure_spec::specs::Signal::fires))]
     pub fn step(&mut self, now: Ns, value: u64) -> bool
         requires now { now ≤ last_moment }
@@ -109,7 +113,8 @@ impl Trigger {
         self.signal(now)
     }
 
-    /// The total changed. A window that is over begins anew, and growth that reaches the threshold makes an event pending.
+    /// The total changed. A window that is over begins anew, and growth that reaches the threshold
+    /// makes an event pending.
     fn grow(&mut self, now: Ns, value: u64)
         requires now { now ≤ last_moment }
         requires value { value ≤ last_moment }
@@ -131,7 +136,8 @@ impl Trigger {
         self.last_value = value;
     }
 
-    /// Signals the event that is pending, where the last one was at least a window ago or there was none.
+    /// Signals the event that is pending, where the last one was at least a window ago or there was
+    /// none.
     fn signal(&mut self, now: Ns) -> bool
         requires { now ≤ last_moment }
         ensures state { self.new ≡ model.settled self.old now }

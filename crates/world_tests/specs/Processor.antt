@@ -24,7 +24,8 @@ pub record AreSums (parents : List (Option ℕ)) (slot : ℕ) (tasks : List (Opt
   pub stalled_running : counts.stalled_running ≡ sum_by (λ task. (on_chain parents slot task).stalled_running) tasks
 
 -- the clocks stand for the tasks
-pub record IsProcessor (parents : List (Option ℕ)) (groups : ℕ) (tasks : List (Option (Slot × Counts))) (clocks : ClocksView) (last : ℕ) : Type 0 where
+pub record IsProcessor (parents : List (Option ℕ)) (groups : ℕ) (tasks : List (Option (Slot × Counts))) (clocks : ClocksView)
+    (last : ℕ) : Type 0 where
   pub older : AreOlder parents
   pub are_tasks : All (IsTask groups) tasks
   pub few : length tasks ≤ 1000

@@ -15,8 +15,8 @@ fn counts(io: u32, stalled: u32, running: u32, stalled_running: u32) -> Counts {
     }
 }
 
-// Counts, whether the running task is among them and in a stall, and the states that hold: IO some and full, memory
-// some and full, CPU some and full, nonidle.
+// Counts, whether the running task is among them and in a stall, and the states that hold: IO some
+// and full, memory some and full, CPU some and full, nonidle.
 #[test]
 fn states_by_counts(rt: HostRuntime) -> Result<(), Fail> {
     let (n, y) = (false, true);
@@ -77,8 +77,8 @@ fn clock_of_three_changes(rt: HostRuntime) -> Result<(), Fail> {
     Ok(())
 }
 
-// A task runs from 10 ns on. Each row: counts at 35 ns, whether the running task is among them, and the clock's words
-// then. Where the states stay the clock does too, and else it goes on from there.
+// A task runs from 10 ns on. Each row: counts at 35 ns, whether the running task is among them, and
+// the clock's words then. Where the states stay the clock does too, and else it goes on from there.
 #[test]
 fn turns_of_a_clock(rt: HostRuntime) -> Result<(), Fail> {
     let mut clock = Clock::zero();

@@ -1,11 +1,13 @@
 //! Events from lines.
 
-ghost use Rattle.std.specs.Prelude.{IfOk};
-ghost use Rattle.psi_spec.specs.Trace.{AllFit};
+ghost use Rattle.std.specs.Prelude.{◌≡◌, ◌≤◌, length, IfOk};
+ghost use Rattle.psi_spec.specs.Trace.{AllFit, IsCpuCount, last_moment};
 
-use psi_base::{Cause, Event, Fault};
+use proc_plan::Plans;
+use psi_base::{Cause, Event, Fault, Ns};
 use psi_trace::read_event;
 use std::alloc::Global;
+use std::test::Fail;
 
 /// A task waits for IO for one second, and then for a processor.
 pub const WAITS: [&[u8]; 5] = [
@@ -16,8 +18,8 @@ pub const WAITS: [&[u8]; 5] = [
     b"2000000000 end",
 ];
 
-/// A task of the root runs for two seconds, of which interrupts took a quarter of one. They took no time from it by what they
-/// took when it had left.
+/// A task of the root runs for two seconds, of which interrupts took a quarter of one. They took no
+/// time from it by what they took when it had left.
 pub const INTERRUPTS: [&[u8]; 6] = [
     b"0 fork 1 / 0",
     b"0 switch 0 1 idle",
@@ -37,4 +39,14 @@ pub fn events_of(alloc: Global, lines: &[&[u8]]) -> Result<Vec<Event>, Fault<Cau
         events.push(event)?;
     }
     Ok(events)
+}
+
+/// The plans of lines.
+pub fn plans_of(alloc: Global, cpus: u32, latest: Ns, lines: &[&[u8]]) -> Result<Plans, Fail>
+    requires counted { IsCpuCount cpus }
+    requires short { latest ≤ last_moment }
+    ensures { IfOk result (λ plans. length plans.plans ≡ cpus) }
+{
+    let events = events_of(alloc, lines)?;
+    Ok(Plans::build(alloc, cpus, latest, &events)?)
 }

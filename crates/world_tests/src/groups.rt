@@ -32,7 +32,8 @@ fn add(
     Ok(given)
 }
 
-/// Removes a group, or tells the cause that refuses it, which is the one that is asked for before it.
+/// Removes a group, or tells the cause that refuses it, which is the one that is asked for before
+/// it.
 fn remove(
     rt: &impl Abort,
     alloc: Global,
@@ -47,7 +48,8 @@ fn remove(
     Ok(given)
 }
 
-/// Switches an account, or tells the cause that refuses it, which is the one that is asked for before it.
+/// Switches an account, or tells the cause that refuses it, which is the one that is asked for
+/// before it.
 fn switch(
     rt: &impl Abort,
     alloc: Global,
@@ -102,7 +104,8 @@ fn lives_of_groups(rt: HostRuntime) -> Result<(), Fail> {
     Ok(())
 }
 
-// An account is that of the live group alone: not of one that went, nor of the groups above and below. A new group is on.
+// An account is that of the live group alone: not of one that went, nor of the groups above and
+// below. A new group is on.
 #[test]
 fn accounts_of_groups(rt: HostRuntime) -> Result<(), Fail> {
     let alloc = rt.alloc();

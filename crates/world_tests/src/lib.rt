@@ -1,5 +1,5 @@
-//! Tests of the world that a trace tells of, and of its plans: the table of tasks, groups, clocks, plans and what goes by
-//! them, rows of clocks, and the journals and boards of observers.
+//! Tests of the world that a trace tells of, and of its plans: the table of tasks, groups, clocks,
+//! plans and what goes by them, rows of clocks, and the journals and boards of observers.
 #![tactic(auto)]
 
 #[cfg(test)]

@@ -16,7 +16,8 @@ use std::test::Fail;
 /// The last moment of a clock, in ns.
 const LAST_MOMENT: Ns = 60_000_000_000_000_000;
 
-/// A processor with tasks in groups: for each task its group and what it counts as, None where it isn't alive.
+/// A processor with tasks in groups: for each task its group and what it counts as, None where it
+/// isn't alive.
 #[derive(Drop)]
 pub struct Processor {
     parents: Vec<Option<Slot>>,
@@ -87,8 +88,8 @@ impl Processor {
         })
     }
 
-    /// A change: a task counts as this from now on, and this one runs. Whether it was made: it isn't where there is no such
-    /// task or group, or the moment is past.
+    /// A change: a task counts as this from now on, and this one runs. Whether it was made: it
+    /// isn't where there is no such task or group, or the moment is past.
     pub fn change(
         &mut self,
         at: Ns,
@@ -111,7 +112,7 @@ impl Processor {
             plus: now,
             current,
             irq: 0,
-            gate: None,
+            account: None,
         };
         self.clocks.apply(&self.parents, &PackedChange::new(change));
         self.tasks[task] = now;

@@ -38,8 +38,8 @@ struct Row {
     now: Option<(Slot, Counts)>,
     /// The group of the running task, and whether that is in a stall.
     current: Option<(Slot, bool)>,
-    /// The words of the four clocks: the times of IO some and full, memory some and full, CPU some and full and nonidle, the
-    /// mask with a bit for each in this order, and the start.
+    /// The words of the four clocks: the times of IO some and full, memory some and full, CPU some
+    /// and full and nonidle, the mask with a bit for each in this order, and the start.
     clocks: [[u64; 9]; 4],
 }
 
@@ -161,7 +161,8 @@ fn changes_of_a_processor(rt: HostRuntime) -> Result<(), Fail> {
     Ok(())
 }
 
-// Groups each in the one before, of which a change reaches all at once. A slot beyond them has the zero clock.
+// Groups each in the one before, of which a change reaches all at once. A slot beyond them has the
+// zero clock.
 #[test]
 fn groups_that_a_change_first_reaches(rt: HostRuntime) -> Result<(), Fail> {
     let alloc = rt.alloc();

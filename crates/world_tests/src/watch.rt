@@ -27,7 +27,8 @@ const LINES: [&[u8]; 16] = [
     b"12 end",
 ];
 
-/// Which of the four groups have a live task in them or below them: the root, `/a`, and those of the path `/a/b`.
+/// Which of the four groups have a live task in them or below them: the root, `/a`, and those of
+/// the path `/a/b`.
 fn populated(watch: &SideWatch) -> [bool; 4] {
     [
         watch.is_populated(Slot(0)),

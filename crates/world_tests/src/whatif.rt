@@ -34,8 +34,9 @@ const READY_LEFT: [&[u8]; 6] = [
     b"36 end",
 ];
 
-/// Tasks of the victim: one waits, one runs in a stall, one is blocked in a stall and one is ready. A task of the root runs
-/// beside them, and makes room for two of them. One of them comes again as a task of the root.
+/// Tasks of the victim: one waits, one runs in a stall, one is blocked in a stall and one is ready.
+/// A task of the root runs beside them, and makes room for two of them. One of them comes again as
+/// a task of the root.
 const MANY: [&[u8]; 22] = [
     b"0 group /s",
     b"0 group /s/a",

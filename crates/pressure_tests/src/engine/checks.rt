@@ -66,8 +66,8 @@ pub fn are_triggers(triggers: &[TriggerSpec], slots: usize) -> bool
     true
 }
 
-/// No time of a processor fell up to a moment (ns). None in a state grew by more than this (ns), and what interrupts
-/// took by at most a second more; and it isn't above the moment.
+/// No time of a processor fell up to a moment (ns). None in a state grew by more than this (ns),
+/// and what interrupts took by at most a second more; and it isn't above the moment.
 fn grew_within(most: Ns, at: Ns, before: &Times, now: &Times) -> bool
     ensures { result ≡ true → GrewWithin most at before.now now.now }
 {

@@ -1,5 +1,5 @@
-//! Groups and triggers over ticks. The expected numbers were computed apart from this program, from the rules of shares,
-//! averages and triggers.
+//! Groups and triggers over ticks. The expected numbers were computed apart from this program, from
+//! the rules of shares, averages and triggers.
 
 use crate::engine::machine::Machine;
 use pressure_spec::{AverageRows, Times};
@@ -238,10 +238,11 @@ const AVERAGES: &str =
     77486 16699 3608, 63912 14735 3223, 81155 17990 3908, 49316 11085 2411, 70754 15285 3303, 75985 16172 3486, 80522 18276 3986;\
     92356 19450 4172, 92356 19450 4172, 58387 13127 2844, 85307 18177 3906, 71951 15765 3402, 92356 19450 4172, 73527 15652 3364";
 
-// The machine has three processors and four groups. The second group goes at the fourth tick, the third is made between
-// the second tick and the third, and the last at the third. Times grow also where a group isn't live, and no total sees
-// it. The second trigger is set at the very moment of a tick, the third so on the group that is made then, the fourth a
-// nanosecond later, and the fifth is on the group that goes. There are ticks at which periods were missed.
+// The machine has three processors and four groups. The second group goes at the fourth tick, the
+// third is made between the second tick and the third, and the last at the third. Times grow also
+// where a group isn't live, and no total sees it. The second trigger is set at the very moment of a
+// tick, the third so on the group that is made then, the fourth a nanosecond later, and the fifth
+// is on the group that goes. There are ticks at which periods were missed.
 #[test]
 fn groups_that_come_and_go(rt: HostRuntime) -> Result<(), Fail> {
     let alloc = rt.alloc();
@@ -289,7 +290,8 @@ fn waits_without_end(rt: HostRuntime) -> Result<(), Fail> {
     Ok(())
 }
 
-/// Interrupts took so long (ns) up to a moment from a group that is never idle on one processor, and in none of the states.
+/// Interrupts took so long (ns) up to a moment from a group that is never idle on one processor,
+/// and in none of the states.
 fn interrupt(machine: &mut Machine, now: Ns, irq: Ns) -> Result<(), Fail> {
     machine.set(0, 0, [0, 0, 0, 0, 0, 0, now, irq])?;
     machine.tick(now)
@@ -319,8 +321,8 @@ fn interrupts_of_half_a_period(rt: HostRuntime) -> Result<(), Fail> {
     Ok(())
 }
 
-// A trace tells of interrupts when they are over. So a share may be a second longer than its interval, which is half a
-// second here.
+// A trace tells of interrupts when they are over. So a share may be a second longer than its
+// interval, which is half a second here.
 #[test]
 fn interrupts_told_late(rt: HostRuntime) -> Result<(), Fail> {
     let alloc = rt.alloc();

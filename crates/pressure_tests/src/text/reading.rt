@@ -12,7 +12,8 @@ const ZEROS: PressureLine = PressureLine {
     total_us: 0,
 };
 
-/// Lines on some tasks that are read: each with its averages (hundredths of a percent) and its total (us).
+/// Lines on some tasks that are read: each with its averages (hundredths of a percent) and its
+/// total (us).
 const LINES: [(&str, [u32; 3], u64); 2] = [
     (
         "some avg10=18.11 avg60=3.27 avg300=0.68 total=2000000\n",

@@ -1,17 +1,20 @@
 //! Each line with its exact text.
 use fixed_average::Averages;
+use outside::WriteFailed;
+use outside_fakes::{HonestSink, MemSink};
 use pressure_text::{
     PressureFile, PressureLine, read_file, read_irq, write_check, write_end, write_file,
     write_fired, write_irq, write_kill, write_live, write_report, write_report_head, write_stall,
     write_stall_irq,
 };
-use psi_base::{Cpu, HonestSink, Level, MemSink, Path, Res, Slot, TriggerSpec, WriteFailed};
+use psi_base::{Cpu, Level, Path, Res, Slot, TriggerSpec};
 use std::test::Fail;
 
 /// Two seconds (ns).
 const TICK: u64 = 2_000_000_000;
 
-// The averages of a group that was in all its states, and interrupted, from the start to the first update.
+// The averages of a group that was in all its states, and interrupted, from the start to the first
+// update.
 fn stalled_averages() -> Averages {
     let mut averages = Averages::new(0);
     averages.update(TICK, [TICK; 7]);

@@ -1,8 +1,9 @@
 //! A buffered sink, over sinks that take little or fail.
 ghost use Rattle.std.specs.Prelude.{◌≡◌, ◌++◌, ◌<◌, decimal, []};
-ghost use Rattle.psi_base.specs.Outside.{HasCause, PutsAll};
+ghost use Rattle.outside.specs.Outside.{HasCause, PutsAll};
 
-use psi_base::{BufferedSink, MemSink, Pending, Sink, WriteFailed, put_all, put_number};
+use outside::{BufferedSink, Pending, Sink, WriteFailed, put_all, put_number};
+use outside_fakes::MemSink;
 use std::alloc::Global;
 use std::process::Abort;
 use std::test::Fail;
@@ -29,7 +30,8 @@ fn long_bytes(alloc: Global) -> Result<Vec<u8>, Fail> {
     Ok(vec![in alloc; b'x'; 65537]?)
 }
 
-// Puts bytes and the number 12 by way of a buffer to a sink that takes at most so many bytes a call, and fails at one.
+// Puts bytes and the number 12 by way of a buffer to a sink that takes at most so many bytes a
+// call, and fails at one.
 fn goes_through(
     rt: &impl Abort,
     alloc: Global,

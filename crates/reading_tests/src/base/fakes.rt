@@ -1,8 +1,7 @@
 //! The shelves and sinks in memory: what each call answers and counts.
-use psi_base::{
-    Cpu, Gate, HonestShelf, HonestSink, MemShelf, MemSink, NoMemory, OpenGate, Shelf, ShelfFault,
-    Text, WriteFailed, put_all, put_each, put_number,
-};
+use outside::{Gate, OpenGate, Shelf, ShelfFault, WriteFailed, put_all, put_each, put_number};
+use outside_fakes::{HonestShelf, HonestSink, MemShelf, MemSink};
+use psi_base::{Cpu, NoMemory, Text};
 use std::alloc::Global;
 use std::test::Fail;
 

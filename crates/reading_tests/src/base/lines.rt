@@ -1,7 +1,9 @@
 //! Lines over shelves that cut them anywhere, and that fail.
 ghost use Rattle.std.specs.Prelude.{◌+◌, ◌<◌, ◌≤◌, ◌^◌};
 
-use psi_base::{MemShelf, Shelf, Text};
+use outside::Shelf;
+use outside_fakes::MemShelf;
+use psi_base::Text;
 use psi_lines::{Line, LineFault, Lines};
 use std::alloc::Global;
 use std::process::Abort;
@@ -79,7 +81,8 @@ fn answers_by(
     answers(alloc, "f", &mut shelf, calls, lends)
 }
 
-// Three ways to cut the bytes give the same answers, of lines of their own and of lines that are lent.
+// Three ways to cut the bytes give the same answers, of lines of their own and of lines that are
+// lent.
 fn agrees(
     rt: &impl Abort,
     alloc: Global,
@@ -184,8 +187,8 @@ fn faults_lose_nothing(rt: HostRuntime) -> Result<(), Fail> {
     Ok(())
 }
 
-// Asks for the end behind one line twice, where the second read fails. The first of the two reads once, and the second
-// where nothing is held.
+// Asks for the end behind one line twice, where the second read fails. The first of the two reads
+// once, and the second where nothing is held.
 fn end_behind_line(
     rt: &impl Abort,
     alloc: Global,

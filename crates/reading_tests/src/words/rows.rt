@@ -2,9 +2,11 @@
 
 /// Words, and behind `=>` the command:
 ///
-/// - its trace, and of `replay` and `whatif` the rules with the drop-in file behind `+`, the numbers of `--tick-ms`,
-///   `--interval-s`, `--report-s` and `--workers`, the path and the number of `--live-count`;
-/// - of `gen` and `stress` the numbers of `--seed`, `--cpus`, `--groups` and `--events`, and of `stress` that of `--workers`;
+/// - its trace, and of `replay` and `whatif` the rules with the drop-in file behind `+`, the
+///   numbers of `--tick-ms`, `--interval-s`, `--report-s` and `--workers`, the path and the number
+///   of `--live-count`;
+/// - of `gen` and `stress` the numbers of `--seed`, `--cpus`, `--groups` and `--events`, and of
+///   `stress` that of `--workers`;
 /// - of `import` its file and the number of `--cpus`; of `rules` its file with the drop-in file.
 pub const ACCEPTED: &str = "whatif|X|--rules=R => whatif X R 2000 5 10 64 none 1
 whatif|-|--rules|R => whatif - R 2000 5 10 64 none 1

@@ -1,4 +1,5 @@
-//! The faults of rules files: each place with each cause that can stand there, and which of two comes first.
+//! The faults of rules files: each place with each cause that can stand there, and which of two
+//! comes first.
 use crate::rules::shown::reads_rows;
 use std::test::Fail;
 
@@ -167,9 +168,9 @@ fn arguments_in_order(rt: HostRuntime) -> Result<(), Fail> {
     reads_rows(&rt, rt.alloc(), OF_ACTION, "@", action, ACTION_ARGUMENTS)
 }
 
-// A ruleset with two faults, before one with another. The walk goes down into each part before the next: of a ruleset
-// the name, the delay, the detectors, the actions. A list comes before its items, a group's name before its detectors,
-// a plugin's name before its arguments.
+// A ruleset with two faults, before one with another. The walk goes down into each part before the
+// next: of a ruleset the name, the delay, the detectors, the actions. A list comes before its
+// items, a group's name before its detectors, a plugin's name before its arguments.
 const OF_TWO: &str = "{'rulesets':[{@},5]}";
 
 const TWO: &str = "'post_action_delay':'x'!: MissingKey

@@ -5,8 +5,9 @@ use std::test::Fail;
 
 const LARGEST: usize = 1_048_576;
 
-// Texts around `rulesets`. Space, escapes, and the last of equal keys; numbers of any kind under a key that isn't known,
-// but none that a float can't hold; half a pair of surrogates; no comments, no trailing commas, nothing behind.
+// Texts around `rulesets`. Space, escapes, and the last of equal keys; numbers of any kind under a
+// key that isn't known, but none that a float can't hold; half a pair of surrogates; no comments,
+// no trailing commas, nothing behind.
 const TEXTS: &str = " \t\r{'rulesets':[]} \t\r~
 {'\\u0072ulesets':[]}~
 {'rulesets':5,'rulesets':[]}~

@@ -172,7 +172,8 @@ fn long_texts(rt: HostRuntime) -> Result<(), Fail> {
     Ok(())
 }
 
-// The piece as many times, with this end, matches the path of the root's child of 254 letters `a`, or doesn't.
+// The piece as many times, with this end, matches the path of the root's child of 254 letters `a`,
+// or doesn't.
 fn is_so_of_long(
     alloc: Global,
     piece: &str,

@@ -1,6 +1,7 @@
 //! What a rules file is read as, as one text: the rules, or the fault as it is told.
+use outside_fakes::MemSink;
 use path_match::Patterns;
-use psi_base::{Fault, MemSink, Path, Text};
+use psi_base::{Fault, Path, Text};
 use ruleset_json::{Action, After, DetectorSpec, Rules, RulesFault, put_fault, read};
 use std::alloc::{AllocError, Global};
 use std::process::Abort;
@@ -133,8 +134,8 @@ fn push_text(to: &mut String, text: &Text) -> Result<(), AllocError> {
     Ok(())
 }
 
-// The rules: a ruleset is its name and a colon, then each group in brackets, each detector with a semicolon behind it,
-// then each action with one.
+// The rules: a ruleset is its name and a colon, then each group in brackets, each detector with a
+// semicolon behind it, then each action with one.
 fn rules(alloc: Global, rules: &Rules) -> Result<String, Fail> {
     let mut text = String::new(alloc);
     for rule in rules.rules.items() {
@@ -226,8 +227,9 @@ fn reads_with(
     reads(rt, alloc, &file, &text)
 }
 
-/// Files and what they are read as, a row each. A row is what stands for the `@` of the file, and behind a `~` what
-/// stands for that of the rules as they are shown, or behind a `!` what stands for that of the fault.
+/// Files and what they are read as, a row each. A row is what stands for the `@` of the file, and
+/// behind a `~` what stands for that of the rules as they are shown, or behind a `!` what stands
+/// for that of the fault.
 pub fn reads_rows(
     rt: &impl Abort,
     alloc: Global,

@@ -141,7 +141,8 @@ fn lists_at_their_limits(rt: HostRuntime) -> Result<(), Fail> {
 const ALL: &[u8] =
     b"{\"rulesets\":[{\"name\":\"r\",\"detectors\":[[\"g\"],[\"h\"]],\"actions\":[{\"name\":\"kill_by_pg_scan\",\"args\":{\"cgroup\":\"g0\"}}]}]}";
 
-// The rule has the name `r`, two groups of which one is left where one is taken away, and one action.
+// The rule has the name `r`, two groups of which one is left where one is taken away, and one
+// action.
 fn is_the_rule(rule: Rule) -> bool {
     let Rule {
         name,

@@ -1,4 +1,5 @@
-//! Rules as text: what is read of a file is written, and what was written is read again as the same.
+//! Rules as text: what is read of a file is written, and what was written is read again as the
+//! same.
 use crate::rules::shown::{quoted, with};
 use dropin_rules::write_rules;
 use psi_base::Fault;
@@ -59,7 +60,8 @@ fn halves<'a>(rt: &impl Abort, text: &'a str, mark: char) -> (&'a str, &'a str) 
     }
 }
 
-// Plugins, a row each: a name, behind a `|` its arguments, and behind a `~` these as they are written.
+// Plugins, a row each: a name, behind a `|` its arguments, and behind a `~` these as they are
+// written.
 fn writes_rows(
     rt: &impl Abort,
     alloc: Global,

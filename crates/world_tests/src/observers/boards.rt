@@ -68,8 +68,8 @@ fn watched<R: Wait>(
     (pass, states)
 }
 
-/// A driver publishes so many ticks, and an observer in another thread reads them meanwhile. Then the driver tells it all, and it
-/// reads the last one.
+/// A driver publishes so many ticks, and an observer in another thread reads them meanwhile. Then
+/// the driver tells it all, and it reads the last one.
 pub fn beside<R: Threads + Wait + Sync>(
     rt: &R,
     alloc: Global,

@@ -2,12 +2,16 @@
 
 ghost use Rattle.std.specs.Prelude.{◌≡◌, ◌≤◌, length, IfOk};
 ghost use Rattle.observer_log.specs.Entries.{AreBy};
+ghost use Rattle.proc_plan.specs.Plans.{plan_at};
+ghost use Rattle.plan_laws.specs.Plan.{IsClock};
+ghost use Rattle.clock_row.specs.Steps.{new_reader};
 
 use crate::walk::clocks_after;
-use clock_row::{Row, Sample};
+use clock_row::{ClockReader, Row, Sample};
 use observer_log::{Entry, Own, Watcher};
+use outside::{Gate, OpenGate};
 use proc_plan::{Plan, Plans, ProcClocks};
-use psi_base::{Cpu, Gate, NoMemory, OpenGate, Slot};
+use psi_base::{Cpu, NoMemory, Slot};
 use std::alloc::Global;
 
 const ROOT: Slot = Slot(0);
@@ -34,7 +38,36 @@ pub fn entry_after<'a>(
     Ok(Entry::take(observer, plan, FIRST, ROOT, &sample))
 }
 
-/// The list of an observer that looked once at the root, before its first change, where a gate is called ahead of the sample.
+// The list of an observer that looked once at the root by a reader, where a gate is called ahead of
+// the sample.
+fn look_by<'a, G: Gate>(
+    alloc: Global,
+    observer: u32,
+    plans: &'a Plans,
+    reader: ClockReader,
+    last: &Sample,
+    gate: &G,
+) -> Result<Own<'a>, NoMemory>
+    requires one { length plans.now.plans ≡ 1 }
+    requires root { length (plan_at plans.now 0).parents ≡ 1 }
+    requires reader { reader.knows ≡ new_reader (plan_at plans.now 0) last.now.count }
+    requires last { IsClock last.now.clock (plan_at plans.now 0) 0 last.now.count }
+    ensures by { IfOk result (AreBy observer) }
+{
+    let mut readers = Vec::new(alloc);
+    readers.push(reader)?;
+    let mut watcher = Watcher::make(alloc, observer, plans, readers);
+    match watcher.look(FIRST, ROOT, last, gate) {
+        Ok(()) => Ok(watcher.into_own()),
+        Err(none) => {
+            drop(watcher);
+            Err(none)
+        }
+    }
+}
+
+/// The list of an observer that looked once at the root, before its first change, where a gate is
+/// called ahead of the sample.
 pub fn look_at_gate<'a, G: Gate>(
     alloc: Global,
     observer: u32,
@@ -46,15 +79,12 @@ pub fn look_at_gate<'a, G: Gate>(
     ensures by { IfOk result (AreBy observer) }
 {
     let mut writer = Row::make(alloc, plans.plan(FIRST), 1)?;
-    let mut readers = Vec::new(alloc);
-    readers.push(writer.reader()?)?;
-    let mut watcher = Watcher::make(alloc, observer, plans, readers);
+    let reader = writer.reader()?;
     let last = Sample {
         count: writer.count(),
         clock: writer.own(ROOT),
     };
-    watcher.look(FIRST, ROOT, &last, gate)?;
-    Ok(watcher.into_own())
+    look_by(alloc, observer, plans, reader, &last, gate)
 }
 
 /// The list of an observer that looked once at the root, before its first change.

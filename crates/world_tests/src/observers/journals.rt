@@ -35,7 +35,8 @@ pub fn add_both<L: Ledger>(
     }
 }
 
-/// The entries of two observers' lists in the order of a new journal, to which these were added first.
+/// The entries of two observers' lists in the order of a new journal, to which these were added
+/// first.
 pub fn ordered<'a, L: Ledger>(
     alloc: Global,
     blank: Blank,

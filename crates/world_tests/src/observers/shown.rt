@@ -6,7 +6,8 @@ use std::test::Fail;
 /// How many ticks are published.
 const TICKS: u32 = 10_000;
 
-// Each state that was read is one that was published, their ticks rise, and the last one is that of the last tick.
+// Each state that was read is one that was published, their ticks rise, and the last one is that of
+// the last tick.
 #[test]
 fn reads_beside_the_driver(rt: HostRuntime) -> Result<(), Fail> {
     let readings = beside(&rt, rt.alloc(), TICKS)?;

@@ -1,13 +1,14 @@
 //! Accounts of groups that are switched, by the plans of processors and their clocks.
 
-ghost use Rattle.std.specs.Prelude.{◌≡◌, ◌<◌, length};
+ghost use Rattle.std.specs.Prelude.{◌≡◌, ◌<◌, ◌≤◌, length};
 
-use crate::events::events_of;
+use crate::events::plans_of;
 use crate::walk::clocks_after;
 use proc_plan::{IrqClocks, Plan, Plans, ProcClocks};
 use psi_base::{Cpu, NoMemory, Ns, Slot};
 use psi_counts::Change;
 use std::alloc::Global;
+use std::process::Abort;
 use std::test::Fail;
 
 /// The task of a group waits for IO, and for half a second the group's account is off.
@@ -22,18 +23,36 @@ const LINES: [&[u8]; 7] = [
 ];
 
 /// What each processor has of a switch of the first group below the root, where no task runs.
-fn gate(at: Ns, on: bool) -> Change {
+fn account(at: Ns, on: bool) -> Change {
     Change {
         at,
         minus: None,
         plus: None,
         current: None,
         irq: 0,
-        gate: Some((Slot(1), on)),
+        account: Some((Slot(1), on)),
     }
 }
 
-// What the clocks of a plan tell of a group after all changes: for how long (ns) interrupts took from it, and its clock as words.
+// What the clocks of a plan tell of a group after so many changes: for how long (ns) interrupts
+// took from it, and its clock as words.
+fn after(
+    alloc: Global,
+    plan: &Plan,
+    changes: u64,
+    slots: u32,
+    slot: Slot,
+) -> Result<(u64, [u64; 9]), NoMemory>
+    requires changes { changes ≤ length plan.now.changes }
+    requires slots { slots ≡ length plan.now.parents }
+    requires slot { slot.0 < slots }
+{
+    let mut clocks = clocks_after(alloc, plan, slots, changes)?;
+    let irq = clocks.own_irq(slot);
+    Ok((irq, clocks.own(slot).to_words()))
+}
+
+// The same after all changes.
 fn after_all(
     alloc: Global,
     plan: &Plan,
@@ -43,45 +62,53 @@ fn after_all(
     requires slots { slots ≡ length plan.now.parents }
     requires slot { slot.0 < slots }
 {
-    let mut clocks = clocks_after(alloc, plan, slots, plan.len())?;
-    let irq = clocks.own_irq(slot);
-    Ok((irq, clocks.own(slot).to_words()))
+    after(alloc, plan, plan.len(), slots, slot)
 }
 
 // Both processors have the switches, and the second has nothing else.
 #[test]
-fn gates_of_each_processor(rt: HostRuntime) -> Result<(), Fail> {
-    let alloc = rt.alloc();
-    let events = events_of(alloc, &LINES)?;
-    let plans = Plans::build(alloc, 2, 2_000_000_000, &events)?;
-    assert_eq!(rt; plans.cpus(), 2);
+fn accounts_of_each_processor(rt: HostRuntime) -> Result<(), Fail> {
+    let plans = plans_of(rt.alloc(), 2, 2_000_000_000, &LINES)?;
+    let told = each_has_accounts(&rt, &plans);
+    drop(plans);
+    told
+}
+
+fn each_has_accounts<R: Abort>(rt: &R, plans: &Plans) -> Result<(), Fail>
+    requires { length plans.now.plans ≡ 2 }
+{
     let (first, second) = (plans.plan(Cpu(0)), plans.plan(Cpu(1)));
     assert_eq!(rt; (first.len(), second.len()), (5, 2));
-    assert_eq!(rt; first.change(3).gate, None);
-    assert_eq!(rt; first.change(4), gate(1_000_000_000, false));
-    assert_eq!(rt; first.change(5), gate(1_500_000_000, true));
-    assert_eq!(rt; second.change(1), gate(1_000_000_000, false));
-    assert_eq!(rt; second.change(2), gate(1_500_000_000, true));
+    assert_eq!(rt; first.change(3).account, None);
+    assert_eq!(rt; first.change(4), account(1_000_000_000, false));
+    assert_eq!(rt; first.change(5), account(1_500_000_000, true));
+    assert_eq!(rt; second.change(1), account(1_000_000_000, false));
+    assert_eq!(rt; second.change(2), account(1_500_000_000, true));
     Ok(())
 }
 
 // While the account is off no state holds, and what was before it stays. That of the root goes on.
 #[test]
 fn clocks_of_a_group_off(rt: HostRuntime) -> Result<(), Fail> {
-    let alloc = rt.alloc();
-    let events = events_of(alloc, &LINES)?;
-    let plans = Plans::build(alloc, 1, 2_000_000_000, &events)?;
+    let plans = plans_of(rt.alloc(), 1, 2_000_000_000, &LINES)?;
+    let told = stays_off(&rt, rt.alloc(), &plans);
+    drop(plans);
+    told
+}
+
+fn stays_off<R: Abort>(rt: &R, alloc: Global, plans: &Plans) -> Result<(), Fail>
+    requires { length plans.now.plans ≡ 1 }
+{
     let plan = plans.plan(Cpu(0));
     assert_eq!(rt; (plans.lives().len(), plan.len()), (2, 5));
-    let mut clocks = clocks_after(alloc, plan, 2, 4)?;
     let second = 1_000_000_000;
     assert_eq!(rt;
-        clocks.own(Slot(1)).to_words(),
-        [second, second, 0, 0, 0, 0, second, 0, second]
+        after(alloc, plan, 4, 2, Slot(1))?,
+        (0, [second, second, 0, 0, 0, 0, second, 0, second])
     );
     assert_eq!(rt;
-        clocks.own(Slot(0)).to_words(),
-        [0, 0, 0, 0, 0, 0, 0, 0b100_0011, 0]
+        after(alloc, plan, 4, 2, Slot(0))?,
+        (0, [0, 0, 0, 0, 0, 0, 0, 0b100_0011, 0])
     );
     let half = 1_500_000_000;
     assert_eq!(rt;
@@ -95,7 +122,8 @@ fn clocks_of_a_group_off(rt: HostRuntime) -> Result<(), Fail> {
     Ok(())
 }
 
-/// A task of /a/b runs, waits for IO and is ready, while /a is off and then /a/b. One goes off and the other on at one moment.
+/// A task of /a/b runs, waits for IO and is ready, while /a is off and then /a/b. One goes off and
+/// the other on at one moment.
 const NESTED: [&[u8]; 12] = [
     b"0 group /a",
     b"0 group /a/b",
@@ -111,12 +139,19 @@ const NESTED: [&[u8]; 12] = [
     b"5000 end",
 ];
 
-// Each account is its group's alone: groups above and below go on. What the tasks do while one is off is known when it is on again.
+// Each account is its group's alone: groups above and below go on. What the tasks do while one is
+// off is known when it is on again.
 #[test]
 fn accounts_of_groups_in_groups(rt: HostRuntime) -> Result<(), Fail> {
-    let alloc = rt.alloc();
-    let events = events_of(alloc, &NESTED)?;
-    let plans = Plans::build(alloc, 1, 5000, &events)?;
+    let plans = plans_of(rt.alloc(), 1, 5000, &NESTED)?;
+    let told = each_its_own(&rt, rt.alloc(), &plans);
+    drop(plans);
+    told
+}
+
+fn each_its_own<R: Abort>(rt: &R, alloc: Global, plans: &Plans) -> Result<(), Fail>
+    requires { length plans.now.plans ≡ 1 }
+{
     let plan = plans.plan(Cpu(0));
     assert_eq!(rt; (plans.lives().len(), plan.len()), (3, 9));
     assert_eq!(rt;

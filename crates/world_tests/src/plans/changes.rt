@@ -43,11 +43,12 @@ fn change(at: Ns, minus: Option<Counts>, plus: Option<Counts>, runs: bool) -> Ch
         plus: plus.map(|counts| (root, counts)),
         current: if runs { Some((root, false)) } else { None },
         irq: 0,
-        gate: None,
+        account: None,
     }
 }
 
-// The wake changes both processors, and each has its own changes alone. A switch that changes no count is a change too.
+// The wake changes both processors, and each has its own changes alone. A switch that changes no
+// count is a change too.
 #[test]
 fn changes_of_each_processor(rt: HostRuntime) -> Result<(), Fail> {
     let alloc = rt.alloc();

@@ -5,8 +5,8 @@ use proc_plan::{PlainClocks, Plans, ProcClocks};
 use psi_base::{Cpu, Slot};
 use std::test::Fail;
 
-// The words of the root's clock: the times of IO some and full, memory some and full, CPU some and full and nonidle, the mask
-// with a bit for each in this order, and the start.
+// The words of the root's clock: the times of IO some and full, memory some and full, CPU some and
+// full and nonidle, the mask with a bit for each in this order, and the start.
 #[test]
 fn clocks_of_the_root(rt: HostRuntime) -> Result<(), Fail> {
     let alloc = rt.alloc();

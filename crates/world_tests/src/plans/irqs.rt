@@ -2,15 +2,16 @@
 
 ghost use Rattle.std.specs.Prelude.{◌≡◌, length};
 
-use crate::events::{INTERRUPTS, events_of};
+use crate::events::{INTERRUPTS, plans_of};
 use crate::walk::clocks_after;
-use proc_plan::{IrqClocks, PlainClocks, Plan, Plans, ProcClocks};
+use proc_plan::{IrqClocks, Plan, Plans, ProcClocks};
 use psi_base::{Cpu, NoMemory, Slot};
 use std::alloc::Global;
+use std::process::Abort;
 use std::test::Fail;
 
-/// The root has /a, /a/b and /c. A task of /a/b runs on the first processor, moves to /c, goes to the second processor and exits
-/// there.
+/// The root has /a, /a/b and /c. A task of /a/b runs on the first processor, moves to /c, goes to
+/// the second processor and exits there.
 const LINES: [&[u8]; 21] = [
     b"0 group /a",
     b"0 group /a/b",
@@ -35,7 +36,8 @@ const LINES: [&[u8]; 21] = [
     b"8000 end",
 ];
 
-// For how long (ns) interrupts took from the root, /a, /a/b and /c, by so many changes of a plan, or by all that it has.
+// For how long (ns) interrupts took from the root, /a, /a/b and /c, by so many changes of a plan,
+// or by all that it has.
 fn irqs_after(alloc: Global, plan: &Plan, changes: u64) -> Result<[u64; 4], NoMemory>
     requires { length plan.now.parents ≡ 4 }
 {
@@ -48,13 +50,18 @@ fn irqs_after(alloc: Global, plan: &Plan, changes: u64) -> Result<[u64; 4], NoMe
     ])
 }
 
-// A change that tells of interrupts counts for the group of the task that runs then and for all above it, and for none where the
-// processor idles. What a task's groups got stays with them when it moves, goes elsewhere or exits.
+// A change that tells of interrupts counts for the group of the task that runs then and for all
+// above it, and for none where the processor idles. What a task's groups got stays with them when
+// it moves, goes elsewhere or exits.
 #[test]
 fn interrupts_of_each_processor(rt: HostRuntime) -> Result<(), Fail> {
-    let alloc = rt.alloc();
-    let events = events_of(alloc, &LINES)?;
-    let plans = Plans::build(alloc, 2, 8000, &events)?;
+    let plans = plans_of(rt.alloc(), 2, 8000, &LINES)?;
+    let told = count_for_each(&rt, rt.alloc(), &plans);
+    drop(plans);
+    told
+}
+
+fn count_for_each<R: Abort>(rt: &R, alloc: Global, plans: &Plans) -> Result<(), Fail> {
     assert_eq!(rt; plans.lives().len(), 4);
     let rows: [(u32, u64, [u64; 4]); 16] = [
         // The task comes and starts to run.
@@ -89,12 +96,30 @@ fn interrupts_of_each_processor(rt: HostRuntime) -> Result<(), Fail> {
     Ok(())
 }
 
-// The clocks tell the same however often they are asked, and asking changes nothing of what they have made.
+// For how long (ns) interrupts took from the root by so many changes of a plan that has it alone,
+// by two looks at its clocks, and how many changes these have made then.
+fn root_after(alloc: Global, plan: &Plan, changes: u64) -> Result<(u64, u64, u64), NoMemory>
+    requires { length plan.now.parents ≡ 1 }
+{
+    let mut clocks = clocks_after(alloc, plan, 1, changes.min(plan.len()))?;
+    let first = clocks.own_irq(Slot(0));
+    let second = clocks.own_irq(Slot(0));
+    Ok((first, second, clocks.count()))
+}
+
+// The clocks say the same however often they are asked, and asking changes nothing of what they
+// have made.
 #[test]
 fn interrupts_of_the_root(rt: HostRuntime) -> Result<(), Fail> {
-    let alloc = rt.alloc();
-    let events = events_of(alloc, &INTERRUPTS)?;
-    let plans = Plans::build(alloc, 1, 2_000_000_000, &events)?;
+    let plans = plans_of(rt.alloc(), 1, 2_000_000_000, &INTERRUPTS)?;
+    let told = count_for_the_root(&rt, rt.alloc(), &plans);
+    drop(plans);
+    told
+}
+
+fn count_for_the_root<R: Abort>(rt: &R, alloc: Global, plans: &Plans) -> Result<(), Fail>
+    requires { length plans.now.plans ≡ 1 }
+{
     let plan = plans.plan(Cpu(0));
     assert_eq!(rt; plans.lives().len(), 1);
     assert_eq!(rt; plan.len(), 5);
@@ -106,15 +131,7 @@ fn interrupts_of_the_root(rt: HostRuntime) -> Result<(), Fail> {
     assert_eq!(rt; plan.change(4).irq, 0);
     assert_eq!(rt; plan.change(5).irq, 500_000_000);
     assert_eq!(rt; plan.change(5).current, None);
-    let mut clocks = PlainClocks::make(alloc, plan, 1)?;
-    assert_eq!(rt; clocks.own_irq(Slot(0)), 0);
-    clocks.apply();
-    clocks.apply();
-    clocks.apply();
-    clocks.apply();
-    clocks.apply();
-    assert_eq!(rt; clocks.own_irq(Slot(0)), 250_000_000);
-    assert_eq!(rt; clocks.own_irq(Slot(0)), 250_000_000);
-    assert_eq!(rt; clocks.count(), 5);
+    assert_eq!(rt; root_after(alloc, plan, 0)?, (0, 0, 0));
+    assert_eq!(rt; root_after(alloc, plan, 5)?, (250_000_000, 250_000_000, 5));
     Ok(())
 }

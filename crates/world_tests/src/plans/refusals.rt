@@ -5,8 +5,8 @@ use proc_plan::Plans;
 use psi_base::{Cause, Fault, Refusal};
 use std::test::Fail;
 
-/// Traces of one processor up to 1,000 ns, by their lines from the second on. Each has the first line against which a cause
-/// stands, and the cause.
+/// Traces of one processor up to 1,000 ns, by their lines from the second on. Each has the first
+/// line against which a cause stands, and the cause.
 const ROWS: [(&[&[u8]], u32, Cause); 12] = [
     (&[b"1 fork 1 /a 0", b"2 end"], 2, Cause::UnknownGroup),
     (&[b"1 fork 1 / 1", b"2 end"], 2, Cause::BadCpu),

@@ -12,8 +12,8 @@ const ROOT: Slot = Slot(0);
 /// The root's clock after three of its changes: a task waits for IO, beside which nothing runs.
 const WAITING: [u64; 9] = [0, 0, 0, 0, 0, 0, 500_000_000, 0b100_0011, 500_000_000];
 
-// The writer's own clock is what each reader samples. One that was made after the changes has seen them; one that was made before
-// and met nobody samples the same.
+// The writer's own clock is what each reader samples. One that was made after the changes has seen
+// them; one that was made before and met nobody samples the same.
 #[test]
 fn one_slot_after_three_changes(rt: HostRuntime) -> Result<(), Fail> {
     let events = events_of(rt.alloc(), &WAITS)?;
@@ -47,7 +47,8 @@ const TURNS: [&[u8]; 6] = [
     b"2000000000 end",
 ];
 
-// The last switch leaves the root's states, so its clock starts where it did before; that of the group turns.
+// The last switch leaves the root's states, so its clock starts where it did before; that of the
+// group turns.
 #[test]
 fn all_slots_at_one_count(rt: HostRuntime) -> Result<(), Fail> {
     let events = events_of(rt.alloc(), &TURNS)?;

@@ -2,11 +2,12 @@
 
 ghost use Rattle.std.specs.Prelude.{◌≡◌, ◌≤◌, length};
 
-use crate::events::{INTERRUPTS, events_of};
+use crate::events::{INTERRUPTS, plans_of};
 use crate::rows::shown::{Shown, show, writer_after};
 use proc_plan::{IrqClocks, Plan, Plans};
 use psi_base::{Cpu, NoMemory, Slot};
 use std::alloc::Global;
+use std::process::Abort;
 use std::test::Fail;
 
 const ROOT: Slot = Slot(0);
@@ -14,18 +15,35 @@ const ROOT: Slot = Slot(0);
 /// The root's clock while the task runs: interrupts don't move it.
 const RUNNING: [u64; 9] = [0, 0, 0, 0, 0, 0, 0, 0b100_0000, 0];
 
-// Only the interrupts beside a running task count. They are no words of the row: its clock stays, and the change is seen.
+// The root's interrupt time (ns) by a writer that made so many changes of a plan that has the root
+// alone, and what the two ends of its row show of it.
+fn shown_after(alloc: Global, plan: &Plan, changes: u64) -> Result<(u64, Shown), NoMemory>
+    requires root { 1 ≡ length plan.now.parents }
+    requires changes { changes ≤ length plan.now.changes }
+{
+    let (mut writer, mut reader) = writer_after(alloc, plan, 1, changes)?;
+    let irq = writer.own_irq(ROOT);
+    Ok((irq, show(&mut writer, &mut reader, ROOT)))
+}
+
+// Only the interrupts beside a running task count. They are no words of the row: its clock stays,
+// and the change is seen.
 #[test]
 fn interrupts_of_the_root(rt: HostRuntime) -> Result<(), Fail> {
-    let events = events_of(rt.alloc(), &INTERRUPTS)?;
-    let plans = Plans::build(rt.alloc(), 1, 2_000_000_000, &events)?;
+    let plans = plans_of(rt.alloc(), 1, 2_000_000_000, &INTERRUPTS)?;
+    let told = beside_a_task_alone(&rt, rt.alloc(), &plans);
+    drop(plans);
+    told
+}
+
+fn beside_a_task_alone<R: Abort>(rt: &R, alloc: Global, plans: &Plans) -> Result<(), Fail>
+    requires { length plans.now.plans ≡ 1 }
+{
     let plan = plans.plan(Cpu(0));
     assert_eq!(rt; plans.lives().len(), 1);
     assert_eq!(rt; plan.len(), 5);
-    let (mut last, _reader) = writer_after(rt.alloc(), plan, 1, 5)?;
-    assert_eq!(rt; last.own_irq(ROOT), 250_000_000);
-    let (mut writer, mut reader) = writer_after(rt.alloc(), plan, 1, 3)?;
-    assert_eq!(rt; writer.own_irq(ROOT), 250_000_000);
+    let (last, _) = shown_after(alloc, plan, 5)?;
+    assert_eq!(rt; last, 250_000_000);
     let want = Shown {
         made: 3,
         own: RUNNING,
@@ -33,11 +51,12 @@ fn interrupts_of_the_root(rt: HostRuntime) -> Result<(), Fail> {
         sampled: Some((3, RUNNING)),
         seen_then: 3,
     };
-    assert_eq!(rt; show(&mut writer, &mut reader, ROOT), want);
+    assert_eq!(rt; shown_after(alloc, plan, 3)?, (250_000_000, want));
     Ok(())
 }
 
-/// Interrupts beside a task in a group below another, beside one that moves to the root, and beside none.
+/// Interrupts beside a task in a group below another, beside one that moves to the root, and beside
+/// none.
 const GROUPS: [&[u8]; 14] = [
     b"0 group /a",
     b"0 group /a/b",
@@ -72,15 +91,22 @@ fn irqs_after(alloc: Global, plan: &Plan, changes: u64) -> Result<[u64; 4], NoMe
 // A group has the interrupts of the tasks in it and below it, and keeps them when a task goes.
 #[test]
 fn interrupts_of_groups(rt: HostRuntime) -> Result<(), Fail> {
-    let events = events_of(rt.alloc(), &GROUPS)?;
-    let plans = Plans::build(rt.alloc(), 1, 2_000_000_000, &events)?;
+    let plans = plans_of(rt.alloc(), 1, 2_000_000_000, &GROUPS)?;
+    let told = keep_theirs(&rt, rt.alloc(), &plans);
+    drop(plans);
+    told
+}
+
+fn keep_theirs<R: Abort>(rt: &R, alloc: Global, plans: &Plans) -> Result<(), Fail>
+    requires { length plans.now.plans ≡ 1 }
+{
     let plan = plans.plan(Cpu(0));
     assert_eq!(rt; plans.lives().len(), 4);
     assert_eq!(rt; plan.len(), 10);
-    assert_eq!(rt; irqs_after(rt.alloc(), plan, 3)?, [0, 0, 0, 0]);
-    assert_eq!(rt; irqs_after(rt.alloc(), plan, 4)?, [5, 5, 5, 0]);
-    assert_eq!(rt; irqs_after(rt.alloc(), plan, 6)?, [8, 5, 5, 3]);
-    assert_eq!(rt; irqs_after(rt.alloc(), plan, 8)?, [15, 5, 5, 3]);
-    assert_eq!(rt; irqs_after(rt.alloc(), plan, 10)?, [15, 5, 5, 3]);
+    assert_eq!(rt; irqs_after(alloc, plan, 3)?, [0, 0, 0, 0]);
+    assert_eq!(rt; irqs_after(alloc, plan, 4)?, [5, 5, 5, 0]);
+    assert_eq!(rt; irqs_after(alloc, plan, 6)?, [8, 5, 5, 3]);
+    assert_eq!(rt; irqs_after(alloc, plan, 8)?, [15, 5, 5, 3]);
+    assert_eq!(rt; irqs_after(alloc, plan, 10)?, [15, 5, 5, 3]);
     Ok(())
 }

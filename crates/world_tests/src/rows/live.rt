@@ -31,7 +31,8 @@ fn lines(alloc: Global) -> Result<Vec<String>, NoMemory> {
     Ok(lines)
 }
 
-// Each sample is the clock of one thread after as many changes, and counts never fall. The reader ends once it has seen all.
+// Each sample is the clock of one thread after as many changes, and counts never fall. The reader
+// ends once it has seen all.
 #[test]
 fn samples_beside_the_writer(rt: HostRuntime) -> Result<(), Fail> {
     let group = Slot(1);

@@ -8,7 +8,8 @@ use psi_base::{NoMemory, Slot};
 use std::alloc::Global;
 use std::thread::{Threads, join, yield_now};
 
-/// After so many changes the writer lets another thread run, so that the two take turns on one processor too.
+/// After so many changes the writer lets another thread run, so that the two take turns on one
+/// processor too.
 const CHANGES_IN_A_TURN: u64 = 512;
 
 /// How often the reader tries, whatever the writer does meanwhile.
@@ -51,8 +52,8 @@ fn sampled(alloc: Global, mut reader: ClockReader, slot: Slot, all: u64) -> Vec<
     samples
 }
 
-/// A writer makes so many changes of a plan in one thread, while a reader in another samples a slot. How many changes were
-/// made, and the samples.
+/// A writer makes so many changes of a plan in one thread, while a reader in another samples a
+/// slot. How many changes were made, and the samples.
 pub fn beside<R: Threads + Sync>(
     rt: &R,
     alloc: Global,

@@ -6,8 +6,9 @@ use std::alloc::Global;
 use std::test::Fail;
 use task_table::Table;
 
-/// One trace of two processors up to 1,000 ns. Each line has its cause behind it, and a refused one leaves the table as
-/// it was. Where two causes stand against a line, the earlier in the order of causes is the one.
+/// One trace of two processors up to 1,000 ns. Each line has its cause behind it, and a refused one
+/// leaves the table as it was. Where two causes stand against a line, the earlier in the order of
+/// causes is the one.
 const LINES: &str = "5 fork 1 / 0 | ok;\
     4 fork 2 / 0 | TimeBack;\
     4 fork 1 / 2 | TimeBack;\
@@ -81,8 +82,8 @@ const LINES: &str = "5 fork 1 / 0 | ok;\
     1000 end | AfterEnd;\
     4 fork 1 / 2 | AfterEnd";
 
-/// One trace of two processors up to 4 s with `irq` lines, told as above. Each is measured from the last one of its processor,
-/// whatever stands between them.
+/// One trace of two processors up to 4 s with `irq` lines, told as above. Each is measured from the
+/// last one of its processor, whatever stands between them.
 const IRQ_LINES: &str = "5 irq 2 6 | BadCpu;\
     5 irq 2 1000000001 | BadCpu;\
     5 irq 0 6 | IrqTooLong;\
@@ -106,7 +107,8 @@ const IRQ_LINES: &str = "5 irq 2 6 | BadCpu;\
     2000000014 end | ok;\
     2000000014 irq 0 0 | AfterEnd";
 
-/// One trace of two processors up to 1,000 ns with `pressure` lines, told as above. Switching an account to what it is is legal.
+/// One trace of two processors up to 1,000 ns with `pressure` lines, told as above. Switching an
+/// account to what it is is legal.
 const PRESSURE_LINES: &str = "5 pressure /x on | UnknownGroup;\
     5 pressure / off | RootPressure;\
     5 pressure / on | RootPressure;\

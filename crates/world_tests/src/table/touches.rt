@@ -7,13 +7,15 @@ use std::alloc::Global;
 use std::test::Fail;
 use task_table::Table;
 
-/// A task of one group is in a stall, sleeps, wakes elsewhere, migrates, moves and exits. A wake or a migration from one
-/// processor to another changes both, and one that stays, or a move that stays, is a change too. So are interrupts.
+/// A task of one group is in a stall, sleeps, wakes elsewhere, migrates, moves and exits. A wake or
+/// a migration from one processor to another changes both, and one that stays, or a move that
+/// stays, is a change too. So are interrupts.
 ///
-/// Behind a line stands each processor that it changes: its number, the task that is taken from the chain of a slot
-/// there, the task that is added to one, and afterwards the slot of the running task. Before each task stands the slot of
-/// its group. A task is `a` blocked, `w` waiting for IO, `r` ready or running, and in a stall `A` or `R`. A running task
-/// is `!` in a stall, and else `=`. Behind a `+` stands what interrupts took there (ns). Where an account is switched, the slot of
+/// Behind a line stands each processor that it changes: its number, the task that is taken from the
+/// chain of a slot there, the task that is added to one, and afterwards the slot of the running
+/// task. Before each task stands the slot of its group. A task is `a` blocked, `w` waiting for IO,
+/// `r` ready or running, and in a stall `A` or `R`. A running task is `!` in a stall, and else `=`.
+/// Behind a `+` stands what interrupts took there (ns). Where an account is switched, the slot of
 /// the group stands alone, with `on` or `off`: that is so on each processor.
 const LINES: &str = "1 group /a;\
     1 fork 1 /a 0 | 0 .. 1r ..;\
@@ -81,13 +83,13 @@ fn change(at: Ns, told: &str) -> Option<(Cpu, Change)> {
             .bytes()
             .next()
             .map_or(0, |digit| u64::from(number(digit))),
-        gate: None,
+        account: None,
     };
     Some((Cpu(number(*cpu)), change))
 }
 
-/// The gate of an account that is switched, if one is.
-fn gate(told: &str) -> Option<(Slot, bool)> {
+/// The account that is switched, if one is.
+fn account(told: &str) -> Option<(Slot, bool)> {
     match told.as_bytes() {
         [slot, b' ', b'o', b'n'] => Some((Slot(number(*slot)), true)),
         [slot, b' ', b'o', b'f', b'f'] => Some((Slot(number(*slot)), false)),
@@ -105,7 +107,7 @@ fn is_so(alloc: Global, table: &mut Table, row: &str) -> bool {
     let want = Touch {
         first: change(event.at, first),
         second: change(event.at, second),
-        gate: gate(told),
+        account: account(told),
     };
     match table.step(&event) {
         Ok(touch) => touch == want,

@@ -1,5 +1,5 @@
 use Rattle.std.proofs.Common.{◌+◌, ◌-◌, ◌≡◌, ◌≤◌, ℕ, List, length, take, Some}
-use Rattle.psi_base.specs.Outside.{Lacks, told}
+use Rattle.outside.specs.Outside.{Lacks, told}
 use Rattle.file_reader.proofs.front.fill.Given as goal
 
 abbrev pub invariant-reads : goal.invariant-reads

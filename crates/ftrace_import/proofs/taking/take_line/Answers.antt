@@ -1,7 +1,7 @@
 use Rattle.std.proofs.Common.{◌≡◌, [], refl, subst, sym, Some, None}
 use Rattle.std.specs.Prelude.{Ok, Err, Result}
 use Rattle.std.proofs.lemmas.List.{append-nil}
-use Rattle.import_spec.specs.Events.{Given}
+use Rattle.import_spec.specs.Events.{GivenLine}
 use Rattle.import_spec.specs.Marked.{read_line}
 use Rattle.import_spec.specs.declared.cause.ImportCause.{ImportCause}
 use Rattle.ftrace_import.specs.Deeds.{events_by}
@@ -18,7 +18,7 @@ take_sighting-requires-clause-seen c =
 pub returns-in-Ok-Some : goal.returns-in-Ok-Some
 returns-in-Ok-Some c =
     let is : read_line c.args.line.now ≡ Ok (Some c.in-Ok-Some.sighting) = cc in
-    subst (λ (r : Result Given ImportCause). TakesLine r c.args.g.now c.take_sighting.new.g c.take_sighting.result) (sym (take_told c.args.g.now.cpus (reached_in c.args.g.now) c.args.line.now c.in-Ok-Some.sighting (sym is))) c.take_sighting.ensures
+    subst (λ (r : Result GivenLine ImportCause). TakesLine r c.args.g.now c.take_sighting.new.g c.take_sighting.result) (sym (take_told c.args.g.now.cpus (reached_in c.args.g.now) c.args.line.now c.in-Ok-Some.sighting (sym is))) c.take_sighting.ensures
 
 pub returns-in-Ok-None : goal.returns-in-Ok-None
 returns-in-Ok-None c =

@@ -1,4 +1,4 @@
-use Rattle.psi_base.specs.Outside.{told}
+use Rattle.outside.specs.Outside.{told}
 use Rattle.ftrace_import.proofs.Texts as laws
 use Rattle.ftrace_import.proofs.text.gather.Goals as goal
 

@@ -1,5 +1,5 @@
 use Rattle.std.proofs.Common.{◌≡◌, ◌+◌, ◌-◌, ◌≤◌, []}
-use Rattle.psi_base.specs.Outside.{Lacks, told}
+use Rattle.outside.specs.Outside.{Lacks, told}
 use Rattle.psi_lines.specs.Lines.{left}
 use Rattle.ftrace_import.proofs.Texts.{SoFar}
 use Rattle.ftrace_import.proofs.text.take_lines.Given as goal

@@ -1,5 +1,5 @@
 use Rattle.std.proofs.Common.{refl}
-use Rattle.psi_base.specs.Outside.{told}
+use Rattle.outside.specs.Outside.{told}
 use Rattle.psi_lines.specs.Lines.{left}
 use Rattle.ftrace_import.specs.Gathers.{reached_in}
 use Rattle.ftrace_import.proofs.Texts as laws

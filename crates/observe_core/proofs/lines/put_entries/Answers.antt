@@ -1,7 +1,7 @@
 use Rattle.std.proofs.Common.{ap, arith, get_or, subst, sym, ◌∙◌}
 use Rattle.std.specs.Io.KnownBytes.{Appends}
-use Rattle.psi_base.specs.Outside.{AppendsFront}
-use Rattle.psi_base.proofs.Grows.{Appends-then, AppendsFront-then, PutsAll-failed, flat_map-at}
+use Rattle.outside.specs.Outside.{AppendsFront}
+use Rattle.outside.proofs.Grows.{Appends-then, AppendsFront-then, PutsAll-failed, flat_map-at}
 use Rattle.run_laws.proofs.Pieces.{taken_more}
 use Rattle.observer_log.specs.declared.entry.Entry.{Entry}
 use Rattle.observe_core.specs.Printed.{entry_line}

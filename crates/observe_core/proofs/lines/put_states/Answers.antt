@@ -1,6 +1,6 @@
 use Rattle.std.proofs.Common.{arith, subst, sym, ◌∙◌}
 use Rattle.std.specs.Io.KnownBytes.{Appends}
-use Rattle.psi_base.proofs.Grows.{Appends-then, AppendsFront-then, PutsAll-failed}
+use Rattle.outside.proofs.Grows.{Appends-then, AppendsFront-then, PutsAll-failed}
 use Rattle.observer_log.specs.declared.board.BoardState.{BoardState}
 use Rattle.observe_core.proofs.PrintedStates.{states_at, states_more}
 use Rattle.observe_core.proofs.lines.put_states.Goals as goal

@@ -1,7 +1,7 @@
 use Rattle.std.proofs.Common.{take}
 use Rattle.std.specs.Prelude.{Ok}
 use Rattle.std.specs.Io.KnownBytes.{Appends}
-use Rattle.psi_base.specs.Outside.{HasCause, StaysOver}
+use Rattle.outside.specs.Outside.{HasCause, StaysOver}
 use Rattle.observe_core.specs.Printed.{states_text}
 use Rattle.observe_core.proofs.lines.put_states.Given as goal
 

@@ -1,12 +1,12 @@
-use Rattle.std.proofs.Common.{◌∙◌, List, ℕ, ap, refl, subst, sym}
+use Rattle.std.proofs.Common.{◌∙◌, List, Some, ℕ, ap, refl, subst, sym}
 use Rattle.run_spec.specs.Replay.{tick_count}
 use Rattle.observer_log.specs.declared.entry.Entry.{Entry}
 use Rattle.observer_log.specs.Entries.{AreOwn, list_of}
 use Rattle.observe_spec.specs.Observed.{IsObservedText}
-use Rattle.observe_spec.specs.Run.{pace_on}
+use Rattle.observe_spec.specs.Run.{options_on, pace_on}
 use Rattle.observe_core.specs.Driving.{IsToBegin}
 use Rattle.observe_core.specs.Printed.{printed}
-use Rattle.observe_core.proofs.StartLaws.{begun, boards_are, parts_are, reached_first, setting_of, some_asked}
+use Rattle.observe_core.proofs.StartLaws.{begun, boards_are, parts_are, reached_first, setting_of}
 use Rattle.observe_core.proofs.TextLaws.{are_own, whole_text}
 use Rattle.observe_core.proofs.TickLaws.{some_replay}
 use Rattle.observe_core.proofs.observed.observe_trace.Goals as goal
@@ -17,10 +17,10 @@ make_observers-requires-clause-replay g c =
     let path = c.args.request.now.path in
     let set = setting_of c.args.plans.now c.in_ok-replay.replay c.in_ok-board.board planned.0 path in
     some_replay set 0 c.in_ok-replay.replay
-    (reached_first c.in_ok-options.options c.in_ok-replay.replay c.args.plans.now c.in_ok-board.board planned.0 c.args.version path c.in_ok-options.ensures c.in_ok-replay.ensures.plans planned.1 c.in_ok-replay.ensures.replay)
+    (reached_first (options_on (Some path)) c.in_ok-replay.replay c.args.plans.now c.in_ok-board.board planned.0 c.args.version path refl c.in_ok-replay.ensures.plans planned.1 c.in_ok-replay.ensures.replay)
 
 pub make_observers-requires-clause-rows : goal.make_observers-requires-clause-rows
-make_observers-requires-clause-rows g c = c.in_ok-replay.ensures.rows (some_asked c.in_ok-options.options c.args.request.now.path c.in_ok-options.ensures)
+make_observers-requires-clause-rows g c = c.in_ok-replay.ensures.rows
 
 pub all_ticks-requires-clause-begin : goal.all_ticks-requires-clause-begin
 all_ticks-requires-clause-begin g c κs within =
@@ -28,8 +28,8 @@ all_ticks-requires-clause-begin g c κs within =
     let path = c.args.request.now.path in
     let set = setting_of c.args.plans.now c.in_ok-replay.replay c.in_ok-board.board planned.0 path in
     let begin =
-    begun c.in_ok-options.options c.in_ok-replay.replay c.make_observers.new.replay c.args.plans.now c.in_ok-board.board planned.0 c.args.version path c.in_ok-observers.observers.items c.args.request.now.observers
-    c.in_ok-options.ensures c.in_ok-replay.ensures.plans planned.1 c.in_ok-replay.ensures.replay c.in_ok-observers.ensures.same c.in_ok-observers.ensures.many c.in_ok-observers.ensures.new in
+    begun (options_on (Some path)) c.in_ok-replay.replay c.make_observers.new.replay c.args.plans.now c.in_ok-board.board planned.0 c.args.version path c.in_ok-observers.observers.items c.args.request.now.observers
+    refl c.in_ok-replay.ensures.plans planned.1 c.in_ok-replay.ensures.replay c.in_ok-observers.ensures.same c.in_ok-observers.ensures.many c.in_ok-observers.ensures.new in
     let is : IsToBegin c.in_ok-board.board c.make_observers.new.replay c.in_ok-observers.observers.items = (set, refl, begin) in is
 
 pub end_all-requires-clause-board : goal.end_all-requires-clause-board
@@ -38,8 +38,8 @@ end_all-requires-clause-board g c =
     let path = c.args.request.now.path in
     let set = setting_of c.args.plans.now c.in_ok-replay.replay c.in_ok-board.board planned.0 path in
     let begin =
-    begun c.in_ok-options.options c.in_ok-replay.replay c.make_observers.new.replay c.args.plans.now c.in_ok-board.board planned.0 c.args.version path c.in_ok-observers.observers.items c.args.request.now.observers
-    c.in_ok-options.ensures c.in_ok-replay.ensures.plans planned.1 c.in_ok-replay.ensures.replay c.in_ok-observers.ensures.same c.in_ok-observers.ensures.many c.in_ok-observers.ensures.new in
+    begun (options_on (Some path)) c.in_ok-replay.replay c.make_observers.new.replay c.args.plans.now c.in_ok-board.board planned.0 c.args.version path c.in_ok-observers.observers.items c.args.request.now.observers
+    refl c.in_ok-replay.ensures.plans planned.1 c.in_ok-replay.ensures.replay c.in_ok-observers.ensures.same c.in_ok-observers.ensures.many c.in_ok-observers.ensures.new in
     let all = c.in_ok-observers-2.ensures.observed set refl begin in
     boards_are set (tick_count set.trace set.pace) c.in_ok-observers-2.observers.items all
 
@@ -49,8 +49,8 @@ end_all-requires-clause-parts g c =
     let path = c.args.request.now.path in
     let set = setting_of c.args.plans.now c.in_ok-replay.replay c.in_ok-board.board planned.0 path in
     let begin =
-    begun c.in_ok-options.options c.in_ok-replay.replay c.make_observers.new.replay c.args.plans.now c.in_ok-board.board planned.0 c.args.version path c.in_ok-observers.observers.items c.args.request.now.observers
-    c.in_ok-options.ensures c.in_ok-replay.ensures.plans planned.1 c.in_ok-replay.ensures.replay c.in_ok-observers.ensures.same c.in_ok-observers.ensures.many c.in_ok-observers.ensures.new in
+    begun (options_on (Some path)) c.in_ok-replay.replay c.make_observers.new.replay c.args.plans.now c.in_ok-board.board planned.0 c.args.version path c.in_ok-observers.observers.items c.args.request.now.observers
+    refl c.in_ok-replay.ensures.plans planned.1 c.in_ok-replay.ensures.replay c.in_ok-observers.ensures.same c.in_ok-observers.ensures.many c.in_ok-observers.ensures.new in
     let all = c.in_ok-observers-2.ensures.observed set refl begin in
     parts_are set (tick_count set.trace set.pace) c.in_ok-observers-2.observers.items all
 
@@ -60,8 +60,8 @@ ordered-requires-clause-own g c =
     let path = c.args.request.now.path in
     let set = setting_of c.args.plans.now c.in_ok-replay.replay c.in_ok-board.board planned.0 path in
     let begin =
-    begun c.in_ok-options.options c.in_ok-replay.replay c.make_observers.new.replay c.args.plans.now c.in_ok-board.board planned.0 c.args.version path c.in_ok-observers.observers.items c.args.request.now.observers
-    c.in_ok-options.ensures c.in_ok-replay.ensures.plans planned.1 c.in_ok-replay.ensures.replay c.in_ok-observers.ensures.same c.in_ok-observers.ensures.many c.in_ok-observers.ensures.new in
+    begun (options_on (Some path)) c.in_ok-replay.replay c.make_observers.new.replay c.args.plans.now c.in_ok-board.board planned.0 c.args.version path c.in_ok-observers.observers.items c.args.request.now.observers
+    refl c.in_ok-replay.ensures.plans planned.1 c.in_ok-replay.ensures.replay c.in_ok-observers.ensures.same c.in_ok-observers.ensures.many c.in_ok-observers.ensures.new in
     let all = c.in_ok-observers-2.ensures.observed set refl begin in
     let lists = c.deref.ensures.value ∙ c.in_ok-ended.ensures.own in
     subst AreOwn (sym lists) (are_own set (tick_count set.trace set.pace) c.in_ok-observers-2.observers.items all)
@@ -72,8 +72,8 @@ returns-clause-observed g c = λ trace planned.
     let path = c.args.request.now.path in
     let set = setting_of c.args.plans.now c.in_ok-replay.replay c.in_ok-board.board trace path in
     let begin =
-    begun c.in_ok-options.options c.in_ok-replay.replay c.make_observers.new.replay c.args.plans.now c.in_ok-board.board trace c.args.version path c.in_ok-observers.observers.items c.args.request.now.observers
-    c.in_ok-options.ensures c.in_ok-replay.ensures.plans planned c.in_ok-replay.ensures.replay c.in_ok-observers.ensures.same c.in_ok-observers.ensures.many c.in_ok-observers.ensures.new in
+    begun (options_on (Some path)) c.in_ok-replay.replay c.make_observers.new.replay c.args.plans.now c.in_ok-board.board trace c.args.version path c.in_ok-observers.observers.items c.args.request.now.observers
+    refl c.in_ok-replay.ensures.plans planned c.in_ok-replay.ensures.replay c.in_ok-observers.ensures.same c.in_ok-observers.ensures.many c.in_ok-observers.ensures.new in
     let all = c.in_ok-observers-2.ensures.observed set refl begin in
     let shown = c.in_ok-observers-2.ensures.shown set refl begin in
     let lists = c.deref.ensures.value ∙ c.in_ok-ended.ensures.own in

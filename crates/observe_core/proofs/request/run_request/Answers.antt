@@ -1,5 +1,5 @@
 use Rattle.run_spec.specs.Run.{run_counts}
-use Rattle.psi_base.specs.Outside.{told}
+use Rattle.outside.specs.Outside.{told}
 use Rattle.observe_core.specs.Asked.{request_in}
 use Rattle.observe_core.proofs.RunLaws.{planned_for, runs_observed, takes_trace}
 use Rattle.observe_core.proofs.request.run_request.Goals as goal

@@ -1,5 +1,5 @@
 use Rattle.std.proofs.Common.{arith, rules}
-use Rattle.psi_base.proofs.Buffered.{put_failed, puts_flushed}
+use Rattle.outside.proofs.Buffered.{put_failed, puts_flushed}
 use Rattle.observe_core.proofs.request.send.Goals as goal
 
 pub returns-in-Ok-clause-bytes : goal.returns-in-Ok-clause-bytes

@@ -1,4 +1,4 @@
-use Rattle.psi_base.proofs.Grows.{PutsAll-failed}
+use Rattle.outside.proofs.Grows.{PutsAll-failed}
 use Rattle.pressure_text.proofs.Puts.{front_of_both, puts_then}
 use Rattle.pressure_text.proofs.file.write_irq.Goals as goal
 

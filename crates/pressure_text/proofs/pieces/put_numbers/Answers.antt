@@ -1,5 +1,5 @@
 use Rattle.std.proofs.Common.{arith}
-use Rattle.psi_base.proofs.Grows.{AppendsFront-then, PutsAll-failed, flat_map-at}
+use Rattle.outside.proofs.Grows.{AppendsFront-then, PutsAll-failed, flat_map-at}
 use Rattle.pressure_text.specs.Pieces.{spaced_number}
 use Rattle.pressure_text.proofs.pieces.put_numbers.Goals as goal
 

@@ -1,5 +1,5 @@
 use Rattle.std.proofs.Common.{arith}
-use Rattle.psi_base.proofs.Grows.{AppendsFront-then, PutsAll-failed, flat_map-at}
+use Rattle.outside.proofs.Grows.{AppendsFront-then, PutsAll-failed, flat_map-at}
 use Rattle.pressure_text.specs.Pieces.{piece_bytes}
 use Rattle.pressure_text.specs.declared.pieces.Piece.TheVariants.{Number}
 use Rattle.pressure_text.proofs.pieces.put_pieces.Goals as goal

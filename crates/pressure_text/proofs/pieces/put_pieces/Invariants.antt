@@ -2,7 +2,7 @@ use Rattle.std.proofs.Common.{take}
 use Rattle.std.specs.Prelude.{Ok}
 use Rattle.std.specs.List.{flat_map}
 use Rattle.std.specs.Io.KnownBytes.{Appends}
-use Rattle.psi_base.specs.Outside.{HasCause, StaysOver}
+use Rattle.outside.specs.Outside.{HasCause, StaysOver}
 use Rattle.pressure_text.specs.Pieces.{piece_bytes}
 use Rattle.pressure_text.proofs.pieces.put_pieces.Given as goal
 

@@ -1,4 +1,4 @@
-use Rattle.psi_counts.proofs.TouchLaws as laws
+use Rattle.psi_counts.proofs.RunnerLaws as laws
 use Rattle.psi_counts.proofs.touches.law_current_tells.Goals as goal
 
 pub returns : goal.returns

@@ -1,4 +1,4 @@
-use Rattle.psi_counts.proofs.TouchLaws as laws
+use Rattle.psi_counts.proofs.RunnerLaws as laws
 use Rattle.psi_counts.proofs.touches.law_runs_once.Goals as goal
 
 pub returns-clause-first : goal.returns-clause-first

@@ -1,6 +1,6 @@
 use Rattle.std.proofs.Common.{◌≡◌, ℕ, ◌+◌, ◌-◌, ◌≤◌, [], length, List, ◌++◌, drop}
 use Rattle.std.specs.Prelude.{Some}
-use Rattle.psi_base.specs.Outside.{told, Lacks}
+use Rattle.outside.specs.Outside.{told, Lacks}
 use Rattle.psi_lines.specs.Next.{ReadsOn, TellsLine}
 use Rattle.psi_lines.proofs.lines.find_line.Given as goal
 

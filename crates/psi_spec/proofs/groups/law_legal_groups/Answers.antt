@@ -1,4 +1,4 @@
-use Rattle.psi_spec.proofs.GroupLaws as laws
+use Rattle.psi_spec.proofs.GroupChanges as laws
 use Rattle.psi_spec.proofs.groups.law_legal_groups.Goals as goal
 
 pub returns-clause-first : goal.returns-clause-first

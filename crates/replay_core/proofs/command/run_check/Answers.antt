@@ -2,8 +2,8 @@ use Rattle.std.proofs.Common.{refl, []}
 use Rattle.psi_spec.specs.Grammar.{version_of}
 use Rattle.run_spec.specs.Text.{check_text}
 use Rattle.run_spec.specs.declared.command.Command.TheVariants.{Check}
-use Rattle.replay_core.specs.Reads.{trace_with}
-use Rattle.replay_core.proofs.RunLaws.{none_given, runs_refused, runs_written, takes_any}
+use Rattle.trace_file.specs.Reads.{trace_with}
+use Rattle.run_outcomes.proofs.RunLaws.{none_given, runs_refused, runs_written, takes_any}
 use Rattle.replay_core.proofs.command.run_check.Goals as goal
 
 pub returns-in-Ok-clause-runs : goal.returns-in-Ok-clause-runs

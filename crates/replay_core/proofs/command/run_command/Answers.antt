@@ -3,7 +3,7 @@ use Rattle.run_spec.specs.declared.command.Command.TheVariants.{Gen, Stress}
 use Rattle.run_spec.specs.Generated.{gen_text, generated}
 use Rattle.run_spec.specs.Outputs.{pace_of, stress_options}
 use Rattle.run_spec.specs.Replay.{stress_text}
-use Rattle.replay_core.proofs.GeneratedLaws.{runs_generated, takes_generated}
+use Rattle.gen_run.proofs.GeneratedLaws.{runs_generated, takes_generated}
 use Rattle.replay_core.proofs.command.run_command.Goals as goal
 
 pub returns-in-Gen-clause-runs : goal.returns-in-Gen-clause-runs

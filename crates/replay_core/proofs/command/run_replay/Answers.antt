@@ -4,9 +4,9 @@ use Rattle.run_spec.specs.Outputs.{of_ms}
 use Rattle.run_spec.specs.declared.command.Command.TheVariants.{Replay}
 use Rattle.replay_rules.specs.Judged.{given_rules}
 use Rattle.psi_spec.specs.Grammar.{version_of}
-use Rattle.replay_core.specs.Reads.{trace_with}
-use Rattle.replay_core.specs.Writes.{IsToReplay}
-use Rattle.replay_core.proofs.RunLaws.{runs_written, takes_any}
+use Rattle.trace_file.specs.Reads.{trace_with}
+use Rattle.run_outcomes.specs.Writes.{IsToReplay}
+use Rattle.run_outcomes.proofs.RunLaws.{runs_written, takes_any}
 use Rattle.replay_core.proofs.command.run_replay.Goals as goal
 
 pub returns-in-Ok-play_trace-clause-runs : goal.returns-in-Ok-play_trace-clause-runs

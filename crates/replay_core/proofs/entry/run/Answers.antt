@@ -1,9 +1,10 @@
 use Rattle.std.proofs.Common.{◌≡◌}
 use Rattle.run_spec.specs.Run.{ReadsFiles}
 use Rattle.run_spec.specs.declared.command.Command.TheVariants.{Import, Replay, Rules, Whatif}
-use Rattle.replay_core.proofs.GeneratedLaws.{makes}
+use Rattle.gen_run.proofs.GeneratedLaws.{makes}
 use Rattle.replay_core.proofs.Pieces.{front_of_puts}
-use Rattle.replay_core.proofs.RunEnds.{completes, drop_faults, faults, headlined, headlined_alone, imports, outgrown, prints, prints_all, refuses, supposed, unwatched}
+use Rattle.replay_core.proofs.RunEnds.{completes, faults, headlined, headlined_alone, imports, refuses}
+use Rattle.replay_core.proofs.RulesEnds.{drop_faults, outgrown, prints, prints_all, supposed, unwatched}
 use Rattle.replay_core.proofs.entry.run.Goals as goal
 
 pub returns-in-Ok-clause-headline : goal.returns-in-Ok-clause-headline

@@ -3,9 +3,9 @@ use Rattle.psi_spec.specs.Grammar.{version_of}
 use Rattle.psi_spec.specs.Trace.{limits_of}
 use Rattle.run_spec.specs.Outputs.{of_ms, pace_of}
 use Rattle.run_spec.specs.declared.command.Command.TheVariants.{Whatif}
-use Rattle.replay_core.specs.Reads.{trace_with}
-use Rattle.replay_core.specs.Rules.{RulesGiven}
-use Rattle.replay_core.proofs.RunLaws.{runs_supposed, takes_any}
+use Rattle.trace_file.specs.Reads.{trace_with}
+use Rattle.run_outcomes.specs.Rules.{RulesGiven}
+use Rattle.run_outcomes.proofs.RunLaws.{runs_supposed, takes_any}
 use Rattle.replay_core.proofs.WhatifLaws.{kept_accepted, kept_written}
 use Rattle.replay_core.proofs.whatif.run_whatif.Goals as goal
 

@@ -1,6 +1,6 @@
 use Rattle.std.proofs.Common.{◌+◌, ℕ, List, arith, refl, subst, sym, ◌∙◌}
 use Rattle.std.specs.Io.KnownBytes.{Appends}
-use Rattle.psi_base.proofs.Grows.{Appends-then, AppendsFront-then, PutsAll-failed}
+use Rattle.outside.proofs.Grows.{Appends-then, AppendsFront-then, PutsAll-failed}
 use Rattle.replay_workers.specs.Crew.{watch_at}
 use Rattle.replay_ticks.specs.Replays.{samples_text}
 use Rattle.run_laws.proofs.Pieces.{piece_more, pieces_at}

@@ -1,6 +1,6 @@
 use Rattle.std.specs.Prelude.{Ok}
 use Rattle.std.specs.Io.KnownBytes.{Appends}
-use Rattle.psi_base.specs.Outside.{HasCause, StaysOver}
+use Rattle.outside.specs.Outside.{HasCause, StaysOver}
 use Rattle.replay_ticks.specs.Replays.{watches_text}
 use Rattle.replay_ticks.proofs.live.put_live.Given as goal
 

@@ -1,7 +1,7 @@
 use Rattle.std.proofs.Common.{◌≡◌, ℕ, List, ap, arith, subst, sym, get_or, ◌∙◌}
 use Rattle.std.specs.Io.KnownBytes.{Appends}
-use Rattle.psi_base.specs.Outside.{AppendsFront}
-use Rattle.psi_base.proofs.Grows.{Appends-then, AppendsFront-then, PutsAll-failed, flat_map-at}
+use Rattle.outside.specs.Outside.{AppendsFront}
+use Rattle.outside.proofs.Grows.{Appends-then, AppendsFront-then, PutsAll-failed, flat_map-at}
 use Rattle.psi_counts.specs.Clock.{opened}
 use Rattle.run_spec.specs.Lines.{live_line}
 use Rattle.clock_row.specs.declared.reader.Sample.{Sample}

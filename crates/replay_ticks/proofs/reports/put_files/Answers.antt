@@ -1,4 +1,4 @@
-use Rattle.psi_base.proofs.Grows.{PutsAll-failed}
+use Rattle.outside.proofs.Grows.{PutsAll-failed}
 use Rattle.replay_ticks.proofs.Pieces.{front_of_both, puts_then}
 use Rattle.replay_ticks.proofs.reports.put_files.Goals as goal
 

@@ -1,8 +1,8 @@
 use Rattle.std.proofs.Common.{ℕ, List, arith, subst, sym, get_or, ◌∙◌}
 use Rattle.std.specs.Io.KnownBytes.{Appends}
-use Rattle.psi_base.specs.Outside.{AppendsFront}
+use Rattle.outside.specs.Outside.{AppendsFront}
 use Rattle.psi_spec.specs.Groups.{path_at}
-use Rattle.psi_base.proofs.Grows.{Appends-then, AppendsFront-then, PutsAll-failed, flat_map-at}
+use Rattle.outside.proofs.Grows.{Appends-then, AppendsFront-then, PutsAll-failed, flat_map-at}
 use Rattle.kill_spec.specs.declared.kill.Kill.{Kill}
 use Rattle.run_spec.specs.Lines.{kill_line}
 use Rattle.run_laws.proofs.Pieces.{taken_more}

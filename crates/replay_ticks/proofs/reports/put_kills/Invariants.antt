@@ -1,7 +1,7 @@
 use Rattle.std.proofs.Common.{take}
 use Rattle.std.specs.Prelude.{Ok}
 use Rattle.std.specs.Io.KnownBytes.{Appends}
-use Rattle.psi_base.specs.Outside.{HasCause, StaysOver}
+use Rattle.outside.specs.Outside.{HasCause, StaysOver}
 use Rattle.run_spec.specs.Replay.{kill_lines}
 use Rattle.replay_ticks.proofs.reports.put_kills.Given as goal
 

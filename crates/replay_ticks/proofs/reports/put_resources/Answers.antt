@@ -1,6 +1,6 @@
 use Rattle.std.proofs.Common.{List, ℕ, ◌++◌, ◌==◌, subst, sym}
-use Rattle.psi_base.specs.Outside.{AppendsFront, PutsAll}
-use Rattle.psi_base.proofs.Grows.{PutsAll-failed}
+use Rattle.outside.specs.Outside.{AppendsFront, PutsAll}
+use Rattle.outside.proofs.Grows.{PutsAll-failed}
 use Rattle.psi_base.specs.declared.event.Res.{Res}
 use Rattle.psi_base.specs.declared.event.Res.TheVariants.{Io, Memory, Cpu}
 use Rattle.run_spec.specs.Lines.{report_text}

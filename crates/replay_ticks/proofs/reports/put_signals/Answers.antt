@@ -1,11 +1,11 @@
 use Rattle.std.proofs.Common.{ℕ, List, arith, subst, sym, get_or, ◌∙◌}
 use Rattle.std.specs.Prelude.{slice_get}
 use Rattle.std.specs.Io.KnownBytes.{Appends}
-use Rattle.psi_base.specs.Outside.{AppendsFront}
+use Rattle.outside.specs.Outside.{AppendsFront}
 use Rattle.psi_base.specs.declared.event.TriggerSpec.{TriggerSpec}
 use Rattle.psi_base.specs.declared.event.Res.TheVariants.{Io}
 use Rattle.psi_base.specs.declared.event.Level.TheVariants.{SomeStalled}
-use Rattle.psi_base.proofs.Grows.{Appends-then, AppendsFront-then, PutsAll-failed, flat_map-at}
+use Rattle.outside.proofs.Grows.{Appends-then, AppendsFront-then, PutsAll-failed, flat_map-at}
 use Rattle.run_spec.specs.Replay.{signal_line}
 use Rattle.run_laws.proofs.Pieces.{taken_more}
 use Rattle.replay_ticks.proofs.ReportLaws.{signal_is}

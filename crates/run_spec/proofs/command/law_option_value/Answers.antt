@@ -1,4 +1,4 @@
-use Rattle.run_spec.proofs.WordLaws.{value_may_follow}
+use Rattle.run_spec.proofs.WordTables.{value_may_follow}
 use Rattle.run_spec.proofs.command.law_option_value.Goals as goal
 
 pub returns : goal.returns

@@ -1,6 +1,6 @@
 use Rattle.std.proofs.Common.{◌≡◌, ◌<◌, [], length, get_or, set, arith, ap, sym, subst, ◌∙◌, ◌⊎◌, ⊎_elim}
 use Rattle.std.proofs.lemmas.List.{get_or-set_other, get_or-set_same, get_or_default}
-use Rattle.aggregate.specs.Table.{HasSizes}
+use Rattle.aggregate.specs.Table.{HaveSameSizes}
 use Rattle.pressure_spec.specs.Samples.{row_at}
 use Rattle.pressure_spec.specs.Ticks.{Tick}
 use Rattle.tick_engine.specs.Step.{AreTotalsWithin, engine_group, group_step, no_group}
@@ -22,19 +22,16 @@ groups-preserved c =
     let table = c.last.inside.rows in
     let inside : slot < length groups = omega arith in
     let below : slot < length c.args.groups.now = omega arith in
-    let same : length c.args.growths.now ≡ length c.tick.new.growths = omega (arith, c.tick.auto.growths, c.groups.auto.growths) in
-    let wide : length (row_at tick slot) ≡ length c.tick.new.growths = c.requires.sizes.cpus_are slot [] (omega (arith, below, c.requires.sizes.slots_are)) ∙ same in
-    let was : HasSizes (length c.tick.new.growths) (length c.args.groups.now) table =
-    subst (λ (tick : Tick). HasSizes (length c.tick.new.growths) (length c.args.groups.now) tick.table) (sym c.last.view_is)
-    (subst (λ n. HasSizes n (length c.args.groups.now) c.groups.last.table) (omega (arith, c.tick.auto.growths)) i.sizes) in
+    let was : HaveSameSizes table c.args.rows.now = subst (λ (tick : Tick). HaveSameSizes tick.table c.args.rows.now) (sym c.last.view_is) i.sizes in
+    let there : slot < length table = omega (arith, below, was.slots, c.requires.rows) in
     let taken = subst (λ t. TakesRows last tick t slot) (sym c.last.view_is) i.last in
     let set_is = c.set_row.ensures ∙ ap (set table slot) c.row.ensures in
     let stepped : group ≡ group_step last tick slot (engine_group c.args.groups.now slot) =
     c.tick.ensures.stepped ∙ step_stays last tick c.groups.last slot (get_or groups slot c.index-groups-slot.result) i.last
     ∙ ap (group_step last tick slot) (get_or_default groups slot c.index-groups-slot.result no_group inside ∙ i.left slot (omega arith)) in
     record {
-      sizes = sizes_stay (length c.tick.new.growths) (length c.args.groups.now) table c.set_row.new.self slot (row_at tick slot) was below wide set_is;
-      last = row_taken last tick (tick_at c.last.inside.at table) c.set_row.new.self slot taken (omega (arith, below, was.slots_are)) set_is;
+      sizes = sizes_stay table c.args.rows.now c.set_row.new.self slot there was set_is;
+      last = row_taken last tick (tick_at c.last.inside.at table) c.set_row.new.self slot taken there set_is;
       done = λ s early.
           let case : (s < slot) ⊎ (s ≡ slot) = grind (arith, early) in
           ⊎_elim
@@ -54,8 +51,8 @@ pub returns-clause-last : goal.returns-clause-last
 returns-clause-last c =
     let i = c.groups.invariant in
     let tick = tick_at c.args.now c.args.rows.now in
-    let many : length c.groups.last.table ≡ c.groups.slot = omega (arith, i.sizes.slots_are) in
-    let also : length c.args.rows.now ≡ c.groups.slot = omega (arith, c.requires.sizes.slots_are) in
+    let also : length c.args.rows.now ≡ c.groups.slot = omega (arith, c.requires.rows) in
+    let many : length c.groups.last.table ≡ c.groups.slot = omega (arith, i.sizes.slots, also) in
     ap (tick_at c.args.now) (ap (λ (tick : Tick). tick.table) c.last-2.view_is ∙ all_taken c.args.last.now tick c.groups.last c.groups.slot i.last many also)
 
 pub returns-clause-totals : goal.returns-clause-totals

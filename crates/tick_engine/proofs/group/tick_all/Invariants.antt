@@ -1,5 +1,5 @@
-use Rattle.std.proofs.Common.{◌≡◌, ℕ, ◌<◌, ◌≤◌, length}
-use Rattle.aggregate.specs.Table.{HasSizes}
+use Rattle.std.proofs.Common.{◌≡◌, ℕ, ◌<◌, ◌≤◌}
+use Rattle.aggregate.specs.Table.{HaveSameSizes}
 use Rattle.tick_engine.specs.Step.{AreTotalsWithin, engine_group, group_step}
 use Rattle.tick_engine.specs.Tables.{tick_at}
 use Rattle.tick_engine.proofs.StepLaws.{TakesRows}
@@ -7,7 +7,7 @@ use Rattle.tick_engine.proofs.group.tick_all.Given as goal
 
 abbrev pub invariant-groups : goal.invariant-groups
 invariant-groups l = record {
-  sizes : HasSizes (length l.growths) (length l.fn.groups) l.last.table;
+  sizes : HaveSameSizes l.last.table l.rows;
   last : TakesRows l.fn.last (tick_at l.now l.rows) l.last l.slot;
   done : (slot : ℕ) → slot < l.slot → engine_group l.groups slot ≡ group_step l.fn.last (tick_at l.now l.rows) slot (engine_group l.fn.groups slot);
   left : (slot : ℕ) → l.slot ≤ slot → engine_group l.groups slot ≡ engine_group l.fn.groups slot;

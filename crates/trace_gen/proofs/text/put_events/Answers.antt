@@ -1,5 +1,5 @@
 use Rattle.std.proofs.Common.{rules}
-use Rattle.psi_base.proofs.Grows.{PutsAll-failed}
+use Rattle.outside.proofs.Grows.{PutsAll-failed}
 use Rattle.trace_gen.proofs.Sending.{front_sent, one_sent, rest_fit}
 use Rattle.trace_gen.proofs.text.put_events.Goals as goal
 

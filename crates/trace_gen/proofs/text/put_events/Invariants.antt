@@ -1,6 +1,6 @@
 use Rattle.std.proofs.Common.{◌≤◌, length}
 use Rattle.std.specs.Prelude.{Ok, vec_capacity}
-use Rattle.psi_base.specs.Outside.{HasCause, StaysOver}
+use Rattle.outside.specs.Outside.{HasCause, StaysOver}
 use Rattle.psi_spec.specs.Trace.{AllFit}
 use Rattle.trace_gen.proofs.Sending.{AreSent}
 use Rattle.trace_gen.proofs.text.put_events.Given as goal

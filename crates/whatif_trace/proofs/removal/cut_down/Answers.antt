@@ -1,4 +1,4 @@
-use Rattle.std.proofs.Common.{arith, rules}
+use Rattle.std.proofs.Common.{arith, refl, rules}
 use Rattle.psi_spec.specs.World.{Limits}
 use Rattle.whatif_trace.proofs.Accepted.{early_enough}
 use Rattle.whatif_trace.proofs.Cutting.{split_at}
@@ -14,8 +14,8 @@ play_all-requires c =
     let split = split_at limits c.args.events.now c.args.at c.front_length-count.result cut c.front_length-count.ensures.length in
     rw (c.in_ok-table.ensures, c.front_of-front.ensures, split.front) cut.legal
 
-pub members-requires : goal.members-requires
-members-requires c = rw (c.in_ok-play_all.ensures.world, c.in_ok-table.ensures) (all_forked c.front_of-front.result.now)
+pub left_of-requires : goal.left_of-requires
+left_of-requires c = rw (c.in_ok-play_all.ensures.world, c.in_ok-table.ensures) (all_forked c.front_of-front.result.now)
 
 pub overflow_add-at : goal.overflow_add-at
 overflow_add-at c =
@@ -27,6 +27,7 @@ overflow_add-at c =
 pub returns : goal.returns
 returns c =
     let limits : Limits = record { cpus = c.args.cpus; latest = c.args.latest } in
-    join limits c.args.events.now c.args.at c.args.victim.0 c.front_length-count.result c.front_of-front.result.now c.rest_of-rest.result.now c.keep_copies.new.kept.items c.keep_exits.new.kept.items _ c.play_all.new.table.world c.play_all.new.runners.items c.in_ok-dead.dead.keys c.in_ok-pids.pids.items
+    let whole = join limits c.args.events.now c.args.at c.args.victim.0 c.front_length-count.result c.front_of-front.result.now c.rest_of-rest.result.now _ _ _ c.play_all.new.table.world c.play_all.new.runners.items _ _
     c.requires.accepted c.requires.before c.front_length-count.ensures.length c.front_of-front.ensures c.rest_of-rest.ensures
-    (search rules) (search rules) c.in_ok-dead.ensures c.in_ok-pids.ensures (search rules) (search rules) (search rules)
+    (search rules) (search rules) refl refl refl refl refl in
+    rw (← whole) c.left_of.ensures

@@ -83,7 +83,7 @@ invariant_of-self c =
     let place : c.self.inside.count + 1 - 1 ≡ c.self.inside.count = omega arith in
     let is = rw place at c.packed-change.ensures.change in
     let e = rw c.self.invariant.1 at c.apply.ensures in
-    let made : AreMade c.self.inside.plan.now c.packed-change.result.now c.self.inside.clocks c.apply.new.self = record { room = e.room; counts = e.counts; gates = e.gates; clocks = e.clocks; whole = e.whole; told = e.told; current = e.current; last = e.last } in
+    let made : AreMade c.self.inside.plan.now c.packed-change.result.now c.self.inside.clocks c.apply.new.self = record { room = e.room; counts = e.counts; accounts = e.accounts; clocks = e.clocks; whole = e.whole; told = e.told; current = e.current; last = e.last } in
     let size : c.self.inside.irqs.len ≡ length c.add_irq.new.times = search rules in
     let kept : take c.self.inside.irqs.len (c.add_irq.new.times ++ drop (length c.add_irq.new.times) c.self.inside.irqs.items) ≡ c.add_irq.new.times = rw size (take-append_seam _ _) in
     let grown = rw (c.deref_mut.ensures.value, c.self.invariant.1) at c.add_irq.ensures in (

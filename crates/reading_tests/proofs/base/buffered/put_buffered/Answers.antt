@@ -1,6 +1,6 @@
 use Rattle.std.proofs.Common.{◌++◌, decimal, arith, rules}
-use Rattle.psi_base.proofs.Grows.{Appends-then, AppendsFront-last}
-use Rattle.psi_base.proofs.Buffered.{put_failed, puts_flushed}
+use Rattle.outside.proofs.Grows.{Appends-then, AppendsFront-last}
+use Rattle.outside.proofs.Buffered.{put_failed, puts_flushed}
 use Rattle.reading_tests.proofs.base.buffered.put_buffered.Goals as goal
 
 pub returns-in_err-put_number-clause-bytes : goal.returns-in_err-put_number-clause-bytes

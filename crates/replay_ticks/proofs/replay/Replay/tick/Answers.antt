@@ -1,7 +1,7 @@
 use Rattle.std.proofs.Common.{◌≡◌, ◌+◌, true, arith, sym, subst, ◌∙◌}
 use Rattle.std.specs.Io.KnownBytes.{Appends}
 use Rattle.pressure_spec.specs.Ticks.{tick_moment}
-use Rattle.psi_base.specs.Outside.{AppendsFront}
+use Rattle.outside.specs.Outside.{AppendsFront}
 use Rattle.replay_ticks.specs.Replays.{IsLiveTick, IsReplay, ReplayView, tick_lines, watches_text}
 use Rattle.replay_ticks.proofs.TickLaws as laws
 use Rattle.replay_ticks.proofs.replay.Replay.tick.Goals as goal

@@ -5,7 +5,7 @@ use Rattle.std.proofs.lemmas.List.{with_items_is}
 use Rattle.psi_base.specs.declared.event.Slot.{Slot}
 use Rattle.psi_counts.specs.Clock.{ClockFollows}
 use Rattle.slot_clocks.specs.Clocks.{AllCanFollow, AreTold, ClocksView, cell_at, cell_in, parent_numbers}
-use Rattle.slot_clocks.proofs.GateLaws.{can_climb, turned_since}
+use Rattle.slot_clocks.proofs.AccountLaws.{can_climb, turned_since}
 use Rattle.slot_clocks.proofs.clocks.SlotClocks.apply.Goals as goal
 
 pub walk-requires : goal.walk-requires
@@ -27,7 +27,7 @@ walk-requires c =
           (subst (λ (v : ClocksView). v.last ≤ change.at) view c.requires.later)
           c.requires.early
           (c.switch.ensures.room ∙ ap length c.deref_mut.ensures.value)
-          (rw (c.gate.ensures, c.deref_mut.ensures.value) at c.switch.ensures.gated);
+          (rw (c.account.ensures, c.deref_mut.ensures.value) at c.switch.ensures.on_with);
     })
 
 pub returns-clause-clocks : goal.returns-clause-clocks
@@ -38,8 +38,8 @@ returns-clause-clocks c = λ slot.
     let there : c.deref_mut-2.result.now ≡ c.switch.new.cells = c.deref_mut-2.ensures.value ∙ with_items_is c.self.inside.cells c.switch.new.cells room in
     let after : (with_items (with_items c.self.inside.cells c.switch.new.cells) c.walk.new.cells).items ≡ c.walk.new.cells = with_items_is (with_items c.self.inside.cells c.switch.new.cells) c.walk.new.cells (c.walk.ensures.room ∙ c.deref_mut-2.ensures.len) in
     let turned = rw there at c.walk.ensures.turned in
-    let gated = rw (c.gate.ensures, c.deref_mut.ensures.value) at c.switch.ensures.gated in
-    let since = (turned_since parents change slot (cell_in c.self.inside.cells.items slot) (cell_in c.switch.new.cells slot) (cell_in c.walk.new.cells slot) (gated slot) (turned slot)).2 in
+    let on_with = rw (c.account.ensures, c.deref_mut.ensures.value) at c.switch.ensures.on_with in
+    let since = (turned_since parents change slot (cell_in c.self.inside.cells.items slot) (cell_in c.switch.new.cells slot) (cell_in c.walk.new.cells slot) (on_with slot) (turned slot)).2 in
     rw after (subst (λ (v : ClocksView). ClockFollows (cell_at v slot).clock change.at (cell_in c.walk.new.cells slot).clock) c.self.view_is since)
 
 pub returns-clause-told : goal.returns-clause-told

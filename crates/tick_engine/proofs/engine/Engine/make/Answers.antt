@@ -16,16 +16,13 @@ groups_are c = c.in_ok-groups_of.ensures
 watches_are : (c : goal.In_ok-with_capacity) → c.in_ok-watches_of.field-0.items ≡ map new_watch c.args.triggers.now
 watches_are c = c.in_ok-watches_of.ensures
 
-cpus_are : (c : goal.In_ok-with_capacity) → length c.in_ok-no_growths.field-0.items ≡ c.args.cpus
-cpus_are c = c.in_ok-no_growths.ensures
-
 pub invariant_of-result : goal.invariant_of-result
 invariant_of-result c =
     let room = c.in_ok-with_capacity.ensures.exact in
-    rw (cpus_are c, rows_are c, groups_are c, watches_are c, c.in_ok-with_capacity.ensures.items) (
+    rw (rows_are c, groups_are c, watches_are c, c.in_ok-with_capacity.ensures.items) (
       record { room = omega (arith, length-map c.args.triggers.now new_watch, room) },
       first.first_is c.args.cpus c.args.lives.now c.args.triggers.now c.requires.few_cpus c.requires.few_groups c.requires.triggers,
     )
 
 pub returns : goal.returns
-returns c = rw (cpus_are c, rows_are c, groups_are c, watches_are c, c.in_ok-with_capacity.ensures.items) (first.first_stands c.args.cpus c.args.lives.now c.args.triggers.now)
+returns c = rw (rows_are c, groups_are c, watches_are c, c.in_ok-with_capacity.ensures.items) (first.first_stands c.args.cpus c.args.lives.now c.args.triggers.now)

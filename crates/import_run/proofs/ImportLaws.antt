@@ -1,0 +1,56 @@
+-- What importing a text comes to as a run.
+use Rattle.std.proofs.Common.{◌≡◌, ℕ, List, [], refl, sym, ap, subst, inl, Option, Some, None, Ok, Err}
+use Rattle.std.specs.Prelude.{IsErrOf}
+use Rattle.outside.specs.Outside.{Files, Lacks, told}
+use Rattle.psi_base.specs.declared.event.Event.{Event}
+use Rattle.psi_spec.specs.Trace.{IsCpuCount}
+use Rattle.psi_spec.specs.World.{first_world}
+use Rattle.import_spec.specs.Import.{import_of, import_trace}
+use Rattle.ftrace_import.specs.Gathers.{CausesImportFault, RefusalOf, TellsNothing}
+use Rattle.ftrace_import.specs.Stands.{Ends}
+use Rattle.ftrace_import.specs.declared.text.ImportFault.{ImportFault}
+use Rattle.ftrace_import.specs.declared.text.ImportFault.TheVariants as fault
+use Rattle.run_spec.specs.declared.command.Command.TheVariants.{Import}
+use Rattle.run_spec.specs.declared.status.Status.{Status}
+use Rattle.run_spec.specs.declared.status.Status.TheVariants as status
+use Rattle.run_spec.specs.declared.status.Which.TheVariants.{ImportFile}
+use Rattle.run_spec.specs.Outputs.{or_not_imported}
+use Rattle.run_spec.specs.Run.{RunCounts, Runs, TakesTrace}
+use Rattle.import_run.specs.Import.{IsStatusOfImport}
+use Rattle.run_outcomes.proofs.RunLaws.{counts_written, file_there, is_named, keeps_same, memory_wanting, missed_counts, none_given, read_failed, rules_there, same_name, stays, takes_given}
+
+-- an import takes the trace of the events that its text gives
+pub takes_import : (name : List ℕ) (cpus : ℕ) (files : Option Files) (events : List Event) → IsCpuCount cpus → Ends cpus first_world events
+    → ((bytes : List ℕ) → told files name ≡ Some bytes → import_of cpus bytes ≡ Ok events)
+    → TakesTrace (Import name cpus) files (import_trace cpus events)
+takes_import name cpus files events counted ends read = record {
+  version = inl refl;
+  cpus = counted;
+  known = ends.run.known;
+  accepted = record { fit = ends.run.fit; legal = ends.run.legal; ends = ends.ends };
+  read = λ bytes known. ap (or_not_imported cpus) (read bytes (subst (λ n. told files n ≡ Some bytes) (same_name (Import name cpus) ImportFile name known.0 refl known.1) known.2));
+}
+
+-- a text that can't be imported
+pub not_imported : {T : Type 0} → (name : List ℕ) (cpus : ℕ) (files : Option Files) (before now : RunCounts) (had : Option (List ℕ)) (found : ImportFault) (result : Status)
+    → ((bytes : List ℕ) → told files name ≡ Some bytes → RefusalOf found (import_of cpus bytes)) → (Lacks files name → TellsNothing {A = Unit {0}} (Err found))
+    → (IsErrOf {T = T} (Err found) fault.NoFile → told files name ≡ None)
+    → CausesImportFault {A = T} before.shelf now.shelf (Err found) → now.writes ≡ before.writes
+    → IsStatusOfImport found result → Runs (Import name cpus) files before now had had result
+not_imported name cpus files before now had (fault.Refused line why) result refused lacking missed causes writes is =
+    let command = Import name cpus in
+    subst (Runs command files before now had had) (sym is) (record {
+      ends = (keeps_same had, is_named command ImportFile name refl, ([], takes_given command None None files [] refl refl (none_given files), rules_there command files [] (none_given files)), file_there command ImportFile name files refl lacking, λ bytes known. ap (or_not_imported cpus) (refused bytes (subst (λ n. told files n ≡ Some bytes) (same_name command ImportFile name known.0 refl known.1) known.2)));
+      counts = counts_written before now (status.Import line why) (causes.faults_same (λ is. cc is)) (causes.absent_same (λ is. cc is)) (λ is. cc is) (λ is. cc is.1) (stays _ before.writes now.writes (λ is. cc is) writes);
+    })
+not_imported name cpus files before now had fault.NoFile result refused lacking missed causes writes is =
+    let command = Import name cpus in
+    subst (Runs command files before now had had) (sym is) (record {
+      ends = (keeps_same had, ([], takes_given command None None files [] refl refl (none_given files), rules_there command files [] (none_given files)), (name, refl, missed refl));
+      counts = missed_counts ImportFile before now (causes.faults_same (λ is. cc is)) (causes.missed refl) writes;
+    })
+not_imported name cpus files before now had fault.ReadFault result refused lacking missed causes writes is =
+    let command = Import name cpus in
+    subst (Runs command files before now had had) (sym is) (read_failed command files before now had (ImportFile, is_named command ImportFile name refl) (causes.failed refl) (causes.absent_same (λ is. cc is)) writes)
+not_imported name cpus files before now had (fault.NoMemory _) result refused lacking missed causes writes is =
+    subst (Runs (Import name cpus) files before now had had) (sym is) (memory_wanting (Import name cpus) files before now had (causes.faults_same (λ is. cc is)) (causes.absent_same (λ is. cc is)) writes)

@@ -1,0 +1,23 @@
+use Rattle.std.proofs.Common.{refl, []}
+use Rattle.psi_spec.specs.Trace.{text_of}
+use Rattle.import_spec.specs.Import.{import_trace}
+use Rattle.run_spec.specs.declared.command.Command.TheVariants.{Import}
+use Rattle.import_run.proofs.ImportLaws.{not_imported, takes_import}
+use Rattle.run_outcomes.proofs.RunLaws.{none_given, runs_written}
+use Rattle.import_run.proofs.import.run_import.Goals as goal
+
+pub returns-in-Ok-clause-runs : goal.returns-in-Ok-clause-runs
+returns-in-Ok-clause-runs g c =
+    let name = c.args.name.now in
+    let cpus = c.args.cpus in
+    let files = g.S.Shelf.holds c.args.shelf.now in
+    let events = c.in-Ok.events.left in
+    let causes = c.in-Ok.ensures.cause in
+    runs_written (Import name cpus) name files _ _ _ _ (import_trace cpus events) [] (text_of (import_trace cpus events)) c.write_imported.result refl
+    (takes_import name cpus files events c.requires c.in-Ok.ensures.accepted c.in-Ok.ensures.content)
+    (none_given files) c.in-Ok.ensures.missing (refl, refl) (causes.faults_same (λ is. cc is)) (causes.absent_same (λ is. cc is)) c.write_imported.ensures.writes
+
+pub returns-in-Err-clause-runs : goal.returns-in-Err-clause-runs
+returns-in-Err-clause-runs g c =
+    not_imported c.args.name.now c.args.cpus (g.S.Shelf.holds c.args.shelf.now) _ _ _ c.in-Err.fault c.import_status.result
+    c.in-Err.ensures.content c.in-Err.ensures.missing c.in-Err.ensures.missed c.in-Err.ensures.cause refl c.import_status.ensures

@@ -1,0 +1,93 @@
+-- How what a sink holds grows, piece after piece.
+use Rattle.std.proofs.Common.{◌≡◌, ℕ, ◌+◌, ◌<◌, ◌≤◌, List, [], ◌∷◌, ◌++◌, length, take, drop, get_or, refl, sym, ap, ◌∙◌, arith, append_assoc, length-append, ◌-◌}
+use Rattle.std.specs.Prelude.{Option, None, Some, Result, Ok, Err, IsErr}
+use Rattle.std.specs.Io.KnownBytes.{Appends}
+use Rattle.std.proofs.Math.Seq.{take-add}
+use Rattle.std.proofs.lemmas.List.{append-nil, take_more, take-append-le}
+use Rattle.std.proofs.lemmas.Grind.{flat_map-append}
+use Rattle.std.specs.List.{flat_map}
+use Rattle.std.proofs.Math.Seq.{take-append_seam}
+use Rattle.std.proofs.lemmas.List.{take-append-drop, drop_more}
+use Rattle.outside.specs.Outside.{AppendsFront, PutsAll}
+
+-- nothing was sent
+pub Appends-none : (old : Option (List ℕ)) → Appends old old []
+Appends-none None = tt
+Appends-none (Some xs) = sym (append-nil xs)
+
+-- one piece was sent, and then another
+pub Appends-then : (old mid new : Option (List ℕ)) (xs ys : List ℕ) → Appends old mid xs → Appends mid new ys → Appends old new (xs ++ ys)
+Appends-then None mid new xs ys a b = tt
+Appends-then (Some bs) None new xs ys a b = absurd a
+Appends-then (Some bs) (Some cs) None xs ys a b = absurd b
+Appends-then (Some bs) (Some cs) (Some ds) xs ys a b = b ∙ ap (λ zs. zs ++ ys) a ∙ append_assoc bs xs ys
+
+-- the first bytes of a text were sent, and then some of the next
+pub Appends-more : (old mid new : Option (List ℕ)) (bytes piece : List ℕ) (at n : ℕ) → Appends old mid (take at bytes) → piece ≡ drop at bytes → Appends mid new (take n piece) → Appends old new (take (at + n) bytes)
+Appends-more old mid new bytes piece at n a same b =
+    rw (take-add at n bytes) (Appends-then old mid new (take at bytes) (take n (drop at bytes)) a (rw same at b))
+
+-- what stands behind the first bytes, where these grew by a front of all
+front_of : (had front rest has : List ℕ) → has ≡ had ++ front → has ≡ had ++ take (length has - length had) (front ++ rest)
+front_of had front rest has same =
+    let long : length has - length had ≡ length front = omega (arith, length-append had front, ap length same) in
+    rw long (rw take-append_seam same)
+
+-- known bytes that grew by what stands at the front of these grew by a front of these
+pub AppendsFront-of : (old new : Option (List ℕ)) (front rest whole : List ℕ) → Appends old new front → whole ≡ front ++ rest → AppendsFront old new whole
+AppendsFront-of None new front rest whole a same = tt
+AppendsFront-of (Some had) None front rest whole a same = absurd a
+AppendsFront-of (Some had) (Some has) front rest whole a same = rw same (front_of had front rest has a)
+
+-- a front of what follows the first bytes is a front of all
+pub front_after : (had xs ys rest has : List ℕ) → has ≡ (had ++ xs) ++ take (length has - length (had ++ xs)) ys → has ≡ had ++ take (length has - length had) ((xs ++ ys) ++ rest)
+front_after had xs ys rest has grew =
+    let n = length has - length (had ++ xs) in
+    let split : (xs ++ ys) ++ rest ≡ (xs ++ take n ys) ++ (drop n ys ++ rest) =
+    ap (λ zs. (xs ++ zs) ++ rest) (sym (take-append-drop n ys)) ∙ simp append_assoc in
+    rw split (front_of had (xs ++ take n ys) (drop n ys ++ rest) has (grew ∙ append_assoc had xs (take n ys)))
+
+-- what was sent first, and then a front of what follows, is a front of all
+pub AppendsFront-then : (old mid new : Option (List ℕ)) (xs ys rest : List ℕ) → Appends old mid xs → AppendsFront mid new ys → AppendsFront old new (xs ++ (ys ++ rest))
+AppendsFront-then None mid new xs ys rest a front = tt
+AppendsFront-then (Some had) None new xs ys rest a front = absurd a
+AppendsFront-then (Some had) (Some mid) None xs ys rest a front = absurd front
+AppendsFront-then (Some had) (Some mid) (Some has) xs ys rest a front =
+    let moved : has ≡ (had ++ xs) ++ take (length has - length (had ++ xs)) ys = rw a at front in
+    rw (sym (append_assoc xs ys rest)) (front_after had xs ys rest has moved)
+
+-- a front of the first bytes is a front of all
+pub front_first : (had ys rest has : List ℕ) → has ≡ had ++ take (length has - length had) ys → has ≡ had ++ take (length has - length had) (ys ++ rest)
+front_first had ys rest has grew =
+    let n = length has - length had in
+    let split : ys ++ rest ≡ take n ys ++ (drop n ys ++ rest) =
+    ap (λ zs. zs ++ rest) (sym (take-append-drop n ys)) ∙ simp append_assoc in
+    rw split (front_of had (take n ys) (drop n ys ++ rest) has grew)
+
+-- a front of the last bytes, behind those before them, is a front of all
+pub front_last : (had xs ys has : List ℕ) → has ≡ (had ++ xs) ++ take (length has - length (had ++ xs)) ys → has ≡ had ++ take (length has - length had) (xs ++ ys)
+front_last had xs ys has grew =
+    rw (sym (append-nil (xs ++ ys))) (front_after had xs ys [] has grew)
+
+-- what was sent first, and then a front of the rest, is a front of all
+pub AppendsFront-last : (old mid new : Option (List ℕ)) (xs ys : List ℕ) → Appends old mid xs → AppendsFront mid new ys → AppendsFront old new (xs ++ ys)
+AppendsFront-last old mid new xs ys a front =
+    let all : AppendsFront old new (xs ++ (ys ++ [])) = AppendsFront-then old mid new xs ys [] a front in
+    rw (append-nil ys) at all
+
+-- what a failed call leaves
+pub PutsAll-failed : {T E : Type 0} → (old new : Option (List ℕ)) (result : Result T E) (bytes : List ℕ) → IsErr result → AppendsFront old new bytes → PutsAll old new result bytes
+PutsAll-failed old new (Ok value) bytes failed front = cc
+PutsAll-failed old new (Err fault) bytes failed front = front
+
+-- the pieces before one, that piece, and those behind it
+pub flat_map-at : {X : Type 0} → (f : X → List ℕ) (xs : List X) (i : ℕ) (d : X) → i < length xs → flat_map f xs ≡ flat_map f (take i xs) ++ (f (get_or xs i d) ++ flat_map f (drop (i + 1) xs))
+flat_map-at f xs i d inside =
+    ap (flat_map f) (sym (take-append-drop i xs)) ∙ flat_map-append f (take i xs) (drop i xs) ∙ ap (λ ys. flat_map f (take i xs) ++ flat_map f ys) (drop_more xs i d inside)
+
+-- for a loop over the bytes of one piece
+pub ruleset growth = (Appends-none, Appends-more)
+
+-- for one call after another: `put_all(..)?; put_number(..)?; put_each(..)`, whose text is that of
+-- the calls, joined
+pub ruleset chain = (append_assoc, front_first, front_after, front_last)

@@ -1,0 +1,4 @@
+pub mod Grows
+pub mod Buffered
+pub mod Walks
+pub mod Behind

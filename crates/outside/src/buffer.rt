@@ -1,0 +1,133 @@
+//! A sink that collects bytes for another one.
+ghost use Rattle.std.specs.Prelude.{◌≡◌, ◌+◌, ◌++◌, ◌≤◌, ℕ, List, length, drop, IfOk, OnOk, []};
+ghost use Rattle.std.specs.Io.KnownBytes.{Keeps, append_known};
+ghost use Rattle.outside.specs.Outside.{HasCause, StaysOver, below_of};
+
+use crate::put::send;
+use crate::sink::{Sink, WriteFailed};
+use psi_base::NoMemory;
+use std::alloc::Global;
+use std::marker::Model;
+
+/// How many bytes wait at most.
+const ROOM: usize = 65536;
+
+/// Bytes that wait to be sent on, which contracts see as a list: at most 65,536. Their memory is
+/// taken when it is made.
+#[derive(Drop)]
+pub struct Pending {
+    bytes: Vec<u8>,
+}
+
+impl Model for Pending {
+    ghost use Rattle.std.specs.Prelude.{◌≤◌, ℕ, List, vec_capacity, vec_len};
+
+    ghost Value = { List ℕ };
+
+    ghost view = { λ p. p.bytes.items };
+
+    ghost invariant = { λ p. (vec_len p.bytes ≤ 65536) × (65536 ≤ vec_capacity p.bytes) };
+}
+
+impl Pending {
+    /// Memory for bytes, and none yet.
+    pub fn new(alloc: Global) -> Result<Pending, NoMemory>
+        ensures { IfOk result (λ p. p ≡ []) }
+    {
+        Ok(Pending {
+            bytes: Vec::with_capacity(alloc, ROOM)?,
+        })
+    }
+
+    // Its bytes.
+    fn bytes(&self) -> &[u8]
+        ensures { result.now ≡ self.now }
+    {
+        &self.bytes
+    }
+
+    // For how many more bytes there is room.
+    fn room(&self) -> usize
+        ensures { result + length self.now ≡ ROOM }
+    {
+        ROOM - self.bytes.len()
+    }
+
+    // Adds bytes for which there is room.
+    fn append(&mut self, piece: &[u8])
+        requires { length self.old + length piece.now ≤ ROOM }
+        ensures { self.new ≡ self.old ++ piece.now }
+    {
+        if self.bytes.extend_from_slice(piece).is_err() {
+            unreachable!()
+        }
+    }
+
+    // Lets so many bytes go, from the front.
+    fn remove_front(&mut self, count: usize)
+        requires { count ≤ length self.old }
+        ensures { self.new ≡ drop count self.old }
+    {
+        let len = self.bytes.len();
+        self.bytes.as_mut_slice().copy_within(count..len, 0);
+        self.bytes.truncate(len - count);
+    }
+}
+
+/// A sink that collects bytes for another one, which it borrows, and sends them on in large writes:
+/// what is pending where a piece finds no room behind it, and a piece of more than 65,536 bytes
+/// with no copy. It takes no memory.
+///
+/// What it has is what the other one has, with what is pending behind it, so nothing that was put
+/// is ever missing; its count of faults is the other's. A write that fails has taken nothing of its
+/// piece. What is pending at the end reaches the other one by [`BufferedSink::flush`], and is lost
+/// without it.
+#[derive(Drop)]
+pub struct BufferedSink<'a, K> {
+    out: &'a mut K,
+    pending: &'a mut Pending,
+}
+
+impl<'a, K: Sink> BufferedSink<'a, K> {
+    /// A sink over this one. Nothing is pending yet.
+    pub fn new(out: &'a mut K, pending: &'a mut Pending) -> BufferedSink<'a, K>
+        requires { pending.old ≡ [] }
+        ensures same_reference { result.out.ghost_name ≡ out.entry.ghost_name }
+        ensures made { (result.out.now ≡ out.old) × (result.pending.now ≡ []) }
+    {
+        BufferedSink { out, pending }
+    }
+
+    /// Sends on all that is pending. A failure leaves pending what the other sink hasn't taken.
+    pub fn flush(&mut self) -> Result<(), WriteFailed>
+        ensures bytes { Keeps (append_known (K.has self.old.out.now) self.old.pending.now)
+            (append_known (K.has self.new.out.now) self.new.pending.now) }
+        ensures all { OnOk result (self.new.pending.now ≡ []) }
+        ensures cause { HasCause (K.faults self.old.out.now) (K.faults self.new.out.now) result }
+        ensures below { StaysOver (below_of self.old.out.ghost_name (K.has self.old.out.now))
+            (below_of self.new.out.ghost_name (K.has self.new.out.now)) }
+    {
+        let (sent, result) = send(&mut *self.out, self.pending.bytes());
+        self.pending.remove_front(sent);
+        result
+    }
+}
+
+impl<K: Sink> Sink for BufferedSink<'_, K> {
+    ghost has = { λ b. append_known (K.has b.out.now) b.pending.now };
+
+    ghost faults = { λ b. K.faults b.out.now };
+
+    ghost below = { λ b. below_of b.out.ghost_name (K.has b.out.now) };
+
+    fn write(&mut self, piece: &[u8]) -> Result<usize, WriteFailed> {
+        if piece.len() > self.pending.room() {
+            self.flush()?;
+            if piece.len() > ROOM {
+                return self.out.write(piece);
+            }
+        }
+        self.pending.append(piece);
+        Ok(piece.len())
+    }
+}

@@ -1,0 +1,63 @@
+//! Whole texts and numbers to a sink.
+ghost use Rattle.std.specs.Prelude.{◌≡◌, ◌≤◌, length, take, OnOk, decimal};
+ghost use Rattle.std.specs.Io.KnownBytes.{Appends};
+ghost use Rattle.std.specs.List.{flat_map};
+ghost use Rattle.outside.specs.Outside.{HasCause, PutsAll, StaysOver};
+
+use crate::sink::{Sink, WriteFailed};
+
+// Sends bytes from the front until all are taken or a write fails: how many were taken, and whether
+// that was all.
+#[tactic(auto, using(crate::proofs::Grows::growth))]
+pub(crate) fn send<K: Sink>(out: &mut K, bytes: &[u8]) -> (usize, Result<(), WriteFailed>)
+    ensures bound { result.0 ≤ length bytes.now }
+    ensures all { OnOk result.1 (result.0 ≡ length bytes.now) }
+    ensures bytes { Appends (K.has out.old) (K.has out.new) (take result.0 bytes.now) }
+    ensures cause { HasCause (K.faults out.old) (K.faults out.new) result.1 }
+    ensures below { StaysOver (K.below out.old) (K.below out.new) }
+{
+    let mut sent = 0;
+    while sent < bytes.len() {
+        match out.write(&bytes[sent..]) {
+            Ok(count) => sent += count,
+            Err(failed) => return (sent, Err(failed)),
+        }
+    }
+    (sent, Ok(()))
+}
+
+/// Sends all the bytes in order, in as many writes as the sink needs. A failure leaves a prefix of
+/// them in the sink.
+pub fn put_all<K: Sink>(out: &mut K, bytes: &[u8]) -> Result<(), WriteFailed>
+    ensures bytes { PutsAll (K.has out.old) (K.has out.new) result bytes.now }
+    ensures cause { HasCause (K.faults out.old) (K.faults out.new) result }
+    ensures below { StaysOver (K.below out.old) (K.below out.new) }
+{
+    let (_, result) = send(out, bytes);
+    result
+}
+
+/// Sends all the pieces in order. A failure leaves a prefix of their joined bytes in the sink.
+#[tactic(auto, using(crate::proofs::Grows::growth))]
+pub fn put_each<K: Sink>(out: &mut K, pieces: &[&[u8]]) -> Result<(), WriteFailed>
+    ensures bytes { PutsAll (K.has out.old) (K.has out.new) result
+        (flat_map (λ piece. piece.now) pieces.now) }
+    ensures cause { HasCause (K.faults out.old) (K.faults out.new) result }
+    ensures below { StaysOver (K.below out.old) (K.below out.new) }
+{
+    for piece in pieces {
+        put_all(out, piece)?;
+    }
+    Ok(())
+}
+
+/// Writes a number in its one spelling, as [`psi_base::read_number`] reads it. A failure leaves a
+/// prefix of the digits in the sink.
+pub fn put_number<K: Sink>(out: &mut K, n: u64) -> Result<(), WriteFailed>
+    ensures bytes { PutsAll (K.has out.old) (K.has out.new) result (decimal n) }
+    ensures cause { HasCause (K.faults out.old) (K.faults out.new) result }
+    ensures below { StaysOver (K.below out.old) (K.below out.new) }
+{
+    let mut buffer = itoa::Buffer::new();
+    put_all(out, buffer.format(n).as_bytes())
+}

@@ -1,0 +1,33 @@
+//! Reads of a shelf into a buffer that holds bytes.
+ghost use Rattle.std.specs.Prelude.{◌≡◌, ◌⊎◌, ◌+◌, ◌<◌, ◌≤◌, ℕ, List, Some, None, length, drop, take, IfOk, IsErrOf};
+ghost use Rattle.outside.specs.Outside.{HasCauses, Lacks, ReadsBytes, counts_of, given_by, told};
+
+use crate::shelf::{Shelf, ShelfFault};
+
+/// Reads once, from the place `at` on, behind the first `held` bytes of a buffer, which stay. No
+/// byte is the end.
+pub fn read_behind<S: Shelf>(
+    shelf: &mut S,
+    name: &str,
+    at: u64,
+    bytes: &mut [u8],
+    held: usize,
+) -> Result<usize, ShelfFault>
+    requires { held < length bytes.old }
+    ensures kept { S.holds shelf.new ≡ S.holds shelf.old }
+    ensures size { length bytes.new ≡ length bytes.old }
+    ensures front { take held bytes.new ≡ take held bytes.old }
+    ensures bound { IfOk result (λ n. held + n ≤ length bytes.new) }
+    ensures bytes { (whole : List ℕ) → told (S.holds shelf.old) name.now ≡ Some whole
+        → IfOk result (λ n. ReadsBytes whole at n (drop held bytes.old) (drop held bytes.new)) }
+    ensures cause { HasCauses (counts_of (S.faults shelf.old) (S.absent shelf.old))
+        (counts_of (S.faults shelf.new) (S.absent shelf.new))
+        (IsErrOf result ShelfFault.Failed) (IsErrOf result ShelfFault.NoFile) }
+    ensures given { S.given shelf.new ≡ S.given shelf.old + given_by result }
+    ensures missed { IsErrOf result ShelfFault.NoFile →
+        told (S.holds shelf.old) name.now ≡ None }
+    ensures lacking { Lacks (S.holds shelf.old) name.now → IsErrOf result ShelfFault.NoFile
+        ⊎ IsErrOf result ShelfFault.Failed }
+{
+    shelf.read_at(name, at, &mut bytes[held..])
+}

@@ -1,0 +1,127 @@
+//! A shelf and a sink in memory that are honest: they fail only for want of room. Their clauses say
+//! each answer exactly.
+ghost use Rattle.std.specs.Prelude.{◌≡◌, ◌+◌, ◌-◌, ◌<◌, ◌≤◌, Some, length, min, IfOk, IsErr, vec_capacity, vec_len, IsErrOf, ◌↔◌, []};
+ghost use Rattle.std.specs.Io.KnownBytes.{WriteAppends};
+ghost use Rattle.outside_fakes.specs.Memory.{GivesOf};
+ghost use Rattle.outside.specs.Outside.{CountsWhere, given_by};
+
+use crate::memory::{finds_no_room, give, take_part};
+use outside::{Shelf, ShelfFault, Sink, Tally, WriteFailed};
+use psi_base::{NoMemory, Text};
+use std::alloc::Global;
+
+/// A shelf in memory that never fails.
+#[derive(Drop)]
+pub struct HonestShelf {
+    /// Names with their bytes; of two pairs with one name the first counts.
+    pub files: Vec<(Text, Text)>,
+    /// The greatest number of bytes that one call gives, at least 1.
+    pub most: usize,
+    /// How many calls named a file that isn't held.
+    pub absent: u64,
+    /// How many bytes its calls gave.
+    pub given: Tally,
+    ghost gives: { 0 < most },
+}
+
+impl HonestShelf {
+    /// A shelf of these files, before its first call.
+    pub fn new(files: Vec<(Text, Text)>, most: usize) -> HonestShelf
+        requires { 0 < most }
+        ensures { (result.files ≡ files) × (result.most ≡ most) × (result.absent ≡ 0)
+            × (result.given.count ≡ 0) }
+    {
+        HonestShelf {
+            files,
+            most,
+            absent: 0,
+            given: Tally::new(),
+        }
+    }
+}
+
+impl Shelf for HonestShelf {
+    ghost holds = { λ s. Some s.files.items };
+
+    ghost faults = { λ _. 0 };
+
+    ghost absent = { λ s. s.absent };
+
+    ghost given = { λ s. s.given.count };
+
+    /// A name that isn't held is `NoFile`, and of one that is held come as many bytes as there are
+    /// from `at` on, at most `most` and the length of `into`.
+    fn read_at(&mut self, name: &str, at: u64, into: &mut [u8]) -> Result<usize, ShelfFault>
+        ensures kept { (self.new.files ≡ self.old.files) × (self.new.most ≡ self.old.most) }
+        ensures given { self.new.given.count ≡ self.old.given.count + given_by result }
+        ensures gives { GivesOf self.old.files.items name.now at
+            self.old.most into.old into.new result }
+        ensures failed { IsErrOf result ShelfFault.Failed → ⊥ }
+        ensures absent { CountsWhere
+            (IsErrOf result ShelfFault.NoFile) self.old.absent self.new.absent }
+    {
+        give(
+            &self.files,
+            self.most,
+            name,
+            at,
+            into,
+            &mut self.absent,
+            &mut self.given,
+        )
+    }
+}
+
+/// A sink in memory that fails only where its room is full. It reserves its room when it is made,
+/// and never grows.
+#[derive(Drop)]
+pub struct HonestSink {
+    /// The bytes taken so far.
+    pub bytes: Vec<u8>,
+    /// How many bytes it can take.
+    pub room: usize,
+    /// How many calls failed.
+    pub faults: u64,
+    ghost inside: { vec_len bytes ≤ room },
+    ghost reserved: { room ≤ vec_capacity bytes },
+}
+
+impl HonestSink {
+    /// An empty sink with this room in bytes, before its first call.
+    pub fn new(alloc: Global, room: usize) -> Result<HonestSink, NoMemory>
+        ensures { IfOk result (λ s. (s.bytes.items ≡ []) × (s.room ≡ room)
+            × (s.faults ≡ 0)) }
+    {
+        let bytes = Vec::with_capacity(alloc, room)?;
+        Ok(HonestSink {
+            bytes,
+            room,
+            faults: 0,
+        })
+    }
+}
+
+impl Sink for HonestSink {
+    ghost has = { λ s. Some s.bytes.items };
+
+    ghost faults = { λ s. s.faults };
+
+    /// A call with a piece that isn't empty fails where the room is full. Else it takes what fits
+    /// into the room.
+    fn write(&mut self, piece: &[u8]) -> Result<usize, WriteFailed>
+        ensures kept { self.new.room ≡ self.old.room }
+        ensures bytes { WriteAppends (Some self.old.bytes.items)
+            (Some self.new.bytes.items) result piece.now }
+        ensures failed { IsErr result ↔ ((0 < length piece.now)
+            × (vec_len self.old.bytes ≡ self.old.room)) }
+        ensures count { IfOk result (λ n. n ≡ min (length piece.now)
+            (self.old.room - vec_len self.old.bytes)) }
+        ensures faults { CountsWhere (IsErr result) self.old.faults self.new.faults }
+    {
+        if finds_no_room(&self.bytes, self.room, piece) {
+            self.faults = self.faults.saturating_add(1);
+            return Err(WriteFailed);
+        }
+        Ok(take_part(&mut self.bytes, self.room, piece.len(), piece))
+    }
+}

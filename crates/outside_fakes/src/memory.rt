@@ -1,0 +1,257 @@
+//! A shelf and a sink in memory, some of whose calls fail. Their clauses say each answer exactly.
+ghost use Rattle.std.specs.Prelude.{◌≡◌, ◌⊎◌, ◌+◌, ◌-◌, ◌<◌, ◌≤◌, Some, None, length, take, drop, min, IfOk, IsErr, IsTrue, MatchOption, vec_capacity, vec_len, Contains, IsErrOf, ◌↔◌, [], ◌++◌};
+ghost use Rattle.std.specs.Io.KnownBytes.{WriteAppends};
+ghost use Rattle.outside_fakes.specs.Memory.{GivesOf};
+ghost use Rattle.outside.specs.Outside.{CountsWhere, bytes_of, given_by, one_more};
+
+use outside::{Shelf, ShelfFault, Sink, Tally, WriteFailed};
+use psi_base::{NoMemory, Text};
+use std::alloc::Global;
+
+// The bytes of a name, where it is held.
+pub(crate) fn find<'a>(files: &'a [(Text, Text)], name: &[u8]) -> Option<&'a [u8]>
+    ensures { MatchOption result (bytes_of files.now name.now ≡ None)
+        (λ found. bytes_of files.now name.now ≡ Some found.now) }
+{
+    for file in files {
+        if file.0.bytes() == name {
+            return Some(file.1.bytes());
+        }
+    }
+    None
+}
+
+// Copies what fits, at most so many bytes, from a place on.
+pub(crate) fn copy_part(bytes: &[u8], at: u64, most: usize, into: &mut [u8]) -> usize
+    ensures count { result ≡ min most (min (length into.new) (length bytes.now - at)) }
+    ensures bytes { take result into.new ≡ take result (drop at bytes.now) }
+    ensures rest { drop result into.new ≡ drop result into.old }
+{
+    if at >= bytes.len() as u64 {
+        return 0;
+    }
+    let rest = &bytes[at as usize..];
+    let count = most.min(into.len()).min(rest.len());
+    into[..count].copy_from_slice(&rest[..count]);
+    count
+}
+
+// Gives what fits of a name's bytes, at most so many, from a place on, and counts them. A name that
+// isn't held is counted as absent.
+pub(crate) fn give(
+    files: &[(Text, Text)],
+    most: usize,
+    name: &str,
+    at: u64,
+    into: &mut [u8],
+    absent: &mut u64,
+    given: &mut Tally,
+) -> Result<usize, ShelfFault>
+    requires { 0 < most }
+    ensures gives { GivesOf files.now name.now at most into.old into.new result }
+    ensures failed { IsErrOf result ShelfFault.Failed → ⊥ }
+    ensures absent { CountsWhere (IsErrOf result ShelfFault.NoFile) absent.old absent.new }
+    ensures given { given.new.count ≡ given.old.count + given_by result }
+{
+    match find(files, name.as_bytes()) {
+        Some(bytes) => {
+            let count = copy_part(bytes, at, most, into);
+            *given = given.and(count);
+            Ok(count)
+        }
+        None => {
+            *absent = absent.saturating_add(1);
+            Err(ShelfFault::NoFile)
+        }
+    }
+}
+
+// Takes what fits into the room, at most so many bytes.
+pub(crate) fn take_part(bytes: &mut Vec<u8>, room: usize, most: usize, piece: &[u8]) -> usize
+    requires full { vec_len bytes.old ≤ room }
+    requires room { room ≤ vec_capacity bytes.old }
+    ensures count { result ≡ min most (min (length piece.now) (room - vec_len bytes.old)) }
+    ensures bytes { bytes.new.items ≡ bytes.old.items ++ take result piece.now }
+    ensures full { vec_len bytes.new ≤ room }
+    ensures room { room ≤ vec_capacity bytes.new }
+{
+    let count = most.min(piece.len()).min(room - bytes.len());
+    if bytes.extend_from_slice(&piece[..count]).is_err() {
+        unreachable!()
+    }
+    count
+}
+
+// Whether a piece finds no room at all.
+pub(crate) fn finds_no_room(bytes: &[u8], room: usize, piece: &[u8]) -> bool
+    ensures { IsTrue result ↔ ((0 < length piece.now) × (length bytes.now ≡ room)) }
+{
+    !piece.is_empty() && bytes.len() == room
+}
+
+// Whether a write with this number fails.
+fn is_failing(fails: &[u64], call: u64, is_full: bool) -> bool
+    ensures { IsTrue result ↔ (Contains fails.now call ⊎ IsTrue is_full) }
+{
+    fails.contains(&call) || is_full
+}
+
+/// A shelf in memory, some of whose calls fail.
+#[derive(Drop)]
+pub struct MemShelf {
+    /// Names with their bytes; of two pairs with one name the first counts.
+    pub files: Vec<(Text, Text)>,
+    /// The greatest number of bytes that one call gives, at least 1.
+    pub most: usize,
+    /// The numbers of the calls that fail, from 0.
+    pub fails: Vec<u64>,
+    /// How many calls were made.
+    pub calls: u64,
+    /// How many calls failed.
+    pub faults: u64,
+    /// How many calls named a file that isn't held.
+    pub absent: u64,
+    /// How many bytes its calls gave.
+    pub given: Tally,
+    ghost gives: { 0 < most },
+}
+
+impl MemShelf {
+    /// A shelf of these files, before its first call.
+    pub fn new(files: Vec<(Text, Text)>, most: usize, fails: Vec<u64>) -> MemShelf
+        requires { 0 < most }
+        ensures { (result.files ≡ files) × (result.most ≡ most) × (result.fails ≡ fails)
+            × (result.calls ≡ 0) × (result.faults ≡ 0) × (result.absent ≡ 0)
+            × (result.given.count ≡ 0) }
+    {
+        MemShelf {
+            files,
+            most,
+            fails,
+            calls: 0,
+            faults: 0,
+            absent: 0,
+            given: Tally::new(),
+        }
+    }
+}
+
+impl Shelf for MemShelf {
+    ghost holds = { λ s. Some s.files.items };
+
+    ghost faults = { λ s. s.faults };
+
+    ghost absent = { λ s. s.absent };
+
+    ghost given = { λ s. s.given.count };
+
+    /// A call whose number is in `fails` fails. Else a name that isn't held is `NoFile`, and of one
+    /// that is held come as many bytes as there are from `at` on, at most `most` and the length of
+    /// `into`.
+    fn read_at(&mut self, name: &str, at: u64, into: &mut [u8]) -> Result<usize, ShelfFault>
+        ensures kept { (self.new.files ≡ self.old.files) × (self.new.most ≡ self.old.most)
+            × (self.new.fails ≡ self.old.fails) }
+        ensures given { self.new.given.count ≡ self.old.given.count + given_by result }
+        ensures calls { self.new.calls ≡ one_more self.old.calls }
+        ensures failed { IsErrOf result ShelfFault.Failed
+            ↔ Contains self.old.fails.items self.old.calls }
+        ensures gives { ¬ Contains self.old.fails.items self.old.calls
+            → GivesOf self.old.files.items name.now at self.old.most into.old into.new result }
+        ensures faults { CountsWhere
+            (IsErrOf result ShelfFault.Failed) self.old.faults self.new.faults }
+        ensures absent { CountsWhere
+            (IsErrOf result ShelfFault.NoFile) self.old.absent self.new.absent }
+    {
+        let call = self.calls;
+        self.calls = call.saturating_add(1);
+        if self.fails.contains(&call) {
+            self.faults = self.faults.saturating_add(1);
+            return Err(ShelfFault::Failed);
+        }
+        give(
+            &self.files,
+            self.most,
+            name,
+            at,
+            into,
+            &mut self.absent,
+            &mut self.given,
+        )
+    }
+}
+
+/// A sink in memory, some of whose calls fail. It reserves its room when it is made, and never
+/// grows.
+#[derive(Drop)]
+pub struct MemSink {
+    /// The bytes taken so far.
+    pub bytes: Vec<u8>,
+    /// How many bytes it can take.
+    pub room: usize,
+    /// The greatest number of bytes that one call takes, at least 1.
+    pub most: usize,
+    /// The numbers of the calls that fail, from 0.
+    pub fails: Vec<u64>,
+    /// How many calls were made.
+    pub calls: u64,
+    /// How many calls failed.
+    pub faults: u64,
+    ghost takes: { 0 < most },
+    ghost inside: { vec_len bytes ≤ room },
+    ghost reserved: { room ≤ vec_capacity bytes },
+}
+
+impl MemSink {
+    /// An empty sink with this room in bytes, before its first call.
+    pub fn new(
+        alloc: Global,
+        room: usize,
+        most: usize,
+        fails: Vec<u64>,
+    ) -> Result<MemSink, NoMemory>
+        requires { 0 < most }
+        ensures { IfOk result (λ s. (s.bytes.items ≡ []) × (s.room ≡ room)
+            × (s.most ≡ most)
+            × (s.fails ≡ fails) × (s.calls ≡ 0) × (s.faults ≡ 0)) }
+    {
+        let bytes = Vec::with_capacity(alloc, room)?;
+        Ok(MemSink {
+            bytes,
+            room,
+            most,
+            fails,
+            calls: 0,
+            faults: 0,
+        })
+    }
+}
+
+impl Sink for MemSink {
+    ghost has = { λ s. Some s.bytes.items };
+
+    ghost faults = { λ s. s.faults };
+
+    /// A call whose number is in `fails` fails, and so does one with a piece that isn't empty where
+    /// the room is full. Else it takes what fits into the room, at most `most` bytes.
+    fn write(&mut self, piece: &[u8]) -> Result<usize, WriteFailed>
+        ensures kept { (self.new.room ≡ self.old.room) × (self.new.most ≡ self.old.most)
+            × (self.new.fails ≡ self.old.fails) }
+        ensures bytes { WriteAppends (Some self.old.bytes.items)
+            (Some self.new.bytes.items) result piece.now }
+        ensures calls { self.new.calls ≡ one_more self.old.calls }
+        ensures failed { IsErr result ↔ (Contains self.old.fails.items self.old.calls
+            ⊎ ((0 < length piece.now) × (vec_len self.old.bytes ≡ self.old.room))) }
+        ensures count { IfOk result (λ n. n ≡ min self.old.most
+            (min (length piece.now) (self.old.room - vec_len self.old.bytes))) }
+        ensures faults { CountsWhere (IsErr result) self.old.faults self.new.faults }
+    {
+        let call = self.calls;
+        self.calls = call.saturating_add(1);
+        let is_full = finds_no_room(&self.bytes, self.room, piece);
+        if is_failing(&self.fails, call, is_full) {
+            self.faults = self.faults.saturating_add(1);
+            return Err(WriteFailed);
+        }
+        Ok(take_part(&mut self.bytes, self.room, self.most, piece))
+    }
+}

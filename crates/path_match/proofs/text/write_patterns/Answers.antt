@@ -1,7 +1,0 @@
-use Rattle.std.proofs.Common.{rules}
-use Rattle.psi_base.specs.Path.{parts_at}
-use Rattle.path_match.proofs.Texts.{text_began}
-use Rattle.path_match.proofs.text.write_patterns.Goals as goal
-
-pub parts-init : goal.parts-init
-parts-init c = text_began (parts_at 44 c.args.text.now) c.next_part.new.self c.in-Some.first.now c.args.to.now.items c.extend_from_slice.new.self.items c.slashless.result.now (search rules) c.slashless.ensures (search rules)

@@ -1,0 +1,52 @@
+-- A quick act tells of changes alone: no trigger, and no side where no task exits by it.
+use Rattle.std.proofs.Common.{◌≡◌, ℕ, List, [], refl, ap, Bool, true, false, Option, None, Some, ◌==◌}
+use Rattle.std.specs.Prelude.{if◌then◌else◌, ◌++◌}
+use Rattle.psi_base.specs.declared.event.How.{How}
+use Rattle.psi_base.specs.declared.event.How.TheVariants.{Preempt, Sleep, IoWait, Exit, Idle}
+use Rattle.psi_spec.specs.declared.machine.GroupLife.{GroupLife}
+use Rattle.psi_spec.specs.declared.machine.Task.{Task}
+use Rattle.psi_spec.specs.Told.{trigger_by}
+use Rattle.psi_spec.specs.World.{World, readied, running_on, task_of, task_part}
+use Rattle.psi_spec.specs.Refusal.{is_exit}
+use Rattle.psi_spec.proofs.TaskLaws.{itself}
+use Rattle.psi_counts.specs.Touch.{changed, left_if}
+use Rattle.task_table.specs.declared.task_act.TaskAct.{TaskAct}
+use Rattle.task_table.specs.declared.task_act.TaskAct.TheVariants as quick
+use Rattle.task_table.specs.Acts.{act_by, event_by, exits}
+use Rattle.proc_plan.specs.declared.side.Side.{Side}
+use Rattle.proc_plan.specs.Sides.{came, group_of, passage, sides_by, went}
+
+pub no_trigger : (at : ℕ) (groups : List GroupLife) (a : TaskAct) → [] ≡ trigger_by at groups (act_by a)
+no_trigger at groups (quick.Wake pid cpu) = refl
+no_trigger at groups (quick.Switch cpu next how) = refl
+no_trigger at groups (quick.Stall pid) = refl
+no_trigger at groups (quick.Unstall pid) = refl
+no_trigger at groups (quick.Migrate pid cpu) = refl
+
+-- a task that stays in its group neither leaves nor comes
+stays : (at : ℕ) (old new : Option Task) → group_of new ≡ group_of old → [] ≡ passage at (group_of old) (group_of new)
+stays at None None same = refl
+stays at (Some old) (Some new) same = let slot : new.slot ≡ old.slot = cc same in rw (slot, itself old.slot.0) refl
+stays at None (Some new) same = absurd (cc same)
+stays at (Some old) None same = absurd (cc same)
+
+-- a task that is changed stays in its group
+changed_stays : (at : ℕ) (f : Task → Task) → ((t : Task) → (f t).slot ≡ t.slot) → (old : Option Task) → [] ≡ passage at (group_of old) (group_of (changed f old))
+changed_stays at f keeps None = refl
+changed_stays at f keeps (Some t) = stays at (Some t) (Some (f t)) (ap (λ slot. Some slot) (keeps t))
+
+-- so does one that leaves its processor, but where it exits
+left_stays : (at : ℕ) (how : How) → is_exit how ≡ false → (old : Option Task) → [] ≡ passage at (group_of old) (group_of (left_if how old))
+left_stays at how stay None = refl
+left_stays at Preempt stay (Some t) = stays at (Some t) (Some t) refl
+left_stays at Sleep stay (Some t) = stays at (Some t) (Some t) refl
+left_stays at IoWait stay (Some t) = stays at (Some t) (Some t) refl
+left_stays at Idle stay (Some t) = stays at (Some t) (Some t) refl
+left_stays at Exit stay (Some t) = absurd (cc stay)
+
+pub no_sides : (w : World) (at : ℕ) (a : TaskAct) → exits a ≡ false → [] ≡ sides_by w (event_by at a)
+no_sides w at (quick.Wake pid cpu) stay = changed_stays at (readied cpu.0) (λ t. refl) (task_of w.tasks pid.0)
+no_sides w at (quick.Migrate pid cpu) stay = changed_stays at (readied cpu.0) (λ t. refl) (task_of w.tasks pid.0)
+no_sides w at (quick.Stall pid) stay = changed_stays at (λ t. record t { stalled = true }) (λ t. refl) (task_of w.tasks pid.0)
+no_sides w at (quick.Unstall pid) stay = changed_stays at (λ t. record t { stalled = false }) (λ t. refl) (task_of w.tasks pid.0)
+no_sides w at (quick.Switch cpu next how) stay = left_stays at how stay (task_part (running_on w.tasks cpu.0))

@@ -1,6 +1,0 @@
-use Rattle.replay_core.proofs.rules.read_rules.Goals as goal
-
-pub returns-in-Err-clause-answer : goal.returns-in-Err-clause-answer
-returns-in-Err-clause-answer g c =
-    let answer = rw c.name_of.ensures at c.in-Err.ensures.answer in
-    rw c.in-Some.is answer

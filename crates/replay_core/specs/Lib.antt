@@ -1,5 +1,0 @@
-pub mod Lines
-pub mod Reads
-pub mod Writes
-pub mod Rules
-pub mod Import

@@ -1,0 +1,15 @@
+use Rattle.rules_file.proofs.RulesRuns.{base_alone, base_ends, over_answers}
+use Rattle.rules_file.proofs.rules.read_joined.Goals as goal
+
+pub returns-in-Err-clause-answer : goal.returns-in-Err-clause-answer
+returns-in-Err-clause-answer g c = base_ends c.args.name.now _ (g.S.Shelf.holds c.args.shelf.now) _ _ _ c.in-Err.ensures.answer
+
+pub returns-in-Some-clause-answer : goal.returns-in-Some-clause-answer
+returns-in-Some-clause-answer g c =
+    let put = rw (c.name_of.ensures, c.in-Ok.ensures.kept) at c.read_over.ensures.answer in
+    rw c.in-Some.is (over_answers c.args.name.now c.in-Some.drop_in (g.S.Shelf.holds c.args.shelf.now) _ _ _ c.in-Ok.base c.read_over.result c.in-Ok.ensures.answer put)
+
+pub returns-in-None-clause-answer : goal.returns-in-None-clause-answer
+returns-in-None-clause-answer g c =
+    let given = c.in-Ok.ensures.answer in
+    rw c.in-None.is (base_alone c.args.name.now (g.S.Shelf.holds c.args.shelf.now) _ _ c.in-Ok.base given, given.stays)

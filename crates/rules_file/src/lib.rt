@@ -1,0 +1,13 @@
+//! The rules of a command from a shelf, and the command `rules`, which prints them.
+//!
+//! [`read_rules`] reads the files that the options of a replay name, [`read_joined`] a rules file
+//! with a drop-in file over it.
+#![tactic(auto)]
+
+mod name;
+mod printed;
+mod rules;
+
+pub use name::name_of;
+pub use printed::run_rules;
+pub use rules::{read_joined, read_rules};

@@ -1,0 +1,15 @@
+//! Names of files.
+ghost use Rattle.std.specs.Prelude.{◌≡◌, IsUtf8};
+
+use psi_base::Text;
+
+/// A name as the system takes it.
+pub fn name_of(text: &Text) -> &str
+    requires { IsUtf8 text.now }
+    ensures { result.now ≡ text.now }
+{
+    match str::from_utf8(text.bytes()) {
+        Ok(name) => name,
+        Err(_) => unreachable!(),
+    }
+}

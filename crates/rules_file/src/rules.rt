@@ -1,0 +1,176 @@
+//! The rules of a command from a shelf: those of its rules file, with the drop-in file over it.
+ghost use Rattle.std.specs.Prelude.{◌≡◌, ◌+◌, ◌≤◌, None, Some, IfSome, IsUtf8, MatchResult};
+ghost use Rattle.psi_base.specs.Gives.{Gives};
+ghost use Rattle.outside.specs.Outside.{counts_of};
+ghost use Rattle.dropin_rules.specs.Joined.{dropped_in};
+ghost use Rattle.ruleset_json.specs.RuleRanges.{FitsRules};
+ghost use Rattle.run_spec.specs.MostRead.{most_if_named, most_of_rules};
+ghost use Rattle.rules_file.specs.Files.{BaseFails, BaseGiven, EndsRun, IsFront, OverFails, OverGiven, Stays, Unread};
+ghost use Rattle.run_outcomes.specs.Rules.{RulesGiven};
+ghost use Rattle.replay_rules.specs.Judged.{given_rules};
+
+use crate::name::name_of;
+use dropin_rules::{DropFault, join};
+use file_reader::{FileFault, read_front};
+use outside::Shelf;
+use psi_base::{Fault, Text};
+use ruleset_json::{RuleList, Rules, read, read_parts};
+use run_spec::{Options, Status, Which};
+use std::alloc::Global;
+
+/// How many bytes of a rules file or a drop-in file are read at most: one more than it may have, so
+/// that a longer one is refused.
+const MOST: usize = 1_048_577;
+
+// Rules as they are: their lists keep that each ruleset is in its ranges.
+fn in_ranges(rules: Rules) -> Rules
+    ensures same { result ≡ rules }
+    ensures fit { FitsRules result.rules }
+{
+    Rules {
+        rules: RuleList::new(rules.rules.into_items()),
+    }
+}
+
+// The bytes of a rules file or a drop-in file, which is of this kind, or a front that is too long
+// already.
+fn read_bytes<S: Shelf>(
+    alloc: Global,
+    name: &str,
+    which: Which,
+    shelf: &mut S,
+) -> Result<Vec<u8>, Status>
+    ensures kept { S.holds shelf.new ≡ S.holds shelf.old }
+    ensures answer { let before = counts_of (S.faults shelf.old) (S.absent shelf.old) in
+        let now = counts_of (S.faults shelf.new) (S.absent shelf.new) in
+        MatchResult result
+        (λ bytes. IsFront bytes.items name.now (S.holds shelf.old) before now)
+        (λ status. Unread which name.now (S.holds shelf.old) before now status) }
+    ensures given { S.given shelf.new ≤ S.given shelf.old + most_of_rules }
+{
+    match read_front(alloc, shelf, name, MOST) {
+        Ok(bytes) => Ok(bytes),
+        Err(FileFault::NoFile) => Err(Status::NoFile { which }),
+        Err(FileFault::ReadFault) => Err(Status::ReadFault),
+        Err(FileFault::NoMemory(none)) => Err(Status::NoMemory(none)),
+    }
+}
+
+// Reads the rules of a rules file.
+fn read_base<S: Shelf>(alloc: Global, name: &str, shelf: &mut S) -> Result<Rules, Status>
+    ensures kept { S.holds shelf.new ≡ S.holds shelf.old }
+    ensures answer { let before = counts_of (S.faults shelf.old) (S.absent shelf.old) in
+        let now = counts_of (S.faults shelf.new) (S.absent shelf.new) in
+        MatchResult result
+        (λ rules. BaseGiven name.now (S.holds shelf.old) before now rules)
+        (λ status. BaseFails name.now (S.holds shelf.old) before now status) }
+    ensures given { S.given shelf.new ≤ S.given shelf.old + most_of_rules }
+{
+    let bytes = match read_bytes(alloc, name, Which::RulesFile, shelf) {
+        Ok(bytes) => bytes,
+        Err(status) => return Err(status),
+    };
+    match read(alloc, &bytes) {
+        Ok(rules) => Ok(in_ranges(rules)),
+        Err(Fault::Refused(fault)) => Err(Status::Rules { fault }),
+        Err(Fault::NoMemory(none)) => Err(Status::NoMemory(none)),
+    }
+}
+
+// Rules with a drop-in file of these bytes over them.
+#[tactic(auto, unfolding(dropin_rules::specs::Joined::dropped_in))]
+fn dropped(alloc: Global, base: Rules, bytes: &[u8]) -> Result<Rules, Fault<DropFault>>
+    ensures { Gives result (dropped_in base bytes.now) }
+{
+    match read_parts(alloc, bytes) {
+        Ok(parts) => join(base, parts),
+        Err(Fault::Refused(fault)) => Err(Fault::Refused(DropFault::from(fault))),
+        Err(Fault::NoMemory(none)) => Err(Fault::NoMemory(none)),
+    }
+}
+
+// Reads a drop-in file, and puts it over rules.
+fn read_over<S: Shelf>(
+    alloc: Global,
+    base: Rules,
+    name: &str,
+    shelf: &mut S,
+) -> Result<Rules, Status>
+    ensures kept { S.holds shelf.new ≡ S.holds shelf.old }
+    ensures answer { let before = counts_of (S.faults shelf.old) (S.absent shelf.old) in
+        let now = counts_of (S.faults shelf.new) (S.absent shelf.new) in
+        MatchResult result
+        (λ rules. OverGiven base name.now (S.holds shelf.old) before now rules)
+        (λ status. OverFails base name.now (S.holds shelf.old) before now status) }
+    ensures given { S.given shelf.new ≤ S.given shelf.old + most_of_rules }
+{
+    let bytes = match read_bytes(alloc, name, Which::DropInFile, shelf) {
+        Ok(bytes) => bytes,
+        Err(status) => return Err(status),
+    };
+    match dropped(alloc, base, &bytes) {
+        Ok(rules) => Ok(in_ranges(rules)),
+        Err(Fault::Refused(fault)) => Err(Status::DropIn { fault }),
+        Err(Fault::NoMemory(none)) => Err(Status::NoMemory(none)),
+    }
+}
+
+/// Reads the rules of a rules file, with the drop-in file over it, if one is named. The drop-in
+/// file is read only behind rules that are accepted. A status tells why there are none.
+pub fn read_joined<S: Shelf>(
+    alloc: Global,
+    name: &str,
+    drop_in: &Option<Text>,
+    shelf: &mut S,
+) -> Result<Rules, Status>
+    requires text { IfSome drop_in.now IsUtf8 }
+    ensures kept { S.holds shelf.new ≡ S.holds shelf.old }
+    ensures answer { let before = counts_of (S.faults shelf.old) (S.absent shelf.old) in
+        let now = counts_of (S.faults shelf.new) (S.absent shelf.new) in
+        MatchResult result
+        (λ rules. RulesGiven (Some name.now) drop_in.now (S.holds shelf.old) rules.rules
+        × Stays before now)
+        (λ status. EndsRun (Some name.now) drop_in.now (S.holds shelf.old) before now status) }
+    ensures given { S.given shelf.new ≤ S.given shelf.old + (most_of_rules
+        + most_if_named most_of_rules drop_in.now) }
+{
+    let base = match read_base(alloc, name, shelf) {
+        Ok(base) => base,
+        Err(status) => return Err(status),
+    };
+    match drop_in {
+        Some(drop_in) => read_over(alloc, base, name_of(drop_in), shelf),
+        None => Ok(base),
+    }
+}
+
+/// Reads the rules that the options of a replay name, if they name any. A status tells why there
+/// are none.
+pub fn read_rules<S: Shelf>(
+    alloc: Global,
+    options: &Options,
+    shelf: &mut S,
+) -> Result<Option<Rules>, Status>
+    requires text { IfSome options.now.rules IsUtf8 }
+    requires drop_in { IfSome options.now.drop_in IsUtf8 }
+    requires over { options.now.rules ≡ None → options.now.drop_in ≡ None }
+    ensures kept { S.holds shelf.new ≡ S.holds shelf.old }
+    ensures answer { let before = counts_of (S.faults shelf.old) (S.absent shelf.old) in
+        let now = counts_of (S.faults shelf.new) (S.absent shelf.new) in
+        MatchResult result
+        (λ rules. RulesGiven options.now.rules options.now.drop_in (S.holds shelf.old)
+        (given_rules rules) × Stays before now)
+        (λ status. EndsRun options.now.rules options.now.drop_in (S.holds shelf.old)
+        before now status) }
+    ensures given { S.given shelf.new
+        ≤ S.given shelf.old + (most_if_named most_of_rules options.now.rules
+        + most_if_named most_of_rules options.now.drop_in) }
+{
+    match &options.rules {
+        Some(name) => match read_joined(alloc, name_of(name), &options.drop_in, shelf) {
+            Ok(rules) => Ok(Some(rules)),
+            Err(status) => Err(status),
+        },
+        None => Ok(None),
+    }
+}

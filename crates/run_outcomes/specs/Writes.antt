@@ -1,0 +1,71 @@
+-- What reading and writing come to as the status of a run.
+use Rattle.std.specs.Prelude.{◌≡◌, ◌≤◌, ℕ, List, Option, Result, Ok, Err}
+use Rattle.std.specs.Io.KnownBytes.{Appends, Keeps}
+use Rattle.outside.specs.Outside.{AppendsFront, PutsAll, Rose}
+use Rattle.psi_base.specs.declared.event.Event.{Event}
+use Rattle.psi_base.specs.declared.event.Fault.{Fault}
+use Rattle.psi_base.specs.declared.event.Fault.TheVariants as of_rounds
+use Rattle.psi_spec.specs.Trace.{IsAccepted, Trace, limits_of}
+use Rattle.psi_spec.specs.World.{Limits}
+use Rattle.proc_plan.specs.Plans.{HasTaken, PlannerView}
+use Rattle.ruleset_json.specs.declared.types.Rule.{Rule}
+use Rattle.run_spec.specs.Outputs.{of_ms}
+use Rattle.run_spec.specs.Replay.{IsReplayText, Pace}
+use Rattle.run_spec.specs.Whatif.{last_trace}
+use Rattle.run_spec.specs.Words.{IsWithin}
+use Rattle.run_spec.specs.declared.command.Options.{Options}
+use Rattle.run_spec.specs.declared.status.Status.{Status}
+use Rattle.run_spec.specs.declared.status.Status.TheVariants as status
+use Rattle.run_spec.specs.declared.status.Which.TheVariants.{TraceFile}
+use Rattle.whatif_trace.specs.declared.removal.TooLarge.{TooLarge}
+use Rattle.trace_file.specs.declared.trace.TraceFault.{TraceFault}
+use Rattle.trace_file.specs.declared.trace.TraceFault.TheVariants as fault
+
+-- What writing a text gave: all of it, a front of it where a write failed, or nothing for want of
+-- memory. The count of failed writes rose where one failed, and else is as it was.
+abbrev pub WritesText : List ℕ → ℕ → ℕ → Option (List ℕ) → Option (List ℕ) → Status → Type 0
+WritesText text before now had has status.Done = Appends had has text × (now ≡ before)
+WritesText text before now had has status.WriteFault = AppendsFront had has text × Rose before now
+WritesText text before now had has (status.NoMemory _) = Keeps had has × (now ≡ before)
+WritesText text before now had has _ = ⊥
+
+-- What writing some text of a kind gave: one of them was to be written.
+abbrev pub WritesSome : (List ℕ → Type 0) → ℕ → ℕ → Option (List ℕ) → Option (List ℕ) → Status → Type 0
+WritesSome IsSo before now had has result = (text : List ℕ) × IsSo text × WritesText text before now had has result
+
+-- so it is as far as the text itself goes
+abbrev pub PutsSome : {T E : Type 0} → (List ℕ → Type 0) → Option (List ℕ) → Option (List ℕ) → Result T E → Type 0
+PutsSome IsSo had has result = (text : List ℕ) × IsSo text × PutsAll had has result text
+
+-- What `whatif` wrote of a trace: some output of `replay` for the last trace, or none where a round
+-- left too many events.
+abbrev pub WritesLast : Trace → Pace → List Rule → ℕ → ℕ → Option (List ℕ) → Option (List ℕ) → Status → Type 0
+WritesLast trace pace rules before now had has (status.TooLarge events) =
+    (last_trace trace pace rules ≡ Err events) × Keeps had has × (now ≡ before)
+WritesLast trace pace rules before now had has (status.NoMemory _) = Keeps had has × (now ≡ before)
+WritesLast trace pace rules before now had has result =
+    (last : Trace) × (last_trace trace pace rules ≡ Ok last) × WritesSome (IsReplayText last pace rules) before now had has result
+
+-- the status of a trace that can't be read
+abbrev pub IsStatusOf : TraceFault → Status → Type 0
+IsStatusOf (fault.Refused refusal) result = result ≡ status.Trace refusal.line refusal.cause
+IsStatusOf fault.NoFile result = result ≡ status.NoFile TraceFile
+IsStatusOf fault.ReadFault result = result ≡ status.ReadFault
+IsStatusOf (fault.NoMemory none) result = result ≡ status.NoMemory none
+
+-- the status of rounds that left no trace
+abbrev pub IsStatusOfRounds : Fault TooLarge → Status → Type 0
+IsStatusOfRounds (of_rounds.Refused large) result = result ≡ status.TooLarge large.events
+IsStatusOfRounds (of_rounds.NoMemory none) result = result ≡ status.NoMemory none
+
+-- a trace that was taken apart is to be replayed with options: it is accepted at their length of a
+-- tick
+pub record IsToReplay (planner : PlannerView) (options : Options) (limits : Limits) (events : List Event) : Type 0 where
+  pub taken : HasTaken planner limits events
+  pub ended : IsAccepted limits events
+  pub latest : limits ≡ limits_of (of_ms options.tick_ms) limits.cpus
+  pub some : 1 ≤ options.tick_ms
+  pub short : options.tick_ms ≤ 60000
+  pub interval : 1 ≤ options.interval_s
+  pub often : options.interval_s ≤ 3600
+  pub workers : IsWithin 1 64 options.workers

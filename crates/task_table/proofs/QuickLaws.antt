@@ -1,0 +1,163 @@
+-- What holds of the act for which a quick one stands.
+use Rattle.std.proofs.Common.{◌≡◌, ℕ, ◌+◌, ◌≤◌, List, refl, ap, ◌∙◌, sym, Bool, true, false, Option, None, Some, ◌==◌, arith, subst}
+use Rattle.std.specs.Prelude.{if◌then◌else◌, ◌||◌, slice_index_or}
+use Rattle.std.proofs.lemmas.Bool.{false≢true}
+use Rattle.std.proofs.lemmas.Bool.Decides.{eqb_tells}
+use Rattle.psi_base.specs.declared.event.Cpu.{Cpu}
+use Rattle.psi_base.specs.declared.event.Slot.{Slot}
+use Rattle.psi_base.specs.declared.event.Act.{Act}
+use Rattle.psi_counts.specs.declared.changes.Change.{Change}
+use Rattle.psi_spec.specs.declared.machine.GroupLife.{GroupLife}
+use Rattle.psi_spec.specs.declared.machine.Task.{Task}
+use Rattle.psi_base.specs.Missing.{is_some_and}
+use Rattle.psi_spec.proofs.TaskLaws.{itself}
+use Rattle.psi_spec.specs.World.{Tasks, World, after_event, ends, groups_after, irqs_after, is_pressure, is_trigger, tasks_after}
+use Rattle.psi_spec.specs.Changes.{is_at, touched}
+use Rattle.psi_spec.specs.Stall.{irq_told}
+use Rattle.psi_counts.specs.Touch.{IsBeside, account_of, told_first}
+use Rattle.task_table.specs.declared.task_act.TaskAct.{TaskAct}
+use Rattle.task_table.specs.declared.task_act.TaskAct.TheVariants as quick
+use Rattle.task_table.specs.declared.task_update.TaskUpdate.{TaskUpdate}
+use Rattle.psi_counts.specs.Legal.{IsLegalWorld}
+use Rattle.psi_counts.proofs.LegalLaws.{legal_kept}
+use Rattle.psi_spec.specs.Refusal.{cause_of}
+use Rattle.task_table.specs.Stands.{HasPlayed, table_of}
+use Rattle.task_table.specs.Acts.{act_by, cpu_in, cpus_by, event_by, pid_by, unless_on}
+use Rattle.task_table.specs.Named.{change_for, named_task, next_task, touched_change}
+
+-- the task that it names is the one with its number
+pub named_quick : (tasks : Tasks) (a : TaskAct) → named_task tasks (act_by a) ≡ next_task tasks (pid_by a)
+named_quick tasks (quick.Wake pid cpu) = refl
+named_quick tasks (quick.Switch cpu next how) = refl
+named_quick tasks (quick.Stall pid) = refl
+named_quick tasks (quick.Unstall pid) = refl
+named_quick tasks (quick.Migrate pid cpu) = refl
+
+-- an act leaves all but tasks as it was
+pub record LeavesRest (at : ℕ) (groups : List GroupLife) (irqs : List ℕ) (a : Act) : Type 0 where
+  pub groups_same : groups_after at groups a ≡ groups
+  pub irqs_same : irqs_after at irqs a ≡ irqs
+  pub triggers : is_trigger a ≡ false
+  pub pressures : is_pressure a ≡ false
+  pub goes_on : ends a ≡ false
+  pub plain : account_of groups a ≡ None
+
+pub leaves_rest : (at : ℕ) (groups : List GroupLife) (irqs : List ℕ) (a : TaskAct) → LeavesRest at groups irqs (act_by a)
+leaves_rest at groups irqs (quick.Wake pid cpu) = record { groups_same = refl; irqs_same = refl; triggers = refl; pressures = refl; goes_on = refl; plain = refl }
+leaves_rest at groups irqs (quick.Switch cpu next how) = record { groups_same = refl; irqs_same = refl; triggers = refl; pressures = refl; goes_on = refl; plain = refl }
+leaves_rest at groups irqs (quick.Stall pid) = record { groups_same = refl; irqs_same = refl; triggers = refl; pressures = refl; goes_on = refl; plain = refl }
+leaves_rest at groups irqs (quick.Unstall pid) = record { groups_same = refl; irqs_same = refl; triggers = refl; pressures = refl; goes_on = refl; plain = refl }
+leaves_rest at groups irqs (quick.Migrate pid cpu) = record { groups_same = refl; irqs_same = refl; triggers = refl; pressures = refl; goes_on = refl; plain = refl }
+
+-- ---- what it makes of a table
+
+same_count : (n : ℕ) (more : Bool) → more ≡ false → n + (if more then 1 else 0) ≡ n
+same_count n more none = rw none (omega arith)
+
+same_end : (ended ends : Bool) → ends ≡ false → (ended || ends) ≡ ended
+same_end true ends goes_on = refl
+same_end false ends goes_on = goes_on
+
+-- the world after it has other tasks, one line more, and its moment
+world_after : (w : World) (at : ℕ) (a : TaskAct) → after_event w (event_by at a) ≡ record w { tasks = tasks_after w.groups w.tasks (act_by a); lines = w.lines + 1; last = at }
+world_after w at a =
+    let rest = leaves_rest at w.groups w.irqs a in
+    cc (rest.groups_same, rest.irqs_same, same_count w.triggers (is_trigger (act_by a)) rest.triggers, same_count w.pressures (is_pressure (act_by a)) rest.pressures, same_end w.ended (ends (act_by a)) rest.goes_on)
+
+-- so a table that has them has played it
+pub quick_played : (cpus cpus_next latest : ℕ) (tasks tasks_next : Tasks) (groups : List GroupLife) (irqs : List ℕ) (triggers pressures lines last : ℕ) (ended : Bool) (at : ℕ) (a : TaskAct)
+    → cpus_next ≡ cpus → tasks_next ≡ tasks_after groups tasks (act_by a) → last ≤ at
+    → cause_of (table_of cpus latest tasks groups irqs triggers pressures lines last ended).limits (table_of cpus latest tasks groups irqs triggers pressures lines last ended).world (event_by at a) ≡ None
+    → IsLegalWorld (table_of cpus latest tasks groups irqs triggers pressures lines last ended).limits (table_of cpus latest tasks groups irqs triggers pressures lines last ended).world
+    → HasPlayed (table_of cpus latest tasks groups irqs triggers pressures lines last ended) (event_by at a) (table_of cpus_next latest tasks_next groups irqs triggers pressures (lines + 1) at ended)
+quick_played cpus cpus_next latest tasks tasks_next groups irqs triggers pressures lines last ended at a same tasks_are forward legal old =
+    let table = table_of cpus latest tasks groups irqs triggers pressures lines last ended in
+    let world = world_after table.world at a in
+    let kept = subst (λ v. IsLegalWorld table.limits v) world (legal_kept table.limits table.world (event_by at a) legal old) in
+    rw (same, tasks_are) (record {
+      limits = refl;
+      legal = legal;
+      world = sym world;
+      legal_before = old;
+      legal_after = kept;
+      lines = kept.few_lines;
+      early = kept.early;
+      forward = forward;
+    })
+
+-- ---- its touch
+
+-- of two processors, of which the second may be left out where it is the first, the change of
+-- either
+either_told : (one other left : Bool) (x y z : Change) → (one ≡ true → x ≡ z) → (other ≡ true → y ≡ z) → (left ≡ true → other ≡ true → one ≡ true)
+    → (if one then Some x else if left then None else if other then Some y else None) ≡ (if one || other then Some z else None)
+either_told true other left x y z of_one of_other same = ap Some (of_one refl)
+either_told false true true x y z of_one of_other same = absurd (false≢true (same refl refl))
+either_told false true false x y z of_one of_other same = ap Some (of_other refl)
+either_told false false true x y z of_one of_other same = refl
+either_told false false false x y z of_one of_other same = refl
+
+-- the change of one alone
+one_told : (one : Bool) (x z : Change) → (one ≡ true → x ≡ z) → (if one then Some x else None) ≡ (if one then Some z else None)
+one_told true x z of_one = ap Some (of_one refl)
+one_told false x z of_one = refl
+
+same_number : (one other : ℕ) → (one == other) ≡ true → one ≡ other
+same_number one other is = grind (arith, eqb_tells)
+
+-- what is told of a processor, where there may be none
+told_left : (at : ℕ) (changed : TaskUpdate) (running : List (Option (ℕ × Task))) (left : Bool) (there : Cpu) (cpu : ℕ) → told_first cpu (touched_change at changed running (if left then None else Some there)) None ≡ (if left then None else if there.0 == cpu then Some (change_for at changed (slice_index_or running there.0 None) 0 there.0) else None)
+told_left at changed running true there cpu = refl
+told_left at changed running false there cpu = refl
+
+-- the change of a processor, and of the one where a task is
+two_told : (at : ℕ) (changed : TaskUpdate) (running : List (Option (ℕ × Task))) (named : Cpu) (old : Option Task) (cpu : ℕ) → told_first cpu (touched_change at changed running (Some named)) (told_first cpu (touched_change at changed running (unless_on named old)) None) ≡ (if named.0 == cpu || is_some_and old (is_at cpu) then Some (change_for at changed (slice_index_or running cpu None) 0 cpu) else None)
+two_told at changed running named None cpu =
+    let change : ℕ → Change = λ n. change_for at changed (slice_index_or running n None) 0 n in
+    either_told (named.0 == cpu) false true (change named.0) (change named.0) (change cpu) (λ is. ap change (same_number named.0 cpu is)) (λ is. absurd (false≢true is)) (λ _ is. absurd (false≢true is))
+two_told at changed running named (Some task) cpu =
+    let change : ℕ → Change = λ n. change_for at changed (slice_index_or running n None) 0 n in
+    ap (λ rest. if named.0 == cpu then Some (change named.0) else rest) (told_left at changed running (task.cpu.0 == named.0) task.cpu cpu)
+    ∙ either_told (named.0 == cpu) (task.cpu.0 == cpu) (task.cpu.0 == named.0) (change named.0) (change task.cpu.0) (change cpu) (λ is. ap change (same_number named.0 cpu is)) (λ is. ap change (same_number task.cpu.0 cpu is))
+    (λ left other. subst (λ n. (n == cpu) ≡ true) (same_number task.cpu.0 named.0 left) other)
+
+-- the change of the processor where a task is
+one_in : (at : ℕ) (changed : TaskUpdate) (running : List (Option (ℕ × Task))) (old : Option Task) (cpu : ℕ) → told_first cpu (touched_change at changed running (cpu_in old)) None ≡ (if is_some_and old (is_at cpu) then Some (change_for at changed (slice_index_or running cpu None) 0 cpu) else None)
+one_in at changed running None cpu = refl
+one_in at changed running (Some task) cpu =
+    let change : ℕ → Change = λ n. change_for at changed (slice_index_or running n None) 0 n in
+    one_told (task.cpu.0 == cpu) (change task.cpu.0) (change cpu) (λ is. ap change (same_number task.cpu.0 cpu is))
+
+-- what is told of the processors of a quick act is what it changes there
+pub quick_told : (at : ℕ) (a : TaskAct) (changed : TaskUpdate) (running : List (Option (ℕ × Task))) (cpu : ℕ) →
+    told_first cpu (touched_change at changed running (cpus_by a changed.old).0) (told_first cpu (touched_change at changed running (cpus_by a changed.old).1) None)
+    ≡ (if touched (act_by a) changed.old cpu then Some (change_for at changed (slice_index_or running cpu None) (irq_told cpu (act_by a)) cpu) else None)
+quick_told at (quick.Wake pid named) changed running cpu = two_told at changed running named changed.old cpu
+quick_told at (quick.Migrate pid named) changed running cpu = two_told at changed running named changed.old cpu
+quick_told at (quick.Switch named next how) changed running cpu =
+    let change : ℕ → Change = λ n. change_for at changed (slice_index_or running n None) 0 n in
+    one_told (named.0 == cpu) (change named.0) (change cpu) (λ is. ap change (same_number named.0 cpu is))
+quick_told at (quick.Stall pid) changed running cpu = one_in at changed running changed.old cpu
+quick_told at (quick.Unstall pid) changed running cpu = one_in at changed running changed.old cpu
+
+-- the second of two processors is another than the first
+two_beside : (at : ℕ) (changed : TaskUpdate) (running : List (Option (ℕ × Task))) (named there : Cpu) (left : Bool) → (there.0 == named.0) ≡ left → IsBeside (touched_change at changed running (Some named)) (touched_change at changed running (if left then None else Some there))
+two_beside at changed running named there true is = tt
+two_beside at changed running named there false is = λ same. absurd (false≢true (sym is ∙ ap (λ (c : Cpu). there.0 == c.0) same ∙ itself there.0))
+
+beside_old : (at : ℕ) (changed : TaskUpdate) (running : List (Option (ℕ × Task))) (named : Cpu) (old : Option Task) → IsBeside (touched_change at changed running (Some named)) (touched_change at changed running (unless_on named old))
+beside_old at changed running named None = tt
+beside_old at changed running named (Some task) = two_beside at changed running named task.cpu (task.cpu.0 == named.0) refl
+
+pub quick_beside : (at : ℕ) (a : TaskAct) (changed : TaskUpdate) (running : List (Option (ℕ × Task))) → IsBeside (touched_change at changed running (cpus_by a changed.old).0) (touched_change at changed running (cpus_by a changed.old).1)
+quick_beside at (quick.Wake pid named) changed running = beside_old at changed running named changed.old
+quick_beside at (quick.Migrate pid named) changed running = beside_old at changed running named changed.old
+quick_beside at (quick.Switch named next how) changed running = tt
+quick_beside at (quick.Stall pid) changed running = alone (touched_change at changed running (cpu_in changed.old))
+  where
+    alone : (first : Option (Cpu × Change)) → IsBeside first None
+    alone first = tt
+quick_beside at (quick.Unstall pid) changed running = alone (touched_change at changed running (cpu_in changed.old))
+  where
+    alone : (first : Option (Cpu × Change)) → IsBeside first None
+    alone first = tt

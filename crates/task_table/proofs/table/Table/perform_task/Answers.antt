@@ -1,0 +1,30 @@
+use Rattle.std.proofs.Common.{subst}
+use Rattle.task_table.specs.Acts.{act_by, event_by}
+use Rattle.task_table.specs.Stands.{IsIndex, TableView}
+use Rattle.task_table.proofs.QuickLaws.{leaves_rest}
+use Rattle.task_table.proofs.Touching.{IsTold, told_played}
+use Rattle.task_table.proofs.table.Table.perform_task.Goals as goal
+
+-- all that is promised of the touch
+told : (c : goal.After-touch_by) → IsTold c.args.self.now.limits c.args.self.now.world (event_by c.args.at c.args.act) c.touch_by.result
+told c =
+    let running = c.self.inside.running.items in
+    let index = subst (λ (table : TableView). IsIndex running table.world.tasks) c.self.view_is c.self.invariant.index in
+    let plain = (leaves_rest c.args.at c.args.self.now.world.groups c.args.self.now.world.irqs c.args.act).plain in
+    told_played c.args.self.now _ (event_by c.args.at c.args.act) c.advance_task-changed.result running c.touch_by.result c.advance_task-changed.ensures.plays c.advance_task-changed.ensures.changed
+    index plain c.touch_by.ensures.account (rw c.deref.ensures.value at c.touch_by.ensures.told) c.touch_by.ensures.beside
+
+pub returns-clause-touch : goal.returns-clause-touch
+returns-clause-touch c = (told c).is
+
+pub returns-clause-cpus : goal.returns-clause-cpus
+returns-clause-cpus c = (told c).cpus
+
+pub returns-clause-slots : goal.returns-clause-slots
+returns-clause-slots c = (told c).slots
+
+pub returns-clause-ones : goal.returns-clause-ones
+returns-clause-ones c = (told c).ones
+
+pub returns-clause-moment : goal.returns-clause-moment
+returns-clause-moment c = (told c).moment

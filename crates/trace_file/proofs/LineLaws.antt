@@ -1,0 +1,337 @@
+-- Reading the lines of a trace behind its header, against the definition over its bytes.
+use Rattle.std.proofs.Common.{◌≡◌, ◌≢◌, ℕ, ◌+◌, ◌<◌, ◌≤◌, List, [], ◌∷◌, ◌++◌, length, drop, append_assoc, get_or, refl, sym, ap, ◌∙◌, subst, arith, ◌⊎◌, ⊎_elim, true, false, Bool}
+use Rattle.std.specs.Prelude.{IfOk, Result, Ok, Err, Option, None, Some, nat_lt, if◌then◌else◌}
+use Rattle.std.proofs.lemmas.List.{append-nil, length-append}
+use Rattle.std.proofs.Math.Seq.{get_or-append_seam}
+use Rattle.psi_base.specs.declared.event.Event.{Event}
+use Rattle.psi_base.specs.declared.event.Cause.{Cause}
+use Rattle.psi_base.specs.declared.event.Cause.TheVariants as cause
+use Rattle.psi_base.specs.declared.event.Refusal.{Refusal}
+use Rattle.psi_base.specs.declared.event.Fault.{Fault}
+use Rattle.psi_base.specs.declared.event.Fault.TheVariants as fault
+use Rattle.psi_lines.specs.Lines.{BeginsWithLine, IsTooLong, IsCut, Reader, left}
+use Rattle.psi_lines.specs.Next.{NextOf}
+use Rattle.psi_lines.specs.declared.lines.LineFault.{LineFault}
+use Rattle.psi_lines.specs.declared.lines.LineFault.TheVariants as lines
+use Rattle.psi_trace.specs.Front.{HasInFront}
+use Rattle.trace_laws.proofs.GrammarReads.{known_still, reads_spelled, spelled_in_line}
+use Rattle.psi_spec.specs.World.{World, Limits, after, after_event, first_world}
+use Rattle.psi_spec.specs.Refusal.{cause_of}
+use Rattle.psi_spec.specs.Grammar.{Fits, IsKnown, IsVersion, Verb, Version, event_of, header_with, spelling, verbs_of, versions}
+use Rattle.psi_spec.specs.Trace.{AllFit, AreKnown, IsCpuCount, accepts_with, line_event, rest_cause, then_legal, at_end, or_refused, followed, refused, with_events, trace_of, limits_of}
+use Rattle.trace_laws.proofs.Splitting.{Cut, cut}
+use Rattle.trace_laws.proofs.Reading.{Events, rest_from-line, rest_from-rest, nothing_left, followed-followed}
+use Rattle.psi_spec.proofs.Following.{last_end}
+use Rattle.proc_plan.proofs.Taking.{legal_push}
+use Rattle.plan_laws.proofs.PlanLaws.{after-push}
+use Rattle.psi_base.specs.Gives.{Gives}
+use Rattle.trace_player.specs.Playing.{PlayerTakes, Plays}
+use Rattle.trace_file.specs.Reads.{Legally, rest_from, RefusalOf, IsTraceFault, NextGives, RestGives, TailGives, TakesLine, TakesRead, TracePlayed, trace_fault, verbs_in}
+use Rattle.trace_file.specs.declared.trace.TraceFault.{TraceFault}
+use Rattle.trace_file.specs.declared.trace.TraceFault.TheVariants.{Refused, NoFile, ReadFault, NoMemory}
+
+-- ---- events so far, and those behind them
+
+followed-none : (rest : Events) → followed [] rest ≡ rest
+followed-none (Ok events) = refl
+followed-none (Err refusal) = refl
+
+-- one more event of the whole
+pub push_read : (front : List Event) (event : Event) (rest more whole : Events) → followed front rest ≡ whole → rest ≡ followed (event ∷ []) more → followed (front ++ event ∷ []) more ≡ whole
+push_read front event rest more whole is next = sym (followed-followed front (event ∷ []) more) ∙ ap (followed front) (sym next) ∙ is
+
+-- a refusal of the rest is one of the whole
+pub whole_refused : (front : List Event) (rest whole : Events) (refusal : Refusal) → followed front rest ≡ whole → rest ≡ Err refusal → whole ≡ Err refusal
+whole_refused front rest whole refusal is refused = sym is ∙ ap (followed front) refused
+
+-- a fault of the rest is one of the whole
+pub whole_fault : (front : List Event) (rest whole : Events) (fault : TraceFault) → followed front rest ≡ whole → RefusalOf fault rest → RefusalOf fault whole
+whole_fault front rest whole (Refused refusal) is found = whole_refused front rest whole refusal is found
+whole_fault front rest whole _ is found = tt
+
+-- ---- a line
+
+pub not_long : (n : ℕ) → n ≤ 512 → nat_lt 512 n ≡ false
+not_long n short = grind (arith, short)
+
+pub line_taken : (verbs : List Verb) (limits : Limits) (w : World) (line : ℕ) (bytes part behind : List ℕ) (event : Event) → BeginsWithLine bytes part behind → line_event verbs limits w part ≡ Ok event → rest_from verbs limits w line bytes ≡ followed (event ∷ []) (rest_from verbs limits (after_event w event) (line + 1) behind)
+line_taken verbs limits w line bytes part behind event begins is =
+    ap (rest_from verbs limits w line) begins.whole ∙ rest_from-line verbs limits w line part behind begins.one ∙ ap (λ r. or_refused line r (λ e. followed (e ∷ []) (rest_from verbs limits (after_event w e) (line + 1) behind))) is
+
+pub line_refused : (verbs : List Verb) (limits : Limits) (w : World) (line : ℕ) (bytes part behind : List ℕ) (why : Cause) → BeginsWithLine bytes part behind → line_event verbs limits w part ≡ Err why → rest_from verbs limits w line bytes ≡ Err (refused line why)
+line_refused verbs limits w line bytes part behind why begins is =
+    ap (rest_from verbs limits w line) begins.whole ∙ rest_from-line verbs limits w line part behind begins.one ∙ ap (λ r. or_refused line r (λ e. followed (e ∷ []) (rest_from verbs limits (after_event w e) (line + 1) behind))) is
+
+-- ---- a line that is played
+
+legal_line : (ended long : Bool) (read : Result Event Cause) (limits : Limits) (w : World) (event : Event) → ended ≡ false → long ≡ false → read ≡ Ok event → cause_of limits w event ≡ None → (if ended then Err cause.AfterEnd else if long then Err cause.LineTooLong else then_legal limits w read) ≡ Ok event
+legal_line ended long read limits w event running short is legal = rw (running, short, is, legal) refl
+
+refused_line : (ended long : Bool) (read : Result Event Cause) (limits : Limits) (w : World) (event : Event) (why : Cause) → ended ≡ false → long ≡ false → read ≡ Ok event → cause_of limits w event ≡ Some why → (if ended then Err cause.AfterEnd else if long then Err cause.LineTooLong else then_legal limits w read) ≡ Err why
+refused_line ended long read limits w event why running short is refused = rw (running, short, is, refused) refl
+
+unread_line : (ended long : Bool) (read : Result Event Cause) (limits : Limits) (w : World) (why : Cause) → ended ≡ false → long ≡ false → read ≡ Err why → (if ended then Err cause.AfterEnd else if long then Err cause.LineTooLong else then_legal limits w read) ≡ Err why
+unread_line ended long read limits w why running short is = rw (running, short, is) refl
+
+takes_event : (verbs : List Verb) (Before After : Plays) (line : List ℕ) (event : Event) (result : Result (Unit {0}) (Fault Cause)) → length line ≤ 512 → event_of verbs line ≡ Ok event → PlayerTakes Before After event result → TakesLine verbs Before After line result
+unfolding line_event
+takes_event verbs Before After line event (Ok x) short is takes = λ limits events before running.
+    let taken = takes limits events before in
+    (event, legal_line (after events).ended (nat_lt 512 (length line)) (event_of verbs line) limits (after events) event running (not_long (length line) short) is taken.0, taken.1, taken.2)
+takes_event verbs Before After line event (Err (fault.Refused why)) short is takes = λ limits events before running.
+    refused_line (after events).ended (nat_lt 512 (length line)) (event_of verbs line) limits (after events) event why running (not_long (length line) short) is (takes limits events before)
+takes_event verbs Before After line event (Err (fault.NoMemory _)) short is takes = tt
+
+takes_none : (verbs : List Verb) (Before After : Plays) (line : List ℕ) (why : Fault Cause) → length line ≤ 512 → Gives {A = Event} (Err why) (event_of verbs line) → TakesLine verbs Before After line (Err why)
+unfolding line_event
+takes_none verbs Before After line (fault.Refused why) short is = λ limits events before running.
+    unread_line (after events).ended (nat_lt 512 (length line)) (event_of verbs line) limits (after events) why running (not_long (length line) short) is
+takes_none verbs Before After line (fault.NoMemory _) short is = tt
+
+pub takes_read : (verbs : List Verb) (Before After : Plays) (line : List ℕ) (read : Result Event (Fault Cause)) (result : Result (Unit {0}) (Fault Cause)) → length line ≤ 512 → Gives read (event_of verbs line) → TakesRead Before After read result → TakesLine verbs Before After line result
+takes_read verbs Before After line (Ok event) result short is takes = takes_event verbs Before After line event result short is takes
+takes_read verbs Before After line (Err why) result short is same = subst (TakesLine verbs Before After line) (sym same) (takes_none verbs Before After line why short is)
+
+-- the line's event was played, and the rest of the input is behind it
+pub line_played : (verbs : List Verb) (Before After : Plays) (line : ℕ) (part : List ℕ) (before behind : List ℕ → List ℕ) (known : Option (List ℕ)) (x : Unit {0}) → TakesLine verbs Before After part (Ok x) → ((bytes : List ℕ) → known ≡ Some bytes → BeginsWithLine (before bytes) part (behind bytes))
+    → NextGives verbs Before After line before behind known (Ok x)
+line_played verbs Before After line part before behind known x takes begins = λ limits events played running.
+    let taken = takes limits events played running in
+    record {
+      event = taken.0;
+      played = taken.2;
+      few = taken.3;
+      read = λ bytes tells.
+          line_taken verbs limits (after events) line (before bytes) part (behind bytes) taken.0 (begins bytes tells) taken.1
+          ∙ ap (λ w. followed (taken.0 ∷ []) (rest_from verbs limits w (line + 1) (behind bytes))) (sym (after-push events taken.0));
+    }
+
+-- the fault of a line is that of the rest
+pub line_faulted : (verbs : List Verb) (Before After : Plays) (line : ℕ) (part : List ℕ) (before behind : List ℕ → List ℕ) (known : Option (List ℕ)) (why : Fault Cause) (found : TraceFault) → IsTraceFault line why found → TakesLine verbs Before After part (Err why) → ((bytes : List ℕ) → known ≡ Some bytes → BeginsWithLine (before bytes) part (behind bytes))
+    → NextGives verbs Before After line before behind known (Err found)
+line_faulted verbs Before After line part before behind known (fault.Refused why) found at takes begins = λ limits events played running bytes tells.
+    rw at (line_refused verbs limits (after events) line (before bytes) part (behind bytes) why (begins bytes tells) (takes limits events played running))
+line_faulted verbs Before After line part before behind known (fault.NoMemory _) found at takes begins = λ limits events played running bytes tells. rw at tt
+
+-- ---- players of legal events
+
+fits_push : (events : List Event) (event : Event) → AllFit events → Fits event → AllFit (events ++ event ∷ [])
+fits_push [] event all one = (one, tt)
+fits_push (first ∷ events) event all one = (all.0, fits_push events event all.1 one)
+
+known_push : (verbs : List Verb) (events : List Event) (event : Event) → AreKnown verbs events → IsKnown verbs event → AreKnown verbs (events ++ event ∷ [])
+known_push verbs [] event all one = (one, tt)
+known_push verbs (first ∷ events) event all one = (all.0, known_push verbs events event all.1 one)
+
+-- an event that a player takes is taken behind events that can be spelled and are legal, where it
+-- can be spelled by the verbs
+legally : (verbs : List Verb) (Before After : Plays) (event : Event) (result : Result (Unit {0}) (Fault Cause)) → Fits event → IsKnown verbs event → PlayerTakes Before After event result → PlayerTakes (Legally verbs Before) (Legally verbs After) event result
+legally verbs Before After event (Ok x) fits known takes = λ limits events played.
+    let taken = takes limits events played.0 in
+    (taken.0, (taken.1, fits_push events event played.1 fits, known_push verbs events event played.2 known, legal_push limits first_world events event played.3 taken.0), taken.2)
+legally verbs Before After event (Err (fault.Refused why)) fits known takes = λ limits events played. takes limits events played.0
+legally verbs Before After event (Err (fault.NoMemory _)) fits known takes = tt
+
+-- ---- the line of an event in front of what is held
+
+-- it is the next line of the file
+pub front_begins : (old new : Reader) (event : Event) (count : ℕ) (bytes : List ℕ) → HasInFront old.held event count → new.held ≡ drop (count + 1) old.held → new.at ≡ old.at → BeginsWithLine (left old bytes) (spelling event) (left new bytes)
+front_begins old new event count bytes front held at =
+    let is_line = spelled_in_line event front.begins.fits in
+    record {
+      whole = rw (held, at) (ap (λ bs. bs ++ drop old.at bytes) front.begins.whole ∙ append_assoc (spelling event) (10 ∷ drop (count + 1) old.held) (drop old.at bytes));
+      short = is_line.short;
+      one = λ k below. is_line.one k below;
+    }
+
+-- and it takes what its event takes
+pub front_takes : (version : Version) (Before After : Plays) (held : List ℕ) (event : Event) (count : ℕ) (result : Result (Unit {0}) (Fault Cause)) → HasInFront held event count → PlayerTakes Before After event result → TakesLine (verbs_of version) (Legally (verbs_of version) Before) (Legally (verbs_of version) After) (spelling event) result
+front_takes version Before After held event count result front takes =
+    let verbs = verbs_of version in
+    let known = known_still version event front.begins.known in
+    takes_event verbs (Legally verbs Before) (Legally verbs After) (spelling event) event result (spelled_in_line event front.begins.fits).short ((reads_spelled verbs (spelling event) event).1 (front.begins.fits, known, refl)) (legally verbs Before After event result front.begins.fits known takes)
+
+-- ---- the end of the input before the end of the trace
+
+runs_out : (ended : Bool) (n : ℕ) → ended ≡ false → n ≤ 512 → (if ended then (if nat_lt 0 n then Some cause.AfterEnd else None) else if nat_lt 512 n then Some cause.LineTooLong else Some cause.NoEnd) ≡ Some cause.NoEnd
+runs_out ended n running short = grind (arith, running, short)
+
+pub cut_short : (verbs : List Verb) (limits : Limits) (w : World) (line : ℕ) (bytes : List ℕ) → IsCut bytes → w.ended ≡ false → rest_from verbs limits w line bytes ≡ Err (refused line cause.NoEnd)
+unfolding rest_cause
+cut_short verbs limits w line bytes is running = rest_from-rest verbs limits w line bytes is.none ∙ ap (at_end line) (runs_out w.ended (length bytes) running is.short)
+
+pub none_left : (verbs : List Verb) (limits : Limits) (w : World) (line : ℕ) (bytes : List ℕ) → bytes ≡ [] → w.ended ≡ false → rest_from verbs limits w line bytes ≡ Err (refused line cause.NoEnd)
+unfolding rest_cause
+none_left verbs limits w line bytes is running =
+    ap (rest_from verbs limits w line) is ∙ rest_from-rest verbs limits w line [] (λ k below. absurd (omega (arith, below))) ∙ ap (at_end line) (runs_out w.ended 0 running (omega arith))
+
+-- ---- lines that are too long
+
+-- a line that begins with 513 bytes without a newline has more than 512
+pub long_cut : (bytes : List ℕ) (c : Cut 10 bytes) → IsTooLong bytes → 513 ≤ length c.line
+long_cut bytes c is =
+    let case : (513 ≤ length c.line) ⊎ (length c.line < 513) = grind arith in
+    ⊎_elim (λ long. long) (λ short. absurd (is.none (length c.line) short (ap (λ bs. get_or bs (length c.line) 0) c.whole ∙ get_or-append_seam c.line 10 c.behind 0))) case
+
+too_long : (ended : Bool) (n : ℕ) (read : Result Event Cause) → ended ≡ false → 513 ≤ n → (if ended then Err cause.AfterEnd else if nat_lt 512 n then Err cause.LineTooLong else read) ≡ Err cause.LineTooLong
+too_long ended n read running long = grind (arith, running, long)
+
+rest_too_long : (ended : Bool) (n : ℕ) → ended ≡ false → 513 ≤ n → (if ended then (if nat_lt 0 n then Some cause.AfterEnd else None) else if nat_lt 512 n then Some cause.LineTooLong else Some cause.NoEnd) ≡ Some cause.LineTooLong
+rest_too_long ended n running long = grind (arith, running, long)
+
+pub long_line : (verbs : List Verb) (limits : Limits) (w : World) (line : ℕ) (bytes : List ℕ) → IsTooLong bytes → w.ended ≡ false → rest_from verbs limits w line bytes ≡ Err (refused line cause.LineTooLong)
+unfolding rest_cause line_event
+long_line verbs limits w line bytes is running = ⊎_elim
+    (λ none. rest_from-rest verbs limits w line bytes none ∙ ap (at_end line) (rest_too_long w.ended (length bytes) running is.long))
+    (λ (c : Cut 10 bytes).
+    ap (rest_from verbs limits w line) c.whole ∙ rest_from-line verbs limits w line c.line c.behind c.none
+    ∙ ap (λ r. or_refused line r (λ e. followed (e ∷ []) (rest_from verbs limits (after_event w e) (line + 1) c.behind))) (too_long w.ended (length c.line) _ running (long_cut bytes c is)))
+    (cut 10 bytes)
+
+-- ---- a line that isn't read
+
+-- a fault of the next line is that of the rest
+pub line_not_read : (verbs : List Verb) (limits : Limits) (w : World) (bytes : List ℕ) (old new : Reader) (fault : LineFault) → NextOf bytes old new (Err fault) → w.ended ≡ false → RefusalOf (trace_fault cause.NoEnd fault) (rest_from verbs limits w old.number (left old bytes))
+line_not_read verbs limits w bytes old new (lines.TooLong line) found running = rw found.1 (long_line verbs limits w old.number (left old bytes) found.0 running)
+line_not_read verbs limits w bytes old new (lines.Cut line) found running = rw found.1 (cut_short verbs limits w old.number (left old bytes) found.0 running)
+line_not_read verbs limits w bytes old new lines.NoFile found running = tt
+line_not_read verbs limits w bytes old new lines.ReadFault found running = tt
+line_not_read verbs limits w bytes old new (lines.NoMemory _) found running = tt
+
+-- ---- behind the end
+
+some_left : (bytes : List ℕ) → bytes ≢ [] → 0 < length bytes
+some_left [] some = absurd (some refl)
+some_left (byte ∷ bytes) some = omega arith
+
+ended_line : (ended : Bool) (long : Bool) (read : Result Event Cause) → ended ≡ true → (if ended then Err cause.AfterEnd else if long then Err cause.LineTooLong else read) ≡ Err cause.AfterEnd
+ended_line ended long read is = rw is refl
+
+ended_rest : (ended : Bool) (n : ℕ) → ended ≡ true → 0 < n → (if ended then (if nat_lt 0 n then Some cause.AfterEnd else None) else if nat_lt 512 n then Some cause.LineTooLong else Some cause.NoEnd) ≡ Some cause.AfterEnd
+ended_rest ended n is some = grind (arith, is, some)
+
+pub after_end : (verbs : List Verb) (limits : Limits) (w : World) (line : ℕ) (bytes : List ℕ) → bytes ≢ [] → w.ended ≡ true → rest_from verbs limits w line bytes ≡ Err (refused line cause.AfterEnd)
+unfolding rest_cause line_event
+after_end verbs limits w line bytes some ended = ⊎_elim
+    (λ none. rest_from-rest verbs limits w line bytes none ∙ ap (at_end line) (ended_rest w.ended (length bytes) ended (some_left bytes some)))
+    (λ (c : Cut 10 bytes).
+    ap (rest_from verbs limits w line) c.whole ∙ rest_from-line verbs limits w line c.line c.behind c.none
+    ∙ ap (λ r. or_refused line r (λ e. followed (e ∷ []) (rest_from verbs limits (after_event w e) (line + 1) c.behind))) (ended_line w.ended (nat_lt 512 (length c.line)) _ ended))
+    (cut 10 bytes)
+
+-- all events were read
+pub all_read : (verbs : List Verb) (front : List Event) (limits : Limits) (w : World) (line : ℕ) (bytes : List ℕ) (whole : Events) → followed front (rest_from verbs limits w line bytes) ≡ whole → bytes ≡ [] → w.ended ≡ true → whole ≡ Ok front
+all_read verbs front limits w line bytes whole is none ended =
+    sym is ∙ ap (λ bs. followed front (rest_from verbs limits w line bs)) none ∙ ap (followed front) (nothing_left verbs limits w line ended) ∙ ap (λ es. let r : Events = Ok es in r) (append-nil front)
+
+-- ---- all lines
+
+-- behind the end: all events were played, or the fault there is the whole's
+pub closes : (verbs : List Verb) (Played : Plays) (limits : Limits) (events : List Event) (line : ℕ) (before behind : List ℕ → List ℕ) (known : Option (List ℕ)) (result : Result (Unit {0}) TraceFault) → Played limits events → (after events).ended ≡ true
+    → ((bytes : List ℕ) → known ≡ Some bytes → followed events (rest_from verbs limits (after events) line (behind bytes)) ≡ rest_from verbs limits first_world 2 (before bytes))
+    → ((bytes : List ℕ) → known ≡ Some bytes → TailGives line (behind bytes) result) → RestGives verbs Played limits before known result
+closes verbs Played limits events line before behind known (Ok x) played ended read tail = record {
+  events = events;
+  played = played;
+  ended = ended;
+  read = λ bytes tells. all_read verbs events limits (after events) line (behind bytes) (rest_from verbs limits first_world 2 (before bytes)) (read bytes tells) (tail bytes tells) ended;
+}
+closes verbs Played limits events line before behind known (Err (Refused refusal)) played ended read tail = λ bytes tells.
+    let found = tail bytes tells in
+    whole_refused events (rest_from verbs limits (after events) line (behind bytes)) (rest_from verbs limits first_world 2 (before bytes)) refusal (read bytes tells)
+    (after_end verbs limits (after events) line (behind bytes) found.0 ended ∙ ap (λ r. let e : Events = Err r in e) (sym found.1))
+closes verbs Played limits events line before behind known (Err NoFile) played ended read tail = λ bytes tells. tt
+closes verbs Played limits events line before behind known (Err ReadFault) played ended read tail = λ bytes tells. tt
+closes verbs Played limits events line before behind known (Err (NoMemory _)) played ended read tail = λ bytes tells. tt
+
+-- a player before the line with this number: the events that it has played, of which the end isn't
+-- one, and what they leave of the input
+pub record SoFar (verbs : List Verb) (Played : Plays) (limits : Limits) (line : ℕ) (before behind : List ℕ → List ℕ) (known : Option (List ℕ)) : Type 0 where
+  pub events : List Event
+  pub played : Played limits events
+  pub counted : length events + 2 ≡ line
+  pub running : (after events).ended ≡ false
+  pub read : (bytes : List ℕ) → known ≡ Some bytes → followed events (rest_from verbs limits (after events) line (behind bytes)) ≡ rest_from verbs limits first_world 2 (before bytes)
+
+-- before the first line behind the header
+pub none_so_far : (verbs : List Verb) (Played : Plays) (limits : Limits) (line : ℕ) (before : List ℕ → List ℕ) (known : Option (List ℕ)) → Played limits [] → line ≡ 2 → SoFar verbs Played limits line before before known
+none_so_far verbs Played limits line before known played is = record {
+  events = [];
+  played = played;
+  counted = sym is;
+  running = refl;
+  read = λ bytes tells. rw is (followed-none (rest_from verbs limits first_world 2 (before bytes)));
+}
+
+-- one event more, before the line with this number
+pub record OneMore (verbs : List Verb) (Played : Plays) (limits : Limits) (line : ℕ) (before behind : List ℕ → List ℕ) (known : Option (List ℕ)) : Type 0 where
+  pub events : List Event
+  pub played : Played limits events
+  pub counted : length events + 2 ≡ line
+  pub few : line ≤ 4000002
+  pub read : (bytes : List ℕ) → known ≡ Some bytes → followed events (rest_from verbs limits (after events) line (behind bytes)) ≡ rest_from verbs limits first_world 2 (before bytes)
+
+pub one_more : (verbs : List Verb) (Before After : Plays) (limits : Limits) (line next_line : ℕ) (before behind later : List ℕ → List ℕ) (known : Option (List ℕ)) (x : Unit {0}) → next_line ≡ line + 1 → SoFar verbs Before limits line before behind known → NextGives verbs Before After line behind later known (Ok x) → OneMore verbs After limits next_line before later known
+one_more verbs Before After limits line next_line before behind later known x is so next =
+    let p = next limits so.events so.played so.running in
+    record {
+      events = so.events ++ p.event ∷ [];
+      played = p.played;
+      counted = omega (arith, is, length-append so.events (p.event ∷ []), so.counted);
+      few = omega (arith, is, p.few, so.counted);
+      read = λ bytes tells.
+          rw is (push_read so.events p.event (rest_from verbs limits (after so.events) line (behind bytes)) (rest_from verbs limits (after (so.events ++ p.event ∷ [])) (line + 1) (later bytes)) (rest_from verbs limits first_world 2 (before bytes)) (so.read bytes tells) (p.read bytes tells));
+    }
+
+-- that the end isn't among them
+pub goes_on : (verbs : List Verb) (Played : Plays) (limits : Limits) (line : ℕ) (before behind : List ℕ → List ℕ) (known : Option (List ℕ)) (ended : Bool) → OneMore verbs Played limits line before behind known
+    → ((limits : Limits) (events : List Event) → Played limits events → ended ≡ (after events).ended) → ended ≡ false → SoFar verbs Played limits line before behind known
+goes_on verbs Played limits line before behind known ended one told running = record {
+  events = one.events;
+  played = one.played;
+  counted = one.counted;
+  running = sym (told limits one.events one.played) ∙ running;
+  read = one.read;
+}
+
+pub ends_here : (verbs : List Verb) (Played : Plays) (limits : Limits) (line : ℕ) (before behind : List ℕ → List ℕ) (known : Option (List ℕ)) (ended : Bool) (result : Result (Unit {0}) TraceFault) → OneMore verbs Played limits line before behind known
+    → ((limits : Limits) (events : List Event) → Played limits events → ended ≡ (after events).ended) → ended ≡ true
+    → ((bytes : List ℕ) → known ≡ Some bytes → TailGives line (behind bytes) result) → RestGives verbs Played limits before known result
+ends_here verbs Played limits line before behind known ended result one told over tail =
+    closes verbs Played limits one.events line before behind known result one.played (sym (told limits one.events one.played) ∙ over) one.read tail
+
+-- a fault of the next line is the whole's
+pub faults_here : (verbs : List Verb) (Before After Whole : Plays) (limits : Limits) (line : ℕ) (before behind later : List ℕ → List ℕ) (known : Option (List ℕ)) (found : TraceFault) → SoFar verbs Before limits line before behind known → NextGives verbs Before After line behind later known (Err found) → RestGives verbs Whole limits before known (Err found)
+faults_here verbs Before After Whole limits line before behind later known found so next = λ bytes tells.
+    whole_fault so.events (rest_from verbs limits (after so.events) line (behind bytes)) (rest_from verbs limits first_world 2 (before bytes)) found (so.read bytes tells) (next limits so.events so.played so.running bytes tells)
+
+-- ---- the trace
+
+pub trace_played : (number : ℕ) (Played : Plays) (tick cpus : ℕ) (named behind : List ℕ → List ℕ) (known : Option (List ℕ)) (x : Unit {0}) → IsVersion number → IsCpuCount cpus
+    → ((bytes : List ℕ) → known ≡ Some bytes → trace_of (accepts_with versions tick) bytes ≡ with_events (header_with number cpus) (rest_from (verbs_in number) (limits_of tick cpus) first_world 2 (behind bytes)))
+    → RestGives (verbs_in number) (Legally (verbs_in number) Played) (limits_of tick cpus) behind known (Ok x) → TracePlayed Played number tick known
+trace_played number Played tick cpus named behind known x numbered counted headed rest = record {
+  numbered = numbered;
+  cpus = cpus;
+  counted = counted;
+  events = rest.events;
+  played = rest.played.0;
+  told = rest.played.2;
+  accepted = record {
+    fit = rest.played.1;
+    legal = rest.played.3;
+    ends = last_end (limits_of tick cpus) first_world rest.events refl rest.played.3 rest.ended;
+  };
+  read = λ bytes tells. headed bytes tells ∙ ap (with_events (header_with number cpus)) (rest.read bytes tells);
+}
+
+-- ---- what players of legal events read
+
+pub legally_read : (verbs : List Verb) (Before After : Plays) (read : Result Event (Fault Cause)) (result : Result (Unit {0}) (Fault Cause)) → IfOk read (λ event. Fits event × IsKnown verbs event) → TakesRead Before After read result → TakesRead (Legally verbs Before) (Legally verbs After) read result
+legally_read verbs Before After (Ok event) result found takes = legally verbs Before After event result found.0 found.1 takes
+legally_read verbs Before After (Err why) result found same = same
+
+-- an event that was read can be spelled, by one of the verbs
+pub known_read : (verbs : List Verb) (line : List ℕ) (read : Result Event (Fault Cause)) → IfOk read (λ event. Fits event × IsKnown verbs event × (line ≡ spelling event)) → IfOk read (λ event. Fits event × IsKnown verbs event)
+known_read verbs line (Ok event) found = (found.0, found.1)
+known_read verbs line (Err why) found = tt

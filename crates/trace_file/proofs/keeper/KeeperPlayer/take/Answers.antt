@@ -1,0 +1,7 @@
+use Rattle.trace_file.proofs.PlayLaws.{keeper_takes}
+use Rattle.trace_file.proofs.keeper.KeeperPlayer.take.Goals as goal
+
+pub returns : goal.returns
+returns c =
+    let more = rw c.in_ok-copy_event.ensures at c.in_ok-push.ensures.items in
+    keeper_takes c.args.self.now.cpus c.args.self.now.events.items c.push.new.self.items c.args.self.now.table c.play.new.self c.args.event.now c.in-Ok.field-0 c.in-Ok.ensures more

@@ -1,0 +1,27 @@
+use Rattle.outside.specs.Outside.{told}
+use Rattle.psi_lines.specs.Lines.{left}
+use Rattle.trace_file.specs.Reads.{Legally, verbs_in}
+use Rattle.trace_file.proofs.LineLaws as laws
+use Rattle.trace_file.proofs.trace.next_event.Goals as goal
+
+pub returns-in-Ok-clause-content : goal.returns-in-Ok-clause-content
+returns-in-Ok-clause-content g c =
+    laws.line_played (verbs_in c.args.version) (Legally (verbs_in c.args.version) (g.P.Player.Played c.args.player.now)) (Legally (verbs_in c.args.version) (g.P.Player.Played c.take_line.new.player)) c.args.lines.now.number c.in-Ok-Some.bytes.now (left c.args.lines.now) (left c.next_bytes.follows.lender-at-none) (told (g.S.Shelf.holds c.args.shelf.now) c.args.lines.now.name) tt c.in-Ok.ensures
+    (λ bytes tells. let found = rw (c.in-Ok-Some.is, c.in-Ok-Some.field-0-is) at c.next_bytes.follows.holds-at-none.line bytes tells in found.0)
+
+pub returns-in-Err-take_line-clause-content : goal.returns-in-Err-take_line-clause-content
+returns-in-Err-take_line-clause-content g c =
+    laws.line_faulted (verbs_in c.args.version) (Legally (verbs_in c.args.version) (g.P.Player.Played c.args.player.now)) (Legally (verbs_in c.args.version) (g.P.Player.Played c.take_line.new.player)) c.args.lines.now.number c.in-Ok-Some.bytes.now (left c.args.lines.now) (left c.next_bytes.follows.lender-at-none) (told (g.S.Shelf.holds c.args.shelf.now) c.args.lines.now.name) c.in-Err-take_line.fault _ (rw c.number-line.ensures at c.fault_at.ensures) c.in-Err-take_line.ensures
+    (λ bytes tells. let found = rw (c.in-Ok-Some.is, c.in-Ok-Some.field-0-is) at c.next_bytes.follows.holds-at-none.line bytes tells in found.0)
+
+pub returns-in-Ok-None-clause-content : goal.returns-in-Ok-None-clause-content
+returns-in-Ok-None-clause-content g c =
+    λ limits events played running bytes tells.
+    let found = rw (c.in-Ok-None.is, c.in-Ok-None.field-0-is) at c.next_bytes.follows.holds-at-none.line bytes tells in
+    rw (c.refused.ensures, c.number-line.ensures) (laws.none_left (verbs_in c.args.version) limits _ _ _ found.0 running)
+
+pub returns-in-Err-clause-content : goal.returns-in-Err-clause-content
+returns-in-Err-clause-content g c =
+    λ limits events played running bytes tells.
+    let found = rw c.in-Err.is at c.next_bytes.follows.holds-at-none.line bytes tells in
+    rw c.trace_fault.ensures (laws.line_not_read (verbs_in c.args.version) limits _ bytes c.args.lines.now c.next_bytes.follows.lender-at-none c.in-Err.fault found running)

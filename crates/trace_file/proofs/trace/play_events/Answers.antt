@@ -1,0 +1,45 @@
+use Rattle.std.proofs.Common.{arith, ◌∙◌}
+use Rattle.outside.specs.Outside.{told}
+use Rattle.psi_lines.specs.Lines.{left}
+use Rattle.trace_file.specs.Reads.{Legally, verbs_in}
+use Rattle.psi_spec.specs.Trace.{limits_of}
+use Rattle.trace_file.proofs.LineLaws as laws
+use Rattle.trace_file.proofs.trace.play_events.Goals as goal
+
+pub lines-preserved : goal.lines-preserved
+lines-preserved g c =
+    let i = c.lines.invariant in
+    let known = told (g.S.Shelf.holds c.args.shelf.now) c.args.lines.now.name in
+    let next = rw (i.kept, i.name) at c.in-Ok.ensures.content in
+    let one = laws.one_more (verbs_in c.args.head.version) (Legally (verbs_in c.args.head.version) (g.P.Player.Played c.lines.player)) (Legally (verbs_in c.args.head.version) (g.P.Player.Played c.play_next.new.player)) (limits_of c.args.tick c.args.head.cpus) c.lines.lines.number _ (left c.args.lines.now) (left c.lines.lines) (left c.play_next.new.lines) known tt c.in-Ok.ensures.reads.number i.so_far next in
+    record {
+      kept = cc;
+      faults = c.in-Ok.ensures.reads.cause.faults_same (λ is. cc is) ∙ i.faults;
+      absent = c.in-Ok.ensures.reads.cause.absent_same (λ is. cc is) ∙ i.absent;
+      given = omega (arith, c.in-Ok.ensures.reads.counted, i.given);
+      name = cc;
+      few = one.few;
+      so_far = laws.goes_on (verbs_in c.args.head.version) (Legally (verbs_in c.args.head.version) (g.P.Player.Played c.play_next.new.player)) (limits_of c.args.tick c.args.head.cpus) _ (left c.args.lines.now) (left c.play_next.new.lines) known c.is_ended.result one (λ limits events played. c.is_ended.ensures limits events played.0) c.if-is_ended.false;
+    }
+
+pub returns-then-is_ended-clause-content : goal.returns-then-is_ended-clause-content
+returns-then-is_ended-clause-content g c =
+    let i = c.lines.invariant in
+    let known = told (g.S.Shelf.holds c.args.shelf.now) c.args.lines.now.name in
+    let next = rw (i.kept, i.name) at c.in-Ok.ensures.content in
+    let one = laws.one_more (verbs_in c.args.head.version) (Legally (verbs_in c.args.head.version) (g.P.Player.Played c.lines.player)) (Legally (verbs_in c.args.head.version) (g.P.Player.Played c.play_next.new.player)) (limits_of c.args.tick c.args.head.cpus) c.lines.lines.number _ (left c.args.lines.now) (left c.lines.lines) (left c.play_next.new.lines) known tt c.in-Ok.ensures.reads.number i.so_far next in
+    laws.ends_here (verbs_in c.args.head.version) (Legally (verbs_in c.args.head.version) (g.P.Player.Played c.play_next.new.player)) (limits_of c.args.tick c.args.head.cpus) _ (left c.args.lines.now) (left c.play_next.new.lines) known c.is_ended.result c.close.result one (λ limits events played. c.is_ended.ensures limits events played.0) c.if-is_ended.true
+    (λ bytes tells. rw (c.play_next.ensures.kept, i.kept, c.play_next.ensures.reads.name, i.name) at (c.close.ensures.content bytes) tells)
+
+pub returns-in-Err-clause-given : goal.returns-in-Err-clause-given
+returns-in-Err-clause-given g c =
+    let i = c.lines.invariant in
+    omega (arith, i.given, i.few, c.in-Err.ensures.reads.counted, c.in-Err.ensures.reads.place)
+
+pub returns-then-is_ended-clause-given : goal.returns-then-is_ended-clause-given
+returns-then-is_ended-clause-given g c =
+    let i = c.lines.invariant in
+    let known = told (g.S.Shelf.holds c.args.shelf.now) c.args.lines.now.name in
+    let next = rw (i.kept, i.name) at c.in-Ok.ensures.content in
+    let one = laws.one_more (verbs_in c.args.head.version) (Legally (verbs_in c.args.head.version) (g.P.Player.Played c.lines.player)) (Legally (verbs_in c.args.head.version) (g.P.Player.Played c.play_next.new.player)) (limits_of c.args.tick c.args.head.cpus) c.lines.lines.number _ (left c.args.lines.now) (left c.lines.lines) (left c.play_next.new.lines) known tt c.in-Ok.ensures.reads.number i.so_far next in
+    omega (arith, i.given, one.few, c.in-Ok.ensures.reads.counted, c.close.ensures.given)

@@ -1,0 +1,21 @@
+use Rattle.std.proofs.Common.{◌≡◌, ◌+◌, ◌-◌, ◌≤◌}
+use Rattle.outside.specs.Outside.{told}
+use Rattle.psi_lines.specs.Lines.{left}
+use Rattle.trace_file.specs.Reads.{Legally, verbs_in}
+use Rattle.psi_spec.specs.Trace.{limits_of}
+use Rattle.trace_file.proofs.LineLaws.{SoFar}
+use Rattle.trace_file.proofs.trace.play_events.Given as goal
+
+abbrev pub invariant-lines : goal.invariant-lines
+invariant-lines g l = record {
+  kept : g.S.Shelf.holds l.shelf ≡ g.S.Shelf.holds l.fn.shelf;
+  faults : g.S.Shelf.faults l.shelf ≡ g.S.Shelf.faults l.fn.shelf;
+  absent : g.S.Shelf.absent l.shelf ≡ g.S.Shelf.absent l.fn.shelf;
+  given : g.S.Shelf.given l.shelf + l.fn.lines.at ≡ g.S.Shelf.given l.fn.shelf + l.lines.at;
+  name : l.lines.name ≡ l.fn.lines.name;
+  few : l.lines.number ≤ 4000002;
+  so_far : SoFar (verbs_in l.head.version) (Legally (verbs_in l.head.version) (g.P.Player.Played l.player)) (limits_of l.tick l.head.cpus) l.lines.number (left l.fn.lines) (left l.lines) (told (g.S.Shelf.holds l.fn.shelf) l.fn.lines.name);
+}
+
+abbrev pub decreases-lines : goal.decreases-lines
+decreases-lines g l = 4000003 - l.lines.number

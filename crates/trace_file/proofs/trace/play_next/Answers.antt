@@ -1,0 +1,36 @@
+use Rattle.std.proofs.Common.{ap, subst}
+use Rattle.std.specs.Prelude.{Ok, Err}
+use Rattle.outside.specs.Outside.{told}
+use Rattle.psi_lines.specs.Lines.{Reader, left}
+use Rattle.psi_spec.specs.Grammar.{spelling, version_of}
+use Rattle.psi_trace.specs.Front.{HasInFront}
+use Rattle.trace_player.specs.Playing.{PlayerTakes}
+use Rattle.trace_file.specs.Reads.{Legally, verbs_in}
+use Rattle.trace_file.proofs.LineLaws as laws
+use Rattle.trace_file.proofs.trace.play_next.Goals as goal
+
+pub returns-in-Ok-clause-content : goal.returns-in-Ok-clause-content
+returns-in-Ok-clause-content g c =
+    let verbs = verbs_in c.args.version in
+    let before = g.P.Player.Played c.args.player.now in
+    let after = g.P.Player.Played c.take_front.new.player in
+    let found = c.in-Some.ensures.front in
+    let front = subst (λ held. HasInFront held found.event c.in-Some.played.count) c.held.ensures found.front in
+    let takes = subst (λ answer. PlayerTakes before after found.event answer) c.in-Ok.is found.takes in
+    laws.line_played verbs (Legally verbs before) (Legally verbs after) c.args.lines.now.number (spelling found.event) (left c.args.lines.now) (left c.pass.new.self) (told (g.S.Shelf.holds c.args.shelf.now) c.args.lines.now.name) tt (laws.front_takes (version_of c.args.version) before after c.args.lines.now.held found.event c.in-Some.played.count (Ok tt) front takes)
+    (λ bytes tells. laws.front_begins c.args.lines.now c.pass.new.self found.event c.in-Some.played.count bytes front (ap (λ (l : Reader). l.held) c.pass.ensures.rest) (ap (λ (l : Reader). l.at) c.pass.ensures.rest))
+
+pub returns-in-Err-clause-content : goal.returns-in-Err-clause-content
+returns-in-Err-clause-content g c =
+    let verbs = verbs_in c.args.version in
+    let before = g.P.Player.Played c.args.player.now in
+    let after = g.P.Player.Played c.take_front.new.player in
+    let found = c.in-Some.ensures.front in
+    let front = subst (λ held. HasInFront held found.event c.in-Some.played.count) c.held.ensures found.front in
+    let takes = subst (λ answer. PlayerTakes before after found.event answer) c.in-Err.is found.takes in
+    laws.line_faulted verbs (Legally verbs before) (Legally verbs after) c.args.lines.now.number (spelling found.event) (left c.args.lines.now) (left c.pass.new.self) (told (g.S.Shelf.holds c.args.shelf.now) c.args.lines.now.name) c.in-Err.fault _ (rw c.number-line.ensures at c.fault_at.ensures) (laws.front_takes (version_of c.args.version) before after c.args.lines.now.held found.event c.in-Some.played.count (Err c.in-Err.fault) front takes)
+    (λ bytes tells. laws.front_begins c.args.lines.now c.pass.new.self found.event c.in-Some.played.count bytes front (ap (λ (l : Reader). l.held) c.pass.ensures.rest) (ap (λ (l : Reader). l.at) c.pass.ensures.rest))
+
+-- where no line was played, the player is as before
+pub returns-in_default-clause-content : goal.returns-in_default-clause-content
+returns-in_default-clause-content g c = rw c.in_default.ensures.same at c.next_event.ensures.content

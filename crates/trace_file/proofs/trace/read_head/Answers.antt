@@ -1,0 +1,28 @@
+use Rattle.psi_spec.specs.Grammar.{header_with, versions}
+use Rattle.trace_file.proofs.HeadLaws as laws
+use Rattle.trace_file.proofs.trace.read_head.Goals as goal
+
+pub returns-in-Ok-clause-content : goal.returns-in-Ok-clause-content
+returns-in-Ok-clause-content g c =
+    λ bytes tells.
+    let found = rw (c.in-Ok-Some.is, c.in-Ok-Some.field-0-is) at c.next_bytes.follows.holds-at-none.line bytes tells in
+    let head = c.in-Ok.head in
+    laws.header_read versions c.args.tick head.version head.cpus _ _ _ found.0 (laws.first_known versions _ (header_with head.version head.cpus) found.0.short c.in-Ok.ensures.exact)
+
+pub returns-in-Err-read_header-clause-content : goal.returns-in-Err-read_header-clause-content
+returns-in-Err-read_header-clause-content g c =
+    λ bytes tells.
+    let found = rw (c.in-Ok-Some.is, c.in-Ok-Some.field-0-is) at c.next_bytes.follows.holds-at-none.line bytes tells in
+    rw (c.refused.ensures, c.in-Err-read_header.ensures.spelled.0) (laws.header_refused versions c.args.tick _ _ _ _ found.0 (laws.first_other versions _ found.0.short c.in-Err-read_header.ensures.exact))
+
+pub returns-in-Ok-None-clause-content : goal.returns-in-Ok-None-clause-content
+returns-in-Ok-None-clause-content g c =
+    λ bytes tells.
+    let found = rw (c.in-Ok-None.is, c.in-Ok-None.field-0-is) at c.next_bytes.follows.holds-at-none.line bytes tells in
+    rw c.refused-in-Ok-None.ensures (laws.header_none versions c.args.tick _ found.0)
+
+pub returns-in-Err-clause-content : goal.returns-in-Err-clause-content
+returns-in-Err-clause-content g c =
+    λ bytes tells.
+    let found = rw c.in-Err.is at c.next_bytes.follows.holds-at-none.line bytes tells in
+    rw c.trace_fault.ensures (laws.header_not_read versions c.args.tick bytes c.args.lines.now c.next_bytes.follows.lender-at-none c.in-Err.fault c.requires found)

@@ -1,0 +1,203 @@
+-- What reading a trace gives, where its bytes are told.
+use Rattle.std.specs.Prelude.{◌≡◌, ◌≢◌, ℕ, ◌+◌, ◌<◌, ◌≤◌, List, [], ◌∷◌, ◌++◌, length, Option, None, Some, Result, Ok, Err, IsErrOf, OnOk, ⊤, true, false}
+use Rattle.outside.specs.Outside.{HasCauses, ShelfCounts}
+use Rattle.psi_base.specs.Path.{parts_at}
+use Rattle.psi_base.specs.declared.event.Event.{Event}
+use Rattle.psi_base.specs.declared.event.Refusal.{Refusal}
+use Rattle.psi_base.specs.declared.event.Cause.{Cause}
+use Rattle.psi_base.specs.declared.event.Cause.TheVariants as cause
+use Rattle.psi_base.specs.declared.event.Fault.{Fault}
+use Rattle.psi_base.specs.declared.event.Fault.TheVariants as fault
+use Rattle.psi_spec.specs.World.{World, Limits, after, first_world, most_events}
+use Rattle.psi_spec.specs.Refusal.{AreLegal}
+use Rattle.psi_spec.specs.Grammar.{IsVersion, One, Verb, Version, header_with, verbs_of, version_of, versions}
+use Rattle.psi_spec.specs.Trace.{AllFit, AreKnown, IsAccepted, IsCpuCount, Trace, accepts_with, events_from, followed, limits_of, line_event, refused, trace_of, with_events}
+use Rattle.psi_lines.specs.Lines.{Reader}
+use Rattle.psi_lines.specs.Next.{furthest}
+use Rattle.psi_lines.specs.declared.lines.LineFault.{LineFault}
+use Rattle.psi_lines.specs.declared.lines.LineFault.TheVariants as lines
+use Rattle.psi_trace.specs.declared.header.Header.{Header}
+use Rattle.trace_player.specs.Playing.{IsPlayed, PlayerTakes, Plays}
+use Rattle.proc_plan.specs.Plans.{PlansView, StandFor}
+use Rattle.trace_file.specs.declared.trace.TraceFault.{TraceFault}
+use Rattle.trace_file.specs.declared.trace.TraceFault.TheVariants.{Refused, NoFile, ReadFault, NoMemory}
+
+-- ---- players
+
+-- a keeper's table has played events, and it keeps them, and how many processors they are on
+pub record HasKept (cpus : ℕ) (kept : List Event) (limits_now : Limits) (w : World) (limits : Limits) (events : List Event) : Type 0 where
+  pub played : IsPlayed limits_now w limits events
+  pub kept_are : kept ≡ events
+  pub cpus_are : cpus ≡ limits.cpus
+
+-- a player has played events that can each be spelled, by one of these verbs, and are legal in
+-- their turn
+abbrev pub Legally : List Verb → Plays → Plays
+Legally verbs Played limits events = Played limits events × AllFit events × AreKnown verbs events × AreLegal limits first_world events
+
+-- what was read of a line does to a player: an event is taken, and a fault is handed on
+abbrev pub TakesRead : Plays → Plays → Result Event (Fault Cause) → Result (Unit {0}) (Fault Cause) → Type 0
+TakesRead Before After (Ok event) result = PlayerTakes Before After event result
+TakesRead Before After (Err why) result = result ≡ Err why
+
+-- ---- one line
+
+-- What a line, read by these verbs, does to a player that has played any events and whose trace
+-- hasn't ended: its event is played behind them, and there were fewer than 4,000,000 before it; or
+-- the line is refused.
+abbrev pub TakesLine : List Verb → Plays → Plays → List ℕ → Result (Unit {0}) (Fault Cause) → Type 0
+TakesLine verbs Before After line (Ok x) =
+    (limits : Limits) (events : List Event) → Before limits events → (after events).ended ≡ false
+    → (event : Event) × (line_event verbs limits (after events) line ≡ Ok event) × After limits (events ++ event ∷ [])
+    × (length events < most_events)
+TakesLine verbs Before After line (Err (fault.Refused why)) =
+    (limits : Limits) (events : List Event) → Before limits events → (after events).ended ≡ false
+    → line_event verbs limits (after events) line ≡ Err why
+TakesLine verbs Before After line (Err (fault.NoMemory _)) = ⊤
+
+-- the events of what is left of the input, read by these verbs, in a world, from the line with a
+-- number on
+abbrev pub rest_from : List Verb → Limits → World → ℕ → List ℕ → Result (List Event) Refusal
+rest_from verbs limits w line bytes = events_from verbs limits w line (parts_at 10 bytes)
+
+-- a refusal is the definition's; the other faults have clauses of their own
+abbrev pub RefusalOf : {A : Type 0} → TraceFault → Result A Refusal → Type 0
+RefusalOf (Refused refusal) read = read ≡ Err refusal
+RefusalOf NoFile read = ⊤
+RefusalOf ReadFault read = ⊤
+RefusalOf (NoMemory _) read = ⊤
+
+-- the fault of a line, with its number
+abbrev pub IsTraceFault : ℕ → Fault Cause → TraceFault → Type 0
+IsTraceFault line (fault.Refused why) result = result ≡ Refused (refused line why)
+IsTraceFault line (fault.NoMemory none) result = result ≡ NoMemory none
+
+-- why there is no trace where a line isn't read: one that the input cuts short is refused with this
+-- cause
+abbrev pub trace_fault : Cause → LineFault → TraceFault
+trace_fault cut (lines.TooLong line) = Refused (refused line cause.LineTooLong)
+trace_fault cut (lines.Cut line) = Refused (refused line cut)
+trace_fault cut lines.NoFile = NoFile
+trace_fault cut lines.ReadFault = ReadFault
+trace_fault cut (lines.NoMemory none) = NoMemory none
+
+-- an event was played behind those before; where the bytes that were left are told, it is theirs,
+-- and others are left
+pub record NextPlayed (verbs : List Verb) (After : Plays) (limits : Limits) (events : List Event) (line : ℕ)
+    (before after_bytes : List ℕ → List ℕ) (known : Option (List ℕ)) : Type 0 where
+  pub event : Event
+  pub played : After limits (events ++ event ∷ [])
+  pub few : length events < most_events
+  pub read : (bytes : List ℕ) → known ≡ Some bytes → rest_from verbs limits (after events) line (before bytes)
+      ≡ followed (event ∷ []) (rest_from verbs limits (after (events ++ event ∷ [])) (line + 1) (after_bytes bytes))
+
+-- what the next line gives
+abbrev pub NextGives : List Verb → Plays → Plays → ℕ → (List ℕ → List ℕ) → (List ℕ → List ℕ) → Option (List ℕ)
+    → Result (Unit {0}) TraceFault → Type 0
+NextGives verbs Before After line before after_bytes known (Ok x) =
+    (limits : Limits) (events : List Event) → Before limits events → (after events).ended ≡ false
+    → NextPlayed verbs After limits events line before after_bytes known
+NextGives verbs Before After line before after_bytes known (Err fault) =
+    (limits : Limits) (events : List Event) → Before limits events → (after events).ended ≡ false → (bytes : List ℕ)
+    → known ≡ Some bytes → RefusalOf fault (rest_from verbs limits (after events) line (before bytes))
+
+-- nothing stands behind the end, or its line is refused
+abbrev pub TailGives : {A : Type 0} → ℕ → List ℕ → Result A TraceFault → Type 0
+TailGives line bytes (Ok x) = bytes ≡ []
+TailGives line bytes (Err (Refused refusal)) = (bytes ≢ []) × (refusal ≡ refused line cause.AfterEnd)
+TailGives line bytes (Err NoFile) = ⊤
+TailGives line bytes (Err ReadFault) = ⊤
+TailGives line bytes (Err (NoMemory _)) = ⊤
+
+-- ---- all lines
+
+-- a player has played all events of what was left of the input behind the header, to the end of the
+-- trace
+pub record RestPlayed (verbs : List Verb) (Played : Plays) (limits : Limits) (before : List ℕ → List ℕ)
+    (known : Option (List ℕ)) : Type 0 where
+  pub events : List Event
+  pub played : Played limits events
+  pub ended : (after events).ended ≡ true
+  pub read : (bytes : List ℕ) → known ≡ Some bytes → rest_from verbs limits first_world 2 (before bytes) ≡ Ok events
+
+-- what the lines behind the header give
+abbrev pub RestGives : List Verb → Plays → Limits → (List ℕ → List ℕ) → Option (List ℕ) → Result (Unit {0}) TraceFault → Type 0
+RestGives verbs Played limits before known (Ok x) = RestPlayed verbs Played limits before known
+RestGives verbs Played limits before known (Err fault) =
+    (bytes : List ℕ) → known ≡ Some bytes → RefusalOf fault (rest_from verbs limits first_world 2 (before bytes))
+
+-- the verbs of the version with a number
+abbrev pub verbs_in : ℕ → List Verb
+verbs_in number = verbs_of (version_of number)
+
+-- a header was read from the bytes before, and those after are left
+abbrev pub HeadGives : ℕ → List ℕ → List ℕ → Result Header TraceFault → Type 0
+HeadGives tick before after (Ok head) =
+    trace_of (accepts_with versions tick) before ≡ with_events (header_with head.version head.cpus)
+    (rest_from (verbs_in head.version) (limits_of tick head.cpus) first_world 2 after)
+HeadGives tick before after (Err fault) = RefusalOf fault (trace_of (accepts_with versions tick) before)
+
+-- a header that was read has the number of a version, and as many processors as there may be
+pub record IsHead (head : Header) : Type 0 where
+  pub numbered : IsVersion head.version
+  pub counted : IsCpuCount head.cpus
+
+-- a trace of a version
+abbrev pub trace_with : Version → ℕ → List Event → Trace
+trace_with version cpus events = record { version = version; cpus = cpus; events = events }
+
+-- a trace of version 1
+abbrev pub plain_trace : ℕ → List Event → Trace
+plain_trace cpus events = trace_with One cpus events
+
+-- A player has played all events of an accepted trace of the version with a number, which is that
+-- of the bytes where they are told.
+pub record TracePlayed (Played : Plays) (number tick : ℕ) (known : Option (List ℕ)) : Type 0 where
+  pub numbered : IsVersion number
+  pub cpus : ℕ
+  pub counted : IsCpuCount cpus
+  pub events : List Event
+  pub played : Played (limits_of tick cpus) events
+  pub told : AreKnown (verbs_in number) events
+  pub accepted : IsAccepted (limits_of tick cpus) events
+  pub read : (bytes : List ℕ) → known ≡ Some bytes → trace_of (accepts_with versions tick) bytes
+      ≡ Ok (trace_with (version_of number) cpus events)
+
+-- Plans stand for an accepted trace of the version with a number, which is that of the bytes where
+-- they are told.
+pub record PlansRead (plans : PlansView) (number tick : ℕ) (known : Option (List ℕ)) : Type 0 where
+  pub numbered : IsVersion number
+  pub trace : Trace
+  pub counted : IsCpuCount trace.cpus
+  pub version : version_of number ≡ trace.version
+  pub stand : StandFor plans trace.cpus trace.events
+  pub known_verbs : AreKnown (verbs_of trace.version) trace.events
+  pub accepted : IsAccepted (limits_of tick trace.cpus) trace.events
+  pub read : (bytes : List ℕ) → known ≡ Some bytes → trace_of (accepts_with versions tick) bytes ≡ Ok trace
+
+-- a trace that can't be read has its first refusal
+abbrev pub TraceRefused : TraceFault → ℕ → Option (List ℕ) → Type 0
+TraceRefused fault tick known = (bytes : List ℕ) → known ≡ Some bytes → RefusalOf fault (trace_of (accepts_with versions tick) bytes)
+
+-- A shelf counted this fault of a trace and nothing else: a failed read, or a name that it hasn't.
+abbrev pub CausesTraceFault : {A : Type 0} → ShelfCounts → ShelfCounts → Result A TraceFault → Type 0
+CausesTraceFault before now result = HasCauses before now (IsErrOf result ReadFault) (IsErrOf result NoFile)
+
+-- What reading the next line does to the reader and to the shelf, whatever stands on the line: the
+-- numbers are how many bytes the shelf had given before, and has given now.
+pub record ReadsLine {A : Type 0} (known : Option (List ℕ)) (old new : Reader) (counts counts_now : ShelfCounts) (given given_now : ℕ)
+    (result : Result A TraceFault) : Type 0 where
+  pub name : new.name ≡ old.name
+  pub number : OnOk result (new.number ≡ old.number + 1)
+  pub missed : IsErrOf result NoFile → known ≡ None
+  pub cause : CausesTraceFault counts counts_now result
+  pub counted : given_now + old.at ≡ given + new.at
+  pub place : new.at ≤ furthest old.number
+
+-- nothing is said of any bytes
+abbrev pub TellsNothing : {A : Type 0} → Result A TraceFault → Type 0
+TellsNothing (Ok x) = ⊥
+TellsNothing (Err (Refused refusal)) = ⊥
+TellsNothing (Err NoFile) = ⊤
+TellsNothing (Err ReadFault) = ⊤
+TellsNothing (Err (NoMemory _)) = ⊤

@@ -1,0 +1,47 @@
+//! The player that keeps the events of a trace.
+use psi_base::{Cause, Event, Fault, NoMemory, Ns};
+use std::alloc::Global;
+use task_table::Table;
+use trace_player::Player;
+use whatif_trace::copy_event;
+
+/// What plays a trace on the table of tasks, and keeps its events.
+#[derive(Drop)]
+pub struct Keeper {
+    /// How many processors the trace has.
+    pub cpus: u32,
+    /// The events that were played.
+    pub events: Vec<Event>,
+    table: Table,
+    alloc: Global,
+}
+
+/// To take kills out of a trace its events are kept.
+impl Player for Keeper {
+    ghost use Rattle.trace_file.specs.Reads.{HasKept};
+
+    ghost Played = { λ keeper limits events. HasKept
+        keeper.cpus keeper.events.items keeper.table.limits keeper.table.world limits events };
+
+    fn start(alloc: Global, cpus: u32, latest: Ns) -> Result<Self, NoMemory> {
+        Ok(Keeper {
+            cpus,
+            events: Vec::new(alloc),
+            table: Table::new(alloc, cpus, latest)?,
+            alloc,
+        })
+    }
+
+    fn take(&mut self, event: &Event) -> Result<(), Fault<Cause>> {
+        match self.table.play(event) {
+            Ok(()) => {}
+            Err(fault) => return Err(fault),
+        }
+        self.events.push(copy_event(self.alloc, event)?)?;
+        Ok(())
+    }
+
+    fn is_ended(&self) -> bool {
+        self.table.is_ended()
+    }
+}

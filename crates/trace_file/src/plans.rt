@@ -1,0 +1,38 @@
+//! A trace read into plans.
+ghost use Rattle.std.specs.Prelude.{◌≡◌, ◌+◌, ◌≤◌, None, IsErrOf, MatchResult};
+ghost use Rattle.outside.specs.Outside.{Lacks, counts_of, told};
+ghost use Rattle.run_spec.specs.MostRead.{most_of_trace};
+ghost use Rattle.trace_file.specs.Reads.{CausesTraceFault, PlansRead, TellsNothing, TraceRefused};
+
+use crate::trace::{TraceFault, play_trace};
+use outside::Shelf;
+use proc_plan::{Planner, Plans};
+use psi_base::Ns;
+use std::alloc::Global;
+
+/// Reads a trace of any version, and takes it apart by processor: the number of its version, and
+/// its plans. No event is later than a million ticks (ns).
+pub fn read_plans<S: Shelf>(
+    alloc: Global,
+    name: &str,
+    shelf: &mut S,
+    tick: Ns,
+) -> Result<(u32, Plans), TraceFault>
+    requires { tick ≤ 60000000000 }
+    ensures kept { S.holds shelf.new ≡ S.holds shelf.old }
+    ensures content { MatchResult result
+        (λ read. PlansRead read.1 read.0 tick (told (S.holds shelf.old) name.now))
+        (λ fault. TraceRefused fault tick (told (S.holds shelf.old) name.now)) }
+    ensures missing { Lacks (S.holds shelf.old) name.now → TellsNothing result }
+    ensures missed { IsErrOf result TraceFault.NoFile →
+        told (S.holds shelf.old) name.now ≡ None }
+    ensures cause { CausesTraceFault (counts_of (S.faults shelf.old) (S.absent shelf.old))
+        (counts_of (S.faults shelf.new) (S.absent shelf.new)) result }
+    ensures given { S.given shelf.new ≤ S.given shelf.old + most_of_trace }
+{
+    let (version, planner) = match play_trace::<S, Planner>(alloc, name, shelf, tick) {
+        Ok(played) => played,
+        Err(fault) => return Err(fault),
+    };
+    Ok((version, planner.finish(alloc)?))
+}

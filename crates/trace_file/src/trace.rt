@@ -1,0 +1,283 @@
+//! Traces from a shelf.
+ghost use Rattle.std.specs.Prelude.{◌≡◌, ◌+◌, ◌*◌, ◌<◌, ◌≤◌, ◌^◌, ℕ, List, [], IfOk, IsErrOf, Some, None, Ok, MatchResult, false, length};
+ghost use Rattle.outside.specs.Outside.{told, Lacks, counts_of};
+ghost use Rattle.psi_base.specs.declared.event.Cause.TheVariants as cause;
+ghost use Rattle.psi_lines.specs.Lines.{left};
+ghost use Rattle.psi_lines.specs.Next.{furthest};
+ghost use Rattle.psi_spec.specs.Grammar.{Fits, IsVersion};
+ghost use Rattle.psi_spec.specs.Trace.{limits_of, refused};
+ghost use Rattle.run_spec.specs.MostRead.{most_of_trace};
+ghost use Rattle.trace_file.specs.Reads.{CausesTraceFault, HeadGives, IsHead, IsTraceFault, Legally, NextGives, ReadsLine, RestGives, TailGives, TakesLine, TakesRead, TellsNothing, TracePlayed, TraceRefused, trace_fault, verbs_in};
+
+use outside::Shelf;
+use psi_base::{Cause, Event, Fault, NoMemory, Ns, Refusal};
+use psi_lines::{LineFault, Lines};
+use psi_trace::{Header, read_event, read_header, take_front};
+use std::alloc::Global;
+use trace_player::Player;
+
+/// Why there is no trace.
+#[derive(Clone, Copy, Debug, PartialEq, Eq)]
+pub enum TraceFault {
+    /// A line of it was refused.
+    Refused(Refusal),
+    /// The shelf has no such file.
+    NoFile,
+    /// A read failed.
+    ReadFault,
+    /// Memory was wanting.
+    NoMemory(NoMemory),
+}
+
+impl From<NoMemory> for TraceFault {
+    ghost use Rattle.std.specs.Prelude.{◌≡◌};
+    ghost use Rattle.trace_file.specs.declared.trace.TraceFault.TheVariants as fault;
+
+    ghost from_gives = { λ none e. e ≡ fault.NoMemory none };
+
+    fn from(none: NoMemory) -> Self {
+        TraceFault::NoMemory(none)
+    }
+}
+
+// A refused line.
+fn refused(line: u32, cause: Cause) -> TraceFault
+    ensures { result ≡ TraceFault.Refused (refused line cause) }
+{
+    TraceFault::Refused(Refusal { line, cause })
+}
+
+// The fault of a line.
+fn fault_at(line: u32, fault: Fault<Cause>) -> TraceFault
+    ensures { IsTraceFault line fault result }
+{
+    match fault {
+        Fault::Refused(cause) => refused(line, cause),
+        Fault::NoMemory(none) => TraceFault::NoMemory(none),
+    }
+}
+
+// Why there is no trace where a line isn't read: where the input ends inside it, it is refused with
+// this cause.
+fn trace_fault(fault: LineFault, cut: Cause) -> TraceFault
+    ensures { result ≡ trace_fault cut fault }
+{
+    match fault {
+        LineFault::TooLong(line) => refused(line, Cause::LineTooLong),
+        LineFault::Cut(line) => refused(line, cut),
+        LineFault::NoFile => TraceFault::NoFile,
+        LineFault::ReadFault => TraceFault::ReadFault,
+        LineFault::NoMemory(none) => TraceFault::NoMemory(none),
+    }
+}
+
+// Plays what was read of a line: the event is played where it was read, and a fault is handed on.
+fn take_read<P: Player>(
+    player: &mut P,
+    read: &Result<Event, Fault<Cause>>,
+) -> Result<(), Fault<Cause>>
+    requires { IfOk read.now Fits }
+    ensures { TakesRead (P.Played player.old) (P.Played player.new) read.now result }
+{
+    match read {
+        Ok(event) => player.take(event),
+        Err(fault) => Err(*fault),
+    }
+}
+
+// Plays a line of at most 512 bytes of a trace of a version, where that hasn't ended. Its event
+// stays where it was read, which spares a copy.
+fn take_line<P: Player>(
+    alloc: Global,
+    version: u32,
+    player: &mut P,
+    line: &[u8],
+) -> Result<(), Fault<Cause>>
+    requires version { IsVersion version }
+    requires short { length line.now ≤ 512 }
+    ensures { TakesLine (verbs_in version) (Legally (verbs_in version) (P.Played player.old))
+        (Legally (verbs_in version) (P.Played player.new)) line.now result }
+{
+    take_read(player, &read_event(alloc, version, line))
+}
+
+// Reads and plays the next event line of a trace of a version, whichever it is, where the trace
+// hasn't ended.
+fn next_event<S: Shelf, P: Player>(
+    alloc: Global,
+    version: u32,
+    lines: &mut Lines,
+    shelf: &mut S,
+    player: &mut P,
+) -> Result<(), TraceFault>
+    requires version { IsVersion version }
+    requires number { lines.old.number < 2 ^ 32 }
+    ensures kept { S.holds shelf.new ≡ S.holds shelf.old }
+    ensures content { NextGives (verbs_in version)
+        (Legally (verbs_in version) (P.Played player.old))
+        (Legally (verbs_in version) (P.Played player.new))
+        lines.old.number (left lines.old) (left lines.new)
+        (told (S.holds shelf.old) lines.old.name) result }
+    ensures reads { ReadsLine (told (S.holds shelf.old) lines.old.name) lines.old lines.new
+        (counts_of (S.faults shelf.old) (S.absent shelf.old))
+        (counts_of (S.faults shelf.new) (S.absent shelf.new))
+        (S.given shelf.old) (S.given shelf.new) result }
+{
+    let line = lines.number();
+    match lines.next_bytes(shelf) {
+        Ok(Some(bytes)) => match take_line(alloc, version, player, bytes) {
+            Ok(()) => Ok(()),
+            Err(fault) => Err(fault_at(line, fault)),
+        },
+        Ok(None) => Err(refused(line, Cause::NoEnd)),
+        Err(fault) => Err(trace_fault(fault, Cause::NoEnd)),
+    }
+}
+
+// Plays the next event line, where the trace hasn't ended: as it stands in what is held, if it is
+// whole there and of the kinds that a trace has most of, and else read from the shelf as any line
+// is.
+#[inline(always)]
+fn play_next<S: Shelf, P: Player>(
+    alloc: Global,
+    version: u32,
+    lines: &mut Lines,
+    shelf: &mut S,
+    player: &mut P,
+) -> Result<(), TraceFault>
+    requires version { IsVersion version }
+    requires number { lines.old.number < 2 ^ 32 }
+    ensures kept { S.holds shelf.new ≡ S.holds shelf.old }
+    ensures content { NextGives (verbs_in version)
+        (Legally (verbs_in version) (P.Played player.old))
+        (Legally (verbs_in version) (P.Played player.new))
+        lines.old.number (left lines.old) (left lines.new)
+        (told (S.holds shelf.old) lines.old.name) result }
+    ensures reads { ReadsLine (told (S.holds shelf.old) lines.old.name) lines.old lines.new
+        (counts_of (S.faults shelf.old) (S.absent shelf.old))
+        (counts_of (S.faults shelf.new) (S.absent shelf.new))
+        (S.given shelf.old) (S.given shelf.new) result }
+{
+    let Some(played) = take_front(lines.held(), player) else {
+        return next_event(alloc, version, lines, shelf, player);
+    };
+    let line = lines.number();
+    lines.pass(played.count);
+    match played.answer {
+        Ok(()) => Ok(()),
+        Err(fault) => Err(fault_at(line, fault)),
+    }
+}
+
+// Looks behind the end, where nothing may stand, with at most one read.
+fn close<S: Shelf>(lines: &mut Lines, shelf: &mut S) -> Result<(), TraceFault>
+    requires number { lines.old.number < 2 ^ 32 }
+    ensures kept { S.holds shelf.new ≡ S.holds shelf.old }
+    ensures content { (bytes : List ℕ) →
+        told (S.holds shelf.old) lines.old.name ≡ Some bytes →
+        TailGives lines.old.number (left lines.old bytes) result }
+    ensures missed { IsErrOf result TraceFault.NoFile →
+        told (S.holds shelf.old) lines.old.name ≡ None }
+    ensures cause { CausesTraceFault (counts_of (S.faults shelf.old) (S.absent shelf.old))
+        (counts_of (S.faults shelf.new) (S.absent shelf.new)) result }
+    ensures given { S.given shelf.new + lines.old.at
+        ≤ S.given shelf.old + furthest lines.old.number }
+{
+    match lines.is_at_end(shelf) {
+        Ok(true) => Ok(()),
+        Ok(false) => Err(refused(lines.number(), Cause::AfterEnd)),
+        Err(fault) => Err(trace_fault(fault, Cause::AfterEnd)),
+    }
+}
+
+// Reads and plays the event lines of a trace with this header. A player takes at most 4,000,000
+// events, so this ends.
+fn play_events<S: Shelf, P: Player>(
+    alloc: Global,
+    lines: &mut Lines,
+    shelf: &mut S,
+    player: &mut P,
+    tick: Ns,
+    head: Header,
+) -> Result<(), TraceFault>
+    requires version { IsVersion head.version }
+    requires number { lines.old.number ≡ 2 }
+    requires fresh { P.Played player.old (limits_of tick head.cpus) [] }
+    ensures kept { S.holds shelf.new ≡ S.holds shelf.old }
+    ensures content { RestGives (verbs_in head.version)
+        (Legally (verbs_in head.version) (P.Played player.new)) (limits_of tick head.cpus)
+        (left lines.old) (told (S.holds shelf.old) lines.old.name) result }
+    ensures missed { IsErrOf result TraceFault.NoFile →
+        told (S.holds shelf.old) lines.old.name ≡ None }
+    ensures cause { CausesTraceFault (counts_of (S.faults shelf.old) (S.absent shelf.old))
+        (counts_of (S.faults shelf.new) (S.absent shelf.new)) result }
+    ensures given { S.given shelf.new + lines.old.at ≤ S.given shelf.old + most_of_trace }
+{
+    'lines: loop {
+        match play_next(alloc, head.version, lines, shelf, player) {
+            Ok(()) => {}
+            Err(fault) => return Err(fault),
+        }
+        if player.is_ended() {
+            return close(lines, shelf);
+        }
+    }
+}
+
+// Reads the header line.
+fn read_head<S: Shelf>(lines: &mut Lines, shelf: &mut S, tick: Ns) -> Result<Header, TraceFault>
+    requires { lines.old.number ≡ 1 }
+    ensures kept { S.holds shelf.new ≡ S.holds shelf.old }
+    ensures head { IfOk result IsHead }
+    ensures content { (bytes : List ℕ) →
+        told (S.holds shelf.old) lines.old.name ≡ Some bytes →
+        HeadGives tick (left lines.old bytes) (left lines.new bytes) result }
+    ensures missing { lines.old.held ≡ [] → Lacks (S.holds shelf.old) lines.old.name →
+        TellsNothing result }
+    ensures reads { ReadsLine (told (S.holds shelf.old) lines.old.name) lines.old lines.new
+        (counts_of (S.faults shelf.old) (S.absent shelf.old))
+        (counts_of (S.faults shelf.new) (S.absent shelf.new))
+        (S.given shelf.old) (S.given shelf.new) result }
+{
+    match lines.next_bytes(shelf) {
+        Ok(Some(bytes)) => match read_header(bytes) {
+            Ok(head) => Ok(head),
+            Err(cause) => Err(refused(1, cause)),
+        },
+        Ok(None) => Err(refused(1, Cause::BadHeader)),
+        Err(fault) => Err(trace_fault(fault, Cause::BadHeader)),
+    }
+}
+
+/// Reads a trace, and plays its events on a new player: the number of its version, and the player.
+/// No event is later than a million ticks (ns).
+pub fn play_trace<S: Shelf, P: Player + Drop>(
+    alloc: Global,
+    name: &str,
+    shelf: &mut S,
+    tick: Ns,
+) -> Result<(u32, P), TraceFault>
+    requires { tick ≤ 60000000000 }
+    ensures kept { S.holds shelf.new ≡ S.holds shelf.old }
+    ensures content { MatchResult result
+        (λ played. TracePlayed (P.Played played.1) played.0 tick
+        (told (S.holds shelf.old) name.now))
+        (λ fault. TraceRefused fault tick (told (S.holds shelf.old) name.now)) }
+    ensures missing { Lacks (S.holds shelf.old) name.now → TellsNothing result }
+    ensures missed { IsErrOf result TraceFault.NoFile →
+        told (S.holds shelf.old) name.now ≡ None }
+    ensures cause { CausesTraceFault (counts_of (S.faults shelf.old) (S.absent shelf.old))
+        (counts_of (S.faults shelf.new) (S.absent shelf.new)) result }
+    ensures given { S.given shelf.new ≤ S.given shelf.old + most_of_trace }
+{
+    let mut lines = Lines::new(alloc, name)?;
+    let head = match read_head(&mut lines, shelf, tick) {
+        Ok(head) => head,
+        Err(fault) => return Err(fault),
+    };
+    let mut player = P::start(alloc, head.cpus, 1_000_000 * tick)?;
+    match play_events(alloc, &mut lines, shelf, &mut player, tick, head) {
+        Ok(()) => Ok((head.version, player)),
+        Err(fault) => Err(fault),
+    }
+}

@@ -1,4 +1,0 @@
-use Rattle.world_tests.proofs.observers.added.counts_never_fall.Given as goal
-
-abbrev pub ghosts-add_both : goal.ghosts-add_both
-ghosts-add_both g a = record { name = a.blank.name; parts = a.blank.parts }
