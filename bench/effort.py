@@ -17,7 +17,7 @@ Time depends on the machine, so what is counted is what doesn't:
 
 A figure in instructions or KB may rise by 3 percent, a peak by 256 KB more, and where a reader looks at the clocks of others
 while they go on, each by so much more as its run says. A number of calls must be the one that is stored: one thread for four is
-no gain. What fell by more than that is told, and is no fault; `--store` writes the figures anew, and their difference shows in
+no gain. What fell by more than that is reported, and is no fault; `--store` writes the figures anew, and their difference shows in
 the commit. They hold for the machine's kind and the C library that are stored with them: elsewhere, what stood before a change
 is measured and stored first.
 

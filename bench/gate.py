@@ -1,12 +1,17 @@
 #!/usr/bin/env python3
-"""Times the gate: runs `rt ci` at the top of the repository, and tells where the time went.
+"""Times the gate: runs `rt ci` at the top of the repository, and reports where the time went.
 
-usage: bench/gate.py [--anew]     (`--anew` proves also what an earlier run on this machine kept)
+usage: bench/gate.py [--anew | --dear]
 
-Prints what `rt ci` prints, and behind it the minutes by the clock and, for each crate and the whole, the minutes of processor time
+--anew  proves also what an earlier run on this machine kept; an `rt` that keeps nothing between runs, and so has no such word, is
+        run without it
+--dear  runs nothing: lists the functions whose walk by the borrow checker takes more than 3 MB in what `rt check` kept, the
+        largest first. A deep value that goes out of scope at many exits makes these (docs/DECISIONS.md, "What makes proofs dear")
+
+Prints what `rt ci` prints, and after it the minutes by the clock and, for each crate and the whole, the minutes of processor time
 that its proofs, the proofs of its tests and its must-fail edits took, the dearest first, and the minutes after the start at which
 its first check began, it was proved, and its last check ended. Once a second it looks which checks run, so a crate that takes less
-than some seconds is told too low. Ends with the status of `rt ci`.
+than some seconds is shown too low. Ends with the status of `rt ci`.
 """
 
 from __future__ import annotations
@@ -23,6 +28,8 @@ from typing import NamedTuple
 ROOT = pathlib.Path(__file__).resolve().parent.parent
 TICKS = os.sysconf("SC_CLK_TCK")
 KINDS = ("proof", "tests", "edits")
+# From how many bytes on the walk of a function is worth a look.
+DEAR = 3_000_000
 
 
 class Work(NamedTuple):
@@ -109,12 +116,35 @@ def table(works: Works) -> str:
     return "\n".join([head, *(row(*item) for item in dearest), whole])
 
 
+def dear_walks() -> list[tuple[int, str, str]]:
+    """The bytes, the crate and the function of each walk that is kept and dear, the largest first."""
+    found: dict[tuple[str, str], int] = {}
+    for kept in ROOT.glob("crates/*/out/incremental/*/*.Lts.oantt"):
+        crate, size = kept.parts[len(ROOT.parts) + 1], kept.stat().st_size
+        if size >= DEAR:
+            function = kept.name.removesuffix(".Lts.oantt").partition("-proofs.")[2]
+            found[crate, function] = max(size, found.get((crate, function), 0))
+    return sorted(((size, *place) for place, size in found.items()), reverse=True)
+
+
+def keeps_between_runs() -> bool:
+    """Whether this `rt` keeps what a gate has proved for the next one, and so knows `--anew`."""
+    said = subprocess.run(["rt", "help"], capture_output=True, text=True, check=False).stdout
+    return "--anew" in said
+
+
 def main() -> int:
-    """Runs the gate and tells its times."""
+    """Runs the gate and reports its times, or lists what is dear."""
     words = sys.argv[1:]
-    if words not in ([], ["--anew"]):
+    if words not in ([], ["--anew"], ["--dear"]):
         print(re.sub(r"\n\n.*", "", __doc__.split("usage: ")[1], flags=re.S), file=sys.stderr)
         return 2
+    if words == ["--dear"]:
+        for size, crate, function in dear_walks():
+            print(f"{size / 1e6:6.1f} MB  {crate}  {function}")
+        return 0
+    if not keeps_between_runs():
+        words = []
     start = time.monotonic()
     gate = subprocess.Popen(["rt", "ci", *words], cwd=ROOT)
     works = watch(gate, start)

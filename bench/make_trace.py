@@ -3,7 +3,7 @@
 
 usage: make_trace.py EVENTS TASKS [CPUS [GROUPS [DEPTH [SEED]]]]     (1, 0, 1 and 1 if left out)
 
-EVENTS is the number of lines behind the header, the `end` line included. GROUPS groups are made, in chains of DEPTH below
+EVENTS is the number of lines after the header, the `end` line included. GROUPS groups are made, in chains of DEPTH below
 the root, and TASKS tasks are forked in the lowest ones (in the root where there is none). In the other lines a random task
 of a random processor runs, waits for IO, sleeps or wakes, at times on another processor; the running one is in a memory
 stall for a while; a ready one migrates; one moves to another group; a group's memory is sampled. There are up to 2 us from

@@ -22,7 +22,7 @@ import time
 
 from built import program_of
 from effort import instructions_of, peak_of
-from hostile import greatest_lines, greatest_rules
+from greatest import greatest_lines, greatest_rules
 
 SHAPE = ("--seed", "1", "--cpus", "8", "--groups", "40")
 # Instructions a line are those of the longer of these traces less those of the shorter, in lines.

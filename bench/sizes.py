@@ -1,20 +1,24 @@
 #!/usr/bin/env python3
 """Counts what has to be believed, the code, its contracts, the proofs and the tests, and prints them as a table.
 
-usage: bench/sizes.py
+usage: bench/sizes.py [--unreached]
 
 A line counts where it isn't blank and no comment; of definitions and proofs what takes names from elsewhere (`use`) isn't
 counted either. The files that have to be believed are those that docs/ARCHITECTURE.md lists; laws, which are proved, stand in
 others. A contract is a clause of a function or a loop (`requires`, `ensures`, `invariant`), an `assert`, or a `ghost` item, up to
 the line where its brackets are closed.
+
+Status 1 where that list isn't the one that bench/believed.py finds: where it lacks a file on which the contracts of the top calls
+rest, or has one on which none does. With `--unreached` it prints the definitions in those files on which none rests.
 """
 import pathlib
 import re
 import sys
 from collections.abc import Iterable, Iterator
 
-TOP = pathlib.Path(__file__).resolve().parent.parent
-CRATES = TOP / "crates"
+import believed
+from believed import CRATES, TOP
+
 CONTRACT = re.compile(r"(requires|ensures|invariant|measure|assert|ghost)\b")
 BELIEVED_TITLE = "## The files that have to be believed"
 
@@ -44,20 +48,50 @@ def rust_lines(path: pathlib.Path) -> tuple[int, int]:
     return code, contracts
 
 
-def believed_files() -> tuple[list[pathlib.Path], list[pathlib.Path]]:
-    """The definitions and the files of types that docs/ARCHITECTURE.md lists as those that have to be believed."""
+def believed_section() -> str:
+    """What docs/ARCHITECTURE.md says of the files that have to be believed."""
     text = (TOP / "docs" / "ARCHITECTURE.md").read_text(encoding="utf-8")
-    section = text[text.index(BELIEVED_TITLE) :].partition("\n## ")[0]
-    definitions, crate = [], ""
+    return text[text.index(BELIEVED_TITLE) :].partition("\n## ")[0]
+
+
+def believed_files() -> tuple[list[pathlib.Path], list[pathlib.Path]]:
+    """The definitions and the files of types that docs/ARCHITECTURE.md lists as those that have to be believed.
+
+    A cell of the table's first column names a library, and files of its `specs`; one without a library goes on with that above it.
+    """
+    section = believed_section()
+    definitions, folder = [], CRATES
     for cell in re.findall(r"^\| ([^|]*`[^|]*) \|", section, re.MULTILINE):
         named = re.match(r"(\w+): ", cell)
-        crate = named[1] if named else crate
-        definitions += [CRATES / crate / "specs" / f"{name}.antt" for name in re.findall(r"`(\w+)`", cell)]
-    types, folder = [], ""
+        folder = believed.folder_of(named[1]) or CRATES if named else folder
+        definitions += [folder / "specs" / f"{name}.antt" for name in re.findall(r"`(\w+)`", cell)]
+    types, crate = [], ""
     for name in re.findall(r"`([\w/]+\.rt)`", section.partition("\n|")[0]):
-        folder = name.rpartition("/")[0] or folder
-        types.append(CRATES / folder / name.rpartition("/")[2])
+        crate = name.rpartition("/")[0] or crate
+        types.append(CRATES / crate / name.rpartition("/")[2])
     return definitions, types
+
+
+def is_told(item: believed.Item, types: list[pathlib.Path]) -> bool:
+    """Whether the reader is told of a type: by its file, by its name where contracts see its `Model` alone, or as a trait's."""
+    by_name = believed.has_model(item) and f"`{item.name}`" in believed_section()
+    return by_name or item.path in (*types, *(CRATES / name for name, _ in believed.ROOTS))
+
+
+def list_faults() -> Iterator[str]:
+    """What the list lacks, and what it has in vain."""
+    definitions, types = believed_files()
+    reached: dict[pathlib.Path, list[str]] = {}
+    for item in sorted(believed.believed()):
+        if item.path.suffix == ".antt" or not is_told(item, types):
+            reached.setdefault(item.path, []).append(item.name)
+    for path, names in reached.items():
+        if path not in definitions:
+            yield f"lacks {path.relative_to(TOP) if path.is_absolute() else path}, which has {', '.join(names)}"
+    rested = {item.path for item in believed.believed()}
+    for path in (*definitions, *types):
+        if path not in rested:
+            yield f"has {path.relative_to(TOP) if path.is_absolute() else path}, on which nothing rests"
 
 
 def sum_of(pairs: Iterable[tuple[int, int]]) -> tuple[int, int]:
@@ -75,7 +109,8 @@ def sizes() -> Iterator[tuple[str, int]]:
     rust = sorted(CRATES.glob("*/src/**/*.rt"))
     tests = [path for path in rust if path.relative_to(CRATES).parts[0].endswith("_tests")]
     code, contracts = sum_of(rust_lines(path) for path in rust if path not in tests)
-    yield "lines of definitions to believe", sum(map(definition_lines, definitions))
+    own = [path for path in definitions if path.is_relative_to(CRATES)]
+    yield "lines of definitions to believe", sum(map(definition_lines, own))
     yield "lines of types to believe (code, counted again below)", sum_of(map(rust_lines, types))[0]
     yield "lines of other definitions and laws", sum(definition_lines(path) for path in specs if path not in definitions)
     yield "lines of code", code
@@ -93,11 +128,16 @@ def cases() -> Iterator[str]:
         yield from rows.read_text(encoding="latin-1").splitlines() if rows.exists() else [folder.name]
 
 
-def main() -> int:
-    missing = [path for paths in believed_files() for path in paths if not path.exists()]
-    if missing or not all(believed_files()):
-        print(f"docs/ARCHITECTURE.md lists what isn't there: {missing}", file=sys.stderr)
+def main(words: list[str]) -> int:
+    """Prints the sizes, or the definitions that needn't stand where they are, unless the list is another than the one that is found."""
+    faults = [f"docs/ARCHITECTURE.md, of the files that have to be believed: {fault}" for fault in list_faults()]
+    if faults:
+        print("\n".join(faults), file=sys.stderr)
         return 1
+    if words == ["--unreached"]:
+        for path in filter(pathlib.Path.is_file, believed_files()[0]):
+            print("".join(f"{path.relative_to(TOP)}: {name}\n" for name in believed.unreached(path)), end="")
+        return 0
     print("| what | how many |\n|---|---|")
     for name, number in sizes():
         print(f"| {name} | {number:,} |")
@@ -105,4 +145,4 @@ def main() -> int:
 
 
 if __name__ == "__main__":
-    sys.exit(main())
+    sys.exit(main(sys.argv[1:]))

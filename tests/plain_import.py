@@ -1,7 +1,7 @@
-"""What `import` must make of a text of ftrace, in plain Python, by the rules that docs/FORMATS.md tells and nothing else.
+"""What `import` must make of a text of ftrace, in plain Python, by the rules of docs/IMPORT.md and nothing else.
 
 It keeps no table but that of the tasks which the trace so far has, and compares nothing with the program: tests/imports and
-bench/import_lines.py do. Times and moments are in ns.
+tests/release/import_lines do. Times and moments are in ns.
 """
 from __future__ import annotations
 

@@ -1,6 +1,6 @@
 """What observers of a group may print of a trace, read plainly: for checks of what psi_observe prints.
 
-It follows docs/FORMATS.md alone. Which samples are due of an observer, and what one must say after so many changes of its processor,
+It follows docs/OBSERVERS.md alone. Which samples are due of an observer, and what one must say after so many changes of its processor,
 is computed from the rules: states are read off the tasks, and the signals are those of docs/PRESSURE.md. How many changes a sample
 saw is open within its interval, and so is the order of the samples of different observers in one interval.
 """

@@ -1,7 +1,7 @@
 """Which traces are refused, at which line and for which cause, read plainly: for checks of what psi_oomd says of them.
 
-It follows docs/FORMATS.md alone: a line is spelled as there, or it isn't; and then it is held against the world that the lines
-before it made. Of all causes that stand against a line the first in the order of that page's table is told.
+It follows docs/TRACES.md alone: a line is spelled as there, or it isn't; and then it is held against the world that the lines
+before it made. Of all causes against a line it reports the first in the order of that page's table.
 """
 from __future__ import annotations
 

@@ -1,6 +1,6 @@
-"""What is left of a trace behind the kills of its rules, by a plain walk: for checks of what `psi_oomd whatif` prints.
+"""What is left of a trace after the kills of its rules, by a plain walk: for checks of what `psi_oomd whatif` prints.
 
-It follows docs/FORMATS.md alone, event by event over the tasks of tests/machine.py. Who is killed it is told: by what a replay of
+It follows docs/COMMANDS.md alone, event by event over the tasks of tests/machine.py. Who is killed it takes from what a replay of
 the trace printed.
 """
 from __future__ import annotations

@@ -1,0 +1,231 @@
+"""Which definitions the contracts of the top calls rest on: a closure over names.
+
+It begins with the clauses of `run` and `observe` and those of the traits `Shelf` and `Sink`, and follows each name that they cite to
+its definition, and from there on, down to the kit's own. A definition stands in a file of `specs/`, a type in one of `src/`; of a type
+that has a `Model` contracts see that alone.
+
+Names are found by their spelling, without the prover. One that a definition binds itself, as a parameter, may be taken for that of
+another: so too much may be found, and nothing is passed over.
+"""
+
+from __future__ import annotations
+
+import dataclasses
+import functools
+import pathlib
+import re
+from collections.abc import Iterator
+
+TOP = pathlib.Path(__file__).resolve().parent.parent
+CRATES = TOP / "crates"
+
+# Stands for the folder of the kit's libraries, which aren't followed: what is cited of them is.
+KIT = pathlib.Path("kit")
+
+# What the reader of a contract begins with: a file, and the words with which its function or trait begins there.
+ROOTS = (
+    ("replay_core/src/entry.rt", "pub fn run<"),
+    ("observe_core/src/entry.rt", "pub fn observe<"),
+    ("outside/src/shelf.rt", "pub trait Shelf "),
+    ("outside/src/sink.rt", "pub trait Sink "),
+)
+
+# The kit's language and standard library, of which nothing is listed.
+PLAIN = ("std", "core", "mathlib")
+
+NAME = re.compile(r"[^\W\d][\w'◌-]*")
+DECLARED = re.compile(r"(?:unfoldable |abbrev |pub |record |data )*(?P<name>[\w'-]*◌[^\s:]*|[^\W\d][\w'-]*)(?= [^=]*?:| *$)")
+IMPORT = re.compile(r"^ *(?:pub |ghost )*use ([\w.]+?)(?:\.\{([^}]*)\}| as (\w+));? *$", re.MULTILINE)
+ACCESS = re.compile(r"(?<=[\w)}\]'])\.[\w']+(?:\.[\w']+)*")
+
+
+@dataclasses.dataclass(frozen=True, order=True)
+class Item:
+    """A definition or a type, by its file and its name."""
+
+    path: pathlib.Path
+    name: str
+
+
+@dataclasses.dataclass
+class Module:
+    """A file: what each of its definitions says, and what its names stand for elsewhere."""
+
+    path: pathlib.Path
+    bodies: dict[str, str]
+    imports: dict[str, tuple[str, str]]
+    aliases: dict[str, str]
+
+
+def without_comments(text: str, mark: str) -> str:
+    """A text without its comments, which begin with a mark."""
+    return "\n".join(re.sub(rf"(^| ){mark}.*", "", line) for line in text.splitlines())
+
+
+def imports_of(text: str) -> tuple[dict[str, tuple[str, str]], dict[str, str]]:
+    """What names of other modules a text uses: each with its module and its name there; and modules under names of their own."""
+    names: dict[str, tuple[str, str]] = {}
+    aliases: dict[str, str] = {}
+    for module, listed, alias in IMPORT.findall(text):
+        if alias:
+            aliases[alias] = module
+        for one in filter(None, map(str.strip, listed.split(","))):
+            there, _, here = one.partition(" as ")
+            names[here or there] = (module, there)
+    return names, aliases
+
+
+def bodies_of(text: str) -> dict[str, str]:
+    """What each definition of a file of definitions says: all lines from the one that declares it to the next such line."""
+    bodies: dict[str, list[str]] = {}
+    lines: list[str] = []
+    for line in text.splitlines():
+        if line.startswith(("use ", "pub use ", "pub mod ", "infix")):
+            continue
+        found = DECLARED.match(line) if line[:1].strip() else None
+        if found and (found["name"] not in bodies or line.startswith(("abbrev", "unfoldable", "pub"))):
+            lines = bodies.setdefault(found["name"], [])
+        lines.append(line)
+    return {name: "\n".join(body) for name, body in bodies.items()}
+
+
+def types_of(text: str) -> dict[str, str]:
+    """What each type of a file of code says: its declaration, or its `Model` where it has one."""
+    found = {}
+    for one in re.finditer(r"^pub (?:struct|enum) (\w+)[^\n]*(?:;\n|(?:\n[^\n}][^\n]*|\n)*\n\})", text, re.MULTILINE):
+        model = re.search(rf"^impl(?:<[^>]*>)? Model for {one[1]}\b.*?^\}}", text, re.MULTILINE | re.DOTALL)
+        found[one[1]] = model[0] if model else one[0]
+    return found
+
+
+def code_imports(text: str) -> dict[str, tuple[str, str]]:
+    """The types that a file of code takes from its own crate and from others: each with its crate, `crate` for its own."""
+    found = {}
+    for crate, listed, one in re.findall(r"^use (\w+)(?:::\w+)*::(?:\{([^}]*)\}|(\w+));", text, re.MULTILINE):
+        for name in filter(None, map(str.strip, (listed or one).split(","))):
+            found[name] = (f"type {crate}", name)
+    return found
+
+
+@functools.cache
+def module_at(path: pathlib.Path) -> Module:
+    """A file of definitions or of code."""
+    text = path.read_text(encoding="utf-8")
+    if path.suffix == ".antt":
+        text = without_comments(text, "--")
+        names, aliases = imports_of(text)
+        return Module(path, bodies_of(text), names, aliases)
+    text = without_comments(text, "//")
+    names, aliases = imports_of(text)
+    return Module(path, types_of(text), code_imports(text) | names, aliases)
+
+
+@functools.cache
+def file_of_type(crate: pathlib.Path, name: str) -> pathlib.Path | None:
+    """The file of a crate that declares a type."""
+    files = sorted((crate / "src").rglob("*.rt"))
+    return next((path for path in files if name in module_at(path).bodies), None)
+
+
+def folder_of(crate: str) -> pathlib.Path | None:
+    """The folder of a library: of this repository, or of the kit; none for what isn't listed."""
+    if crate in PLAIN:
+        return None
+    return CRATES / crate if (CRATES / crate).is_dir() else KIT / crate
+
+
+def item_at(module: str, name: str, own: pathlib.Path) -> Item | None:
+    """The item that a name of a module is, seen from a file; none where it is taken as it is."""
+    if module.startswith("type "):
+        crate = own if module == "type crate" else folder_of(module.removeprefix("type "))
+        path = file_of_type(crate, name) if crate and crate.is_relative_to(CRATES) else None
+        return Item(path, name) if path else None
+    parts = module.removeprefix("Rattle.").split(".")
+    crate = folder_of(parts[0])
+    if crate is None or parts[1:2] != ["specs"]:
+        return None
+    if crate.is_relative_to(KIT):
+        return Item(crate / "specs" / f"{parts[2]}.antt", name)
+    if parts[2:3] == ["declared"]:
+        kind = [part for part in parts[3:] if part != "TheVariants"]
+        path = (crate / "src").joinpath(*kind[:-1]).with_suffix(".rt")
+        return Item(path, kind[-1]) if path.is_file() else None
+    path = (crate / "specs").joinpath(*parts[2:]).with_suffix(".antt")
+    return found_in(path, name) if path.is_file() else None
+
+
+def found_in(path: pathlib.Path, name: str) -> Item | None:
+    """The definition with a name in a file, or the one that the file takes in turn from elsewhere."""
+    module = module_at(path)
+    if name in module.bodies:
+        return Item(path, name)
+    part = re.compile(rf"^  (?:pub )?{re.escape(name)} :", re.MULTILINE)
+    owner = next((other for other, body in module.bodies.items() if part.search(body)), None)
+    if owner:
+        return Item(path, owner)
+    return item_at(*module.imports[name], path.parents[1]) if name in module.imports else None
+
+
+def cited_in(body: str, module: Module) -> Iterator[tuple[str, str]]:
+    """The names that a body cites, each with its module; '' for the file's own."""
+    for alias, there in module.aliases.items():
+        yield from ((there, name) for name in re.findall(rf"(?<![\w.]){re.escape(alias)}\.([\w']+)", body))
+    known = module.imports.keys() | module.bodies.keys()
+    plain = ACCESS.sub("", body)
+    names = set(NAME.findall(plain))
+    names |= {name for name in known if "◌" in name and all(sign in plain for sign in name.split("◌") if sign)}
+    names |= {"◌>>=◌"} if re.search(r"\bdo\b", plain) else set()
+    for name in names & known:
+        yield module.imports.get(name, ("", name))
+
+
+def cited_by(item: Item) -> Iterator[Item]:
+    """The definitions and types that an item cites; of the kit's nothing is asked."""
+    if item.path.is_relative_to(KIT):
+        return
+    module = module_at(item.path)
+    body = module.bodies.get(item.name, "")
+    inner, _ = imports_of(body) if item.path.suffix == ".rt" else ({}, {})
+    seen = Module(item.path, module.bodies, module.imports | inner, module.aliases)
+    for there, name in cited_in(body, seen):
+        crate = CRATES / item.path.relative_to(CRATES).parts[0]
+        found = item_at(there, name, crate) if there else Item(item.path, name)
+        if found is not None and found != item:
+            yield found
+
+
+def roots() -> Iterator[Item]:
+    """What the clauses of the top calls and of the traits below them cite."""
+    for name, begins in ROOTS:
+        path = CRATES / name
+        text = without_comments(path.read_text(encoding="utf-8"), "//")
+        head = re.split(r"\n[{}]\n", text[text.index(begins) :], maxsplit=1)[0]
+        module = module_at(path)
+        for there, cited in cited_in(head.replace("\n", " "), module):
+            found = item_at(there, cited, path.parents[1]) if there else Item(path, cited)
+            if found is not None and found.path != path:
+                yield found
+
+
+@functools.cache
+def believed() -> frozenset[Item]:
+    """All definitions and types that the contracts of the top calls rest on."""
+    reached: set[Item] = set()
+    ahead = list(roots())
+    while ahead:
+        item = ahead.pop()
+        if item not in reached:
+            reached.add(item)
+            ahead += cited_by(item)
+    return frozenset(reached)
+
+
+def unreached(path: pathlib.Path) -> list[str]:
+    """The definitions of a file on which none of those contracts rests."""
+    names = {item.name for item in believed() if item.path == path}
+    return [name for name in module_at(path).bodies if name not in names]
+
+
+def has_model(item: Item) -> bool:
+    """Whether contracts see a type by its `Model` alone."""
+    return "Model for" in module_at(item.path).bodies.get(item.name, "")

@@ -1,0 +1,61 @@
+#!/usr/bin/env python3
+"""Times `import` over 100 MB of ftrace text beside `wc -lw` on the same file.
+
+usage: bench/import_time.py [--program PATH]     (the built program)
+
+The text is a stored recording, again and again with later times. Of five runs in turns it prints the best of each in seconds by the
+clock, their ratio and, where GNU time is installed, the peak memory. A benchmark: nothing is asserted.
+"""
+from __future__ import annotations
+
+import os
+import re
+import shutil
+import sys
+import tempfile
+
+from built import program_of
+from effort import peak_of
+from measure import once
+from recorded import text
+
+SIZE = 100_000_000
+RUNS = 5
+TIMED = "raw-2cpu"
+MOMENT = re.compile(rb" ([0-9]+)(\.[0-9]{6}: )")
+
+
+def later(data: bytes, seconds: int) -> bytes:
+    """The text with so many seconds added to each of its times."""
+    return MOMENT.sub(lambda it: b" %d%b" % (int(it[1]) + seconds, it[2]), data)
+
+
+def long_text(path: str) -> None:
+    """Writes about 100 MB of a recording that goes on and on."""
+    data = text(TIMED)
+    times = [int(it[1]) for it in MOMENT.finditer(data)]
+    length = times[-1] - times[0] + 1
+    with open(path, "wb") as file:
+        for number in range(-(-SIZE // len(data))):
+            file.write(later(data, number * length))
+
+
+def measure(program: str, folder: str) -> None:
+    """Times both in turns."""
+    path = os.path.join(folder, "text")
+    long_text(path)
+    runs = [(once(["wc", "-lw", path]), once([program, "import", path, "--cpus", "2"])) for _ in range(RUNS)]
+    count, seconds = (min(run[which].clock for run in runs) for which in (0, 1))
+    print(f"{os.path.getsize(path)} bytes: wc -lw {count:.3f} s, import {seconds:.3f} s, {seconds / count:.2f} times")
+    if shutil.which("time"):
+        print(f"peak memory of import: {peak_of([program, 'import', path, '--cpus', '2'], folder)} KB")
+
+
+def main() -> None:
+    program, _ = program_of(sys.argv[1:])
+    with tempfile.TemporaryDirectory() as folder:
+        measure(program, folder)
+
+
+if __name__ == "__main__":
+    main()

@@ -1,0 +1,13 @@
+"""What the checks before a release take from beside them: the program that tests run, modules of tests/, made traces of bench/."""
+from __future__ import annotations
+
+import os
+import sys
+
+TOP = os.path.dirname(os.path.dirname(os.path.dirname(os.path.abspath(__file__))))
+sys.path += [os.path.join(TOP, "tests"), os.path.join(TOP, "bench")]
+sys.dont_write_bytecode = True
+
+from program import built_program, program_of  # noqa: E402
+
+__all__ = ["TOP", "built_program", "program_of"]
