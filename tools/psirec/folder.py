@@ -6,6 +6,7 @@ import errno
 import os
 
 from psirec import layout
+from psirec.compressing import Compressor
 from psirec.machine import Machine, read_file
 
 # Kept free while recording, so that the last lines find room on a disk that became full.
@@ -13,6 +14,8 @@ RESERVE = ".reserve"
 RESERVE_BYTES = 1 << 18
 FULL = (errno.ENOSPC, errno.EDQUOT, errno.EFBIG)
 PAGE_BYTES = 4096
+# So much of a processor is compressed together.
+PART_BYTES = 8 << 20
 
 
 class DiskFull(Exception):
@@ -34,11 +37,16 @@ def append(file: int, data: bytes) -> None:
 class Folder:
     """A new folder, and its files as they grow."""
 
-    def __init__(self, path: str) -> None:
-        """Makes it; OSError where it is there already, DiskFull where there's not even room to begin."""
+    def __init__(self, path: str, is_compressed: bool = False) -> None:
+        """Makes it; OSError where it is there already, DiskFull where there's not even room to begin. Where it is compressed, that
+        has a process of its own from now on, since later files are open that it may not have."""
         self.path, self.bytes, self.page_bytes = path, 0, PAGE_BYTES
         self.raw: dict[int, int] = {}
+        # Of each processor how many parts were begun, and how much is in the last.
+        self.parts: dict[int, int] = {}
+        self.part_bytes: dict[int, int] = {}
         os.mkdir(path)
+        self.compressor = Compressor(path) if is_compressed else None
         try:
             self.reserve()
             self.meta, self.pressure = self.made(layout.META), self.made(layout.PRESSURE)
@@ -96,10 +104,29 @@ class Folder:
     def open_raw(self, processors: int) -> None:
         """A file for the pages of each processor."""
         for processor in range(processors):
-            self.raw[processor] = self.made(layout.raw_name(processor))
+            if self.compressor:
+                self.begin_part(processor)
+            else:
+                self.raw[processor] = self.made(layout.raw_name(processor))
+
+    def begin_part(self, processor: int) -> None:
+        """The next pages of a processor go into a part of their own."""
+        if processor in self.raw:
+            os.close(self.raw.pop(processor))
+        part = self.parts.get(processor, 0)
+        self.raw[processor] = self.made(layout.part_name(processor, part))
+        self.parts[processor], self.part_bytes[processor] = part + 1, 0
+
+    def finish_compressing(self) -> tuple[float, bool] | None:
+        """Waits until all is compressed: the time of a processor (s) that it took, and whether all went well; none where nothing
+        is."""
+        compressor, self.compressor = self.compressor, None
+        return compressor.finish() if compressor else None
 
     def append_pages(self, processor: int, pages: bytes) -> None:
         """Pages of a processor. On a full disk what is there ends with a whole page."""
+        if self.compressor and self.part_bytes[processor] >= PART_BYTES:
+            self.begin_part(processor)
         file = self.raw[processor]
         try:
             append(file, pages)
@@ -107,6 +134,8 @@ class Folder:
             os.ftruncate(file, os.fstat(file).st_size // self.page_bytes * self.page_bytes)
             raise
         self.bytes += len(pages)
+        if self.compressor:
+            self.part_bytes[processor] += len(pages)
 
     def append_pressure(self, text: bytes) -> None:
         """A reading of pressure files."""
@@ -114,12 +143,14 @@ class Folder:
 
     def discard(self) -> None:
         """Removes it, where nothing was recorded."""
+        self.finish_compressing()
         for name in os.listdir(self.path):
             os.unlink(f"{self.path}/{name}")
         os.rmdir(self.path)
 
     def close(self) -> None:
         """Closes all."""
+        self.finish_compressing()
         self.release()
         for file in [self.meta, self.pressure, *self.raw.values()]:
             os.close(file)

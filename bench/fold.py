@@ -1,0 +1,191 @@
+#!/usr/bin/env python3
+"""Measures folding: lines a second of the folded trace, us of processor time an event, and the peak of memory.
+
+usage: bench/fold.py [SECONDS [CPUS [SERVICES [LEAST_US MOST_US]]]]     (4, 4, 12, 20 and 200 if left out)
+       bench/fold.py --trace SECONDS CPUS SERVICES LEAST_US MOST_US     (prints the trace and folds nothing)
+
+The trace is of services that call each other, as they do behind a web server: each has six threads and a group, and there are 0.75
+tokens a service. A thread that takes a token computes for a time between the two, now and then waits for IO or stalls, and
+hands the token to some service. Processor time is that of this process and of
+those that it started.
+"""
+from __future__ import annotations
+
+import heapq
+import os
+import random
+import resource
+import sys
+import time
+from collections import deque
+from collections.abc import Iterator
+
+sys.dont_write_bytecode = True
+sys.path.insert(0, os.path.join(os.path.dirname(os.path.dirname(os.path.abspath(__file__))), "tools"))
+
+from psirec.fold import Fold  # noqa: E402
+
+THREADS = 6
+SLICES = ("/system.slice", "/user.slice", "/batch.slice")
+# Longest turn, and how long waits for IO take (ns).
+TURN, LEAST_IO, MOST_IO = 3_000_000, 200_000, 3_000_000
+Line = tuple[int, str]
+
+
+class Services:
+    """The machine, and what its threads have still to compute (ns). Things to come stand in `due` by their moments."""
+
+    def __init__(self, cpus: int, services: int, least: int, most: int) -> None:
+        self.draw, self.cpus, self.services = random.Random(1), cpus, services
+        self.least, self.most = least, most
+        self.home = [number % cpus for number in range(services * THREADS + 1)]
+        self.idle = [deque(range(one * THREADS + 1, (one + 1) * THREADS + 1)) for one in range(services)]
+        self.queue = [0] * services
+        self.ready: list[deque[int]] = [deque() for _ in range(cpus)]
+        self.running = [0] * cpus
+        self.left: dict[int, int] = {}
+        self.waited: set[int] = set()
+        self.due: list[tuple[int, int, str, int]] = []
+        self.count = 0
+
+    def begin(self) -> Iterator[str]:
+        """Groups and tasks, which sleep."""
+        yield from (f"group {path}" for path in SLICES)
+        for service in range(self.services):
+            path = f"{SLICES[service % 3]}/svc{service}.service"
+            yield f"group {path}"
+            for number in range(service * THREADS + 1, (service + 1) * THREADS + 1):
+                cpu = self.home[number]
+                yield from (f"fork {number} {path} {cpu}", f"switch {cpu} {number} idle", f"switch {cpu} 0 sleep")
+
+    def lines(self, end: int) -> Iterator[Line]:
+        """What happens up to the end (ns)."""
+        yield from ((0, words) for words in self.begin())
+        for token in range(self.services * 3 // 4):
+            yield from self.call(token % self.services, 0)
+        while self.due and self.due[0][0] < end:
+            moment, _, what, about = heapq.heappop(self.due)
+            yield from getattr(self, what)(about, moment)
+        yield end, "end"
+
+    def later(self, moment: int, what: str, about: int) -> None:
+        """Something is to happen."""
+        self.count += 1
+        heapq.heappush(self.due, (moment, self.count, what, about))
+
+    def call(self, service: int, moment: int) -> Iterator[Line]:
+        """A token goes to a service."""
+        if self.idle[service]:
+            yield from self.wake(self.idle[service].popleft(), moment)
+        else:
+            self.queue[service] += 1
+
+    def wake(self, number: int, moment: int) -> Iterator[Line]:
+        """A thread is woken, on an idle processor if there is one."""
+        cpu = self.home[number]
+        if self.running[cpu] or self.ready[cpu]:
+            idle = [it for it in range(self.cpus) if not self.running[it] and not self.ready[it]]
+            cpu = idle[0] if idle else self.draw.randrange(self.cpus) if self.draw.random() < 0.3 else cpu
+        self.home[number] = cpu
+        yield moment, f"wake {number} {cpu}"
+        self.ready[cpu].append(number)
+        if not self.running[cpu]:
+            self.later(moment + self.draw.randrange(1000, 6000), "schedule", cpu)
+
+    def schedule(self, cpu: int, moment: int) -> Iterator[Line]:
+        """An idle processor takes who is ready."""
+        if not self.running[cpu] and self.ready[cpu]:
+            number = self.ready[cpu].popleft()
+            yield moment, f"switch {cpu} {number} idle"
+            self.start(number, cpu, moment)
+
+    def start(self, number: int, cpu: int, moment: int) -> None:
+        """A thread's turn begins."""
+        self.running[cpu] = number
+        left = self.left[number] = self.left.get(number) or self.draw.randrange(self.least, self.most) * 1000
+        self.later(moment + min(left, TURN), "done", cpu)
+
+    def leave(self, cpu: int, moment: int, how: str) -> Iterator[Line]:
+        """The running thread leaves, and the next one runs."""
+        following = self.ready[cpu].popleft() if self.ready[cpu] else 0
+        yield moment, f"switch {cpu} {following} {how}"
+        self.running[cpu] = 0
+        if following:
+            self.start(following, cpu, moment)
+
+    def done(self, cpu: int, moment: int) -> Iterator[Line]:
+        """A turn is over."""
+        number = self.running[cpu]
+        self.left[number] -= min(self.left[number], TURN)
+        service = (number - 1) // THREADS
+        if self.left[number]:
+            if self.ready[cpu]:
+                self.ready[cpu].append(number)
+                yield from self.leave(cpu, moment, "preempt")
+            else:
+                self.start(number, cpu, moment)
+        elif service < 3 and number not in self.waited and self.draw.random() < 0.03:
+            self.waited.add(number)
+            self.left[number] = 5000
+            yield from self.leave(cpu, moment, "iowait")
+            self.later(moment + self.draw.randrange(LEAST_IO, MOST_IO), "wake", number)
+        else:
+            yield from self.hand_on(cpu, number, service, moment)
+
+    def hand_on(self, cpu: int, number: int, service: int, moment: int) -> Iterator[Line]:
+        """A thread hands its token on, and takes another or sleeps."""
+        self.waited.discard(number)
+        if service == 5 and self.draw.random() < 0.02:
+            yield from ((moment, f"stall {number}"), (moment, f"unstall {number}"))
+        yield from self.call(self.draw.randrange(self.services), moment)
+        if self.queue[service]:
+            self.queue[service] -= 1
+            self.start(number, cpu, moment)
+        else:
+            self.idle[service].append(number)
+            yield from self.leave(cpu, moment, "sleep")
+
+
+def lines_of(seconds: float, cpus: int, services: int, least: int, most: int) -> Iterator[str]:
+    """The lines of a trace, behind its header."""
+    for moment, words in Services(cpus, services, least, most).lines(round(seconds * 10**9)):
+        yield f"{moment} {words}"
+
+
+def processor_seconds() -> float:
+    """What this process and those that it waited for used."""
+    used = [resource.getrusage(who) for who in (resource.RUSAGE_SELF, resource.RUSAGE_CHILDREN)]
+    return sum(it.ru_utime + it.ru_stime for it in used)
+
+
+def measure(lines: list[str], cpus: int, window: float, seconds: float) -> str:
+    """A row of the table."""
+    start, begun = processor_seconds(), time.monotonic()
+    fold = Fold(cpus, round(window * 10**9), lambda _: None)
+    fold.take(lines)
+    took, lasted = processor_seconds() - start, time.monotonic() - begun
+    peak = max(resource.getrusage(who).ru_maxrss for who in (resource.RUSAGE_SELF, resource.RUSAGE_CHILDREN)) / 1024
+    off = max(map(abs, fold.check.behind.values()), default=0)
+    each = f"{len(lines) / seconds:.0f} | {fold.counts.written / seconds:.0f} | {1e6 * took / len(lines):.1f}"
+    return f"| {window:g} | {each} | {lasted:.1f} | {peak:.0f} | {fold.counts.had} | {fold.counts.kept} | {off} |"
+
+
+def main(given: list[str]) -> None:
+    is_trace = given[:1] == ["--trace"]
+    words = [float(word) for word in given[is_trace:]] + [4, 4, 12, 20, 200][len(given) - is_trace :]
+    seconds, (cpus, services, least, most) = words[0], (int(word) for word in words[1:])
+    lines = lines_of(seconds, cpus, services, least, most)
+    if is_trace:
+        print(f"psitrace 1 cpus={cpus}")
+        for line in lines:
+            print(line)
+        return
+    listed = list(lines)
+    print("| window s | lines a second | folded | us a line | s | MB | joint states | kept | ns off |")
+    print("|--:|--:|--:|--:|--:|--:|--:|--:|--:|")
+    for window in (1, 2):
+        print(measure(listed, cpus, window, seconds))
+
+
+if __name__ == "__main__":
+    main(sys.argv[1:])

@@ -1,0 +1,156 @@
+#!/usr/bin/env python3
+"""Makes a recording of a trace, as tools/record would have written it: for measuring tools/psitrace on recordings of any length.
+
+usage: bench/make_recording.py TRACE FOLDER [TIMES]     (1 where TIMES is left out)
+
+TRACE has groups and tasks that are made at its start, and wakeups, switches and stalls; FOLDER is made. The pages are those of the
+kernel of the stored recording mix-2. With TIMES they come so often, one behind the other with later moments: where one begins again
+tasks aren't as the end left them, which psitrace mends and counts.
+"""
+from __future__ import annotations
+
+import os
+import struct
+import sys
+import tarfile
+from collections.abc import Iterator
+
+sys.dont_write_bytecode = True
+TOP = os.path.dirname(os.path.dirname(os.path.abspath(__file__)))
+sys.path.insert(0, os.path.join(TOP, "tools"))
+
+from psirec.formats import INTEGERS, Format, formats_of, sections_of  # noqa: E402
+
+PAGE, HEAD, LONGEST = 4096, 16, 1 << 27
+START = 10**12
+HOWS = {"preempt": 0, "sleep": 1, "iowait": 2, "exit": 32, "idle": 0}
+
+
+class Record:
+    """Writes records of an event: numbers by their fields, all else zeros."""
+
+    def __init__(self, form: Format, names: tuple[str, ...]) -> None:
+        fields = [form.fields[name] for name in ("common_type", *names)]
+        size = max(field.offset + field.size for field in form.fields.values() if field.size)
+        self.size, self.number = (size + 3) // 4 * 4, form.number
+        self.layouts = [(struct.Struct("<" + INTEGERS[it.size, it.is_signed]).pack_into, it.offset) for it in fields]
+
+    def bytes(self, *values: int) -> bytes:
+        """A record's bytes."""
+        data = bytearray(self.size)
+        for (pack, offset), value in zip(self.layouts, (self.number, *values)):
+            pack(data, offset, value)
+        return bytes(data)
+
+
+class Pages:
+    """The pages of a processor, written as they fill."""
+
+    def __init__(self, name: str) -> None:
+        self.file = open(name, "wb")
+        self.page, self.first, self.last = bytearray(), 0, 0
+
+    def add(self, moment: int, data: bytes) -> None:
+        """Adds a record."""
+        if not self.page or len(self.page) + len(data) + 4 > PAGE - HEAD or moment - self.last >= LONGEST:
+            self.end()
+            self.first = self.last = moment
+        self.page += struct.pack("<I", len(data) // 4 | (moment - self.last) << 5) + data
+        self.last = moment
+
+    def end(self) -> None:
+        """Writes the page."""
+        if self.page:
+            self.file.write(struct.pack("<QQ", self.first, len(self.page)) + self.page.ljust(PAGE - HEAD, b"\0"))
+            self.page = bytearray()
+
+
+class Recording:
+    """A recording as it grows."""
+
+    def __init__(self, folder: str, processors: int) -> None:
+        os.mkdir(folder)
+        with tarfile.open(os.path.join(TOP, "tests", "recordings", "mix-2.tar.xz")) as archive:
+            found = archive.extractfile("mix-2/formats")
+            assert found
+            text = found.read()
+        self.folder, self.processors = folder, processors
+        self.write("formats", text.decode())
+        forms = formats_of(sections_of(text.decode()))
+        self.switch = Record(forms["sched_switch"], ("common_pid", "prev_pid", "prev_state", "next_pid"))
+        self.probe = Record(forms["psw"], ("common_pid", "pid", "io"))
+        self.wakeup = Record(forms["sched_wakeup"], ("common_pid", "pid", "target_cpu"))
+        self.stalls = {"stall": Record(forms["ms_enter"], ("common_pid",)), "unstall": Record(forms["ms_leave"], ("common_pid",))}
+        self.marker = forms["print"]
+        self.pages = [Pages(f"{folder}/cpu{it}.raw") for it in range(processors)]
+        self.runs = [0] * processors
+        self.home: dict[int, int] = {}
+        self.snapshot = [f"at {START + 1}", "group / none"]
+
+    def write(self, name: str, text: str) -> None:
+        """A file."""
+        with open(os.path.join(self.folder, name), "w", encoding="ascii") as file:
+            file.write(text)
+
+    def take(self, moment: int, words: list[str]) -> None:
+        """What a line of the trace tells."""
+        verb = words[0]
+        if verb == "group":
+            self.snapshot.append(f"group {words[1]} none")
+        elif verb == "fork":
+            self.home[int(words[1])] = int(words[3])
+            self.snapshot.append(f"task {words[1]} {words[1]} S {words[3]} {words[2]} name")
+        elif verb == "wake":
+            cpu = int(words[2])
+            self.home[int(words[1])] = cpu
+            self.pages[cpu].add(moment, self.wakeup.bytes(self.runs[cpu], int(words[1]), cpu))
+        elif verb == "switch":
+            cpu, following, before = int(words[1]), int(words[2]), self.runs[int(words[1])]
+            pages = self.pages[cpu]
+            pages.add(moment, self.probe.bytes(before, before, int(words[3] == "iowait")))
+            pages.add(moment, self.switch.bytes(before, before, HOWS[words[3]], following))
+            self.runs[cpu] = following
+        elif verb in self.stalls:
+            number = int(words[1])
+            cpu = self.home[number]
+            self.pages[cpu].add(moment, self.stalls[verb].bytes(number))
+
+    def end(self) -> None:
+        """Writes what is left."""
+        for pages in self.pages:
+            pages.end()
+            pages.file.close()
+        self.write("snapshot", "\n".join(self.snapshot) + "\n")
+        self.write("pressure", "")
+        self.write("meta", f"recording 1\ncpus {self.processors}\nend seconds\n")
+
+
+def later(data: bytes, times: int, length: int) -> Iterator[bytes]:
+    """Pages as they are, and again with later moments (ns)."""
+    heads = [struct.unpack_from("<Q", data, at)[0] for at in range(0, len(data), PAGE)]
+    for turn in range(times):
+        found = bytearray(data)
+        for place, moment in enumerate(heads):
+            struct.pack_into("<Q", found, place * PAGE, moment + turn * length)
+        yield bytes(found)
+
+
+def main(given: list[str]) -> None:
+    trace, folder, times = given[0], given[1], int(given[2]) if given[2:] else 1
+    with open(trace, encoding="ascii") as file:
+        recording = Recording(folder, int(file.readline().partition("cpus=")[2]))
+        for line in file:
+            moment, *words = line.split()
+            # What begins at 0 is there in the snapshot, asleep.
+            if words[0] in ("group", "fork") or int(moment):
+                recording.take(START + int(moment), words)
+    recording.end()
+    for processor in range(recording.processors if times > 1 else 0):
+        with open(f"{folder}/cpu{processor}.raw", "rb") as pages:
+            data = pages.read()
+        with open(f"{folder}/cpu{processor}.raw", "wb") as out:
+            out.writelines(later(data, times, int(moment)))
+
+
+if __name__ == "__main__":
+    main(sys.argv[1:])

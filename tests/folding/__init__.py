@@ -1,0 +1,1 @@
+"""Folded traces and recordings, against what they were folded from: the checks of tests/fold."""

@@ -1,0 +1,109 @@
+"""A package that was made for a test: what its archives hold, and its commands, run where they lie."""
+from __future__ import annotations
+
+import hashlib
+import io
+import lzma
+import os
+import re
+import shutil
+import subprocess
+import sys
+import tarfile
+from dataclasses import dataclass
+
+from checks import TOP
+from must import must, must_be
+
+SECONDS = 1_700_000_000
+PYTHON = "/usr/bin/python3"
+
+
+@dataclass(frozen=True)
+class Made:
+    """What was made: both archives by the ends of their names, twice; the same, unpacked; and the programs that went in."""
+
+    first: dict[str, bytes]
+    second: dict[str, bytes]
+    tree: str
+    programs: dict[str, str]
+
+    def path(self, *names: str) -> str:
+        return os.path.join(self.tree, *names)
+
+    def text(self, *names: str) -> str:
+        with open(self.path(*names), encoding="utf-8") as file:
+            return file.read()
+
+    def commands(self) -> list[str]:
+        return sorted(os.listdir(self.path("bin")))
+
+    def run(self, name: str, *words: str, given: str = "") -> subprocess.CompletedProcess[str]:
+        """Runs an installed command from another folder, on a path of its own, with no variable that names a program."""
+        path = self.path("bin", name)
+        # The tools want Debian's own Python; the programs are started by sh.
+        words = (path, *words) if os.access(PYTHON, os.X_OK) or "_" in name else (sys.executable, "-B", path, *words)
+        environment = {"PATH": "/usr/bin:/bin", "LC_ALL": "C.UTF-8", "HOME": os.path.dirname(self.tree)}
+        return subprocess.run(words, cwd="/", env=environment, input=given, capture_output=True, encoding="utf-8")
+
+
+def make(into: str, programs: dict[str, str], **more: str) -> dict[str, bytes]:
+    """Makes both archives in this folder. The lines that tell of them have their sums."""
+    words = [os.path.join(TOP, "tools", "package"), "--program", programs["psi_oomd"], "--observer", programs["psi_observe"]]
+    environment = {**os.environ, "SOURCE_DATE_EPOCH": str(SECONDS), **more}
+    done = subprocess.run([*words, "--into", into], env=environment, capture_output=True, encoding="utf-8")
+    must_be("the status of tools/package, and what it said", (done.returncode, done.stderr), (0, ""))
+    found = {}
+    for line in done.stdout.splitlines():
+        told, _, name = line.partition("  ")
+        with open(os.path.join(into, name), "rb") as file:
+            data = file.read()
+        must_be(f"the sum of {name}", told, hashlib.sha256(data).hexdigest())
+        found[re.sub(r".*_amd64", "", name)] = data
+    must_be("what was made", list(found), [".deb", ".tar.gz"])
+    return found
+
+
+def parts_of(package: bytes) -> dict[str, bytes]:
+    """The members of an ar archive (ar(5))."""
+    must(package.startswith(b"!<arch>\n"), "the package is an ar archive")
+    at, found = 8, {}
+    while at < len(package):
+        name, size = package[at : at + 16].decode().strip(), int(package[at + 48 : at + 58])
+        found[name] = package[at + 60 : at + 60 + size]
+        at += 60 + size + size % 2
+    return found
+
+
+def members_of(data: bytes) -> dict[str, tarfile.TarInfo]:
+    with tarfile.open(fileobj=io.BytesIO(data)) as archive:
+        rows = archive.getmembers()
+    must_be("the order of the members", [it.name for it in rows], sorted({it.name for it in rows}))
+    return {it.name: it for it in rows}
+
+
+def files_of(data: bytes, top: str) -> dict[str, tuple[int, str, bytes]]:
+    """The mode, the link's target and the bytes of each file below a folder of a tar archive."""
+    found = {}
+    with tarfile.open(fileobj=io.BytesIO(data)) as archive:
+        for it in archive.getmembers():
+            stream = archive.extractfile(it) if it.isfile() else None
+            if not it.isdir():
+                found[os.path.relpath(it.name, top)] = it.mode, it.linkname, stream.read() if stream else b""
+    return found
+
+
+def skipped(name: str, what: str) -> bool:
+    """Whether a command isn't installed here, which is told with what is passed over."""
+    if not shutil.which(name):
+        print(f"{name} isn't installed, so this is passed over: {what}")
+    return not shutil.which(name)
+
+
+def control_of(made: Made) -> dict[str, bytes]:
+    files = files_of(lzma.decompress(parts_of(made.first[".deb"])["control.tar.xz"]), ".")
+    return {name: data for name, (_, _, data) in files.items()}
+
+
+def data_of(made: Made) -> bytes:
+    return lzma.decompress(parts_of(made.first[".deb"])["data.tar.xz"])

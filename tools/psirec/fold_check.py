@@ -1,0 +1,300 @@
+"""Checks the lines of a folded window before they are written: plays them by the kernel's way of accounting, which counts tasks, and
+holds what comes against what the window had.
+
+Nothing here is of the code that makes the lines: the tasks and counts are kept anew, and the states are those of docs/TRACES.md
+as counts tell them.
+"""
+from __future__ import annotations
+
+import functools
+
+
+from collections import Counter
+from collections.abc import Callable
+from dataclasses import dataclass, field
+from typing import NamedTuple
+
+# A group's counts on a processor: tasks that wait for IO, that are stalled, that are ready or run, and that do so in a stall.
+WAITING, STALLED, ACTIVE, ACTIVE_STALLED = range(4)
+STATES = 7
+# So many ns may a sum be off at any moment, by the rounding of all windows up to then.
+MOST_OFF = 9
+# So long (ns) may the interrupts of one line be.
+MOST_INTERRUPTS = 10**9
+READY, RUNNING, ASLEEP, WAITS = "ready", "running", "asleep", "waiting"
+AFTER = {"preempt": READY, "sleep": ASLEEP, "iowait": WAITS}
+
+
+class Different(Exception):
+    """A folded window isn't what the window was: the text says where and how."""
+
+
+class Key(NamedTuple):
+    """A sum of time: of which group on which processor, in which state (0 to 6), and as it is without which groups."""
+
+    processor: int
+    path: str
+    state: int
+    without: tuple[str, ...] = ()
+
+
+@dataclass
+class Window:
+    """What a window had, from one moment to another (ns): its sums (ns), of the groups that are accounted; what interrupts took (ns)
+    by processor and the group of the task that ran; which groups had tasks at its end, where that matters; and the lines that stay
+    as they are, with their moments."""
+
+    start: int
+    end: int
+    sums: dict[Key, int] = field(default_factory=dict)
+    interrupts: dict[tuple[int, str], int] = field(default_factory=dict)
+    accounted: set[str] = field(default_factory=set)
+    populated: set[str] | None = None
+    lines: list[tuple[int, str]] = field(default_factory=list)
+
+
+@dataclass
+class Task:
+    """A task, by its group's path, its processor, what it does, and whether it is in a stall."""
+
+    path: str
+    processor: int
+    does: str = READY
+    is_stalled: bool = False
+
+
+@functools.lru_cache(maxsize=4096)
+def chain_of(path: str) -> tuple[str, ...]:
+    """A group and all above it."""
+    parts = path.split("/")[1:] if path != "/" else []
+    return ("/", *("/" + "/".join(parts[: count + 1]) for count in range(len(parts))))
+
+
+class Clock:
+    """The counts of a group on a processor, and how long (ns) it was in each state in this window."""
+
+    def __init__(self, start: int) -> None:
+        self.counts = [0, 0, 0, 0]
+        self.is_on = self.is_on_stalled = False
+        self.since = start
+        self.times = [0] * STATES
+
+    def go_to(self, moment: int) -> None:
+        """Adds the time up to this moment to those of the states that held."""
+        length = moment - self.since
+        if length:
+            for state, is_held in enumerate(self.held()):
+                if is_held:
+                    self.times[state] += length
+            self.since = moment
+
+    def held(self) -> tuple[bool, ...]:
+        """Which states hold, by the counts, and by whether the task that runs is of the group and in a stall."""
+        waiting, stalled, active, active_stalled = self.counts
+        return (
+            waiting > 0,
+            waiting > 0 and not active,
+            stalled > 0,
+            stalled > 0 and (active == active_stalled or self.is_on_stalled),
+            active > self.is_on,
+            active > 0 and not self.is_on,
+            waiting > 0 or stalled > 0 or active > 0,
+        )
+
+    def add(self, task: Task, sign: int) -> None:
+        """The task is one of the group's, or isn't any more."""
+        is_active = task.does in (READY, RUNNING)
+        self.counts[WAITING] += sign * (task.does == WAITS)
+        self.counts[STALLED] += sign * task.is_stalled
+        self.counts[ACTIVE] += sign * is_active
+        self.counts[ACTIVE_STALLED] += sign * (is_active and task.is_stalled)
+        if task.does == RUNNING:
+            self.is_on, self.is_on_stalled = sign > 0, sign > 0 and task.is_stalled
+
+
+class Clocks:
+    """The clocks of all groups on all processors, as they are without some groups and all below those."""
+
+    def __init__(self, without: tuple[str, ...]) -> None:
+        self.without = without
+        self.start = 0
+        self.clocks: dict[tuple[int, str], Clock] = {}
+
+    def change(self, moment: int, task: Task, sign: int) -> None:
+        """The task comes as it is, or goes."""
+        chain = chain_of(task.path)
+        if any(path in self.without for path in chain):
+            return
+        for path in chain:
+            clock = self.clocks.get((task.processor, path))
+            if clock is None:
+                clock = self.clocks[task.processor, path] = Clock(self.start)
+            clock.go_to(moment)
+            clock.add(task, sign)
+
+    def sums(self, end: int, accounted: set[str]) -> dict[Key, int]:
+        """The sums of the window that ends at this moment; the next one begins there."""
+        found: dict[Key, int] = {}
+        for (processor, path), clock in self.clocks.items():
+            clock.go_to(end)
+            if path in accounted and all(path != it and path in chain_of(it) for it in self.without):
+                found.update((Key(processor, path, state, self.without), time) for state, time in enumerate(clock.times) if time)
+            clock.times = [0] * STATES
+        self.start = end
+        return found
+
+    def forget(self, path: str) -> None:
+        """The group is removed."""
+        for key in [it for it in self.clocks if it[1] == path]:
+            del self.clocks[key]
+
+
+class Check:
+    """Plays folded lines, and refuses a window that isn't what it was."""
+
+    def __init__(self, processors: int) -> None:
+        self.processors = processors
+        self.tasks: dict[str, Task] = {}
+        self.runs: dict[int, str] = {}
+        self.now = 0
+        self.clocks = [Clocks(())]
+        self.interrupts: Counter[tuple[int, str]] = Counter()
+        self.interrupted: dict[int, int] = {}
+        self.kept: list[str] = []
+        # By how many ns each sum is behind, of all windows so far.
+        self.behind: Counter[Key] = Counter()
+        self.verbs: dict[str, Callable[..., None]] = {
+            "fork": self.fork, "wake": self.wake, "switch": self.switch, "stall": self.stall, "unstall": self.stall, "irq": self.irq,
+        }  # fmt: skip
+
+    # ------------------------------------------------------------ lines
+
+    def play(self, line: str) -> None:
+        """Plays a line of a window."""
+        moment, verb, *fields = line.split(" ")
+        self.must(int(moment) >= self.now, line)
+        self.now = int(moment)
+        act = self.verbs.get(verb)
+        if act is None:
+            self.kept.append(line)
+        else:
+            act(line, *fields)
+
+    def must(self, is_right: object, line: str) -> None:
+        """Refuses a line that can't stand there."""
+        if not is_right:
+            raise Different(f"the line '{line}' can't stand there")
+
+    def change(self, task: Task, **values: object) -> None:
+        """A task has other values from now on."""
+        for clocks in self.clocks:
+            clocks.change(self.now, task, -1)
+        for name, value in values.items():
+            setattr(task, name, value)
+        for clocks in self.clocks:
+            clocks.change(self.now, task, 1)
+
+    def fork(self, line: str, number: str, path: str, processor: str) -> None:
+        """A task is made, ready on a processor."""
+        self.must(number not in self.tasks and int(processor) < self.processors, line)
+        task = self.tasks[number] = Task(path, int(processor))
+        for clocks in self.clocks:
+            clocks.change(self.now, task, 1)
+
+    def wake(self, line: str, number: str, processor: str) -> None:
+        """A blocked task is ready."""
+        task = self.tasks.get(number)
+        self.must(task and task.does in (ASLEEP, WAITS) and int(processor) < self.processors, line)
+        assert task
+        self.change(task, does=READY, processor=int(processor))
+
+    def switch(self, line: str, place: str, following: str, how: str) -> None:
+        """The running task leaves, and another runs, or none."""
+        processor, leaving = int(place), self.runs.pop(int(place), "0")
+        coming = self.tasks.get(following)
+        self.must((how == "idle") == (leaving == "0"), line)
+        self.must(following == "0" or (coming and coming.does == READY and coming.processor == processor), line)
+        if how in AFTER:
+            self.change(self.tasks[leaving], does=AFTER[how])
+        elif how == "exit":
+            task = self.tasks.pop(leaving)
+            self.must(not task.is_stalled, line)
+            for clocks in self.clocks:
+                clocks.change(self.now, task, -1)
+        if coming:
+            self.change(coming, does=RUNNING)
+            self.runs[processor] = following
+
+    def stall(self, line: str, number: str) -> None:
+        """The running task goes into a stall, or out of it."""
+        task, is_stalled = self.tasks.get(number), line.split(" ")[1] == "stall"
+        self.must(task and task.does == RUNNING and task.is_stalled != is_stalled, line)
+        assert task
+        self.change(task, is_stalled=is_stalled)
+
+    def irq(self, line: str, place: str, length: str) -> None:
+        """Interrupts took time from the task that runs."""
+        processor, time = int(place), int(length)
+        self.must(time <= min(MOST_INTERRUPTS, self.now - self.interrupted.get(processor, 0)) and processor in self.runs, line)
+        self.interrupted[processor] = self.now
+        self.interrupts[processor, self.tasks[self.runs[processor]].path] += time
+
+    # ------------------------------------------------------------ windows
+
+    def between(self, line: str) -> None:
+        """A line that stands between two windows."""
+        _, verb, *fields = line.split(" ")
+        if verb == "rmgroup":
+            left = [number for number, task in self.tasks.items() if task.path == fields[0]]
+            if left:
+                raise Different(f"task {left[0]} is in {fields[0]}, which is removed")
+            for clocks in self.clocks:
+                clocks.forget(fields[0])
+            for key in [it for it in self.behind if fields[0] in (it.path, *it.without)]:
+                del self.behind[key]
+
+    def keep_without(self, removals: list[tuple[str, ...]]) -> None:
+        """From the next window on sums are held against those without each of these sets of groups, too."""
+        known = {clocks.without: clocks for clocks in self.clocks}
+        self.clocks = [known.get(it) or self.new_clocks(it) for it in [(), *removals]]
+
+    def new_clocks(self, without: tuple[str, ...]) -> Clocks:
+        """Clocks without some groups, with the tasks as they are now."""
+        clocks = Clocks(without)
+        clocks.start = self.now
+        for task in self.tasks.values():
+            clocks.change(self.now, task, 1)
+        return clocks
+
+    def window(self, window: Window, lines: list[str]) -> None:
+        """Plays the lines of a window, and holds what comes of them against what it had."""
+        for line in lines:
+            self.play(line)
+        where = f"of the window from {window.start} to {window.end}"
+        self.now = max(self.now, window.end)
+        self.compare("a line", where, self.kept, [line for _, line in window.lines])
+        self.compare("the moment of a line", where, self.now, window.end)
+        self.compare_sums(window, where)
+        self.compare("what interrupts took", where, {**self.interrupts}, window.interrupts)
+        if window.populated is not None:
+            self.compare("groups with tasks at the end", where, {task.path for task in self.tasks.values()}, window.populated)
+        self.kept, self.interrupts = [], Counter()
+
+    def compare(self, what: str, where: str, found: object, wanted: object) -> None:
+        """Refuses what isn't the same."""
+        if found != wanted:
+            raise Different(f"{what} {where} differs: {found}, not {wanted}")
+
+    def compare_sums(self, window: Window, where: str) -> None:
+        """Refuses sums that are off by more than rounding."""
+        found: dict[Key, int] = {}
+        for clocks in self.clocks:
+            found.update(clocks.sums(window.end, window.accounted))
+        for key in {*found, *window.sums}:
+            off = window.sums.get(key, 0) - found.get(key, 0)
+            if off:
+                self.behind[key] += off
+                if abs(self.behind[key]) > MOST_OFF:
+                    name = f"the time of {key.path} on processor {key.processor} in state {key.state + 1}"
+                    without = f" without {', '.join(key.without)}" if key.without else ""
+                    raise Different(f"{name}{without} {where} differs by {self.behind[key]} ns")

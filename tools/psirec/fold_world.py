@@ -1,0 +1,282 @@
+"""Plays a trace's lines, and adds up for how long each processor was in each joint state.
+
+A joint state is a whole number here, in which each element that some window has has a bit of its own: so a task's change is an
+exclusive or, and the time of a joint state is found by the number.
+"""
+from __future__ import annotations
+
+from collections import Counter, defaultdict
+from collections.abc import Callable, Iterator, Sequence
+
+from .joint import KINDS, LEFT_BY, STALLED, WAY, Element, JointState, Kind
+
+# As plain numbers, since they are used at each line.
+READY, RUNNING = int(Kind.READY), int(Kind.RUNNING)
+
+
+class NotATrace(Exception):
+    """A line isn't one that a trace may have here."""
+
+
+class Task:
+    """A task: `place` is KINDS times the number of its group."""
+
+    __slots__ = ("place", "processor", "kind")
+
+    def __init__(self, place: int, processor: int) -> None:
+        self.place, self.processor, self.kind = place, processor, int(Kind.READY)
+
+
+class Interrupts:
+    """What interrupts took of the groups whose tasks ran, in ns: by the first line of a window on its own, with the number of its
+    group, since it may tell of time before the window; and by the number of the group all the others."""
+
+    def __init__(self) -> None:
+        self.first: tuple[int, int] | None = None
+        self.others: Counter[int] = Counter()
+
+    def add(self, slot: int, length: int) -> None:
+        """A line tells of so many ns."""
+        if self.first is None:
+            self.first = (slot, length)
+        else:
+            self.others[slot] += length
+
+
+class Catalog:
+    """What numbers stand for: those of groups, in the order in which they were made, and those of the bits of joint states. It only
+    grows: of each group its path and the group above, and of each bit the element's key, which is the group's place and the kind."""
+
+    def __init__(self) -> None:
+        self.paths = ["/"]
+        self.parents: list[int | None] = [None]
+        self.keys: list[int] = []
+
+    def above(self, slot: int) -> set[int]:
+        """The groups above one."""
+        found, at = set[int](), self.parents[slot]
+        while at is not None:
+            found.add(at)
+            at = self.parents[at]
+        return found
+
+    def joint_state(self, state: int) -> JointState:
+        """The elements of a joint state."""
+        keys = (divmod(self.keys[number], KINDS) for number in bits_of(state))
+        return frozenset(Element(self.paths[slot], Kind(kind)) for slot, kind in keys)
+
+    def size(self) -> tuple[int, int]:
+        """How many groups there are, and how many bits."""
+        return len(self.paths), len(self.keys)
+
+    def since(self, size: tuple[int, int]) -> tuple[list[str], list[int | None], list[int]]:
+        """What came since it had this size."""
+        return self.paths[size[0] :], self.parents[size[0] :], self.keys[size[1] :]
+
+    def add(self, paths: list[str], parents: list[int | None], keys: list[int]) -> None:
+        """Adds what came to another one."""
+        self.paths += paths
+        self.parents += parents
+        self.keys += keys
+
+
+class FoldWorld:
+    """The machine as a trace has it. Groups have numbers in the order in which they are made; the root is 0."""
+
+    def __init__(self, processors: int) -> None:
+        self.processors = processors
+        self.tasks: dict[int, Task] = {}
+        # Who runs on each processor, 0 for none.
+        self.runs = [0] * processors
+        self.catalog = Catalog()
+        self.paths, self.parents = self.catalog.paths, self.catalog.parents
+        self.live = {"/": 0}
+        self.off: set[int] = set()
+        self.members: Counter[int] = Counter()
+        # By processor: how many tasks each element has, by its key (the group's place and the kind); the joint state, and since when
+        # it is; the ns of each joint state; and what interrupts took.
+        self.counts: list[dict[int, int]] = [defaultdict(int) for _ in range(processors)]
+        self.states = [0] * processors
+        self.since = [0] * processors
+        self.spent: list[dict[int, int]] = [{} for _ in range(processors)]
+        self.interrupts = [Interrupts() for _ in range(processors)]
+        # The bit of each element by its key.
+        self.bits: dict[int, int] = {}
+        # By group those watched groups that it is or is below; and how many tasks came into watched groups, and when the last did (ns).
+        self.watched: dict[int, set[int]] = {}
+        self.came, self.last_came = 0, 0
+        self.verbs: dict[str, Callable[[int, list[str]], None]] = {
+            "fork": self.fork, "wake": self.ready, "migrate": self.ready, "switch": self.switch, "stall": self.stall,
+            "unstall": self.stall, "move": self.move, "irq": self.interrupt,
+        }  # fmt: skip
+
+    # ------------------------------------------------------------ tasks
+
+    def change(self, processor: int, moment: int, before: int, after: int) -> None:
+        """An element of the processor has one task fewer, and another one more, by their keys. One that is ASLEEP is none."""
+        counts, bits = self.counts[processor], 0
+        if before & 7:
+            counts[before] = left = counts[before] - 1
+            if not left:
+                bits = self.bits[before]
+        if after & 7:
+            count = counts[after]
+            counts[after] = count + 1
+            if not count:
+                bits ^= self.bits.get(after) or self.new_bit(after)
+        if bits:
+            state, since = self.states[processor], self.since[processor]
+            if moment != since:
+                spent = self.spent[processor]
+                spent[state] = spent.get(state, 0) + moment - since
+                self.since[processor] = moment
+            self.states[processor] = state ^ bits
+
+    def new_bit(self, key: int) -> int:
+        """The bit of an element that had none."""
+        bit = self.bits[key] = 1 << len(self.catalog.keys)
+        self.catalog.keys.append(key)
+        return bit
+
+    def fork(self, moment: int, words: list[str]) -> None:
+        """A task is made, ready on a processor."""
+        _, _, text, path, processor = words
+        number, place = int(text), self.live[path] * KINDS
+        if number in self.tasks:
+            raise NotATrace(f"task {number} is there already")
+        task = self.tasks[number] = Task(place, int(processor))
+        self.members[place // KINDS] += 1
+        if self.watched:
+            self.note_coming(moment, 0, place // KINDS)
+        self.change(task.processor, moment, 0, place + READY)
+
+    def ready(self, moment: int, words: list[str]) -> None:
+        """A task is ready, perhaps on another processor than before."""
+        _, verb, number, processor = words
+        task, target, kind = self.tasks[int(number)], int(processor), 0
+        if (verb == "wake") == (task.kind & READY):
+            raise NotATrace(f"task {number} can't be the task of a {verb}")
+        before, kind = task.place + task.kind, task.kind & STALLED | READY
+        task.kind = kind
+        if target == task.processor:
+            self.change(target, moment, before, task.place + kind)
+        else:
+            self.change(task.processor, moment, before, 0)
+            task.processor = target
+            self.change(target, moment, 0, task.place + kind)
+
+    def switch(self, moment: int, words: list[str]) -> None:
+        """The running task leaves, and another runs, or none."""
+        _, _, text, following, how = words
+        processor, tasks = int(text), self.tasks
+        number = self.runs[processor]
+        if number:
+            task = tasks[number]
+            before = task.place + task.kind
+            if how == "exit":
+                self.members[task.place // KINDS] -= 1
+                self.change(processor, moment, before, 0)
+                del tasks[number]
+            else:
+                task.kind = task.kind & STALLED | LEFT_BY[how]
+                self.change(processor, moment, before, task.place + task.kind)
+        elif how != "idle":
+            raise NotATrace(f"no task runs on processor {processor}")
+        number = self.runs[processor] = int(following)
+        if number:
+            task = tasks[number]
+            if task.kind & WAY != READY or task.processor != processor:
+                raise NotATrace(f"task {number} isn't ready on processor {processor}")
+            before = task.place + task.kind
+            task.kind |= RUNNING
+            self.change(processor, moment, before, task.place + task.kind)
+
+    def stall(self, moment: int, words: list[str]) -> None:
+        """The running task goes into a stall, or out of it."""
+        _, verb, number = words
+        task = self.tasks[int(number)]
+        if task.kind != (RUNNING if verb == "stall" else RUNNING | STALLED):
+            raise NotATrace(f"task {number} can't be the task of this {verb}")
+        before = task.place + task.kind
+        task.kind ^= STALLED
+        self.change(task.processor, moment, before, task.place + task.kind)
+
+    def move(self, moment: int, words: list[str]) -> None:
+        """A task goes to another group."""
+        _, _, number, path = words
+        task = self.tasks[int(number)]
+        before = task.place + task.kind
+        self.members[task.place // KINDS] -= 1
+        if self.watched:
+            self.note_coming(moment, task.place // KINDS, self.live[path])
+        task.place = self.live[path] * KINDS
+        self.members[task.place // KINDS] += 1
+        self.change(task.processor, moment, before, task.place + task.kind)
+
+    def interrupt(self, moment: int, words: list[str]) -> None:
+        """Interrupts took time from the task that runs, or from nobody."""
+        processor, length = int(words[2]), int(words[3])
+        number = self.runs[processor]
+        if number and length:
+            self.interrupts[processor].add(self.tasks[number].place // KINDS, length)
+
+    # ------------------------------------------------------------ groups
+
+    def group(self, path: str) -> int:
+        """A group is made; its number."""
+        parent = path.rpartition("/")[0] or "/"
+        if path in self.live or parent not in self.live:
+            raise NotATrace(f"{path} can't be made")
+        slot = self.live[path] = len(self.paths)
+        self.paths.append(path)
+        self.parents.append(self.live[parent])
+        return slot
+
+    def rmgroup(self, path: str) -> None:
+        """A group is removed, in which nothing is any more."""
+        slot = self.live[path]
+        if self.members[slot] or any(self.parents[it] == slot for it in self.live.values()):
+            raise NotATrace(f"{path} isn't empty")
+        del self.live[path]
+        self.off.discard(slot)
+        self.members.pop(slot, None)
+
+    def pressure(self, path: str, switched: str) -> None:
+        """The account of a group is switched."""
+        (self.off.discard if switched == "on" else self.off.add)(self.live[path])
+
+    def watch(self, slots: Sequence[int]) -> None:
+        """Watches for tasks that come to these groups, or below them."""
+        each = ((slot, {slot, *self.catalog.above(slot)}.intersection(slots)) for slot in self.live.values()) if slots else ()
+        self.watched = {slot: found for slot, found in each if found}
+
+    def note_coming(self, moment: int, source: int, target: int) -> None:
+        """A task comes from one group to another. Those of the first moment were there from the start."""
+        if moment and not self.watched.get(target, set()) <= self.watched.get(source, set()):
+            self.came, self.last_came = self.came + 1, moment
+
+    # ------------------------------------------------------------ windows
+
+    def close(self, moment: int) -> list[dict[int, int]]:
+        """Ends a window: by processor the ns of each joint state since the last one ended."""
+        closed = self.spent
+        for processor, spent in enumerate(closed):
+            if moment != self.since[processor]:
+                state = self.states[processor]
+                spent[state] = spent.get(state, 0) + moment - self.since[processor]
+        self.spent = [{} for _ in range(self.processors)]
+        self.since = [moment] * self.processors
+        return closed
+
+    def close_interrupts(self) -> list[Interrupts]:
+        """By processor what interrupts took since the last window ended."""
+        closed, self.interrupts = self.interrupts, [Interrupts() for _ in range(self.processors)]
+        return closed
+
+
+def bits_of(number: int) -> Iterator[int]:
+    """The numbers of the bits that are set, ascending."""
+    while number:
+        lowest = number & -number
+        yield lowest.bit_length() - 1
+        number ^= lowest
