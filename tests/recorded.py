@@ -1,11 +1,12 @@
 """What the tests of the tools for recordings share: how they are run, what a check says, and the stored recordings.
 
-The recordings are those of tests/recordings, whose README tells where they come from.
+The recordings are those of tests/recordings, whose README says where they come from.
 """
 from __future__ import annotations
 
 import contextlib
 import gzip
+import hashlib
 import os
 import subprocess
 import sys
@@ -21,6 +22,8 @@ TOP = os.path.dirname(os.path.dirname(os.path.abspath(__file__)))
 TOOLS = os.path.join(TOP, "tools")
 STORED = os.path.join(TOP, "tests", "recordings")
 SECONDS = 600
+# The bytes of a page of the recordings' ring buffers.
+PAGE = 4096
 
 
 class Done(NamedTuple):
@@ -85,6 +88,43 @@ def change(folder: str, name: str, edit: Callable[[bytes], bytes]) -> None:
 def end_of(trace: bytes) -> int:
     """The end moment of a trace, in ns."""
     return int(trace.splitlines()[-1].split(b" ")[0])
+
+
+def digest_of(trace: bytes) -> str:
+    """A trace's sha256."""
+    return hashlib.sha256(trace).hexdigest()
+
+
+def digests() -> dict[str, str]:
+    """The stored sha256 of each recording's trace."""
+    return {name: digest for digest, name in (line.split() for line in stored("traces.sha256").splitlines())}
+
+
+def converted(folder: str, *words: str, status: int = 0) -> Done:
+    """What psitrace makes of a recording."""
+    done = tool("psitrace", folder, *words)
+    must_be(f"the status of psitrace {' '.join(words)}, which said {done.said}", done.status, status)
+    return done
+
+
+def compared(program: str, folder: str, trace: bytes, *words: str) -> Done:
+    """What compare says of a trace."""
+    with tempfile.NamedTemporaryFile(suffix=".trace") as file:
+        file.write(trace)
+        file.flush()
+        return tool("compare", folder, file.name, *words, program=program)
+
+
+def must_agree(program: str, folder: str, trace: bytes, *words: str) -> None:
+    """The trace agrees with the machine's files."""
+    done = compared(program, folder, trace, *words)
+    must_be(f"the status of compare, which said {done.output.decode()}{done.said}", done.status, 0)
+    must("are within" in done.output.decode(), f"some totals are compared: {done.output.decode()}")
+
+
+def hide(folder: str, event: bytes) -> None:
+    """Makes an event of the recording unknown."""
+    change(folder, "formats", lambda it: it.replace(b"/" + event + b"\n", b"/not_" + event + b"\n"))
 
 
 def main(checks: dict[str, object], title: str) -> int:

@@ -1,4 +1,4 @@
-"""Makes a folder of plain files that stands for a machine, for `tools/record --root`, and tells what is in it.
+"""Makes a folder of plain files that stands for a machine, for `tools/record --root`, and says what is in it.
 
 The machine has two processors, a page of events on each, three threads and the groups /, /system.slice,
 /system.slice/web.service and one with a blank in its name.
@@ -55,6 +55,8 @@ THREADS = (
 # Where in_iowait and pid stand in this machine's task_struct, in bits, and how a probe fetches them.
 WAIT_BIT, PID_BIT = 9544, 10112
 FETCHED = "pid=+1264($arg1):s32 io=+1192($arg1):b1@8/32"
+# The kernel's functions whose parameters are counted before a probe is set on them.
+FUNCTIONS = {"cgroup_attach_task": 3, "psi_show": 3, "psi_avgs_work": 1, "psi_task_change": 3}
 
 
 def write(path: str, text: str | bytes) -> None:
@@ -64,11 +66,11 @@ def write(path: str, text: str | bytes) -> None:
         file.write(text if isinstance(text, bytes) else text.encode())
 
 
-def kernel_types(wait_name: str = "in_iowait") -> bytes:
+def kernel_types(wait_name: str = "in_iowait", functions: dict[str, int] = FUNCTIONS) -> bytes:
     """The kernel's types as Documentation/bpf/btf.rst spells them: a structure that only has the name's number somewhere, one
-    of the same name without the members, and the right one."""
+    of the same name without the members, and the right one; then functions with so many parameters, each before its prototype."""
     names, text = {}, b"\0"
-    for name in ("int", "task_struct", "other", "pid", wait_name):
+    for name in ("int", "task_struct", "other", "pid", wait_name, *functions):
         names[name] = len(text)
         text += name.encode() + b"\0"
     named = struct.Struct("<III")
@@ -77,6 +79,9 @@ def kernel_types(wait_name: str = "in_iowait") -> bytes:
     parts.append(named.pack(names["task_struct"], 4 << 24 | 1, 4) + named.pack(names["other"], 1, 0))
     members = named.pack(names[wait_name], 1, 1 << 24 | WAIT_BIT) + named.pack(names["pid"], 1, PID_BIT)
     parts.append(named.pack(names["task_struct"], 1 << 31 | 4 << 24 | 2, 2000) + members)
+    for name, count in functions.items():
+        parts.append(named.pack(names[name], 12 << 24, len(parts) + 2))
+        parts.append(named.pack(0, 13 << 24 | count, 0) + struct.pack("<II", 0, 1) * count)
     types = b"".join(parts)
     return struct.pack("<HBBIIIII", 0xEB9F, 1, 0, 24, 0, len(types), len(types), len(text)) + types + text
 
@@ -123,6 +128,8 @@ def make_groups(top: str) -> None:
     web = f"{top}/cgroup/system.slice/web.service"
     for file, text in (("memory.current", "4096\n"), ("memory.swap.current", "8192\n"), ("cgroup.pressure", "0\n")):
         write(f"{web}/{file}", text)
+    for group, kind in (("system.slice", "domain threaded"), ("system.slice/web.service", "threaded"), ("user slice", "domain")):
+        write(f"{top}/cgroup/{group}/cgroup.type", f"{kind}\n")
     write(f"{web}/memory.stat", "anon 1\nfile 2\npgscan_kswapd 5\npgscan 77\npgsteal 3\n")
 
 

@@ -13,7 +13,14 @@ PROBES = (
     "ms_enter psi_memstall_enter",
     "ms_leave psi_memstall_leave flags=+0($arg1):u64",
     f"psw psi_task_switch {folder.FETCHED}",
+    "cga cgroup_attach_task pid=+1264($arg2):s32 all=$arg3:u8",
+    "psh psi_show group=$arg2:x64 res=$arg3:u32",
+    "pav psi_avgs_work work=$arg1:x64",
 )
+# What is said of functions that aren't as they must be, and the probes that are left out then.
+BOTH = "psi_show, psi_avgs_work"
+MISSING = {"cgroup_attach_task": ("cgroup_attach_task", 1), "psi_show": (BOTH, 2), "psi_avgs_work": (BOTH, 2)}
+
 
 
 def by_statistics(run: Run, told: list[str], old: bytes = b"0\n") -> None:
@@ -32,7 +39,7 @@ def test_no_kprobes(top: str) -> None:
     folder.make_machine(top)
     os.unlink(f"{top}/tracing/kprobe_events")
     run = Run(top)
-    by_statistics(run, ["p"] * 3)
+    by_statistics(run, ["p"] * len(PROBES))
     run.says("memory stalls aren't recorded")
 
 
@@ -41,7 +48,7 @@ def test_kprobes_are_refused(top: str) -> None:
     os.unlink(f"{top}/tracing/kprobe_events")
     os.mkdir(f"{top}/tracing/kprobe_events")
     run = Run(top)
-    by_statistics(run, ["p"] * 3)
+    by_statistics(run, ["p"] * len(PROBES))
     must("psi_task_switch pid" in run.values("no-probe")[2] and "directory" in run.values("no-probe")[2], "the reason is told")
 
 
@@ -67,15 +74,56 @@ def test_statistics_are_switched_off_meanwhile(top: str) -> None:
 
 
 def test_no_kernel_types(top: str) -> None:
-    kinds = (None, b"", b"no types" * 10, folder.kernel_types("in_iowaits"), b"\0\0" + folder.kernel_types()[2:])
-    for number, types in enumerate(kinds):
+    every = ["psi_task_switch", "cgroup_attach_task", BOTH]
+    kinds = (
+        (None, every), (b"", every), (b"no types" * 10, every), (b"\0\0" + folder.kernel_types()[2:], every),
+        (folder.kernel_types("in_iowaits"), ["psi_task_switch"]),
+    )  # fmt: skip
+    for number, (types, missing) in enumerate(kinds):
         folder.make_machine(f"{top}{number}")
         os.unlink(f"{top}{number}/btf")
         if types is not None:
             folder.write(f"{top}{number}/btf", types)
         run = Run(f"{top}{number}")
-        by_statistics(run, ["psi_task_switch"])
-        must_be("the other probes", [it.partition("/")[2] for it in run.values("event")[-3:-1]], ["ms_enter", "ms_leave"])
+        by_statistics(run, missing)
+        found = [it.partition("/")[2] for it in run.values("event") if it.startswith("psirec")]
+        must_be("the other probes", found, [it.split()[0] for it in PROBES if it.split()[1] not in ", ".join(missing)])
+
+
+def test_functions_of_another_kernel(top: str) -> None:
+    for number, (function, count) in enumerate(it for it in folder.FUNCTIONS.items() if it[0] in MISSING):
+        machine = f"{top}{number}"
+        folder.make_machine(machine)
+        folder.write(f"{machine}/btf", folder.kernel_types(functions={**folder.FUNCTIONS, function: count + 1}))
+        run = Run(machine, "--seconds", "0.3").ended(0)
+        what, count = MISSING[function]
+        must_be("what is missing", [it.split(":")[0] for it in run.values("no-probe")], [what])
+        must_be("the others", len([it for it in run.values("event") if it.startswith("psirec")]), len(PROBES) - count)
+
+
+def test_wakeups(top: str) -> None:
+    folder.make_machine(top)
+    run = Run(top, "--wakeups")
+    instance = run.instance()
+    group = os.path.basename(instance)
+    probe = f"p:{group}/pch psi_task_change pid=+1264($arg1):s32 set=$arg3:u32\n"
+    must(probe in read(f"{top}/tracing/kprobe_events"), read(f"{top}/tracing/kprobe_events"))
+    must_be("its filter", read(f"{instance}/events/{group}/pch/filter").rstrip(), "set & 4")
+    run.child.terminate()
+    run.ended(0)
+    must(f"{group}/pch" in run.values("event") and "no probe of wakeups" not in run.said, "it is on, and nothing is missing")
+
+
+def test_wakeups_of_another_kernel(top: str) -> None:
+    folder.make_machine(top)
+    folder.write(f"{top}/btf", folder.kernel_types(functions={**folder.FUNCTIONS, "psi_task_change": 4}))
+    run = Run(top, "--wakeups", "--seconds", "0.3").ended(0).says("no probe of wakeups")
+    must_be("what is missing", [it.split(":")[0] for it in run.values("no-probe")], ["psi_task_change"])
+
+
+def test_wakeups_without_probes(top: str) -> None:
+    folder.make_machine(top)
+    Run(top, "--wakeups", "--no-probes").ended(1).says("--wakeups takes a probe")
 
 
 def by_state(run: Run, reason: str) -> None:

@@ -17,7 +17,7 @@ def test_a_whole_machine(top: str) -> None:
     must_be("no probe is missing", run.values("no-probe") + run.values("no-event"), [])
     events = [it for it in folder.EVENTS if it != "sched/sched_stat_iowait"]
     found = [re.sub(r"^psirec\d+/", "", it) for it in run.values("event")]
-    must_be("the events", found, [*events, "ms_enter", "ms_leave", "psw"])
+    must_be("the events", found, [*events, "ms_enter", "ms_leave", "psw", "cga", "psh", "pav"])
     must_be("processors", run.values("cpus"), ["2"])
     must_be("the end", run.values("end"), ["seconds"])
     must_be("bytes", run.values("bytes"), [str(2 * 40 * folder.PAGE_BYTES)])
@@ -52,11 +52,14 @@ def test_snapshot(top: str) -> None:
     wanted = rf"""group / none
 task 1 1 S 0 / init
 group /system.slice none
+type /system.slice domain-threaded
 group {WEB} none
+type {WEB} threaded
 unaccounted {WEB}
 task 101 101 R 1 {WEB} web) S 9 (x
 task 102 101 D 0 {WEB} two lines
 group /user\x20slice none
+type /user\x20slice domain
 """
     must_be("the snapshot", rest, wanted)
 

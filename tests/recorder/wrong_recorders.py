@@ -23,7 +23,7 @@ EDITS: tuple[Edit, ...] = (
     ("instance.py", 'self.write("trace_clock", "mono")', "pass", "what_is_set_meanwhile"),
     ("instance.py", '"overwrite": "1", ', "", "what_is_set_meanwhile"),
     ("instance.py", "if wanted:", "if False:", "what_is_set_meanwhile"),
-    ("instance.py", "if event in NEEDED or event in sources.filters:", "if False:", "an_event_that_must_be"),
+    ("instance.py", "if event in NEEDED or", "if False and", "an_event_that_must_be"),
     ("instance.py", 'and it == "overrun")', "and False)", "ring_that_fires"),
     ("instance.py", "is_ring and it", "it", "lost_events"),
     ("instance.py", 'if int(statistics.get("overrun", 0)) else 0.0', "", "ring_that_was_not_overwritten"),
@@ -80,6 +80,11 @@ EDITS: tuple[Edit, ...] = (
     ("record_command.py", "(before + behind) / 2", "before - 1", "the_two_clocks"),
     ("record_command.py", "ending.is_whole = False", "pass", "statistics_are_switched_off_meanwhile"),
     ("record_command.py", "if left:", "if False:", "what_cannot_be_undone"),
+    ("systemd_settings.py", "if not place_of(machine).is_booted():", "if False:", "settings_that_are_not_wanted"),
+    ("systemd_settings.py", "if last in setting)", 'if SETTING.search(read_file(f"{root}/{name}")))', "settings_of_systemd_oomd"),
+    ("systemd_settings.py", "is_kept if goes_on else ", "", "settings_of_systemd_oomd"),
+    ("systemd_settings.py", "lower() in TRUE", "lower() is not None", "attributes_of_groups"),
+    ("systemd_settings.py", "if name == UNITS and not data:", "if False:", "systemctl_that_says_nothing"),
 )
 
 

@@ -1,101 +1,105 @@
-"""Holds a trace against the recording of which it was made: the totals of each group's pressure by psi_oomd, beside those of
-the machine's own files.
+"""Holds a trace against the recording of which it was made: the totals of each group's pressure that the trace gives, beside those
+of the machine's own files.
 
   tools/compare FOLDER TRACE
 
-FOLDER is what tools/record wrote, and TRACE what tools/psitrace made of it. The program is the psi_oomd beside tools, or the one
-that the variable PSI_OOMD names. It replays the trace with ticks of a second: the kernel samples each group every two seconds
-by itself, and once more whenever its files are read, which a recorder does every two seconds.
+FOLDER is what tools/record wrote, and TRACE what tools/psitrace made of it. The trace's totals are added up as the machine's kernel
+did: at the moments at which it sampled each group, and in 32 bits. Where the recording doesn't show these moments, the phase of
+each group's grid is fitted, and said. With --tick-ms the totals are those of a replay with such ticks: the program is the psi_oomd
+beside tools, or the one that the variable PSI_OOMD names.
 
 The table has, for each file whose total grew by at least --shown-s, the growth from the first reading of the machine's files in
-the trace to the last, in us, by the machine and by the replay, and how much the replay is above or below, in percent. What is
-beyond its limit has a mark (!). The kernel shows zeros in the root's full line of cpu, and so does the replay.
+the trace to the last, in us, by the machine and by the trace, and how much the trace is above or below, in percent. What is
+beyond its limit has a mark (!); where the machine's own sums lost something, since they have 32 bits, it has another (w). The kernel
+shows zeros in the root's full line of cpu, and so does the trace.
 
 The status is 0 where all totals are within the limits, 1 where one isn't, and 2 where there was nothing to compare: faulty
-words, something that can't be read, or a trace that psi_oomd refuses.
+words, something that can't be read, or no trace.
 """
 from __future__ import annotations
 
 import os
 import subprocess
 import sys
+from collections.abc import Callable, Iterable, Iterator, Sequence
 from typing import NamedTuple
 
-from .pressure import Compared, Pair, compared, machine_readings, made_in, replay_series
+from psireplay.program import named_program
+
+from .agreement import Growth, asked_of, growths_of, sampling_of
+from .clocks import Clocks
+from .compare_table import LEVELS, MICROSECONDS, Limits, Row, Shown, Span, cell_of, report
+from .moments import COMMON_RATE, Moments, period_of
+from .pressure import compared, machine_readings, made_in, readings_within, replay_series
 from .recording import read_recording
-from .source import Unreadable
-from .words import Parser, nanoseconds, share
+from .source import Source, Unreadable
+from .wakeups import bounds_of, lag_bounds, with_wakeups
+from .words import SECOND, Parser, length, nanoseconds, number_from, share
 
 BEYOND, NOTHING = 1, 2
-LEVELS = ("some", "full")
-MICROSECONDS = 10**6
-PROGRAM = os.path.join(os.path.dirname(os.path.dirname(os.path.dirname(os.path.abspath(__file__)))), "psi_oomd")
+# How far totals may be off, in percent, at the root and in groups: at the kernel's moments, and by a replay.
+LIMITS, REPLAY_LIMITS = (1.5, 2.5), (2.5, 4.0)
+TOO_FEW = "less than two readings of the machine's pressure files lie in the trace"
 
 
-class Limits(NamedTuple):
-    """How far a total may be off, in percent, at the root and in other groups; and from how many us on that is asked of it."""
+class Options(NamedTuple):
+    """What the command line says: times in ns and us, limits in percent. `tick_ms` is none where the kernel's moments are asked for,
+    and `hertz` where the recording is to tell it."""
 
-    root: float
-    groups: float
-    least: int
-
-
-class Cell(NamedTuple):
-    """One number of a row: the totals' growth in us, by how many percent the replay is off, and whether that is too far."""
-
-    machine: int
-    replay: int
-    percent: float | None
-    is_beyond: bool
+    folder: str
+    trace: str
+    start: int
+    tick_ms: int | None
+    hertz: int | None
+    lag: int | None
+    lead_in: int
+    limits: Limits
+    shown: int
 
 
-def cell_of(pair: Pair, level: int, limits: Limits) -> Cell:
-    """What is to be said of a pair's some (0) or full (1)."""
-    machine, replay = pair.machine[level], pair.replay[level]
-    percent = 100 * (replay - machine) / machine if machine else None
-    most = limits.root if pair.file.path == "/" else limits.groups
-    is_asked = max(machine, replay) >= limits.least
-    return Cell(machine, replay, percent, is_asked and (percent is None or abs(percent) > most))
+def options_of(given: list[str]) -> Options:
+    """What these words say."""
+    words = Parser("compare", __doc__, NOTHING)
+    words.add_argument("folder", metavar="FOLDER", help="the recording")
+    words.add_argument("trace", metavar="TRACE", help="the trace that was made of it")
+    words.add_argument("--from", dest="start", metavar="S", type=nanoseconds, default=0,
+                       help="where in the recording the trace begins, as --from of psitrace or its summary says (0)")  # fmt: skip
+    words.add_argument("--lead-in", dest="lead_in", metavar="LENGTH", type=length, default=0,
+                       help="that the trace has a pretended past of this length, as --lead-in of psitrace said")  # fmt: skip
+    words.add_argument("--tick-ms", metavar="N", type=int, help="compare with a replay by psi_oomd with such ticks")
+    words.add_argument("--hz", dest="hertz", metavar="N", type=number_from(24, 10_000),
+                       help="the rate of the kernel's timer, CONFIG_HZ (as the recording says, else 250)")  # fmt: skip
+    words.add_argument("--lag-us", dest="lag", metavar="N", type=number_from(1, 10_000),
+                       help="of a recording that doesn't say: how long before its event the kernel counts a wakeup at most")  # fmt: skip
+    words.add_argument("--root", metavar="PERCENT", type=share, help="the limit at the root (1.5; of a replay 2.5)")
+    words.add_argument("--groups", metavar="PERCENT", type=share, help="the limit in groups (2.5; of a replay 4)")
+    words.add_argument("--least-s", metavar="S", type=share, default=0.5, help="totals below this have no limit (0.5)")
+    words.add_argument("--shown-s", metavar="S", type=share, default=0.01, help="totals below this aren't shown (0.01)")
+    found = words.words_of(given)
+    root, groups = LIMITS if found["tick_ms"] is None else REPLAY_LIMITS
+    if found["tick_ms"] is not None and (found["hertz"] or found["lag"]):
+        words.error("--hz and --lag-us are for the kernel's own moments: not with --tick-ms")
+    limits = Limits(
+        root if found["root"] is None else found["root"],
+        groups if found["groups"] is None else found["groups"],
+        round(found["least_s"] * MICROSECONDS),
+    )
+    shown = round(found["shown_s"] * MICROSECONDS)
+    lag = None if found["lag"] is None else found["lag"] * 1000
+    return Options(found["folder"], found["trace"], found["start"], found["tick_ms"], found["hertz"], lag, found["lead_in"], limits, shown)
 
 
-def words_of(cell: Cell) -> list[str]:
-    """The three cells of a table's row."""
-    percent = "-" if cell.percent is None else f"{cell.percent:+.1f} %"
-    return [str(cell.machine), str(cell.replay), percent + (" !" if cell.is_beyond else "")]
+def start_of(options: Options, source: Source) -> int:
+    """Where the trace begins, in ns of the recording's clock."""
+    return source.start + options.start - options.lead_in
 
 
-def table_of(rows: list[list[str]]) -> str:
-    """A table in Markdown whose columns stand below each other; the first two go to the left."""
-    widths = [max(len(row[place]) for row in rows) for place in range(len(rows[0]))]
-    columns = list(enumerate(widths))
-    lines = [
-        "| " + " | ".join(row[place].ljust(width) if place < 2 else row[place].rjust(width) for place, width in columns) + " |"
-        for row in rows
-    ]
-    rule = "|" + "|".join("-" * (width + 1) + ("-" if place < 2 else ":") for place, width in columns) + "|"
-    return "\n".join([lines[0], rule, *lines[1:]])
+def span_line(first: int, last: int, length: int) -> str:
+    """What is compared: from which reading to which, and how long that was (ns)."""
+    return f"from reading {first} to {last} of the machine's files, {length / SECOND:.3f} s, in us"
 
 
-def report(found: Compared, limits: Limits, shown: int) -> tuple[str, int]:
-    """The table with what it says, and how many totals are beyond their limits."""
-    rows = [["group", "resource", "some: machine", "replay", "", "full: machine", "replay", ""]]
-    asked = beyond = 0
-    for pair in found.pairs:
-        cells = [cell_of(pair, level, limits) for level in range(len(LEVELS))]
-        if max(*pair.machine, *pair.replay) >= shown:
-            rows.append([*pair.file, *(word for cell in cells for word in words_of(cell))])
-        asked += sum(max(cell.machine, cell.replay) >= limits.least for cell in cells)
-        beyond += sum(cell.is_beyond for cell in cells)
-    least = f"{limits.least / MICROSECONDS:g} s"
-    said = f"{limits.root:g} % at the root, {limits.groups:g} % in groups"
-    verdict = f"{beyond} of {asked} totals from {least} on are beyond (!) their limits: {said}"
-    if not beyond:
-        verdict = f"all {asked} totals from {least} on are within {said}" if asked else f"no total is from {least} on"
-    head = f"from reading {found.first} to {found.last} of the machine's files, {found.length / 1e9:.3f} s, in us"
-    return f"{head}\n\n{table_of(rows)}\n\n{verdict}", beyond
-
-
-# ---------------------------------------------------------------- the command
+# ---------------------------------------------------------------- by a replay
 
 
 def end_of(trace: str) -> int:
@@ -114,7 +118,7 @@ def end_of(trace: str) -> int:
 
 def replayed(trace: str, tick_ms: int) -> str:
     """What psi_oomd prints of the trace, with a report each second."""
-    program = os.environ.get("PSI_OOMD") or PROGRAM
+    program = named_program()
     words = [program, "replay", trace, "--tick-ms", str(tick_ms), "--report-s", "1"]
     try:
         done = subprocess.run(words, capture_output=True, text=True)
@@ -125,46 +129,140 @@ def replayed(trace: str, tick_ms: int) -> str:
     return done.stdout
 
 
-class Options(NamedTuple):
-    """What the command line says: times in ns and us, limits in percent."""
+def by_replay(options: Options, tick_ms: int) -> tuple[list[Row], Shown]:
+    """What a replay says of the trace."""
+    source = read_recording(options.folder, True)
+    start, end = start_of(options, source), end_of(options.trace)
+    series = replay_series(replayed(options.trace, tick_ms))
+    found = compared(machine_readings(options.folder, source), series, made_in(source), start, start + end)
+    if found is None:
+        raise Unreadable(TOO_FEW)
+    rows = [Row(pair.file, pair.machine, pair.replay) for pair in found.pairs]
+    return rows, Shown([span_line(found.first, found.last, found.length)], "replay", "", options.shown)
 
-    folder: str
-    trace: str
-    start: int
-    tick_ms: int
-    limits: Limits
-    shown: int
+
+# ---------------------------------------------------------------- at the kernel's own moments
 
 
-def options_of(given: list[str]) -> Options:
-    """What these words say."""
-    words = Parser("compare", __doc__, NOTHING)
-    words.add_argument("folder", metavar="FOLDER", help="the recording")
-    words.add_argument("trace", metavar="TRACE", help="the trace that was made of it")
-    words.add_argument("--from", dest="start", metavar="S", type=nanoseconds, default=0,
-                       help="where in the recording the trace begins, as --from of psitrace or its summary says (0)")  # fmt: skip
-    words.add_argument("--tick-ms", metavar="N", type=int, default=1000, help="the replay's ticks (1000)")
-    words.add_argument("--root", metavar="PERCENT", type=share, default=2.5, help="the limit at the root (2.5)")
-    words.add_argument("--groups", metavar="PERCENT", type=share, default=4.0, help="the limit in groups (4)")
-    words.add_argument("--least-s", metavar="S", type=share, default=0.5, help="totals below this have no limit (0.5)")
-    words.add_argument("--shown-s", metavar="S", type=share, default=0.01, help="totals below this aren't shown (0.01)")
-    found = words.words_of(given)
-    limits = Limits(found["root"], found["groups"], round(found["least_s"] * MICROSECONDS))
-    shown = round(found["shown_s"] * MICROSECONDS)
-    return Options(found["folder"], found["trace"], found["start"], found["tick_ms"], limits, shown)
+def clocks_of(trace: str, edited: Callable[[Iterable[str]], Iterable[str]] = iter) -> Clocks:
+    """The clocks of a trace whose lines were edited. Whether all of it is legal psi_oomd knows; what can't be followed isn't."""
+    number = 1
+
+    def counted(lines: Iterable[str]) -> Iterator[str]:
+        nonlocal number
+        for number, line in enumerate(lines, 2):
+            yield line
+
+    try:
+        with open(trace, encoding="ascii") as file:
+            if file.readline().split()[:1] != ["psitrace"]:
+                raise Unreadable(f"{trace}: this is no trace")
+            clocks = Clocks(edited(counted(file)))
+    except OSError as fault:
+        raise Unreadable(f"{trace}: {fault.strerror}") from None
+    except (LookupError, ValueError, TypeError):
+        raise Unreadable(f"{trace}: line {number} can't be followed: psi_oomd check says what is wrong with it") from None
+    if clocks.now != end_of(trace):
+        raise Unreadable(f"{trace}: it goes on after its end")
+    return clocks
+
+
+def extremes_of(options: Options, source: Source) -> list[Clocks]:
+    """The clocks of the trace with each wakeup as late as it may have been counted, and as early, where that is known at all."""
+    if not source.has_ready_probe and options.lag is None:
+        return []
+    found = []
+    for is_first in (False, True):
+        start = start_of(options, source)
+        bounds = bounds_of(source.events, start) if source.has_ready_probe else lag_bounds(options.lag or 0)
+        found.append(clocks_of(options.trace, lambda lines, bounds=bounds, first=is_first: with_wakeups(lines, bounds, first)))
+    return found
+
+
+def row_of(growth: Growth, phase: int | None, extremes: Sequence[Growth] = ()) -> Row:
+    """A file's row; `phase` (ns) is none where the moments of sampling are known, and `extremes` are what the trace may give too."""
+    right = growth.true if growth.true != growth.told else None
+    note = "" if phase is None else f"{phase // 10**6} ms"
+    some, full = ([it.told[level] for it in (growth, *extremes)] for level in range(len(LEVELS)))
+    bars = (Span(min(some), max(some)), Span(min(full), max(full))) if extremes else None
+    return Row(growth.file, growth.machine, growth.told, bars, right, note)
+
+
+def is_shown(machine: dict[str, tuple[int, int]], options: Options) -> bool:
+    """Whether a group's files grew so much that a fit is worth while."""
+    return max(max(it) for it in machine.values()) >= min(options.shown, options.limits.least)
+
+
+def by_moments(options: Options) -> tuple[list[Row], Shown]:
+    """What the trace says where each group is sampled when the kernel did."""
+    source = read_recording(options.folder, True)
+    start, clocks = start_of(options, source), clocks_of(options.trace)
+    told = Moments(source, machine_readings(options.folder, source))
+    inside = readings_within(told.readings, start, start + clocks.now)
+    if len(inside) < 2:
+        raise Unreadable(TOO_FEW)
+    hertz = options.hertz or told.hertz or COMMON_RATE
+    extremes, rows = extremes_of(options, source), []
+    for asked in asked_of([told.readings[number] for number in inside], clocks, start):
+        if told.knows(asked.path, inside[-1]) or is_shown(asked.machine, options):
+            sampling = sampling_of(asked, clocks, told, inside, start, hertz)
+            ways = [growths_of(asked, it, sampling, hertz) for it in (clocks, *extremes)]
+            rows += [row_of(growth, sampling.phase, others) for growth, *others in zip(*ways)]
+    first, last = (min(it.moment for it in told.readings[number].values()) for number in (inside[0], inside[-1]))
+    fitted = any(row.note for row in rows)
+    head = [span_line(inside[0], inside[-1], last - first), *sampling_lines(told, fitted, hertz, options), *bar_lines(options, source)]
+    return sorted(rows), Shown(head, "trace", "phase" if fitted else "", options.shown)
+
+
+def bar_lines(options: Options, source: Source) -> list[str]:
+    """What a percentage from one number to another means."""
+    if source.has_ready_probe:
+        return ["from .. to: with wakeups at their events, and when psi counted them; what lies between the recording doesn't say"]
+    if options.lag:
+        return [f"from .. to: with wakeups at their events, and {options.lag // 1000} us before, as --lag-us says"]
+    return []
+
+
+def sampling_lines(told: Moments, fitted: bool, hertz: int, options: Options) -> list[str]:
+    """How the moments of sampling came to be known."""
+    if told.is_known:
+        line = "each group is sampled when the kernel did, as the recording says"
+        return [line + "; of those with a phase it doesn't, and that is fitted by all readings" * fitted]
+    rate = f"its timer has {hertz} Hz" + ("" if options.hertz else ", which is a guess: --hz sets it")
+    period = f"{period_of(hertz) / SECOND:.3f} s"
+    return [
+        "the recording doesn't say when the kernel sampled: each group is sampled at its readings and each",
+        f"{period} ({rate}), and how far after the first reading that begins, its phase, is fitted by all readings",
+    ]
+
+
+def cause_lines(rows: Sequence[Row], limits: Limits) -> list[str]:
+    """Why totals are beyond their limits, as far as that is known."""
+    cells = [(row, cell_of(row, level, limits)) for row in rows for level in range(len(LEVELS))]
+    beyond = [(row, cell) for row, cell in cells if cell.is_beyond]
+    short = [row for row, cell in beyond if row.file.resource == "cpu" and not row.bars and cell.off and cell.off[1] < 0]
+    lines = []
+    if short:
+        lines.append(
+            f"{len(short)} of cpu are too small: the kernel counts a wakeup before it writes the event, and this recording doesn't say"
+            " how long before. record --wakeups does; --lag-us N shows what up to N us make of it"
+        )
+    if len(short) < len(beyond):
+        lines.append(f"{len(beyond) - len(short)} have no cause that is known here: see what psitrace says was mended, guessed or lost")
+    return lines
+
+
+# ---------------------------------------------------------------- the command
 
 
 def run(options: Options) -> int:
     """Compares, and prints the table; answers the status."""
-    source = read_recording(options.folder, True)
-    start = source.start + options.start
-    series = replay_series(replayed(options.trace, options.tick_ms))
-    readings = machine_readings(options.folder, source)
-    found = compared(readings, series, made_in(source), start, start + end_of(options.trace))
-    if found is None:
-        raise Unreadable("less than two readings of the machine's pressure files lie in the trace")
-    text, beyond = report(found, options.limits, options.shown)
+    rows, shown = by_moments(options) if options.tick_ms is None else by_replay(options, options.tick_ms)
+    text, beyond = report(rows, options.limits, shown)
     print(text)
+    if options.tick_ms is None:
+        for line in cause_lines(rows, options.limits):
+            print(line)
     return BEYOND if beyond else 0
 
 

@@ -3,7 +3,7 @@ from __future__ import annotations
 
 from bisect import bisect_left
 from collections import Counter
-from collections.abc import Sequence
+from collections.abc import Sequence, Sized
 from dataclasses import dataclass, field
 from typing import NamedTuple
 
@@ -11,6 +11,7 @@ from .accounts import Accounts, accounts_of, is_end_of
 from .events import NAMES, NEVER, Attach, Event, GroupMade, GroupRemoved
 from .first import Beginning, First, beginning_of, tells_of_births
 from .groups import ROOT, Groups, parent_of
+from .lead_in import TICK, Averages, LeadIn
 from .layout import escaped_path
 from .player import Player, Samples
 from .source import Snapshot, Source
@@ -51,7 +52,7 @@ class Prior:
 
 
 class Converted(NamedTuple):
-    """A trace's lines, and what is to be told of how they were made."""
+    """A trace's lines, and what is to be told of how they were made. Of a folded trace `folded` has the lines."""
 
     lines: list[str]
     world: World
@@ -60,6 +61,9 @@ class Converted(NamedTuple):
     uninterruptible: int
     victims: list[tuple[int, int]]
     limit: str | None
+    begins: int = 0
+    without_past: int = 0
+    folded: Sized | None = None
 
 
 class Told(NamedTuple):
@@ -150,13 +154,17 @@ def begin_task(world: World, number: int, known: Known, first: First, is_stalled
         world.detour(number, How.WAIT if first.state is State.WAITING else How.SLEEP, is_stalled)
 
 
-def begin(world: World, prior: Prior, beginning: Beginning) -> None:
-    """Writes what there is at the first moment: groups, samples, and tasks; those that run come last."""
+def begin_groups(world: World, prior: Prior) -> None:
+    """Writes the groups that there are at the first moment."""
     for words in world.upon.pop(ROOT, ()):
         world.put(words)
     for path in prior.groups:
         world.make_group(path)
         world.switch_accounting(path, path not in prior.off)
+
+
+def begin(world: World, prior: Prior, beginning: Beginning) -> None:
+    """Writes what else there is then: samples, and tasks; those that run come last."""
     if prior.samples.host:
         world.put(f"host {prior.samples.host}")
     for path, sample in sorted(prior.samples.groups.items()):
@@ -189,6 +197,11 @@ def place_of(events: Sequence[Event], moment: int) -> int:
     return bisect_left([event.moment for event in events], moment)
 
 
+def player_of(world: World, source: Source, told: Told) -> Player:
+    """What plays the recording's events in this world."""
+    return Player(world, source.events, told.waits, told.accounts.found, source.snapshot.types)
+
+
 def prior_of(source: Source, until: int, told: Told, deepest: int | None, is_sound: bool) -> Prior:
     """What is known when the event at the place `until` is next."""
     beginning = beginning_of(source.events, tells_of_births(source.events))
@@ -196,8 +209,9 @@ def prior_of(source: Source, until: int, told: Told, deepest: int | None, is_sou
     if not until:
         return prior
     world = World(source.processors, Groups(deepest))
+    begin_groups(world, prior)
     begin(world, prior, beginning)
-    player = Player(world, source.events, told.waits, told.accounts.found)
+    player = player_of(world, source, told)
     for place in range(until):
         player.play(place, source.events[place])
         world.lines.clear()
@@ -232,15 +246,27 @@ def play(player: Player, source: Source, places: range, window: Window) -> str |
     return None
 
 
+class Past(NamedTuple):
+    """What is pretended to have been before a recording: for how many ticks, and what the machine's averages were then."""
+
+    ticks: int
+    averages: dict[str, Averages]
+
+    def length(self) -> int:
+        """In ns."""
+        return self.ticks * TICK
+
+
 class Wanted(NamedTuple):
     """What is to be made of a recording: of which part, by what waits for IO are told, with how many levels of groups,
-    with which lines once a group is there, and whether with interrupts."""
+    with which lines once a group is there, whether with interrupts, and with what pretended past."""
 
     window: Window
     method: Method
     deepest: int | None
     upon: dict[str, list[str]]
     has_interrupts: bool = False
+    lead_in: Past | None = None
 
 
 def convert(source: Source, wanted: Wanted) -> Converted:
@@ -253,15 +279,22 @@ def convert(source: Source, wanted: Wanted) -> Converted:
     world = World(source.processors, Groups(deepest), wanted.has_interrupts)
     world.upon = wanted.upon
     world.mended.update(prior.mended)
+    begin_groups(world, prior)
+    origin, lead_in = window.start, None
+    if wanted.lead_in:
+        lead_in = LeadIn(world, wanted.lead_in.averages, wanted.lead_in.ticks, MOST_PROCESSORS)
+        lead_in.play()
+        origin -= wanted.lead_in.length()
     begin(world, prior, beginning_of(source.events[places.start : places.stop], tells_of_births(source.events)))
-    player = Player(world, source.events, told.waits, told.accounts.found)
-    limit = play(player, source, places, window)
+    player = player_of(world, source, told)
+    limit = play(player, source, places, Window(origin, window.end))
     if world.groups.leaving:
         world.mended["removed group that a task never left"] += len(world.groups.leaving)
     counts = Counter(NAMES[type(event)] for event in source.events[places.start : places.stop])
-    lines = [f"psitrace {world.version()} cpus={source.processors}", *world.lines, f"{world.now} end"]
+    lines = [f"psitrace {world.version()} cpus={world.processors}", *world.lines, f"{world.now} end"]
     uninterruptible = waits_for_io(source.events, Method.STATE)
-    return Converted(lines, world, counts, count_in(told.waits, places), count_in(uninterruptible, places), player.victims, limit)
+    told_waits = count_in(told.waits, places), count_in(uninterruptible, places)
+    return Converted(lines, world, counts, *told_waits, player.victims, limit, window.start - origin, lead_in.left_out if lead_in else 0)
 
 
 def count_in(found: set[int], places: range) -> int:

@@ -91,6 +91,35 @@ class SwitchProbe(NamedTuple):
     waits: int
 
 
+class ShowProbe(NamedTuple):
+    """A probe on `psi_show`: `current` reads the file of a resource, by its place among RESOURCES, of the group whose accounts
+    stand at this address; so the kernel samples the group."""
+
+    moment: int
+    processor: int
+    current: int
+    group: int
+    resource: int
+
+
+class AverageProbe(NamedTuple):
+    """A probe on `psi_avgs_work`: the kernel samples the group by itself in whose accounts this work stands."""
+
+    moment: int
+    processor: int
+    current: int
+    work: int
+
+
+class ReadyProbe(NamedTuple):
+    """A probe on `psi_task_change`: psi counts the task as ready, at a wakeup some time before the event of that."""
+
+    moment: int
+    processor: int
+    current: int
+    task: int
+
+
 class StallBegins(NamedTuple):
     """A probe on `psi_memstall_enter`: `current` goes into a memory stall, or into one more."""
 
@@ -118,6 +147,17 @@ class Attach(NamedTuple):
     hierarchy: int
     path: bytes
     task: int
+
+
+class AttachProbe(NamedTuple):
+    """A probe on the function `cgroup_attach_task`, which `current` runs right before its event: `whole` is 0 where the task alone
+    goes, by `cgroup.threads`, and not its process with all threads."""
+
+    moment: int
+    processor: int
+    current: int
+    task: int
+    whole: int
 
 
 class GroupMade(NamedTuple):
@@ -168,8 +208,8 @@ class Marker(NamedTuple):
 
 
 Event = Union[
-    Switch, Wakeup, FirstWakeup, Migration, NewTask, Exec, WaitEnds, SwitchProbe, StallBegins, StallEnds, Attach, GroupMade,
-    GroupRemoved, Victim, Interrupts, Marker,
+    Switch, Wakeup, FirstWakeup, Migration, NewTask, Exec, WaitEnds, SwitchProbe, StallBegins, StallEnds, Attach, AttachProbe,
+    GroupMade, GroupRemoved, Victim, Interrupts, ShowProbe, AverageProbe, ReadyProbe, Marker,
 ]  # fmt: skip
 
 # What each kind is called where kinds are counted: the kernel's name, or the probe's.
@@ -177,7 +217,8 @@ NAMES: dict[type, str] = {
     Switch: "sched_switch", Wakeup: "sched_wakeup", FirstWakeup: "sched_wakeup_new", Migration: "sched_migrate_task",
     NewTask: "task_newtask", Exec: "sched_process_exec", WaitEnds: "sched_stat_iowait", SwitchProbe: "psi_task_switch",
     StallBegins: "psi_memstall_enter", StallEnds: "psi_memstall_leave", Attach: "cgroup_attach_task",
-    GroupMade: "cgroup_mkdir", GroupRemoved: "cgroup_rmdir", Victim: "mark_victim", Interrupts: "psi_account_irqtime",
+    AttachProbe: "cgroup_attach_task (probe)", GroupMade: "cgroup_mkdir", GroupRemoved: "cgroup_rmdir", Victim: "mark_victim",
+    Interrupts: "psi_account_irqtime", ShowProbe: "psi_show", AverageProbe: "psi_avgs_work", ReadyProbe: "psi_task_change",
     Marker: "trace_marker",
 }  # fmt: skip
 

@@ -11,9 +11,9 @@ import os
 import re
 from collections.abc import Callable, Iterator
 
-from psirec.layout import LOST_STATS, MARK, MOST_MARKER_BYTES, PREFIX, Key
+from psirec.layout import LOST_STATS, MARK, MOST_MARKER_BYTES, PREFIX, Key, Probe
 from psirec.machine import SCHEDULER_STATISTICS, Machine, read_file, write_file
-from psirec.probing import EVENTS, NEEDED, NO_STALLS, Say, Sources, Tell
+from psirec.probing import NEEDED, Say, Sources, Tell, without
 from psirec.undoing import Undoing
 
 READ_BYTES = 1 << 16
@@ -77,9 +77,9 @@ class Instance:
                 self.enable(event, sources.filters.get(event, ""))
             except OSError as error:
                 say(Key.NO_EVENT, f"{event}: {error.strerror}")
-                if event in NEEDED or event in sources.filters:
+                if event in NEEDED or event.endswith(f"/{Probe.SWITCH}"):
                     raise NotRecorded(f"the event {event} can't be switched on: {error.strerror}") from error
-                tell(f"no event {event}: {EVENTS.get(event, NO_STALLS)}")
+                tell(f"no event {event}: {without(event)}")
                 continue
             say(Key.EVENT, event)
             events.append(event)

@@ -8,9 +8,10 @@ meta        lines `KEY VALUE`, a key as often as it is needed. The last line is 
             recorder was killed.
 formats     for each event a line `== SYSTEM/EVENT` and the text of the kernel's own file `events/SYSTEM/EVENT/format`;
             likewise `== header_page`, which tells the size of a page of a ring buffer.
-cpuN.raw    the pages of the ring buffer of processor N, in the order in which they came.
-snapshot    what there was when the recording had begun: lines `at NS`, `group PATH PREFERENCE`,
-            `task TID TGID STATE CPU PATH NAME` and `unaccounted PATH` (a group whose `cgroup.pressure` is 0).
+cpuN.raw    the pages of the ring buffer of processor N, in the order in which they came; of a recording that is compressed
+            parts of them, cpuN.K.raw with K from 0 on, as they came or as cpuN.K.raw.gz.
+snapshot    what there was when the recording had begun: lines `at NS`, `group PATH PREFERENCE`, `type PATH TYPE` (its
+            `cgroup.type`), `unaccounted PATH` (its `cgroup.pressure` is 0) and `task TID TGID STATE CPU PATH NAME`.
 pressure    for each reading `sample NUMBER PATH RESOURCE` and the two lines of that pressure file.
 
 NS is CLOCK_MONOTONIC in ns, as all times of events are (`trace_clock` is `mono`). Sizes of memory are bytes.
@@ -36,6 +37,15 @@ def raw_name(processor: int) -> str:
     return f"cpu{processor}.raw"
 
 
+# What a compressed part's name ends with.
+PACKED = ".gz"
+
+
+def part_name(processor: int, part: int) -> str:
+    """The file of a part of them, from 0 on, where they are compressed as they come; it is packed later."""
+    return f"cpu{processor}.{part}.raw"
+
+
 # ---------------------------------------------------------------- keys of meta
 
 
@@ -56,6 +66,7 @@ class Key:
     SECONDS = "seconds"  # how long the recording lasted
     BYTES = "bytes"  # of all pages
     PROCESSOR_SECONDS = "cpu-seconds"  # `user S sys S`: what the recorder itself used
+    COMPRESSING = "compress-seconds"  # of a processor, in which pages were compressed
     LEFT = "left"  # something that couldn't be removed from the machine
     END = "end"  # REASON, below; the last line
 
@@ -90,10 +101,23 @@ class Probe:
     STALL_ENDS = "ms_leave"  # psi_memstall_leave; FLAGS is 0 where it is the outermost one
     SWITCH = "psw"  # psi_task_switch: PID leaves, and IO says whether psi counts it as waiting for IO
     INTERRUPT = "irq"  # psi_account_irqtime: DELTA ns
+    ATTACH = "cga"  # cgroup_attach_task: PID goes, and ALL says whether with all threads of its process
+    SHOW = "psh"  # psi_show: the file of the resource RES of the group whose accounts stand at GROUP is read
+    AVERAGE = "pav"  # psi_avgs_work: the kernel samples a group by itself, in whose accounts WORK stands
+    READY = "pch"  # psi_task_change, where SET has SET_READY: psi counts PID as ready
     FLAGS = "flags"
     PID = "pid"
     IO = "io"
     DELTA = "delta"
+    ALL = "all"
+    GROUP = "group"
+    RES = "res"
+    WORK = "work"
+    SET = "set"
+
+
+# The bit of `set` by which psi counts a task as ready: TSK_RUNNING of `include/linux/psi_types.h`.
+SET_READY = 4
 
 
 # ---------------------------------------------------------------- markers
@@ -144,6 +168,15 @@ def at_line(moment_ns: int) -> str:
 def group_line(path: str, preference: str) -> str:
     """A group that was there; `preference` is one of PREFERENCES, from the attributes that oomd and systemd-oomd read."""
     return f"group {path} {preference}"
+
+
+# The type of a group in which processes are, with all their threads.
+PLAIN_TYPE = "domain"
+
+
+def type_line(path: str, kind: str) -> str:
+    """A group's `cgroup.type`, its words joined by a dash: PLAIN_TYPE, `domain-threaded`, `threaded` or `domain-invalid`."""
+    return f"type {path} {'-'.join(kind.split())}"
 
 
 def unaccounted_line(path: str) -> str:

@@ -11,8 +11,8 @@ from collections.abc import Callable
 from typing import NamedTuple
 
 from .events import (
-    Attach, Event, Exec, FirstWakeup, GroupMade, GroupRemoved, Marker, Migration, NewTask, StallBegins, StallEnds, Switch,
-    SwitchProbe, Victim, WaitEnds, Wakeup,
+    Attach, AttachProbe, Event, Exec, FirstWakeup, GroupMade, GroupRemoved, Marker, Migration, NewTask, StallBegins, StallEnds,
+    Switch, SwitchProbe, Victim, WaitEnds, Wakeup,
 )  # fmt: skip
 
 TIME = rb"(\d{1,10})\.(\d{1,9}):"
@@ -140,13 +140,14 @@ PROBES = {
     b"(psi_memstall_enter": form(rb"\(\S+\)", numbers(StallBegins)),
     b"(psi_memstall_leave": form(rb"\(\S+\)(?: .*)? flags=0x([0-9a-f]+)(?: .*)?", stall_ends),
     b"(psi_task_switch": form(rb"\(\S+\) pid=(\d+) io=(\d+)(?: .*)?", numbers(SwitchProbe)),
+    b"(cgroup_attach_task": form(rb"\(\S+\) pid=(\d+) all=(\d+)(?: .*)?", numbers(AttachProbe)),
 }
 
 
 def forms_of(line: Line) -> tuple[Form, ...]:
     """The forms that the fields of this line may have; none where nobody asks for it."""
     forms = FORMS.get(line.kind, ())
-    if not forms and line.fields.startswith(b"(psi_"):
+    if not forms and line.fields.startswith((b"(psi_", b"(cgroup_")):
         forms = tuple(it for start, it in PROBES.items() if re.match(re.escape(start) + rb"[+)]", line.fields))
     return forms
 

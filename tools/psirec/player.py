@@ -7,11 +7,11 @@ from collections.abc import Callable, Sequence
 
 from .accounts import Account
 from .events import (
-    CLONE_INTO_CGROUP, CLONE_THREAD, GONE, Attach, Event, Exec, FirstWakeup, GroupMade, GroupRemoved, Interrupts, Marker,
-    Migration, NewTask, StallBegins, StallEnds, Switch, Victim, Wakeup,
+    CLONE_INTO_CGROUP, CLONE_THREAD, GONE, Attach, AttachProbe, Event, Exec, FirstWakeup, GroupMade, GroupRemoved, Interrupts,
+    Marker, Migration, NewTask, StallBegins, StallEnds, Switch, Victim, Wakeup,
 )  # fmt: skip
 from .groups import ROOT
-from .layout import MARK, escaped_path
+from .layout import MARK, PLAIN_TYPE, escaped_path
 from .world import How, State, Task, World
 
 # The letter of a task that leaves and stays ready.
@@ -29,13 +29,17 @@ class Samples:
 
 
 class Player:
-    """Plays events one by one. `waits` has the places of the switches by which a wait for IO begins, and `accounts` what was found
-    of the accounting of groups at which places."""
+    """Plays events one by one. `waits` has the places of the switches by which a wait for IO begins, `accounts` what was found of
+    the accounting of groups at which places, and `types` the types of groups that are known."""
 
-    def __init__(self, world: World, events: Sequence[Event], waits: set[int], accounts: dict[int, list[Account]]) -> None:
-        self.world, self.waits, self.accounts = world, waits, accounts
+    def __init__(
+        self, world: World, events: Sequence[Event], waits: set[int], accounts: dict[int, list[Account]], types: dict[str, str]
+    ) -> None:
+        self.world, self.waits, self.accounts, self.types = world, waits, accounts, dict(types)
         self.samples = Samples()
         self.victims: list[tuple[int, int]] = []
+        # By the task that moves others: what the probe told of the move that is under way.
+        self.moves: dict[int, AttachProbe] = {}
         # The group that each process made last.
         self.groups_made: dict[int, str] = {}
         self.mended: Counter[str] = world.mended
@@ -65,6 +69,8 @@ class Player:
             self.first_wakeup(event)
         elif isinstance(event, Exec):
             self.exec(event)
+        elif isinstance(event, AttachProbe):
+            self.moves[event.current] = event
         elif isinstance(event, Attach):
             self.attach(event)
         elif isinstance(event, (GroupMade, GroupRemoved)):
@@ -235,13 +241,28 @@ class Player:
     # ------------------------------------------------------------ groups and memory
 
     def attach(self, event: Attach) -> None:
-        """A process goes to another group, with all its threads, or a single thread does."""
+        """A process goes to another group, with all its threads, or a single thread does. Of a process's first thread the event
+        alone doesn't tell which, and then all are taken to go."""
+        probe = self.moves.pop(event.current, None)
         if event.hierarchy:
             return
         path = self.world.make_group(escaped_path(event.path))
-        for number, task in list(self.world.tasks.items()):
-            if (number == event.task or task.process == event.task) and task.group != path:
-                self.world.move(task, path)
+        is_told = probe is not None and probe.task == event.task
+        first = self.world.tasks.get(event.task)
+        if first and first.process != event.task:
+            self.types.pop(path, None)  # a thread went alone, so the group isn't a plain one
+        others = [
+            task for number, task in self.world.tasks.items()
+            if task.process == event.task and number != event.task and task.group != path
+        ]  # fmt: skip
+        if first and first.group != path:
+            self.world.move(first, path)
+        if probe is not None and is_told and not probe.whole:
+            return
+        if others and not is_told and self.types.get(path) != PLAIN_TYPE:
+            self.mended["first thread of a process moved, the others taken to go with it"] += 1
+        for task in others:
+            self.world.move(task, path)
 
     def group(self, event: GroupMade | GroupRemoved) -> None:
         """A group comes or goes."""
@@ -250,6 +271,7 @@ class Player:
         path = escaped_path(event.path)
         if isinstance(event, GroupRemoved):
             self.samples.groups.pop(path, None)
+            self.types.pop(path, None)
             self.world.remove_group(path)
             return
         self.groups_made[self.process_of(event.current)] = path

@@ -3,9 +3,10 @@ from __future__ import annotations
 
 import re
 from bisect import bisect_left
+from collections.abc import Iterator
 from typing import NamedTuple
 
-from .events import GroupMade
+from .events import GroupMade, Marker
 from .layout import MARK, PRESSURE, escaped_path
 from .recording import text_of
 from .source import Source
@@ -35,31 +36,43 @@ Series = dict[File, list[Totals]]
 Readings = dict[int, dict[File, Totals]]
 
 
-def moments_of(source: Source) -> dict[int, tuple[int, int]]:
+def reading_markers(source: Source) -> Iterator[tuple[Marker, int, bool]]:
+    """The markers around the readings of the pressure files: with the reading's number, and whether it begins there."""
+    for event in source.events:
+        if isinstance(event, Marker) and event.text.startswith(MARK.encode()):
+            found = READING.fullmatch(event.text[len(MARK) :])
+            if found:
+                yield event, int(found[1]), found[2] == b"begin"
+
+
+def recorder_of(source: Source) -> int | None:
+    """The task that read the pressure files, where one did."""
+    return next((marker.current for marker, _, _ in reading_markers(source)), None)
+
+
+def spans_of(source: Source) -> dict[int, tuple[int, int]]:
     """From when to when each reading of the pressure files went on, in ns of the recording's clock."""
     begins: dict[int, int] = {}
-    moments: dict[int, tuple[int, int]] = {}
-    for event in source.events:
-        text = getattr(event, "text", b"")
-        found = READING.fullmatch(text[len(MARK) :]) if text.startswith(MARK.encode()) else None
-        if found and found[2] == b"begin":
-            begins[int(found[1])] = event.moment
-        elif found and int(found[1]) in begins:
-            moments[int(found[1])] = begins[int(found[1])], event.moment
-    return moments
+    spans: dict[int, tuple[int, int]] = {}
+    for marker, number, is_begin in reading_markers(source):
+        if is_begin:
+            begins[number] = marker.moment
+        elif number in begins:
+            spans[number] = begins[number], marker.moment
+    return spans
 
 
 def machine_readings(folder: str, source: Source) -> Readings:
     """What the machine's own files said. The files of a reading were read one behind the other, so each has a moment of its
     own between the first and the last of the reading."""
-    moments = moments_of(source)
+    spans = spans_of(source)
     found: dict[int, list[tuple[File, int, int]]] = {}
     for number, path, resource, some, full in SAMPLE.findall(text_of(folder, PRESSURE)):
         file = File(escaped_path(path.encode("utf-8", "surrogateescape")), resource)
         found.setdefault(int(number), []).append((file, int(some), int(full)))
     readings: Readings = {}
-    for number in sorted(set(found) & set(moments)):
-        (begin, end), files = moments[number], found[number]
+    for number in sorted(set(found) & set(spans)):
+        (begin, end), files = spans[number], found[number]
         readings[number] = {
             file: Totals(begin + (end - begin) * (place + 1) // (len(files) + 1), some, full)
             for place, (file, some, full) in enumerate(files)
@@ -121,10 +134,15 @@ def first_totals(file: File, readings: list[dict[File, Totals]], made: dict[str,
     return None if is_new else next(files[file] for files in readings if file in files)
 
 
+def readings_within(readings: Readings, start: int, end: int) -> list[int]:
+    """The numbers of the readings of which each file was read from `start` to `end`, ns of the recording's clock."""
+    return [number for number, files in readings.items() if all(start <= it.moment <= end for it in files.values())]
+
+
 def compared(readings: Readings, series: Series, made: dict[str, int], start: int, end: int) -> Compared | None:
     """All files that both have at the last reading of a trace that lasts from `start` to `end`, in ns of the recording's
     clock; `made` says when groups were made in it. None where less than two readings lie in the trace."""
-    inside = [number for number, files in readings.items() if all(start <= it.moment <= end for it in files.values())]
+    inside = readings_within(readings, start, end)
     if len(inside) < 2:
         return None
     first, last = readings[inside[0]], readings[inside[-1]]

@@ -12,7 +12,7 @@ from collections.abc import Callable
 from dataclasses import dataclass, field
 
 from psirec.kernel_types import KernelTypes
-from psirec.layout import Key, Probe
+from psirec.layout import SET_READY, Key, Probe
 from psirec.machine import SCHEDULER_STATISTICS, Machine, read_file, write_file
 from psirec.undoing import Undoing
 
@@ -32,8 +32,24 @@ EVENTS = {
 }
 STATISTICS_EVENT = "sched/sched_stat_iowait"
 NO_STALLS = "memory stalls aren't recorded, so memory pressure will be 0"
+NO_WAKEUPS = "no probe of wakeups: when psi counts them isn't recorded, only when their events are written"
+# What a recording can't say without a probe.
+PROBES = {
+    Probe.STALL_BEGINS: NO_STALLS,
+    Probe.STALL_ENDS: NO_STALLS,
+    Probe.INTERRUPT: "times of interrupts aren't recorded",
+    Probe.ATTACH: "whether threads were moved alone is guessed",
+    Probe.SHOW: "when the kernel samples isn't recorded, and tools/compare fits it",
+    Probe.AVERAGE: "when the kernel samples isn't recorded, and tools/compare fits it",
+    Probe.READY: NO_WAKEUPS,
+}
 BY_PROBE, BY_STATISTICS, BY_STATE = "the kernel's own flag", "sched_stat_iowait", "state D"
 STATE_ALONE = "waits for IO are told by state D alone: up to 3.5 times too many on journaling file systems"
+
+def without(event: str) -> str:
+    """What a recording without this event, which may be that of a probe, can't say."""
+    return EVENTS.get(event) or PROBES.get(event.rpartition("/")[2], "nothing is known of what it tells")
+
 
 # Says (a key of `meta`, its value).
 Say = Callable[[str, str], None]
@@ -90,14 +106,48 @@ def interrupt_plan(machine: Machine, types: KernelTypes) -> Plan | None:
     return Plan(Probe.INTERRUPT, "psi_account_irqtime", f"{Probe.DELTA}=$arg2:u32")
 
 
-def add_probes(machine: Machine, group: str, undoing: Undoing, say: Say) -> Sources:
-    """Adds the probes that can be had; why another can't is said."""
+def attach_plan(types: KernelTypes) -> Plan | None:
+    """cgroup_attach_task(group, task, whole): the event of that name doesn't tell whether the task goes alone."""
+    places = types.members("task_struct", ("pid",))
+    if not places or types.parameters("cgroup_attach_task") != 3:
+        return None
+    fetched = f"{Probe.PID}={places['pid'].fetch(2, 's32')} {Probe.ALL}=$arg3:u8"
+    return Plan(Probe.ATTACH, "cgroup_attach_task", fetched)
+
+
+def moment_plans(types: KernelTypes) -> list[Plan]:
+    """psi_show(file, group, resource) and psi_avgs_work(work) are where the kernel adds a group's times up: some events a second.
+    One of them alone would tell half of the moments."""
+    if types.parameters("psi_show") != 3 or types.parameters("psi_avgs_work") != 1:
+        return []
+    shows = f"{Probe.GROUP}=$arg2:x64 {Probe.RES}=$arg3:u32"
+    return [Plan(Probe.SHOW, "psi_show", shows), Plan(Probe.AVERAGE, "psi_avgs_work", f"{Probe.WORK}=$arg1:x64")]
+
+
+def ready_plan(types: KernelTypes) -> Plan | None:
+    """psi_task_change(task, clear, set): one event for each wakeup, and for each task that goes to another processor or group."""
+    places = types.members("task_struct", ("pid",))
+    if not places or types.parameters("psi_task_change") != 3:
+        return None
+    fetched = f"{Probe.PID}={places['pid'].fetch(1, 's32')} {Probe.SET}=$arg3:u32"
+    return Plan(Probe.READY, "psi_task_change", fetched, f"{Probe.SET} & {SET_READY}")
+
+
+def add_probes(machine: Machine, group: str, undoing: Undoing, say: Say, has_wakeups: bool) -> Sources:
+    """Adds the probes that can be had, those of wakeups where they are wanted; why another can't is said."""
     types = KernelTypes(read_file(machine.types))
-    switch, interrupt = switch_plan(types), interrupt_plan(machine, types)
+    switch, attach, moments = switch_plan(types), attach_plan(types), moment_plans(types)
     if not switch:
         say(Key.NO_PROBE, f"psi_task_switch: {machine.types} has no task_struct with pid and in_iowait")
+    if not attach:
+        say(Key.NO_PROBE, f"cgroup_attach_task: {machine.types} has no such function of three parameters, or no pid of tasks")
+    if not moments:
+        say(Key.NO_PROBE, f"psi_show, psi_avgs_work: {machine.types} has not both, or with other parameters")
+    ready = ready_plan(types) if has_wakeups else None
+    if has_wakeups and not ready:
+        say(Key.NO_PROBE, f"psi_task_change: {machine.types} has no such function of three parameters, or no pid of tasks")
     sources = Sources()
-    for plan in [*stall_plans(), *([switch] if switch else []), *([interrupt] if interrupt else [])]:
+    for plan in [*stall_plans(), *(it for it in (switch, interrupt_plan(machine, types), attach, ready) if it), *moments]:
         definition, name = plan.definition(group), f"{group}/{plan.name}"
         try:
             undoing.note(f"the probe {name}", probe_remover(machine, name))

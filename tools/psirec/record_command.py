@@ -23,6 +23,7 @@ from psirec.probing import (
     BY_STATISTICS,
     EVENTS,
     NO_STALLS,
+    NO_WAKEUPS,
     STATE_ALONE,
     STATISTICS_EVENT,
     Sources,
@@ -31,6 +32,7 @@ from psirec.probing import (
     statistics_of,
     switch_statistics_on,
 )
+from psirec.systemd_settings import store as store_settings
 from psirec.undoing import Undoing
 from psirec.waiting import Signals
 
@@ -138,7 +140,10 @@ def parser() -> argparse.ArgumentParser:
     add("--memory-s", type=positive, default=1.0, metavar="N", help="seconds between samples of memory; %(default)g")
     add("--pressure-s", type=positive, default=2.0, metavar="N", help="seconds between readings of pressure; %(default)g")
     add("--max-mb", type=positive, metavar="N", help=f"ends when so much was written, in MB of events; {MOST_MB:g}")
+    add("--compress", action="store_true", help="compress pages as they come, in a process of its own with the least priority")
     add("--no-probes", action="store_true", help="no kprobes: waits for IO by schedstats, no memory stalls")
+    add("--wakeups", action="store_true", help="record when psi counts each wakeup, by one more probe: some 30 %% more events")
+    add("--no-settings", action="store_true", help="doesn't store what systemd-oomd decides by, where systemd runs")
     add("--ring", action="store_true", help="a flight recorder")
     add("--until", type=trigger, metavar="TRIGGER", help="with --ring: `io|memory|cpu some|full THRESHOLD WINDOW`, in us")
     add("--after-s", type=positive, metavar="N", help="with --until: seconds that are recorded behind the signal; 10")
@@ -150,20 +155,26 @@ def wanted_of(arguments: argparse.Namespace, words: argparse.ArgumentParser) -> 
     """What is asked for, where the words fit together."""
     if arguments.until and not arguments.ring:
         words.error("--until is for a flight recorder: --ring")
+    if arguments.wakeups and arguments.no_probes:
+        words.error("--wakeups takes a probe: not with --no-probes")
     if arguments.after_s and not arguments.until:
         words.error("--after-s tells of seconds behind the signal of --until")
     if arguments.ring and arguments.max_mb:
         words.error("a flight recorder writes no more than its buffers: --max-mb is not for --ring")
+    if arguments.ring and arguments.compress:
+        words.error("a flight recorder writes once, at its end: --compress is not for --ring")
     return Wanted(
         seconds=arguments.seconds or FOREVER,
         buffer_kb=arguments.buffer_kb,
         memory_seconds=arguments.memory_s,
         pressure_seconds=arguments.pressure_s,
         has_probes=not arguments.no_probes,
+        has_settings=not arguments.no_settings,
         most_mb=arguments.max_mb or MOST_MB,
         is_ring=arguments.ring,
         until=arguments.until or "",
         after_seconds=arguments.after_s or 10.0,
+        has_wakeups=arguments.wakeups,
     )
 
 
@@ -173,12 +184,14 @@ def wanted_of(arguments: argparse.Namespace, words: argparse.ArgumentParser) -> 
 def choose_sources(machine: Machine, wanted: Wanted, group: str, folder: Folder, undoing: Undoing) -> tuple[Sources, bool]:
     """The best sources that can be had, and whether the kernel's statistics have to be switched on for them."""
     if wanted.has_probes:
-        sources = add_probes(machine, group, undoing, folder.say)
+        sources = add_probes(machine, group, undoing, folder.say, wanted.has_wakeups)
     else:
         sources = Sources()
         folder.say(Key.NO_PROBE, "all: not wanted")
     if f"{group}/{Probe.STALL_BEGINS}" not in sources.events:
         tell(NO_STALLS)
+    if wanted.has_wakeups and f"{group}/{Probe.READY}" not in sources.events:
+        tell(NO_WAKEUPS)
     sources.events[:0] = EVENTS
     if sources.waits == BY_PROBE:
         return sources, False
@@ -233,6 +246,8 @@ def record(machine: Machine, wanted: Wanted, folder: Folder, signals: Signals, w
         except (OSError, NotRecorded, DiskFull) as error:
             tell(f"nothing was recorded: {error}")
         else:
+            if wanted.has_settings:
+                store_settings(machine, folder.path, tell)
             if waiting_for:
                 recorder.waiting.watch(*waiting_for)
             tell(f"recording {machine.processors()} processors into {folder.path}; Ctrl-C ends it")
@@ -259,6 +274,7 @@ def closed(folder: Folder, ending: Ending | None, left: list[str]) -> Status:
         with contextlib.suppress(DiskFull):
             for what in left:
                 folder.say(Key.LEFT, what)
+            finish_compressing(folder, ending)
             folder.say(Key.END, ending.reason)
         folder.close()
         summarize(folder, ending)
@@ -273,6 +289,17 @@ def closed(folder: Folder, ending: Ending | None, left: list[str]) -> Status:
         return Status.FAILED
     is_whole = ending.is_whole and not ending.lost and ending.reason != Reason.DISK_FULL
     return Status.RECORDED if is_whole else Status.NOT_WHOLE
+
+
+def finish_compressing(folder: Folder, ending: Ending) -> None:
+    """Waits until all pages are compressed, and says what it cost. What couldn't be is there as it came, so nothing is lost."""
+    finished = folder.finish_compressing()
+    if finished:
+        seconds, is_done = finished
+        folder.say(Key.COMPRESSING, f"{seconds:.3f}")
+        share = 100 * seconds / max(ending.seconds, 1e-3)
+        failed = "" if is_done else "; it failed, and the pages that are left are as they came"
+        tell(f"compressing took {seconds:.1f} s of a processor, {share:.1f} percent of one{failed}")
 
 
 def summarize(folder: Folder, ending: Ending) -> None:
@@ -315,7 +342,7 @@ def main(arguments: list[str] | None = None) -> int:
     signals = Signals()
     try:
         waiting_for = machine.open_trigger(*wanted.until.split(" ", 1)) if wanted.until else None
-        folder = Folder(given.out)
+        folder = Folder(given.out, given.compress)
     except (OSError, DiskFull) as error:
         tell(f"nothing was recorded: {error}")
         return Status.NOTHING

@@ -34,17 +34,19 @@ MEGABYTE = 10**6
 @dataclass(frozen=True)
 class Wanted:
     """What the operator asked for: times in s, sizes as they are named. `is_ring` asks for a flight recorder, and `until` has
-    its trigger as `RESOURCE some|full THRESHOLD WINDOW`, or nothing."""
+    its trigger as `RESOURCE some|full THRESHOLD WINDOW`, or nothing. `has_settings` asks for what systemd-oomd decides by."""
 
     seconds: float
     buffer_kb: int
     memory_seconds: float
     pressure_seconds: float
     has_probes: bool
+    has_settings: bool
     most_mb: float
     is_ring: bool
     until: str
     after_seconds: float
+    has_wakeups: bool = False
 
 
 @dataclass

@@ -1,17 +1,20 @@
 """Reads the folder of a recording. Its names are those of `layout`."""
 from __future__ import annotations
 
+import gzip
 import os
 import re
 import struct
+import zlib
+from collections.abc import Callable
 from operator import itemgetter
-from typing import NamedTuple
+from typing import BinaryIO, NamedTuple
 
 from .events import NEVER, Event, Gap, Marker
 from .formats import FormatFault, PageFormat, formats_of, page_format_of, sections_of
 from .layout import (
     FORMATS, LOST_STATS, MARK, META, PREFERENCES, SKETCH_END, SNAPSHOT, SNAPSHOT_BEGINS, START, STOP, VERSION, Key, Probe, Reason,
-    escaped_path, raw_name,
+    PACKED, escaped_path, part_name, raw_name,
 )  # fmt: skip
 from .pages import PageFault, read_pages
 from .records import Decoder, decoders_of
@@ -30,6 +33,45 @@ def bytes_of(folder: str, name: str) -> bytes:
             return file.read()
     except OSError as fault:
         raise Unreadable(f"{name}: {fault.strerror}") from None
+
+
+class Parts:
+    """The pages of a processor that stand in parts, as one file."""
+
+    def __init__(self, names: list[str]) -> None:
+        self.names, self.file = names, open_part(names[0])
+
+    def read(self, size: int = -1) -> bytes:
+        """So many bytes, or all; fewer are the last."""
+        data = bytearray(self.file.read(size))
+        while self.names[1:] and (size < 0 or len(data) < size):
+            self.file.close()
+            self.names = self.names[1:]
+            self.file = open_part(self.names[0])
+            data += self.file.read(-1 if size < 0 else size - len(data))
+        return bytes(data)
+
+
+def open_part(name: str) -> BinaryIO | gzip.GzipFile:
+    """A part, which may be compressed."""
+    return gzip.open(name, "rb") if name.endswith(PACKED) else open(name, "rb")
+
+
+def open_raw(folder: str, processor: int) -> BinaryIO | Parts:
+    """The pages of a processor. A part that stands there twice was about to be compressed."""
+    names = set(os.listdir(folder))
+    parts: list[str] = []
+    while found := {part_name(processor, len(parts)), part_name(processor, len(parts)) + PACKED} & names:
+        parts.append(os.path.join(folder, min(found)))
+    return Parts(parts) if parts else open(os.path.join(folder, raw_name(processor)), "rb")
+
+
+def raw_bytes(folder: str, processor: int) -> bytes:
+    """All pages of a processor."""
+    try:
+        return open_raw(folder, processor).read()
+    except (OSError, EOFError, zlib.error) as fault:
+        raise Unreadable(f"{raw_name(processor)}: {getattr(fault, 'strerror', None) or fault}") from None
 
 
 def text_of(folder: str, name: str) -> str:
@@ -109,6 +151,8 @@ def snapshot_of(text: str) -> Snapshot:
             snapshot.moment = int(words[1])
         elif words[0] == "group" and len(words) == 3 and words[2] in PREFERENCES:
             snapshot.groups[path_of(words[1])] = words[2]
+        elif words[0] == "type" and len(words) == 3:
+            snapshot.types[path_of(words[1])] = words[2]
         elif words[0] == "unaccounted" and len(words) == 2:
             snapshot.unaccounted.append(path_of(words[1]))
         elif words[0] == "task" and len(words) >= 6 and all(words[place].isdigit() for place in (1, 2, 4)):
@@ -140,6 +184,13 @@ def kernel_of(folder: str) -> Kernel:
         raise Unreadable(f"{FORMATS}: {fault}") from None
 
 
+def gaps_behind(processor: int, lost: int, gaps: list[Gap], last: Event | None) -> list[Gap]:
+    """What a processor lost behind the last page that was read, where these gaps were met and this was the last event: it stands in
+    the statistics alone, which tell how many events were lost in all."""
+    behind = lost - sum(gap.lost for gap in gaps)
+    return [Gap(processor, last.moment if last else 0, NEVER, behind)] if behind > 0 and all(gap.lost for gap in gaps) else []
+
+
 def read_processors(folder: str, meta: Meta, source: Source) -> None:
     """Reads the pages of all processors, and brings their events into one order: by time, and within a processor as they
     were written."""
@@ -148,14 +199,11 @@ def read_processors(folder: str, meta: Meta, source: Source) -> None:
     for processor in range(source.processors):
         name = raw_name(processor)
         try:
-            read = read_pages(bytes_of(folder, name), processor, kernel.page, kernel.decoders, meta.is_ring())
+            read = read_pages(raw_bytes(folder, processor), processor, kernel.page, kernel.decoders, meta.is_ring())
         except (PageFault, struct.error, IndexError) as fault:
             raise Unreadable(f"{name}: {fault}") from None
         source.gaps += read.gaps
-        # What was lost behind the last page that was read stands in the statistics alone.
-        behind = overrun.get(processor, 0) - sum(gap.lost for gap in read.gaps)
-        if behind > 0 and all(gap.lost for gap in read.gaps):
-            source.gaps.append(Gap(processor, read.events[-1].moment if read.events else 0, NEVER, behind))
+        source.gaps += gaps_behind(processor, overrun.get(processor, 0), read.gaps, read.events[-1] if read.events else None)
         if read.rest:
             source.mended[f"bytes at the end of {name} that are no whole page"] += read.rest
         source.events += read.events
@@ -188,6 +236,7 @@ def begin_ring(source: Source, start: int) -> None:
     on, at the next reading of the pressure files, so that what it is compared with is known."""
     whole_from = max([start, *first_moments(source.events).values()])
     source.events = [event for event in source.events if event.moment >= whole_from]
+    source.whole_from = whole_from
     source.start = first_moment(source.events, READING) or whole_from
 
 
@@ -204,8 +253,8 @@ def tell_losses(source: Source, meta: Meta) -> None:
         source.notes.append(f"the recording ended early: {reason}")
 
 
-def read_recording(folder: str, is_forced: bool) -> Source:
-    """Reads a folder. One whose recorder was killed is read only where that is forced."""
+def read_recording(folder: str, is_forced: bool, read: Callable[[str, Meta, Source], None] = read_processors) -> Source:
+    """Reads a folder. One whose recorder was killed is read only where that is forced. `read` reads its events."""
     meta = Meta(text_of(folder, META))
     fault = meta.version_fault()
     if fault is None and meta.end() is None and not is_forced:
@@ -213,8 +262,10 @@ def read_recording(folder: str, is_forced: bool) -> Source:
     if fault:
         raise Unreadable(fault)
     source = Source([], meta.processors(), 0, 0, realtime=meta.realtime(), has_switch_probe=meta.had_event(Probe.SWITCH))
+    source.has_moments = meta.had_event(Probe.SHOW) and meta.had_event(Probe.AVERAGE)
+    source.has_ready_probe = meta.had_event(Probe.READY)
     source.snapshot = snapshot_of(text_of(folder, SNAPSHOT))
-    read_processors(folder, meta, source)
+    read(folder, meta, source)
     if not source.events:
         raise Unreadable("there are no events in it")
     start = first_moment(source.events, START)

@@ -5,8 +5,8 @@ from collections.abc import Callable
 from typing import Union
 
 from .events import (
-    Attach, Event, Exec, FirstWakeup, GroupMade, GroupRemoved, Interrupts, Marker, Migration, NewTask, StallBegins, StallEnds,
-    Switch, SwitchProbe, Victim, WaitEnds, Wakeup,
+    Attach, AttachProbe, AverageProbe, Event, Exec, FirstWakeup, GroupMade, GroupRemoved, Interrupts, Marker, Migration, NewTask,
+    ReadyProbe, ShowProbe, StallBegins, StallEnds, Switch, SwitchProbe, Victim, WaitEnds, Wakeup,
 )  # fmt: skip
 from .formats import Format, FormatFault, integers_of, state_letters, text_at
 from .layout import Probe
@@ -29,6 +29,10 @@ NUMBERS: dict[str, tuple[type, tuple[str, ...]]] = {
     Probe.STALL_BEGINS: (StallBegins, ()),
     Probe.STALL_ENDS: (StallEnds, (Probe.FLAGS,)),
     Probe.INTERRUPT: (Interrupts, (Probe.DELTA,)),
+    Probe.ATTACH: (AttachProbe, (Probe.PID, Probe.ALL)),
+    Probe.SHOW: (ShowProbe, (Probe.GROUP, Probe.RES)),
+    Probe.AVERAGE: (AverageProbe, (Probe.WORK,)),
+    Probe.READY: (ReadyProbe, (Probe.PID,)),
 }
 
 

@@ -200,6 +200,9 @@ def take_snapshot(machine: Machine, moment: int) -> Snapshot:
     lines, unaccounted = [], set()
     for group in groups(machine):
         lines.append(layout.group_line(group.path, preference(group)))
+        kind = read_file(f"{group.folder}/cgroup.type").decode(errors="replace")
+        if kind:
+            lines.append(layout.type_line(group.path, kind))
         if is_accounted(group) is False:
             unaccounted.add(group)
             lines.append(layout.unaccounted_line(group.path))

@@ -27,13 +27,14 @@ class ListedTask(NamedTuple):
 
 @dataclass
 class Snapshot:
-    """What was there at a moment in the recording: groups with their preference, groups whose pressure isn't accounted, and
-    threads."""
+    """What was there at a moment in the recording: groups with their preference, their types where the recorder told these, groups
+    whose pressure isn't accounted, and threads."""
 
     moment: int = 0
     groups: dict[str, str] = field(default_factory=dict)
     unaccounted: list[str] = field(default_factory=list)
     tasks: dict[int, ListedTask] = field(default_factory=dict)
+    types: dict[str, str] = field(default_factory=dict)
 
 
 @dataclass
@@ -52,4 +53,10 @@ class Source:
     notes: list[str] = field(default_factory=list)
     snapshot: Snapshot = field(default_factory=Snapshot)
     has_switch_probe: bool = False
+    # Whether each moment at which the kernel sampled a group is among the events.
+    has_moments: bool = False
+    # Whether the moment at which psi counts a wakeup is.
+    has_ready_probe: bool = False
     realtime: int | None = None
+    # Of a flight recorder's ring: what is before this moment isn't whole.
+    whole_from: int = 0

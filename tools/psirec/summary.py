@@ -44,13 +44,14 @@ def counted(found: dict[str, int]) -> str:
 
 def whole_lines(source: Source, converted: Converted, window: Window, whole: Window) -> list[str]:
     """What there is of the trace."""
-    groups = converted.world.groups.made
-    lines = [f"{seconds(converted.world.now)} s, processors {source.processors}, groups {groups}, lines {len(converted.lines)}"]
+    groups, count = converted.world.groups.made, len(converted.lines if converted.folded is None else converted.folded)
+    lines = [f"{seconds(converted.world.now)} s, processors {source.processors}, groups {groups}, lines {count}"]
     if window != whole:
-        start, end = window.start - whole.start, window.start + converted.world.now - whole.start
+        start = window.start - whole.start
+        end = start + converted.world.now - converted.begins
         lines.append(f"of {seconds(whole.length())} s: --from {exact_seconds(start)} --to {exact_seconds(end)}")
     if source.realtime is not None:
-        lines.append(f"0 is {moment_text(window.start + source.realtime)}")
+        lines.append(f"0 is {moment_text(window.start - converted.begins + source.realtime)}")
     return lines
 
 
@@ -88,9 +89,28 @@ def summary_of(source: Source, converted: Converted, method: Method, window: Win
         waits_text(method, converted),
         *told_lines(source, converted),
         *(f"mended: {kind}: {count}" for kind, count in sorted(mended.items()) if count),
-        "averages begin at 0, as the machine's didn't: avg10 means something from"
-        f" {SETTLED_10} s on, avg60 from {SETTLED_60} s on",
+        *past_lines(converted),
     ]
+
+
+def other_way(converted: Converted) -> str:
+    """What else helps where a trace has too many events, which is the limit that is met most."""
+    if not converted.limit or not converted.limit.endswith(" events"):
+        return ""
+    if converted.folded is not None:
+        return ", and --fold with a longer window and --groups make it smaller"
+    return ", and --fold 1 makes a trace as long as the recording, with the same pressure at ticks of a second"
+
+
+def past_lines(converted: Converted) -> list[str]:
+    """With what averages begin."""
+    if not converted.begins:
+        settled = f"avg10 means something from {SETTLED_10} s on, avg60 from {SETTLED_60} s on"
+        return [f"averages begin at 0, as the machine's didn't: {settled}"]
+    lines = [f"the recording begins at {seconds(converted.begins)} s: what is before is made up, so that averages begin as the machine's"]
+    if converted.without_past:
+        lines.append(f"lead-in: groups whose averages begin at 0, since there are too few processors for more: {converted.without_past}")
+    return lines
 
 
 def limit_lines(source: Source, converted: Converted) -> list[str]:
@@ -101,5 +121,5 @@ def limit_lines(source: Source, converted: Converted) -> list[str]:
     ]
     if converted.limit:
         end = seconds(converted.world.now)
-        lines.append(f"limit: more than {converted.limit}: what comes after {end} s; --from and --to cut")
+        lines.append(f"limit: more than {converted.limit}: what comes after {end} s; --from and --to cut{other_way(converted)}")
     return lines

@@ -27,10 +27,11 @@ def best_method(events: Sequence[Event], has_probe: bool) -> Method:
     return Method.STATISTICS if WaitEnds in kinds else Method.STATE
 
 
-def by_probe(events: Sequence[Event]) -> set[int]:
-    """The places of the switches by which a wait for IO begins: the probe stands right before on the same processor."""
+def by_probe(events: Sequence[Event], told: dict[int, SwitchProbe] | None = None) -> set[int]:
+    """The places of the switches by which a wait for IO begins: the probe stands right before on the same processor. Who takes events
+    in parts gives the probes of which the switch is still to come, by processor, from part to part."""
     waits: set[int] = set()
-    told: dict[int, SwitchProbe] = {}
+    told = {} if told is None else told
     for place, event in enumerate(events):
         if isinstance(event, SwitchProbe):
             told[event.processor] = event

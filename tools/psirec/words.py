@@ -4,6 +4,7 @@ from __future__ import annotations
 import argparse
 import re
 import sys
+from collections.abc import Callable
 from typing import Any, NoReturn
 
 SECOND = 10**9
@@ -37,6 +38,25 @@ def nanoseconds(text: str) -> int:
     if not re.fullmatch(r"[0-9]{1,9}(\.[0-9]{1,9})?", text):
         raise argparse.ArgumentTypeError(f"{text} is no number of seconds with at most nine decimals")
     return ns_of(text)
+
+
+def number_from(least: int, most: int) -> Callable[[str], int]:
+    """What reads a whole number in a range."""
+
+    def read(text: str) -> int:
+        if not re.fullmatch("0|[1-9][0-9]{0,5}", text) or not least <= int(text) <= most:
+            raise argparse.ArgumentTypeError(f"{text} is no number from {least} to {most}")
+        return int(text)
+
+    return read
+
+
+def length(text: str) -> int:
+    """A length of time in whole seconds or minutes, as 720 or 12min, as ns."""
+    found = re.fullmatch(r"([1-9][0-9]{0,5})(s|min)?", text)
+    if not found:
+        raise argparse.ArgumentTypeError(f"{text} is no length of time as 720 or 12min")
+    return int(found[1]) * SECOND * (60 if found[2] == "min" else 1)
 
 
 def share(text: str) -> float:

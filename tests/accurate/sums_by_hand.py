@@ -1,0 +1,147 @@
+"""Checks of the kernel's sums on made-up recordings whose totals are computed by hand."""
+from __future__ import annotations
+
+import sys
+
+from must import must, must_be
+from recorded import TOOLS
+
+sys.path.insert(0, TOOLS)
+
+from psirec.agreement import Growth, asked_of, growths_of, sampling_of  # noqa: E402
+from psirec.clocks import Clocks  # noqa: E402
+from psirec.compare import row_of  # noqa: E402
+from psirec.compare_table import Limits, Shown, report  # noqa: E402
+from psirec.events import AverageProbe, Event, Marker, ShowProbe  # noqa: E402
+from psirec.moments import Moments  # noqa: E402
+from psirec.pressure import File, Readings, Totals  # noqa: E402
+from psirec.source import Source  # noqa: E402
+
+MS, SECOND = 10**6, 10**9
+RESOURCES = ("io", "memory", "cpu")
+# Where the accounts of the root and of the group stand, and how far behind their beginning the kernel's work is.
+ROOT, GROUP, WORK = 0x1000, 0x9000, 0x78
+# The task that reads the files.
+READER = 77
+
+# Of the group one task waits for IO on processor 0 from 1 s on, and one runs on processor 1 from 2 s to 3 s.
+SPREAD = """\
+0 group /a
+0 fork 1 /a 0
+0 switch 0 1 idle
+0 fork 2 /a 1
+0 switch 1 2 idle
+0 switch 1 0 sleep
+1000000000 switch 0 0 iowait
+2000000000 wake 2 1
+2000000000 switch 1 2 idle
+3000000000 switch 1 0 sleep
+12000000000 end"""
+
+
+def probed(reads: list[int], averages: list[int]) -> Source:
+    """A recording in which the root's files and the group's were read at these moments, and the kernel sampled the group by itself
+    at the others, ns."""
+    events: list[Event] = [Marker(0, 0, READER, b"psirec start")]
+    for number, moment in enumerate(reads):
+        events.append(Marker(moment - MS, 0, READER, b"psirec pressure %d begin\n" % number))
+        for address in (ROOT, GROUP):
+            events += [ShowProbe(moment, 0, READER, address, place) for place in range(len(RESOURCES))]
+        events.append(Marker(moment + MS, 0, READER, b"psirec pressure %d end\n" % number))
+    events += [AverageProbe(moment, 0, 5, GROUP + WORK) for moment in averages]
+    events += [AverageProbe(moment, 0, 5, ROOT + WORK) for moment in averages]
+    return Source(sorted(events, key=lambda it: it.moment), 2, 0, reads[-1], has_moments=True)
+
+
+def readings_of(reads: list[int], totals: dict[File, list[int]]) -> Readings:
+    """What the machine's files said at each reading, us, where some and full are alike; the others said 0."""
+    readings: Readings = {number: {} for number in range(len(reads))}
+    for file in [File(path, resource) for path in ("/", "/a") for resource in RESOURCES]:
+        for number, (moment, total) in enumerate(zip(reads, totals.get(file, [0] * len(reads)))):
+            readings[number][file] = Totals(moment, total, total)
+    return readings
+
+
+def growth_in(trace: str, reads: list[int], averages: list[int], totals: dict[File, list[int]]) -> dict[File, Growth]:
+    """What is found of each file, by its name."""
+    clocks, told = Clocks(trace.splitlines()), Moments(probed(reads, averages), readings_of(reads, totals))
+    inside = list(told.readings)
+    found = {}
+    for asked in asked_of(list(told.readings.values()), clocks, 0):
+        for growth in growths_of(asked, clocks, sampling_of(asked, clocks, told, inside, 0, 250), 250):
+            found[growth.file] = growth
+    return found
+
+
+def check_shares_between_moments(_: str) -> None:
+    """Whether each stretch between two samplings has weights of its own. From 0.5 s to 4 s processor 0 is busy for 3.5 s, of which 3
+    are waits, and processor 1 for 1 s: in one stretch 3 * 3.5 / 4.5 s are 2.333333. With one more sampling at 2 s it is 1 s of the
+    first, where processor 1 does nothing, and 2 * 2 / 3 of the second: 2.333333 too. With one at 3 s the first has 2 * 2.5 / 3.5,
+    which are 1.428571, and the second 1."""
+    file = File("/a", "io")
+    for averages, wanted in (([], 2333333), ([2 * SECOND], 2333333), ([3 * SECOND], 2428571)):
+        reads = [500 * MS, 4 * SECOND]
+        found = growth_in(SPREAD, reads, averages, {file: [100, 100 + wanted]})
+        must_be(f"the growth with samplings at {averages}", found[file].told[0], wanted)
+        must_be("that of the machine", found[file].machine, (wanted, wanted))
+
+
+def check_weights_are_ticks_of_the_timer(_: str) -> None:
+    """Whether what a processor does in less than a tick, 4 ms, has no weight."""
+    lines = ["0 fork 1 / 0", "0 switch 0 1 idle", f"{SECOND} switch 0 0 iowait", f"{SECOND + 3 * MS} wake 1 0"]
+    lines += [f"{SECOND + 3 * MS} switch 0 1 idle", f"{SECOND + 3 * MS} switch 0 0 sleep", f"{3 * SECOND} group /a"]
+    for end, wanted in ((0, 0), (MS, 3000)):
+        reads = [SECOND - end, 2 * SECOND]
+        trace = "\n".join([*lines, f"{4 * SECOND} end"])
+        must_be(f"the growth from {reads[0]} on", growth_in(trace, reads, [], {})[File("/", "io")].told[0], wanted)
+
+
+def check_sums_of_32_bits(_: str) -> None:
+    """Whether the machine's loss is told. From 4 s to 11 s, 7 s, the group waits for IO on processor 0: 7,000,000,000 ns are
+    2,705,032,704 in 32 bits, and between samplings at 4 s and at 8 s none is lost."""
+    file = File("/a", "io")
+    for averages, told, right in (([], 2705032, 7000000), ([8 * SECOND], 7000000, 7000000)):
+        growth = growth_in(SPREAD, [4 * SECOND, 11 * SECOND], averages, {file: [0, told]})[file]
+        must_be("in 32 bits, and in 64", (growth.told[0], growth.true[0]), (told, right))
+        text, beyond = report([row_of(growth, None)], Limits(1.5, 2.5, 500000), Shown([], "trace", "", 10000))
+        must_be("totals beyond their limits", beyond, 0)
+        must(("+0.0 % w" in text) == (told != right), f"its mark: {text}")
+        must(("\n  /a io: some 7000000, full 7000000\n" in text) == (told != right), f"what is right: {text}")
+
+
+def check_a_group_of_two_lives(_: str) -> None:
+    """Whether a group that was made between two readings counts from its making, though another of its path was there before."""
+    lines = ["0 group /a", f"{SECOND} rmgroup /a", f"{3 * SECOND} group /a", f"{3 * SECOND} fork 1 /a 0", f"{7 * SECOND} end"]
+    found = growth_in("\n".join(lines), [500 * MS, 5 * SECOND], [], {File("/a", "cpu"): [900, 2000000]})
+    must_be("the growth", found[File("/a", "cpu")], Growth(File("/a", "cpu"), *[(2000000, 2000000)] * 3))
+
+
+def check_readings_with_a_file_too_few(_: str) -> None:
+    """Whether a reading in which a file was gone is still told file by file, by the addresses of the one before."""
+    reads = [SECOND, 3 * SECOND, 5 * SECOND]
+    readings = readings_of(reads, {})
+    del readings[1][File("/a", "memory")]
+    source = probed(reads, [])
+    moments = {it: 3 * SECOND + place for place, it in enumerate(it for it in source.events if it.moment == 3 * SECOND)}
+    source.events = [it._replace(moment=moments.get(it, it.moment)) if isinstance(it, ShowProbe) else it for it in source.events]
+    told = Moments(source, readings)
+    wanted = {File("/", "io"): 0, File("/", "memory"): 1, File("/", "cpu"): 2, File("/a", "io"): 3, File("/a", "cpu"): 5}
+    found = {file: totals.moment - 3 * SECOND for file, totals in told.readings[1].items()}
+    must_be("how long each was read after the first", found, wanted)
+
+
+def check_groups_whose_moments_are_not_told(_: str) -> None:
+    """Whether a group of which no address was learned, since no reading showed as many files as it has, is fitted."""
+    reads = [SECOND, 3 * SECOND, 5 * SECOND]
+    source = probed(reads, [2 * SECOND, 4 * SECOND])
+    whole, cut = Moments(source, readings_of(reads, {})), readings_of(reads, {})
+    for files in cut.values():
+        del files[File("/a", "cpu")]
+    missed = Moments(source, cut)
+    must_be("what is known of each", [(it.knows("/a", 2), it.knows("/", 2)) for it in (whole, missed)], [(True, True), (False, False)])
+    clocks = Clocks(SPREAD.splitlines())
+    phases = []
+    for told in (whole, missed):
+        asked = asked_of(list(told.readings.values()), clocks, 0)
+        phases.append({it.path: sampling_of(it, clocks, told, [0, 1, 2], 0, 250).phase for it in asked})
+    must(phases[0] == {"/": None, "/a": None} and None not in phases[1].values(), f"the phases: {phases}")
