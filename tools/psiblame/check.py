@@ -1,0 +1,35 @@
+"""Holds the sums of a whole trace against what psi_oomd says of the same states."""
+from __future__ import annotations
+
+from collections.abc import Iterable
+
+from .faults import NO_SUM, Stop
+from .groups import Group
+from .sums import Sums
+from .trace import Stalls, States
+
+WHAT = States("wait for IO", "memory stall", "wait for a processor")  # type: ignore[arg-type]
+ADVICE = "one of the two is wrong: nothing is printed; please report it, with the trace"
+
+
+def states_of(parts: list[Sums], processor: int, group: Group) -> States:
+    """The sums of all stretches."""
+    place = processor, group.number
+    return States(*(sum(sums.get(place, 0) for sums in kind) for kind in (
+        [it.io for it in parts], [it.memory for it in parts], [it.waited for it in parts],
+    )))  # fmt: skip
+
+
+def must_add_up(parts: list[Sums], live: Iterable[Group], cpus: int, told: Stalls) -> None:
+    """Whether, for each processor and each group that is live at the end, the parts add up to psi_oomd's time of the state. It is
+    a fault where they don't, or where the groups are others."""
+    groups = {(processor, group.path): group for processor in range(cpus) for group in live}
+    if groups.keys() != told.keys():
+        processor, path = min(groups.keys() ^ told.keys())
+        who = "psi_oomd stall has" if (processor, path) in told else "this tool has"
+        raise Stop(NO_SUM, f"only {who} a group {path} on processor {processor}: {ADVICE}")
+    for (processor, path), group in groups.items():
+        for what, mine, other in zip(WHAT, states_of(parts, processor, group), told[processor, path]):
+            if mine != other:
+                where = f"{what} of {path} on processor {processor}"
+                raise Stop(NO_SUM, f"the parts of the {where} add up to {mine} ns, and `psi_oomd stall` says {other} ns: {ADVICE}")

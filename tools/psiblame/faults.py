@@ -1,0 +1,26 @@
+"""Why the tool prints nothing, with a status for each. Those that psi_oomd has too have its numbers."""
+from __future__ import annotations
+
+import difflib
+
+from psireplay.command import Fault
+
+WORDS, REFUSED, NO_FILE, READ, WRITE, MEMORY = 1, 2, 4, 5, 6, 7
+NO_GROUP, NO_TIME, NO_SUM, NO_PROGRAM = 11, 12, 13, 70
+# How many groups a message names.
+NAMED = 8
+
+
+class Stop(Fault):
+    """A fault with its status."""
+
+    def __init__(self, status: int, message: str) -> None:
+        super().__init__(message)
+        self.status = status
+
+
+def no_such_group(word: str, names: list[str]) -> Stop:
+    """That no group of the trace ever had this path, and which it may have been."""
+    near = difflib.get_close_matches(word, names, NAMED) or names[:NAMED]
+    more = "" if len(near) == len(names) else ", .."
+    return Stop(NO_GROUP, f"no group {word} ever lived in the trace, which has {', '.join(near)}{more}")

@@ -1,0 +1,66 @@
+"""What is told in JSON: all in ns, bytes and pages, for programs."""
+from __future__ import annotations
+
+import json
+from typing import Any, NamedTuple, Optional
+
+from .figures import Figures, Part
+from .groups import Groups
+
+
+class Asked(NamedTuple):
+    """What was asked: the trace's name and end, the time (all ns), the victim's path, and how many of each kind are told."""
+
+    trace: str
+    end: int
+    start: int
+    to: int
+    cpus: int
+    victim: Optional[str]
+    top: Optional[int]
+
+    @property
+    def length(self) -> int:
+        return self.to - self.start
+
+
+def parts_of(groups: Groups, parts: list[Part], top: Optional[int]) -> list[dict[str, Any]]:
+    """The parts, the longest first; null is told where no task ran."""
+    return [{"group": groups.name(it.group) if it.group else None, "ns": it.time} for it in parts[:top]]
+
+
+def group_of(groups: Groups, it: Figures, asked: Asked, is_named: bool) -> dict[str, Any]:
+    told: dict[str, Any] = {
+        "group": groups.name(it.group),
+        "path": it.group.path,
+        "made_ns": it.group.made,
+        "removed_ns": it.group.removed,
+        "ran_ns": it.ran,
+        "waited_ns": it.waited,
+        "waited_by_processor_ns": it.waits,
+        "io_ns": it.io,
+        "memory_ns": it.memory,
+        "memory_grown_bytes": it.growth.grown if it.growth else None,
+        "scanned_pages": it.growth.scanned if it.growth else None,
+        "while_ran": parts_of(groups, it.while_ran, asked.top),
+    }
+    if is_named:
+        told["io_at_the_same_time"] = parts_of(groups, it.io_beside, asked.top)
+        told["memory_at_the_same_time"] = parts_of(groups, it.memory_beside, asked.top)
+    if asked.victim is not None:
+        told["while_victim_ran_ns"], told["less_at_least_ns"] = it.while_victim, it.less
+    return told
+
+
+def as_json(groups: Groups, found: list[Figures], everyone: list[Figures], asked: Asked) -> str:
+    """One object: what was asked, and the groups that were asked for, or all where none was."""
+    whole = {
+        "trace": asked.trace,
+        "end_ns": asked.end,
+        "from_ns": asked.start,
+        "to_ns": asked.to,
+        "processors": asked.cpus,
+        "victim": asked.victim,
+        "groups": [group_of(groups, it, asked, bool(found)) for it in found or everyone],
+    }
+    return json.dumps(whole, indent=1) + "\n"

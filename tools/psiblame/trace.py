@@ -1,0 +1,102 @@
+"""The trace that is read: psi_oomd must accept it first, and says how long each group was in each state."""
+from __future__ import annotations
+
+import contextlib
+import os
+import re
+import shutil
+import subprocess
+import sys
+import tempfile
+import time
+from typing import Iterator, NamedTuple
+
+from psireplay.command import Fault
+from psireplay.program import ADVICE, LAUNCHER, built_program, program_path
+
+from .faults import MEMORY, NO_FILE, NO_PROGRAM, READ, REFUSED, Stop
+
+STALL = re.compile(r"stall cpu=([0-9]+) (\S+) ([0-9]+) [0-9]+ ([0-9]+) [0-9]+ ([0-9]+) [0-9]+ [0-9]+(?: [0-9]+)?\n")
+# Bytes that are read at once, and how often progress is shown, in s.
+PIECE = 1 << 20
+OFTEN = 0.5
+TOLD = {
+    REFUSED: "psi_oomd refuses {name}: {said}",
+    NO_FILE: "no file: {name}",
+    READ: "psi_oomd can't read {name}: {said}",
+    MEMORY: "psi_oomd found no memory for {name}",
+}
+
+
+class States(NamedTuple):
+    """How long (ns) a group waited on a processor for IO, was in a memory stall, and waited for that processor."""
+
+    io: int
+    memory: int
+    waited: int
+
+
+# By the processor and the path of a group that is live at the end.
+Stalls = dict[tuple[int, str], States]
+
+
+@contextlib.contextmanager
+def as_file(name: str) -> Iterator[str]:
+    """A file with the trace's bytes: standard input, which is read twice too, is kept in one."""
+    if name != "-":
+        yield name
+        return
+    with tempfile.NamedTemporaryFile(prefix="blame-") as file:
+        shutil.copyfileobj(sys.stdin.buffer, file, PIECE)
+        file.flush()
+        yield file.name
+
+
+def program() -> str:
+    path = program_path()
+    try:
+        return built_program(path) if path == LAUNCHER else path
+    except (Fault, OSError) as fault:
+        raise Stop(NO_PROGRAM, str(fault)) from None
+
+
+def stalls(file: str, name: str) -> Stalls:
+    """What `psi_oomd stall` prints of the trace. One that it refuses is a fault, in its words and with its status."""
+    path = program()
+    try:
+        done = subprocess.run([path, "stall", "--", file], capture_output=True, encoding="latin-1")
+    except OSError as fault:
+        raise Stop(NO_PROGRAM, f"{path} can't be run ({fault.strerror}): {ADVICE}") from None
+    said = done.stderr.strip()
+    if done.returncode in TOLD:
+        raise Stop(done.returncode, TOLD[done.returncode].format(name=name, said=said))
+    lines = done.stdout.splitlines(keepends=True)
+    found = [STALL.fullmatch(line) for line in lines]
+    if done.returncode or not lines or not all(found):
+        raise Stop(NO_PROGRAM, f"{path} printed no times of states (status {done.returncode}): {said or ADVICE}")
+    return {(int(it[1]), it[2]): States(int(it[3]), int(it[4]), int(it[5])) for it in found if it}
+
+
+class Lines:
+    """The lines of a trace that was accepted: `cpus` of its header, `end` in ns of its last line."""
+
+    def __init__(self, file: str) -> None:
+        self.file, self.size = open(file, "rb"), os.path.getsize(file)
+        self.cpus = int(self.file.readline().partition(b"cpus=")[2])
+        begin = self.file.tell()
+        self.file.seek(max(0, self.size - 64))
+        self.end = int(self.file.read().split(b"\n")[-2].split(b" ")[0])
+        self.file.seek(begin)
+
+    def pieces(self) -> Iterator[list[bytes]]:
+        """The event lines, many at a time. On a terminal it is shown how far they are."""
+        shown = time.monotonic()
+        is_shown = sys.stderr.isatty()
+        with self.file:
+            while lines := self.file.readlines(PIECE):
+                yield lines
+                if is_shown and time.monotonic() > shown + OFTEN:
+                    shown = time.monotonic()
+                    print(f"\rblame: {100 * self.file.tell() // self.size} %", end="", file=sys.stderr, flush=True)
+        if is_shown:
+            print("\r\33[K", end="", file=sys.stderr, flush=True)
