@@ -1,0 +1,1 @@
+"""An incident on one page: an HTML file that needs nothing beside it."""

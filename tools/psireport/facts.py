@@ -1,0 +1,239 @@
+"""Everything that the page shows, as the commands say it."""
+from __future__ import annotations
+
+import hashlib
+import json
+import os
+import re
+import tempfile
+from collections.abc import Iterator
+from datetime import datetime, timezone
+from typing import Any, NamedTuple, Optional
+
+from psichart.replay import Replay, read_replay
+from psireplay.lines import RESOURCES, Kill
+from psireplay.rules import Rules
+from psireplay.samples import Samples
+from psireplay.times import SECOND, WallTime, seconds
+
+from .nearness import Watch, watch
+from .reading import Peaks, read_peaks, thin
+from .runs import Done, Runs
+from .story import After, Stretch, Subject, after, stretch_of, subject_of
+from .truths import ALWAYS, Truths, truths
+
+BEGAN = re.compile(r"psitrace: 0 is (\d{4}-\d\d-\d\d \d\d:\d\d:\d\d)\.(\d{3}) UTC")
+# compare's status where a total is beyond its limit, and psitrace's where something was lost.
+BEYOND, LOST = 1, 3
+
+
+class Given(NamedTuple):
+    """What the words say."""
+
+    trace: str
+    rules: Optional[str]
+    drop_in: Optional[str]
+    recording: Optional[str]
+    start: Optional[str]
+    groups: list[str]
+    wall: Optional[WallTime]
+    tick_ms: Optional[int]
+    interval_s: Optional[int]
+    output: Optional[str]
+
+    def rules_words(self) -> list[str]:
+        words = [f"--rules={self.rules}"] if self.rules is not None else []
+        return words + ([f"--drop-in={self.drop_in}"] if self.drop_in is not None else [])
+
+    def pace(self) -> list[str]:
+        options = (("--tick-ms", self.tick_ms), ("--interval-s", self.interval_s))
+        return [f"{name}={value}" for name, value in options if value is not None]
+
+
+class Recorded(NamedTuple):
+    """What is known of the recording of which the trace was made. `is_same` says whether psitrace makes this very trace of it."""
+
+    compared: Done
+    summary: Done
+    is_same: bool
+
+
+class Judged(NamedTuple):
+    """What the rules did: `json` has them as the program understood them, `asked` the runs that say when detectors were true, and
+    `watches` how near each came, by ruleset, group and detector; `host` is the machine's memory in bytes."""
+
+    run: Done
+    json: list[dict[str, Any]]
+    rules: Rules
+    asked: list[Done]
+    truths: Truths
+    watches: dict[tuple[int, int, int], Watch]
+    host: Optional[int]
+
+    @property
+    def evaluations(self) -> list[int]:
+        return self.truths[ALWAYS]
+
+
+class Supposed(NamedTuple):
+    """What `whatif` says, and what blame says of who waited while the first victim ran."""
+
+    run: Done
+    replay: Replay
+    after: list[tuple[Kill, Optional[After]]]
+    blame_run: Done
+    blame: list[dict[str, Any]]
+
+
+class Facts(NamedTuple):
+    """All that the page has. The replay has series of the drawn groups; `worst` is blame of the subject in the worst stretch."""
+
+    given: Given
+    replay_run: Done
+    replay: Replay
+    peaks: Peaks
+    subject: Subject
+    stretch: Stretch
+    drawn: list[tuple[str, str]]
+    samples: Optional[Samples]
+    wall: Optional[WallTime]
+    blame_run: Done
+    blame: dict[str, Any]
+    worst_run: Done
+    worst: dict[str, Any]
+    judged: Optional[Judged]
+    supposed: Optional[Supposed]
+    recorded: Optional[Recorded]
+
+
+def sum_of(path: str) -> str:
+    """The SHA-256 of a file."""
+    found = hashlib.sha256()
+    with open(path, "rb") as file:
+        while piece := file.read(1 << 20):
+            found.update(piece)
+    return found.hexdigest()
+
+
+def sums(facts_of: Given) -> Iterator[tuple[str, str]]:
+    """The files that were read, with their sums."""
+    for name in (facts_of.trace, facts_of.rules, facts_of.drop_in):
+        if name is not None:
+            yield name, sum_of(name)
+    for entry in sorted(os.listdir(facts_of.recording)) if facts_of.recording is not None else ():
+        name = os.path.join(facts_of.recording or "", entry)
+        if os.path.isfile(name):
+            yield name, sum_of(name)
+
+
+def began(summary: str) -> Optional[WallTime]:
+    """When the trace began, as psitrace's summary says it."""
+    found = BEGAN.search(summary)
+    if not found:
+        return None
+    whole = datetime.strptime(found[1], "%Y-%m-%d %H:%M:%S").replace(tzinfo=timezone.utc)
+    return WallTime(int(whole.timestamp()) * SECOND + int(found[2]) * 10**6, 0)
+
+
+def recorded(runs: Runs, given: Given) -> Optional[Recorded]:
+    if given.recording is None:
+        return None
+    words = [f"--from={given.start}"] if given.start is not None else []
+    summary = runs.tool("psitrace", *words, "--", given.recording, taken=(0, LOST))
+    found = hashlib.sha256()
+    for line in summary.lines():
+        found.update(line)
+    compared = runs.tool("compare", *words, "--", given.recording, given.trace, taken=(0, BEYOND))
+    return Recorded(compared, summary, found.hexdigest() == sum_of(given.trace))
+
+
+def read_rules(runs: Runs, given: Given) -> tuple[list[dict[str, Any]], Rules]:
+    """The rules as the program understood them, with their drop-in file."""
+    assert given.rules is not None
+    words = [f"--drop-in={given.drop_in}"] if given.drop_in is not None else []
+    text = runs.program("rules", *words, "--", given.rules).text()
+    with tempfile.NamedTemporaryFile("w", suffix=".json", encoding="utf-8") as file:
+        file.write(text)
+        file.flush()
+        rules = Rules(file.name)
+    rules.name = given.rules
+    return json.loads(text)["rulesets"], rules
+
+
+def judge(runs: Runs, given: Given, run: Done) -> Optional[Judged]:
+    if given.rules is None:
+        return None
+    values, rules = read_rules(runs, given)
+    before = len(runs.done)
+    found = truths(runs, values, given.trace, given.pace())
+    watches = {
+        (number, place, which): Watch(detector)
+        for number, ruleset in enumerate(values)
+        for place, group in enumerate(ruleset["detectors"])
+        for which, detector in enumerate(group[1:])
+    }
+    host = watch(run.lines(), given.trace, found[ALWAYS], list(watches.values()))
+    return Judged(run, values, rules, runs.done[before:], found, watches, host)
+
+
+def suppose(runs: Runs, given: Given, replay: Replay, subject: Subject) -> Optional[Supposed]:
+    """What would have been, where somebody would have been killed."""
+    if not replay.kills:
+        return None
+    run = runs.program("whatif", "--report-s=1", *given.rules_words(), *given.pace(), "--", given.trace)
+    supposed = read_replay(run.lines(), replay.groups)
+    kills = [(kill, after(subject, kill, replay, supposed)) for kill in supposed.kills]
+    first = replay.kills[0]
+    words = [f"--from={seconds(first.moment)}"] if first.moment < replay.end.moment else []
+    blamed = runs.tool("blame", *words, f"--victim={first.path}", "--json", "--", given.trace)
+    groups = [it for it in json.loads(blamed.text())["groups"] if it["while_victim_ran_ns"]]
+    return Supposed(run, supposed, kills, blamed, groups)
+
+
+def drawn_of(peaks: Peaks, subject: Subject, given: Given) -> list[tuple[str, str]]:
+    """Which groups and resources are drawn, the subject's first: of each resource the subject's group, and those that stalled most, or
+    those that the words name."""
+    resources = [it for it in RESOURCES if it in peaks.resources]
+    resources.sort(key=lambda it: it != subject.resource)
+    paths = {path for path, _, _ in peaks.found}
+    named = [path for path in given.groups if path in paths]
+    found = [(path, resource) for resource in resources for path in (subject.path, *(named or peaks.worst(resource)))]
+    return list(dict.fromkeys(found))
+
+
+def blamed(runs: Runs, given: Given, *words: str) -> tuple[Done, dict[str, Any]]:
+    done = runs.tool("blame", *words, "--json", "--", given.trace)
+    return done, json.loads(done.text())
+
+
+def samples_of(given: Given, groups: list[str], end: int) -> Optional[Samples]:
+    """The samples of memory of drawn groups, where the trace has some."""
+    samples = Samples(given.trace, groups, end)
+    return samples if any(life.samples for lives in samples.lives.values() for life in lives) else None
+
+
+def collect(runs: Runs, given: Given) -> Facts:
+    """Runs all commands."""
+    known = recorded(runs, given)
+    run = runs.program("replay", "--report-s=1", *given.rules_words(), *given.pace(), "--", given.trace)
+    peaks = read_peaks(run.lines())
+    judged = judge(runs, given, run)
+    subject = subject_of(peaks, judged.rules if judged else None, peaks.kills)
+    drawn = drawn_of(peaks, subject, given)
+    groups = list(dict.fromkeys(path for path, _ in drawn))
+    replay = read_replay(run.lines(), groups)
+    supposed = suppose(runs, given, replay, subject)
+    stretch = stretch_of(replay.series[subject], subject.level) if subject in replay.series else Stretch(0, 0, 0, 0)
+    thin(replay)
+    if supposed:
+        thin(supposed.replay)
+    blame_run, blame = blamed(runs, given)
+    words = [f"--group={subject.path}"]
+    if stretch.end > stretch.start:
+        words += [f"--from={seconds(stretch.start)}", f"--to={seconds(stretch.end)}"]
+    worst_run, worst = blamed(runs, given, *words)
+    wall = given.wall or (began(known.summary.said) if known else None)
+    samples = samples_of(given, groups, replay.end.moment)
+    return Facts(
+        given, run, replay, peaks, subject, stretch, drawn, samples, wall, blame_run, blame, worst_run, worst, judged, supposed, known
+    )

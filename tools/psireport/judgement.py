@@ -1,0 +1,112 @@
+"""The part of the page on rules: when their detectors were true, how near they came, and what came of it."""
+from __future__ import annotations
+
+from typing import Any, Optional
+
+from psichart.axes import time_axis
+from psichart.svg import add
+from psireplay.lines import Kill
+from psireplay.times import seconds
+
+from .facts import Facts, Judged
+from .html import Element, say, table, word
+from .pictures import Album, Picture, strip, told_spans
+from .sections import RESOURCES, SHOWN, in_seconds, killer, nearness, rest, source
+from .story import percent
+from .truths import Place, longest, spans
+
+
+def rules(page: Element, facts: Facts) -> Optional[Picture]:
+    judged = facts.judged
+    if not judged:
+        return None
+    section = add(page, "section", id="rules")
+    say(section, "h2", "What the rules would have done")
+    asked = [it for run in judged.asked for it in (" ", source(run))]
+    say(section, "p", f"At {len(judged.evaluations)} evaluations", *asked, "; kills ", source(judged.run), ".", class_="soft")
+    key = add(section, "p", class_="soft key")
+    for look, text in (("held", "its condition held"), ("true", "true, for its duration"), ("killed", "kill")):
+        add(key, "span", "\N{NO-BREAK SPACE}", class_=look).tail = text
+    for number_ in range(len(judged.json)):
+        ruleset(section, facts, judged, number_)
+    if not facts.supposed:
+        return None
+    return supposed_kills(section, facts)
+
+
+def ruleset(section: Element, facts: Facts, judged: Judged, number_: int) -> None:
+    """When its detectors were true, and how near each came."""
+    axis = time_axis(0, facts.replay.end.moment, None)
+    name = judged.rules.rulesets[number_].name
+    kills = [it for it in facts.replay.kills if it.ruleset == number_]
+    fired = judged.truths[Place(number_)]
+    say(section, "h3", f"Ruleset {number_} ‘{name}’")
+    say(section, "p", fired_text(judged, number_, fired, kills))
+    section.append(strip("it fires", axis, judged.evaluations, {"true": fired}, [it.moment for it in kills]))
+    for place, (group, *detectors) in enumerate(judged.json[number_]["detectors"]):
+        for which, detector in enumerate(detectors):
+            one = Place(number_, place, which)
+            watch = judged.watches[number_, place, which]
+            held = judged.truths.get(one._replace(held=True), [])
+            rest_ = held_text(judged, held, detector) + truth_text(judged, one)
+            what, came = f" in ‘{group}’: {watch.wanted()}. ", word("strong", watch.came(judged.host))
+            say(section, "p", word("code", detector["name"]), what, came, rest_)
+            kinds = {"held": held, "true": judged.truths[one]} if held else {"true": judged.truths[one]}
+            section.append(strip(watch.wanted(), axis, judged.evaluations, kinds, []))
+
+
+def fired_text(judged: Judged, number_: int, fired: list[int], kills: list[Kill]) -> str:
+    if not fired:
+        true, many, _ = nearness(judged, number_)
+        none = "no detector of it was ever true" if many else "it has no detectors"
+        what = f"at most {true} of {many} detectors were true at once" if true else none
+        return f"It never fired: {what}."
+    killed = ", ".join(f"{it.path} at {seconds(it.moment)} s" for it in kills[:SHOWN])
+    killed += f" and {len(kills) - SHOWN} more" if len(kills) > SHOWN else ""
+    when = told_spans(spans(fired, judged.evaluations))
+    return f"It fired {when}. " + (f"It would have killed {killed}." if kills else "It would have killed nobody, since it found no victim.")
+
+
+def held_text(judged: Judged, held: list[int], detector: dict[str, Any]) -> str:
+    if not held:
+        return "; "
+    most = seconds(longest(held, judged.evaluations))
+    return f"; its condition held for {most} s at most, where {detector['args']['duration']} s are asked; "
+
+
+def truth_text(judged: Judged, place: Place) -> str:
+    found = spans(judged.truths[place], judged.evaluations)
+    return f"true {told_spans(found)}." if found else "never true."
+
+
+def supposed_kills(section: Element, facts: Facts) -> Picture:
+    """What whatif says of what came after the kills."""
+    supposed = facts.supposed
+    assert supposed
+    say(section, "h3", "Had the kills happened ", source(supposed.run))
+    rows = [
+        [
+            seconds(kill.moment), kill.path, killer(facts, kill),
+            *((seconds(it.moment), percent(it.was), percent(it.most)) if it else ("-", "-", "-")),
+        ]
+        for kill, it in supposed.after
+    ]  # fmt: skip
+    what = f"{facts.subject.path} {RESOURCES[facts.subject.resource]}"
+    heads = ["kill at, s", "victim", "by", "looked at, s", f"{what}, % as recorded", "% at most"]
+    table(section, "Half a minute after each kill", heads, rows[:SHOWN], 3)
+    rest(section, len(rows), "kills")
+    axis = time_axis(0, facts.replay.end.moment, facts.wall)
+    album = Album(supposed.replay, axis, facts.judged.rules if facts.judged else None, None)
+    found = album.pressure(*facts.subject, recorded=facts.replay)
+    box = add(section, "figure", class_="whatif")
+    add(box, "div", class_="scroll").append(album.legend(facts.subject.path, facts.replay))
+    add(box, "div", class_="scroll").append(found.svg)
+    say(box, "figcaption", "Thick what would have been at most: others do what they did, when they did it; thin what was.")
+    if supposed.blame:
+        keys = ("waited_ns", "while_victim_ran_ns", "less_at_least_ns")
+        rows = [[it["group"], *(in_seconds(it[key]) for key in keys)] for it in supposed.blame]
+        victim = facts.replay.kills[0]
+        say(section, "p", f"Of waits for a processor from {seconds(victim.moment)} s on, this much less at least without {victim.path} ",
+            source(supposed.blame_run), ":")  # fmt: skip
+        table(section, "In s", ["group", "waited", f"while {victim.path} ran", "at least less"], rows[:SHOWN])
+    return found

@@ -1,0 +1,173 @@
+"""How near each detector came to its threshold: the highest of what it looks at, at the evaluations of the rules."""
+from __future__ import annotations
+
+from typing import Any, Iterable, NamedTuple, Optional
+
+from psireplay.lines import Report, read
+from psireplay.program import opened
+from psireplay.rules import Plugin, argument, size
+from psireplay.times import seconds
+
+Looked = dict[str, "Group"]
+
+
+class Group(NamedTuple):
+    """What a group has at an evaluation: full averages of IO and of memory over 10 and 60 s in hundredths of a percent, its memory in
+    bytes where there was a sample, and by how many pages its count of scanned ones rose since the evaluation before."""
+
+    full: dict[tuple[str, str], int]
+    memory: Optional[int]
+    rise: int
+
+
+class Nearest(NamedTuple):
+    """The nearest value, when it was reached first (ns), and by which group."""
+
+    value: int
+    moment: int
+    path: str
+
+
+class Memory:
+    """The samples of a trace, of groups by path and of the host, up to a moment that goes on."""
+
+    def __init__(self, trace: str) -> None:
+        self.now: dict[str, tuple[int, int]] = {}
+        self.before: dict[str, int] = {}
+        self.host: Optional[tuple[int, int, int]] = None
+        with opened(trace) as file:
+            self.lines = [line for line in file if line.split(b" ", 2)[1] in (b"mem", b"host", b"rmgroup")]
+        self.place = 0
+
+    def go_to(self, moment: int, live: Iterable[str]) -> None:
+        """Takes the samples up to a moment (ns), at which an evaluation is. At the one before these groups were live."""
+        self.before = {path: self.now.get(path, (0, 0))[1] for path in live}
+        while self.place < len(self.lines):
+            at, verb, *fields = self.lines[self.place].decode("latin-1").split()
+            if int(at) > moment:
+                return
+            self.place += 1
+            if verb == "mem":
+                self.now[fields[0]] = int(fields[1]), int(fields[3])
+            elif verb == "host":
+                self.host = int(fields[0]), int(fields[1]), int(fields[2])
+            else:
+                self.now.pop(fields[0], None)
+                self.before.pop(fields[0], None)
+
+    def memory(self, path: str) -> Optional[int]:
+        return self.now[path][0] if path in self.now else None
+
+    def rise(self, path: str) -> int:
+        pages = self.now.get(path, (0, 0))[1]
+        return max(0, pages - self.before.get(path, pages))
+
+
+class Watch:
+    """A detector, and the nearest that it came to what it waits for."""
+
+    def __init__(self, detector: dict[str, Any]) -> None:
+        self.plugin = Plugin(detector["name"], {key: argument(it) for key, it in detector["args"].items()})
+        self.nearest: Optional[Nearest] = None
+        self.has_matched = False
+
+    def look(self, moment: int, groups: Looked, memory: Memory) -> None:
+        """Looks at an evaluation."""
+        name = self.plugin.name
+        if name == "swap_free":
+            if memory.host and memory.host[1]:
+                self.take(-100 * 100 * memory.host[2] // memory.host[1], moment, "")
+            return
+        for path, group in groups.items():
+            if self.plugin.covers(path):
+                self.take(self.value(group), moment, path)
+
+    def value(self, group: Group) -> Optional[int]:
+        name, args = self.plugin
+        if name == "pressure_above":
+            return group.full[args["resource"], "avg10"]
+        if name == "pressure_rising_beyond":
+            return group.full[args["resource"], "avg60"]
+        return {"memory_above": group.memory, "memory_reclaim": group.rise}.get(name, 1)
+
+    def take(self, value: Optional[int], moment: int, path: str) -> None:
+        self.has_matched = True
+        if value is not None and (self.nearest is None or value > self.nearest.value):
+            self.nearest = Nearest(value, moment, path)
+
+    def wanted(self) -> str:
+        """What the detector waits for."""
+        name, args = self.plugin
+        lasting = f" for {args['duration']} s" if args.get("duration", "0") != "0" else ""
+        whom = args.get("cgroup", "")
+        return {
+            "pressure_above": f"{whom}: full {args.get('resource')} pressure over 10 s above {args.get('threshold')} %{lasting}",
+            "pressure_rising_beyond": f"{whom}: full {args.get('resource')} pressure over 60 s, and over 10 s, above "
+            f"{args.get('threshold')} %{lasting}, and not falling fast",
+            "memory_above": f"{whom}: memory above {args.get('threshold')}{lasting}",
+            "memory_reclaim": f"{whom}: pages were scanned within {args.get('duration')} s",
+            "swap_free": f"less than {args.get('threshold_pct')} % of the swap is free",
+            "exists": f"{whom}: there is {'no such' if args.get('negate') == 'true' else 'such a'} group",
+        }[name]
+
+    def came(self, host: Optional[int]) -> str:
+        """How near it came."""
+        name, args = self.plugin
+        if self.nearest is None:
+            none = "the trace has no sample of its memory" if self.has_matched else "there never was such a group"
+            return "the trace says nothing of swap" if name == "swap_free" else none
+        value, moment, path = self.nearest
+        at = f"({path} at {seconds(moment)} s)"
+        if name in ("pressure_above", "pressure_rising_beyond"):
+            missing = int(args["threshold"]) * 100 - value
+            return f"highest {share(value)} % {at}" + (f", {share(missing)} % below" if missing > 0 else "")
+        if name == "memory_above":
+            level = size(args["threshold"], host)
+            part = f", {100 * value / level:.1f} % of the threshold" if level else ""
+            return f"highest {mebibytes(value)} MiB {at}{part}"
+        if name == "memory_reclaim":
+            return f"highest rise {value} pages {at}" if value else "no page was scanned"
+        if name == "swap_free":
+            return f"lowest {share(-value)} % free (at {seconds(moment)} s)"
+        return f"first there: {path} at {seconds(moment)} s"
+
+
+def share(hundredths: int) -> str:
+    return f"{hundredths // 100}.{hundredths % 100:02}"
+
+
+def mebibytes(number: int) -> str:
+    return f"{number / 2**20:.1f}"
+
+
+def groups_of(reports: list[Report], memory: Memory) -> Looked:
+    """The groups that had reports at a moment."""
+    full: dict[str, dict[tuple[str, str], int]] = {}
+    for it in reports:
+        shares = full.setdefault(it.path, {})
+        shares[it.resource, "avg10"], shares[it.resource, "avg60"] = it.full.avg10, it.full.avg60
+    return {path: Group(shares, memory.memory(path), memory.rise(path)) for path, shares in full.items()}
+
+
+def watch(printed: Iterable[bytes], trace: str, evaluations: list[int], watches: list[Watch]) -> Optional[int]:
+    """Looks at all evaluations of a replay with a report at each. Gives the host's memory in bytes, where the trace says it."""
+    memory, due = Memory(trace), set(evaluations)
+    reports: list[Report] = []
+    groups: Looked = {}
+
+    def look() -> None:
+        nonlocal groups
+        if reports and reports[0].moment in due:
+            memory.go_to(reports[0].moment, groups)
+            groups = groups_of(reports, memory)
+            for it in watches:
+                it.look(reports[0].moment, groups, memory)
+
+    for line in read(printed):
+        if isinstance(line, Report):
+            if reports and line.moment != reports[0].moment:
+                look()
+                reports = []
+            reports.append(line)
+    look()
+    return memory.host[0] if memory.host else None

@@ -1,0 +1,95 @@
+"""The whole page: its parts, its style and its script, in one file."""
+from __future__ import annotations
+
+import os
+import shlex
+import sys
+from datetime import datetime, timezone
+from xml.etree import ElementTree
+
+from psichart.svg import STYLE, STYLE_BESIDE, add
+from psireplay.times import SECOND, rounded, shown, zone
+
+from . import judgement, sections, trust
+from .facts import Facts, sum_of, sums
+from .html import Element, data_of, folded, say, table, word
+from .pictures import MS, Picture
+from .runs import Runs
+
+FOLDER = os.path.dirname(os.path.abspath(__file__))
+
+
+def file_of(name: str) -> str:
+    """A file beside this one."""
+    with open(os.path.join(FOLDER, name), encoding="utf-8") as file:
+        return file.read()
+
+
+def when(facts: Facts) -> str:
+    """How long the trace is, and when it was."""
+    length = f"{os.path.basename(facts.given.trace)}, {rounded(facts.replay.end.moment)}"
+    if not facts.wall:
+        return length
+    at = shown((facts.wall.epoch + facts.wall.ahead) // SECOND * SECOND)
+    return f"{length} from {at.clock} on {at.day} {at.date.tm_year} ({zone(facts.wall.ahead)})"
+
+
+def made(page: Element, facts: Facts, runs: Runs) -> None:
+    """The commands, the commit and the sums."""
+    section = add(page, "section", id="made")
+    say(section, "h2", "How it was made")
+    words = shlex.join(["tools/report", *sys.argv[1:]])
+    now = f"{datetime.now(timezone.utc):%Y-%m-%d %H:%M:%S} UTC"
+    say(section, "p", word("code", words), " ran these commands at ", word("time", now, class_="made"), ":")
+    commands = add(section, "ol")
+    for run in runs.done:
+        status = f" (status {run.status})" if run.status else ""
+        line = add(commands, "li", id=f"command-{run.number}")
+        say(line, "code", run.words).tail = status
+        if run.given:
+            say(folded(line, "DETECTORS.json"), "pre", run.given)
+    if facts.judged:
+        what = "DETECTORS.json has a ruleset for each detector, which kills whenever it is true: so its kills are when it was."
+        say(section, "p", what, class_="soft")
+    say(section, "p", "A share at a moment is the line of its report: ", word("code", report_line(facts)), ".", class_="soft")
+    say(section, "p", "Sources: commit ", word("code", runs.commit(), class_="commit"), "; the program’s SHA-256: ",
+        word("code", sum_of(runs.path), class_="program"))  # fmt: skip
+    table(section, "SHA-256 of the files", ["file", "sum"], sums(facts.given), 2)
+
+
+def report_line(facts: Facts) -> str:
+    """How the highest share of the first sentence is found in the output of its command."""
+    head = f"report {facts.stretch.at} {facts.subject.path} {facts.subject.resource}"
+    return f"grep -A2 '^{head}$'"
+
+
+def data(facts: Facts, pictures: list[Picture]) -> str:
+    wall = facts.wall and (facts.wall.epoch + facts.wall.ahead) // MS
+    return data_of({"start": 0, "end": facts.replay.end.moment // MS, "wall": wall, "panels": [it.data for it in pictures]})
+
+
+def body(page: Element, facts: Facts, runs: Runs) -> None:
+    main = add(page, "main")
+    say(main, "h1", f"Incident: {sections.RESOURCES[facts.subject.resource]} pressure of {facts.subject.path}")
+    say(main, "p", when(facts), class_="soft")
+    say(main, "p", *sections.lead(facts), class_="lead")
+    pictures = sections.time_lines(main, facts)
+    sections.blame(main, facts)
+    judgement.rules(main, facts)
+    trust.recording(main, facts)
+    made(main, facts, runs)
+    add(page, "script", data(facts, pictures), type="application/json", id="data")
+    if pictures:
+        add(page, "script", file_of("page.js"))
+
+
+def html(facts: Facts, runs: Runs) -> bytes:
+    page = ElementTree.Element("html", {"lang": "en"})
+    head = add(page, "head")
+    add(head, "meta", charset="utf-8")
+    add(head, "meta", name="viewport", content="width=device-width, initial-scale=1")
+    add(head, "title", f"Incident: {sections.RESOURCES[facts.subject.resource]} pressure of {facts.subject.path}")
+    beside = STYLE_BESIDE.replace(".series", ".whatif .series")
+    add(head, "style", file_of("page.css") + STYLE + beside)
+    body(add(page, "body"), facts, runs)
+    return b"<!DOCTYPE html>\n" + ElementTree.tostring(page, "utf-8", method="html") + b"\n"

@@ -1,0 +1,93 @@
+"""What a replay says of all groups, read in one go: who stalled most; and what of it is drawn."""
+from __future__ import annotations
+
+import collections
+from typing import Iterable, NamedTuple
+
+from psichart.replay import Replay, Series
+from psireplay.lines import AVERAGES, LEVELS, Kill, Report, read
+
+# A share below this, in hundredths of a percent, is next to nothing.
+LEAST = 100
+# Groups that are drawn of each resource, and stretches of which the highest values are kept.
+DRAWN = 3
+STRETCHES = 300
+
+
+class Peak(NamedTuple):
+    """The highest share over 10 s, in hundredths of a percent, and the moment (ns) when it was reached first."""
+
+    share: int
+    moment: int
+
+
+class Peaks:
+    """The highest `some` and `full` of each group and resource, and all kills."""
+
+    def __init__(self) -> None:
+        self.found: dict[tuple[str, str, str], Peak] = {}
+        self.resources: set[str] = set()
+        self.kills: list[Kill] = []
+
+    def take(self, report: Report) -> None:
+        self.resources.add(report.resource)
+        for level, pressure in (("some", report.some), ("full", report.full)):
+            key = report.path, report.resource, level
+            if pressure and (key not in self.found or pressure.avg10 > self.found[key].share):
+                self.found[key] = Peak(pressure.avg10, report.moment)
+
+    def highest(self, path: str, resource: str, level: str) -> Peak:
+        return self.found.get((path, resource, level), Peak(0, 0))
+
+    def worst(self, resource: str) -> list[str]:
+        """The groups that stalled most for a resource, the worst first; some that stalled next to nothing only if all did."""
+        level = "full" if resource == "irq" else "some"
+        peaks = {path: peak.share for (path, kind, it), peak in self.found.items() if (kind, it) == (resource, level)}
+        order = sorted(peaks, key=lambda path: (-peaks[path], path.count("/"), path))
+        return [path for path in order if peaks[path] >= LEAST][:DRAWN] or order[:1]
+
+
+def read_peaks(printed: Iterable[bytes]) -> Peaks:
+    peaks = Peaks()
+    for line in read(printed):
+        if isinstance(line, Report):
+            peaks.take(line)
+        elif isinstance(line, Kill):
+            peaks.kills.append(line)
+    return peaks
+
+
+def kept_rows(series: Series, start: int, end: int) -> list[int]:
+    """Of each stretch of the time the first report and, of each average, that with the highest value: no peak vanishes."""
+    stretches: dict[int, list[int]] = collections.defaultdict(list)
+    for place, moment in enumerate(series.moments):
+        stretches[(moment - start) * STRETCHES // max(1, end - start)].append(place)
+    kept = {0, len(series.moments) - 1} if series.moments else set[int]()
+    for places in stretches.values():
+        kept.add(places[0])
+        for shares in filter(None, series.shares.values()):
+            kept.add(max(places, key=lambda place: shares[place]))
+    return sorted(kept)
+
+
+def thinned(series: Series, start: int, end: int) -> Series:
+    """The series of those rows. Its rounds go on by one from row to row, and by more where the group wasn't there between."""
+    found, last, number = Series(), -1, 0
+    for place in kept_rows(series, start, end):
+        is_broken = series.rounds[place] - series.rounds[max(last, 0)] > place - max(last, 0)
+        number += 3 if is_broken else 1
+        last = place
+        found.moments.append(series.moments[place])
+        found.rounds.append(number)
+        for level in LEVELS:
+            for average in AVERAGES:
+                shares = series.shares[level, average]
+                if shares:
+                    found.shares[level, average].append(shares[place])
+    return found
+
+
+def thin(replay: Replay) -> None:
+    """Thins all series of a replay to what a screen shows."""
+    for which, series in replay.series.items():
+        replay.series[which] = thinned(series, 0, replay.end.moment)

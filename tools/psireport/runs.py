@@ -1,0 +1,87 @@
+"""The commands that are run for a page: each is told on it, with its number."""
+from __future__ import annotations
+
+import os
+import shlex
+import subprocess
+import sys
+import tempfile
+from collections.abc import Iterator
+from typing import IO, NamedTuple
+
+from psireplay.command import Fault
+from psireplay.program import ADVICE, LAUNCHER, TOP, built_program, program_path
+
+PROGRAM = "psi_oomd"
+
+
+class Stop(Fault):
+    """Why no page is written, with the status of the command that failed, or the tool's own."""
+
+    def __init__(self, status: int, message: str) -> None:
+        super().__init__(message)
+        self.status = status
+
+
+WORDS, NO_PROGRAM = 1, 70
+
+
+class Done(NamedTuple):
+    """A command that was run: its number on the page, its words, its status, and what it said on standard error; and the file that was
+    made for it, if one was."""
+
+    number: int
+    words: str
+    status: int
+    said: str
+    output: IO[bytes]
+    given: str = ""
+
+    def lines(self) -> Iterator[bytes]:
+        self.output.seek(0)
+        return iter(self.output)
+
+    def text(self) -> str:
+        self.output.seek(0)
+        return self.output.read().decode("utf-8", "replace")
+
+
+class Runs:
+    """Runs psi_oomd and the tools beside this one. Standard output goes into files, since that of a replay can be long."""
+
+    def __init__(self) -> None:
+        path = program_path()
+        try:
+            self.path = built_program(path) if path == LAUNCHER else path
+        except OSError as fault:
+            raise Stop(NO_PROGRAM, f"{path} can't be run ({fault.strerror}): {ADVICE}") from None
+        except Fault as fault:
+            raise Stop(NO_PROGRAM, str(fault)) from None
+        self.done: list[Done] = []
+
+    def program(self, *words: str) -> Done:
+        return self.run([self.path, *words], [PROGRAM, *words], (0,))
+
+    def tool(self, name: str, *words: str, taken: tuple[int, ...] = (0,)) -> Done:
+        """A tool, of which these statuses say that it did what it should."""
+        path = os.path.join(TOP, "tools", name)
+        return self.run([sys.executable, path, *words], [f"tools/{name}", *words], taken)
+
+    def run(self, words: list[str], told: list[str], taken: tuple[int, ...]) -> Done:
+        output = tempfile.TemporaryFile()
+        environment = {**os.environ, "PSI_OOMD": self.path, "PYTHONDONTWRITEBYTECODE": "1"}
+        try:
+            done = subprocess.run(words, stdout=output, stderr=subprocess.PIPE, env=environment)
+        except OSError as fault:
+            raise Stop(NO_PROGRAM, f"{words[0]} can't be run ({fault.strerror}): {ADVICE}") from None
+        said = done.stderr.decode("utf-8", "replace").strip()
+        if done.returncode not in taken:
+            raise Stop(max(1, done.returncode), f"{shlex.join(told)}: {said or f'its status is {done.returncode}'}")
+        found = Done(len(self.done) + 1, shlex.join(told), done.returncode, said, output)
+        self.done.append(found)
+        return found
+
+    def commit(self) -> str:
+        """The commit of the sources beside this tool, as the launcher says it."""
+        done = subprocess.run([LAUNCHER, "--version"], capture_output=True, text=True)
+        return done.stdout.strip().removeprefix(f"{PROGRAM} ") or "of no known commit"

@@ -1,0 +1,260 @@
+"""The parts of the page, each from the facts that its commands gave."""
+from __future__ import annotations
+
+from typing import Any, NamedTuple, Optional
+
+from psichart.axes import time_axis
+from psichart.svg import add
+from psireplay.lines import Kill
+from psireplay.times import seconds
+
+from .facts import Facts, Judged
+from .html import Element, Words, folded, say, table, word
+from .nearness import share
+from .pictures import Album, Picture
+from .runs import Done
+from .story import machine_sentence, percent
+from .truths import Place
+
+SHOWN = 8
+# So many figures of each resource are printed.
+PRINTED = 2
+# So many rows has the table of a picture.
+ROWS = 12
+NOBODY = "no task"
+# What is shown of a group's times: the parts and the whole, by their names in blame's JSON, and what it is.
+MEANWHILE = (
+    ("while_ran", "waited_ns", "{group} waited {time} s for a processor: while there ran"),
+    ("io_at_the_same_time", "io_ns", "{group} waited {time} s for IO: tasks of these groups did at the same time"),
+    ("memory_at_the_same_time", "memory_ns", "{group} was in a memory stall for {time} s: tasks of these groups were at the same time"),
+)
+RESOURCES = {"io": "IO", "memory": "memory", "cpu": "CPU", "irq": "interrupts", "use": "memory in use"}
+
+
+def source(run: Done) -> Element:
+    """Which command says so."""
+    number_ = run.number
+    return word("a", f"[{number_}]", href=f"#command-{number_}", class_="from", aria_label=f"by command {number_}")
+
+
+def in_seconds(ns: int) -> str:
+    return f"{(ns + 500_000) // 10**6 / 1000:.3f}"
+
+
+def killer(facts: Facts, kill: Kill) -> str:
+    """Whose kill it is."""
+    name = f" ‘{facts.judged.rules.killer(kill).ruleset}’" if facts.judged else ""
+    return f"Ruleset {kill.ruleset}{name}"
+
+
+# ---------------------------------------------------------------- 1. on top
+
+
+def lead(facts: Facts) -> list[Words]:
+    """What the machine went through, and what the rules would have done."""
+    found: list[Words] = [machine_sentence(facts.subject, facts.stretch, facts.replay.end.moment) + " ", source(facts.replay_run)]
+    kills = facts.replay.kills
+    if not facts.judged:
+        return found
+    if not kills:
+        return [*found, " The rules would have killed nobody ", source(facts.judged.run), "; " + nearest_ruleset(facts.judged) + "."]
+    first = kills[0]
+    more = f" (the first of {len(kills)} kills)" if len(kills) > 1 else ""
+    found += [f" {killer(facts, first)} would have killed {first.path} at {seconds(first.moment)} s{more} ", source(facts.judged.run)]
+    later = facts.supposed.after[0][1] if facts.supposed and facts.supposed.after else None
+    if not later or not facts.supposed:
+        return [*found, "."]
+    what = f"; without it {facts.subject.path} would have had at most {percent(later.most)} percent in place of {percent(later.was)}"
+    return [*found, what + f" at {seconds(later.moment)} s ", source(facts.supposed.run), "."]
+
+
+class Near(NamedTuple):
+    """How near a ruleset came to firing: at most so many of a group's detectors were true at once, of how many, and when (ns) first."""
+
+    true: int
+    many: int
+    moment: int
+
+    @property
+    def part(self) -> float:
+        return self.true / self.many if self.many else 0.0
+
+
+def nearness(judged: Judged, number_: int) -> Near:
+    """How near a ruleset came. A group without detectors always holds, so of a ruleset that never fired each has some."""
+    best = Near(0, 0, 0)
+    for place, (_, *detectors) in enumerate(judged.json[number_]["detectors"]):
+        true = [set(judged.truths[Place(number_, place, which)]) for which in range(len(detectors))]
+        found = [Near(sum(moment in it for it in true), len(detectors), moment) for moment in judged.evaluations]
+        best = max([best, *found], key=lambda it: (it.part, it.many > 0))
+    return best
+
+
+def nearest_ruleset(judged: Judged) -> str:
+    """The ruleset of which the most detectors were true at once."""
+    found = [nearness(judged, number_) for number_ in range(len(judged.json))]
+    best = max(found, key=lambda it: it.part, default=Near(0, 0, 0))
+    if not best.true:
+        return "no detector of theirs was ever true"
+    number_ = found.index(best)
+    name = f"ruleset {number_} ‘{judged.rules.rulesets[number_].name}’"
+    if best.true == best.many:
+        return f"{name} fired at {seconds(best.moment)} s, and found no victim"
+    return f"nearest was {name}, with {best.true} of {best.many} detectors true at {seconds(best.moment)} s"
+
+
+# ---------------------------------------------------------------- 2. time lines
+
+
+def stretches_of(picture: Picture) -> list[list[str]]:
+    """The rows of the table of a picture: the highest values of equal stretches of time."""
+    moments = [it for it in picture.data["t"] if it is not None]
+    if not moments:
+        return []
+    start, end = moments[0], moments[-1] + 1
+    rows = []
+    for row in range(ROWS):
+        low, high = (start + (end - start) * it // ROWS for it in (row, row + 1))
+        places = [place for place, at in enumerate(picture.data["t"]) if at is not None and low <= at < high]
+        if places:
+            cells = [max(values[place] for place in places) for values in picture.data["s"].values()]
+            rows.append([f"{low / 1000:g} to {high / 1000:g}", *(number(cell, picture) for cell in cells)])
+    return rows
+
+
+def number(value: int, picture: Picture) -> str:
+    return f"{value / 2**20:.1f}" if picture.resource == "use" else share(value)
+
+
+def figure(parent: Element, picture: Picture, number_: int, is_printed: bool) -> None:
+    """A picture, with what the script says of a moment below it, and a table."""
+    found = add(parent, "figure", class_="" if is_printed else "more", data_panel=str(number_))
+    found.attrib.update({"data-group": picture.path, "data-resource": picture.resource})
+    box = add(found, "div", class_="scroll")
+    box.append(picture.svg)
+    add(found, "p", "", class_="values", aria_live="polite")
+    unit = "MiB" if picture.resource == "use" else "percent"
+    heads = ["seconds", *(look.replace("-use", "") for look in picture.data["s"])]
+    table(folded(found, f"Table: {picture.name}"), f"{picture.name}: highest of each stretch, in {unit}", heads, stretches_of(picture))
+
+
+def controls(parent: Element, pictures: list[Picture], first: set[str]) -> None:
+    """What is shown of the pictures: at first these groups. The script makes it work, and shows it."""
+    box = add(parent, "div", class_="controls")
+    for legend, name, values in (
+        ("Groups", "group", {it.path: it.path for it in pictures}),
+        ("Resources", "resource", {it.resource: RESOURCES[it.resource] for it in pictures}),
+    ):
+        fields = add(box, "fieldset")
+        say(fields, "legend", legend)
+        for value, text in values.items():
+            label = add(fields, "label")
+            box_ = add(label, "input", type="checkbox", name=name, value=value)
+            box_.tail = f" {text}"
+            if name == "resource" or value in first:
+                box_.set("checked", "")
+    line = say(box, "span", "Time: ", word("output", "", id="time"), " ")
+    add(line, "button", "all of it", type="button", id="whole").tail = (
+        " Drag to zoom. On a picture: arrow keys move to a moment, + and − zoom, Escape shows all."
+    )
+
+
+def time_lines(page: Element, facts: Facts) -> list[Picture]:
+    """A picture for each group that stalled most, resource by resource, and of its memory."""
+    axis = time_axis(0, facts.replay.end.moment, facts.wall)
+    album = Album(facts.replay, axis, facts.judged.rules if facts.judged else None, facts.samples)
+    pictures = [album.pressure(path, resource) for path, resource in facts.drawn if (path, resource) in facts.replay.series]
+    for path in dict.fromkeys(path for path, _ in facts.drawn):
+        if facts.samples and any(life.samples for life in facts.samples.lives[path]):
+            pictures.append(album.memory(path))
+    section = add(page, "section", id="time-lines")
+    say(section, "h2", "What happened when")
+    if not pictures:
+        say(section, "p", "The trace has no tick, so there is no report to draw.")
+        return []
+    what = " by the clock" if facts.wall else " in seconds since the start of the trace"
+    text = f"The groups that stalled most{what}: shares of time over 10, 60 and 300 seconds "
+    say(section, "p", text, source(facts.replay_run), ".", class_="soft")
+    controls(section, pictures, {facts.subject.path, *(it.path for it in facts.replay.kills)})
+    add(add(section, "figure"), "div", class_="scroll").append(album.legend(facts.subject.path))
+    box = add(section, "div", class_="pictures")
+    seen: dict[str, int] = {}
+    for place, picture in enumerate(pictures):
+        seen[picture.resource] = seen.get(picture.resource, 0) + 1
+        figure(box, picture, place, seen[picture.resource] <= PRINTED)
+    return pictures
+
+
+# ---------------------------------------------------------------- 3. blame
+
+
+def groups_table(section: Element, facts: Facts) -> None:
+    rows = sorted(facts.blame["groups"], key=lambda it: -max(it["waited_ns"], it["io_ns"], it["memory_ns"]))
+    heads = ["group", "ran", "waited for a processor", "for IO", "in memory stalls", "memory grown, MiB", "pages scanned"]
+    cells = [
+        [
+            it["group"], in_seconds(it["ran_ns"]), in_seconds(it["waited_ns"]), in_seconds(it["io_ns"]), in_seconds(it["memory_ns"]),
+            "-" if it["memory_grown_bytes"] is None else f"{it['memory_grown_bytes'] / 2**20:.1f}",
+            "-" if it["scanned_pages"] is None else str(it["scanned_pages"]),
+        ]
+        for it in rows if it["ran_ns"] or it["waited_ns"] or it["io_ns"] or it["memory_ns"]
+    ]  # fmt: skip
+    table(section, f"All of the trace, in s, summed over {facts.blame['processors']} processors", heads, cells[:SHOWN])
+    rest(section, len(cells), "groups")
+
+
+def rest(section: Element, many: int, what: str) -> None:
+    if many > SHOWN:
+        say(section, "p", f"and {many - SHOWN} more {what}", class_="soft")
+
+
+def part_name(group: Optional[str], of: str) -> str:
+    return NOBODY if group is None else f"{group} itself" if group == of else group
+
+
+def parts_table(section: Element, it: dict[str, Any], parts: list[dict[str, Any]], whole: int, caption: str) -> None:
+    """Parts of a group's time, where it has some."""
+    rows = [
+        [part_name(part["group"], it["group"]), in_seconds(part["ns"]), f"{100 * part['ns'] / whole:.1f} %"] for part in parts[:SHOWN]
+    ]
+    if rows:
+        table(section, caption.format(group=it["group"], time=in_seconds(whole)), ["group", "s", "of it"], rows)
+
+
+def matrix(section: Element, facts: Facts) -> None:
+    """Who waited for whom."""
+    waiting = sorted((it for it in facts.blame["groups"] if it["waited_ns"]), key=lambda it: -it["waited_ns"])
+    totals: dict[Optional[str], int] = {}
+    for it in waiting:
+        for part in it["while_ran"]:
+            totals[part["group"]] = totals.get(part["group"], 0) + part["ns"]
+    runners = sorted(totals, key=lambda it: -totals[it])
+    if not waiting:
+        say(section, "p", "No group waited for a processor.")
+        return
+    heads = ["waited", "s", *(NOBODY if it is None else it for it in runners[:SHOWN])] + (["others"] if len(runners) > SHOWN else [])
+    rows = []
+    for it in waiting[:SHOWN]:
+        times = {part["group"]: part["ns"] for part in it["while_ran"]}
+        cells = [times.get(runner, 0) for runner in runners]
+        cells = cells[:SHOWN] + ([sum(cells[SHOWN:])] if len(runners) > SHOWN else [])
+        rows.append([it["group"], in_seconds(it["waited_ns"]), *(in_seconds(cell) if cell else "·" for cell in cells)])
+    table(section, "Who waited for a processor (rows), and who ran there meanwhile (columns), in s", heads, rows)
+    rest(section, len(waiting), "groups waited")
+
+
+def blame(page: Element, facts: Facts) -> None:
+    section = add(page, "section", id="blame")
+    say(section, "h2", "Who waited for whom")
+    say(section, "p", "What ran on a processor is what a group waited for there ", source(facts.blame_run), ".", class_="soft")
+    row = add(section, "div", class_="row")
+    groups_table(add(row, "div"), facts)
+    matrix(add(row, "div"), facts)
+    start, to = facts.worst["from_ns"], facts.worst["to_ns"]
+    say(section, "h3", f"{facts.subject.path} in the worst stretch, {seconds(start)} to {seconds(to)} s ", source(facts.worst_run))
+    row = add(section, "div", class_="row")
+    for it in facts.worst["groups"]:
+        for key, whole, caption in MEANWHILE:
+            parts_table(row, it, it[key], it[whole], caption)
+    text = "“At the same time” is no cause: a trace doesn’t say who kept the disk busy or used up the memory."
+    say(section, "p", text, class_="soft")

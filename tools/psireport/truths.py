@@ -1,0 +1,95 @@
+"""When detectors were true, by psi_oomd itself: rulesets that have one detector each, and kill whenever it is true.
+
+A kill changes nothing else in a replay, and an action that rests for 0 s kills at each evaluation. So where such a ruleset kills, its
+detector was true then. It kills the root, which there is as long as some task is alive: without one nobody can be killed anyway.
+"""
+from __future__ import annotations
+
+import json
+import os
+import tempfile
+from collections.abc import Iterator
+from typing import Any, NamedTuple
+
+from psireplay.lines import Kill, read
+
+from .runs import Runs
+
+# A rules file has so many rulesets at most.
+MOST = 64
+KILL = {"name": "kill_by_memory_size_or_growth", "args": {"cgroup": "/", "post_action_delay": "0"}}
+Detector = dict[str, Any]
+
+
+class Place(NamedTuple):
+    """A ruleset, one of its groups of detectors, a detector of it, by numbers from 0; -1 stands for all. `held` says that its
+    condition is looked at without its duration."""
+
+    ruleset: int
+    group: int = -1
+    detector: int = -1
+    held: bool = False
+
+
+ALWAYS = Place(-1)
+# The moments (ns) of the evaluations at which it was true.
+Truths = dict[Place, list[int]]
+
+
+def without_duration(detector: Detector) -> Detector:
+    return {**detector, "args": {**detector["args"], "duration": "0"}}
+
+
+def has_duration(detector: Detector) -> bool:
+    """Whether the condition must hold for a while; of memory_reclaim it is how long a rise counts."""
+    return detector["name"] != "memory_reclaim" and detector["args"].get("duration", "0") != "0"
+
+
+def questions(rulesets: list[dict[str, Any]]) -> Iterator[tuple[Place, list[list[Any]]]]:
+    """What is asked of psi_oomd: the detectors of a ruleset of its own for each place."""
+    yield ALWAYS, [["always"]]
+    for number, ruleset in enumerate(rulesets):
+        yield Place(number), ruleset["detectors"]
+        for place, (name, *detectors) in enumerate(ruleset["detectors"]):
+            yield Place(number, place), [[name, *detectors]]
+            for which, detector in enumerate(detectors):
+                yield Place(number, place, which), [[name, detector]]
+                if has_duration(detector):
+                    yield Place(number, place, which, True), [[name, without_duration(detector)]]
+
+
+def truths(runs: Runs, rulesets: list[dict[str, Any]], trace: str, pace: list[str]) -> Truths:
+    """When each was true in a trace."""
+    asked = list(questions(rulesets))
+    found: Truths = {place: [] for place, _ in asked}
+    with tempfile.TemporaryDirectory() as folder:
+        for first in range(0, len(asked), MOST):
+            part = asked[first : first + MOST]
+            rules = {"rulesets": [{"name": str(it), "detectors": it[1], "actions": [KILL]} for it in part]}
+            name = os.path.join(folder, "detectors.json")
+            with open(name, "w", encoding="utf-8") as file:
+                json.dump(rules, file)
+            done = runs.program("replay", "--report-s=0", f"--rules={name}", *pace, "--", trace)
+            for line in read(done.lines()):
+                if isinstance(line, Kill):
+                    found[part[line.ruleset][0]].append(line.moment)
+            told = json.dumps(rules)
+            runs.done[-1] = done._replace(words=done.words.replace(name, "DETECTORS.json"), given=told)
+    return found
+
+
+def spans(moments: list[int], evaluations: list[int]) -> list[tuple[int, int]]:
+    """From which evaluation to which it was true at all of them, in ns."""
+    places = {moment: place for place, moment in enumerate(evaluations)}
+    found: list[tuple[int, int]] = []
+    last = -2
+    for moment in moments:
+        place = places[moment]
+        found = [*found[:-1], (found[-1][0], moment)] if place == last + 1 else [*found, (moment, moment)]
+        last = place
+    return found
+
+
+def longest(moments: list[int], evaluations: list[int]) -> int:
+    """For how long it was true at a stretch, in ns."""
+    return max((end - start for start, end in spans(moments, evaluations)), default=0)
