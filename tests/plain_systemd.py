@@ -1,0 +1,211 @@
+"""A plain reading of docs/SYSTEMD.md, which looks at the whole trace anew at each look; and random traces of slices, all of which are
+watched for swap and for memory pressure by one limit."""
+from __future__ import annotations
+
+import random
+import re
+from collections.abc import Iterator
+from dataclasses import dataclass
+
+SECOND = 10**9
+Line = tuple[int, list[str]]
+Decision = tuple[int, "str | None", str]
+
+
+@dataclass
+class State:
+    """What stands at a moment: of each group the number of the line that made it, its sample, what it and gone ones below it scanned,
+    its wish, and whether its account is on; the group of each task; the machine's sample, and how many samples there were."""
+
+    made: dict[str, int]
+    samples: dict[str, list[int]]
+    gone: dict[str, int]
+    wishes: dict[str, str]
+    off: set[str]
+    homes: dict[str, str]
+    host: list[int]
+    count: int
+
+    def below(self, path: str) -> list[str]:
+        return [it for it in self.made if it != "/" and it.rpartition("/")[0] == path.rstrip("/")]
+
+    def sample(self, path: str) -> list[int] | None:
+        """Memory, swap and scans: its own, or the sum of those below."""
+        if path in self.samples or path == "/":
+            return self.samples.get(path)
+        parts = [it for it in map(self.sample, self.below(path)) if it]
+        return [sum(it) for it in zip(*parts, [0, 0, self.gone.get(path, 0)])] if parts else None
+
+    def read(self, path: str) -> list[int] | None:
+        """What systemd-oomd sees of it."""
+        found = self.sample(path)
+        return [found[0] if found else 0, 0, 0] if path == "/" else None if path in self.off else found
+
+    def runs(self, path: str) -> bool:
+        return any(path == "/" or f"{it}/".startswith(f"{path}/") for it in self.homes.values())
+
+    def leaves(self) -> list[str]:
+        return sorted(it for it in self.made if not self.below(it) and self.read(it) is not None)
+
+
+def state_at(lines: list[Line], moment: int) -> State:
+    state, runs = State({"/": 0}, {}, {}, {}, set(), {}, [], 0), "0"
+    for number, (at, (verb, *words)) in enumerate(lines, 1):
+        if at > moment:
+            break
+        if verb == "group":
+            state.made[words[0]] = number
+        elif verb == "rmgroup":
+            last = state.sample(words[0])
+            above = words[0].rpartition("/")[0] or "/"
+            state.gone[above] = state.gone.get(above, 0) + (last[2] if last else state.gone.get(words[0], 0))
+            for kept in (state.made, state.samples, state.gone, state.wishes):
+                kept.pop(words[0], None)  # type: ignore[attr-defined]
+            state.off.discard(words[0])
+        elif verb == "mem":
+            state.samples[words[0]], state.count = [int(it) for it in words[1:]], state.count + 1
+        elif verb == "host":
+            state.host, state.count = [int(it) for it in words], state.count + 1
+        elif verb == "prefer":
+            state.wishes[words[0]] = words[1]
+        elif verb == "pressure":
+            (state.off.discard if words[1] == "on" else state.off.add)(words[0])
+        elif verb in ("fork", "move"):
+            state.homes[words[0]] = words[1]
+        elif verb == "switch":
+            if words[2] == "exit":
+                del state.homes[runs]
+            runs = words[1]
+    return state
+
+
+def first_of(state: State, ranked: list[str]) -> str | None:
+    """The first candidate, if something runs there."""
+    return ranked[0] if ranked and state.runs(ranked[0]) else None
+
+
+def by_swap(lines: list[Line], end: int) -> Iterator[Decision]:
+    """Each 0.15 s, where there is a new sample."""
+    count, was_told = 0, False
+    for now in range(SECOND * 15 // 100, end + 1, SECOND * 15 // 100):
+        state = state_at(lines, now)
+        if state.count == count:
+            continue
+        count, root = state.count, state.samples.get("/")
+        if not state.host or not root:
+            continue
+        memory, swap, free = state.host
+        if max(0, memory - root[0]) >= memory * 1000 // 10000 or free >= swap * 1000 // 10000:
+            was_told = False
+            continue
+        swaps = {path: found[1] for path in state.leaves() if (found := state.read(path)) and found[1] > swap * 5 // 100}
+        victim = first_of(state, sorted(swaps, key=lambda it: (state.wishes.get(it) == "avoid", -swaps[it], it)))
+        if victim or not was_told:
+            yield now, victim, "swap"
+        was_told = victim is None
+
+
+# A group: its path, and when it was made.
+Key = tuple[str, int]
+
+
+def by_pressure(lines: list[Line], end: int, averages: dict[tuple[int, str], int], limit: int, length: int) -> Iterator[Decision]:
+    """Each second."""
+    known: dict[Key, list[int | None]] = {}
+    lost, told, totals, risen = set[Key](), set[Key](), dict[Key, int](), dict[str, int]()
+    count, rests, had = 0, 0, False
+    for now in range(SECOND, end + 1, SECOND):
+        state = state_at(lines, now)
+        reads = {(path, made): found for path, made in state.made.items() if (found := state.read(path))}
+        if state.count != count:
+            count, before = state.count, totals
+            totals = {key: found[2] for key, found in reads.items()}
+            old = {key: before.get(key, total if is_first(lines, key) else 0) for key, total in totals.items()}
+            risen = {key[0]: total - (old[key] if old[key] <= total else 0) for key, total in totals.items()}
+        lost |= {(path, made) for path, made in state.made.items() if path in state.off}
+        watched = {key: found[2] for key, found in reads.items() if key not in lost}
+        known = {key: known.get(key, [None, total if is_first(lines, key) else 0, None]) for key, total in watched.items()}
+        for key, total in watched.items():
+            since, scanned, last = known[key]
+            last = now if total != scanned and (total > (scanned or 0) or total > 0) else last
+            since = (now if since is None else since) if averages[now, key[0]] > limit else None
+            known[key] = [since, total, last]
+            told -= {key} if since is None else set()
+        above = {key: it for key, it in known.items() if it[0] is not None}
+        targets = sorted(key for key, it in above.items() if now - (it[0] or 0) >= length)
+        had_before, had = had, bool(above)
+        if not targets or now < rests:
+            continue
+        had = False
+        for key in targets:
+            last = known[key][2]
+            if last is None or now - last > 30 * SECOND:
+                if key not in told:
+                    yield now, None, "memory pressure"
+                told.add(key)
+                continue
+            had, rests = True, now + 15 * SECOND
+            told.discard(key)
+            yield now, most_scanned(state, key[0], risen if had_before else None), "memory pressure"
+            break
+
+
+def most_scanned(state: State, above: str, risen: dict[str, int] | None) -> str | None:
+    """Whom it chooses below a group, by the scans that are new, or by all where those aren't told."""
+    inside = [it for it in state.leaves() if above == "/" or f"{it}/".startswith(f"{above}/")]
+    found = {it: state.read(it) or [0, 0, 0] for it in inside}
+    ranks = {it: all_[2] if risen is None else risen[it] for it, all_ in found.items() if all_[0] or all_[2]}
+    return first_of(state, sorted(ranks, key=lambda it: (state.wishes.get(it) == "avoid", -ranks[it], -found[it][0], it)))
+
+
+def is_first(lines: list[Line], key: tuple[str, int]) -> bool:
+    """Whether a group was there when the trace began."""
+    return not key[1] or lines[key[1] - 1][0] == 0
+
+
+def decisions(text: str, printed: str, limit: int, length: int) -> list[Decision]:
+    """What is done in a trace, by what psi_oomd printed of it, in order of time."""
+    lines = [(int(it.split()[0]), it.split()[1:]) for it in text.splitlines()[1:-1]]
+    end = int(text.splitlines()[-1].split()[0])
+    found = re.findall(r"^report (\d+) (\S+) memory\nsome .*\nfull avg10=(\d+)\.(\d\d)", printed, re.MULTILINE)
+    averages = {(int(at), path): int(whole + part) for at, path, whole, part in found}
+    return sorted([*by_swap(lines, end), *by_pressure(lines, end, averages, limit, length)], key=lambda it: it[0])
+
+
+def random_trace(seed: int) -> str:
+    """Slices that come and go, with tasks that wait for memory, samples, wishes and accounts, at moments many of which are looks."""
+    draw, moment, scanned, homes = random.Random(seed), 0, {"/": 0}, {}
+    lines, runs, is_stalled, label = ["0 host 1000 1000 500", "0 mem / 500 0 0"], 0, False, 0
+    for _ in range(200):
+        moment += draw.choice((0, 0, 0, SECOND // 4, SECOND // 20 * 3, SECOND))
+        kind, path = draw.random(), draw.choice(list(scanned))
+        inner = f"{path.rstrip('/')}/{draw.choice('ab')}.slice"
+        if kind < 0.15 and inner not in scanned and inner.count("/") < 4:
+            scanned[inner] = 0
+            lines.append(f"{moment} group {inner}")
+        elif kind < 0.2 and path != "/" and not any(it.startswith(path) for it in [*homes.values(), *(set(scanned) - {path})]):
+            del scanned[path]
+            lines.append(f"{moment} rmgroup {path}")
+        elif kind < 0.32:
+            label += 1
+            homes[label] = path
+            lines.append(f"{moment} fork {label} {path} 0")
+        elif kind < 0.4 and homes and not runs:
+            runs = draw.choice(list(homes))
+            lines.append(f"{moment} switch 0 {runs} idle")
+        elif kind < 0.5 and runs and (is_stalled or draw.random() < 0.8):
+            is_stalled = not is_stalled
+            lines.append(f"{moment} {'stall' if is_stalled else 'unstall'} {runs}")
+        elif kind < 0.52 and runs and not is_stalled:
+            lines.append(f"{moment} switch 0 0 exit")
+            runs = homes.pop(runs) and 0
+        elif kind < 0.56 and path != "/":
+            lines.append(f"{moment} pressure {path} {draw.choice(('on', 'off', 'on'))}")
+        elif kind < 0.6:
+            lines.append(f"{moment} prefer {path} {draw.choice(('avoid', 'none', 'prefer'))}")
+        elif kind < 0.68:
+            lines += [f"{moment} host 1000 1000 {draw.choice((0, 50, 99, 100, 500))}", f"{moment} mem / {draw.choice((899, 901, 950))} 0 0"]
+        elif kind < 0.97 and path != "/":
+            scanned[path] += draw.randrange(3)
+            lines.append(f"{moment} mem {path} {draw.randrange(5)} {draw.randrange(200)} {scanned[path]}")
+    return "\n".join(["psitrace 2 cpus=1", *lines, f"{moment + SECOND} end\n"])

@@ -1,0 +1,41 @@
+"""Kills by systemd-oomd, in place of those by a rules file."""
+import functools
+import json
+
+from psirules import telling
+from psirules.program import Kill, Program
+from psirules.replays import Traces
+from psirules.rules_file import RulesFile
+from psirules.wording import Fault
+from psisystemd.replayed import BY, kept_trace, kills_of, replayed, warnings
+from psisystemd.settings import Settings
+
+NAME = "systemd-oomd"
+RULESETS = {"rulesets": [{"name": it, "actions": [{"name": NAME}]} for it in BY]}
+
+
+class BySystemd(RulesFile):
+    """What stands for a rules file: a ruleset of memory pressure and one of swap."""
+
+    def __init__(self, folder: str) -> None:
+        super().__init__(folder, json.dumps(RULESETS).encode())
+
+    def killer(self, kill: Kill) -> str:
+        return f"{NAME} for {self.ruleset_name(kill.ruleset)}"
+
+
+def replay(program: Program, folder: str, version: int | None, trace: str, threads: int) -> list[Kill]:
+    """The kills of a trace by the settings of a folder."""
+    settings = Settings(folder, version)
+    with kept_trace(trace) as file:
+        engine = replayed(program, file, settings, threads)
+    for text in warnings(engine, settings):
+        telling.complain(f"{trace}: {text}")
+    return kills_of(engine.decisions)
+
+
+def replays(program: Program, folder: str, version: int | None, traces: Traces) -> list[list[Kill] | Fault]:
+    """The kills of each trace. A bad setting is a fault of all."""
+    for note in Settings(folder, version).notes:
+        telling.complain(note)
+    return traces.each(functools.partial(replay, program, folder, version))

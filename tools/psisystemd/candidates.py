@@ -1,0 +1,61 @@
+"""Which groups may be killed, and in which order."""
+from __future__ import annotations
+
+from collections.abc import Iterable, Iterator
+
+from psirec.groups import ROOT
+from psisystemd.settings import Settings
+from psisystemd.told import Candidate
+from psisystemd.world import Group, Sample, World
+
+
+def is_below(path: str, above: str) -> bool:
+    """Whether a path is this one or below it."""
+    return above == ROOT or path == above or path.startswith(f"{above}/")
+
+
+def memory_of(group: Group) -> Sample | None:
+    """What is read of a group's memory: of the root neither its swap nor its scans. None where nothing can be read: the group has no
+    memory controller, or its account is off, so that it has no file of pressure."""
+    sample = group.whole_sample()
+    if group.path == ROOT:
+        return Sample(sample.memory if sample else 0, 0, 0)
+    return sample if group.is_accounted else None
+
+
+def leaves(group: Group, settings: Settings) -> Iterator[Group]:
+    """The candidates of a watched group: groups without any below them, and below it those that end as a whole."""
+    if not group.children:
+        yield group
+    for child in group.children.values():
+        if settings.is_whole(child.path):
+            yield child
+        else:
+            yield from leaves(child, settings)
+
+
+def preference(group: Group, settings: Settings, above: str) -> str:
+    """What a candidate asks for, which counts where root owns it, or who owns the watched group."""
+    if settings.owner(group.path) not in (0, settings.owner(above)):
+        return "none"
+    return settings.preference(group.path, group.preference)
+
+
+def gathered(world: World, settings: Settings, watched: Iterable[str], above: str, scanned: dict[str, int]) -> list[Candidate]:
+    """All candidates of the watched groups that are the one above or below it, by their paths. `scanned` has the pages by which
+    they are ranked."""
+    groups = {it.path: it for path in watched if path in world.groups for it in leaves(world.groups[path], settings)}
+    found = []
+    for path, group in sorted(groups.items()):
+        sample = memory_of(group)
+        if sample and is_below(path, above):
+            wish = preference(group, settings, above)
+            nothing = "neither memory nor scans" if not sample.memory and not sample.scanned else ""
+            passed_over = "omit" if wish == "omit" else nothing
+            found.append(Candidate(path, scanned.get(path, 0), sample.memory, sample.swap, wish, passed_over))
+    return found
+
+
+def is_avoided(candidate: Candidate) -> bool:
+    """Whether it comes after all that aren't."""
+    return candidate.preference == "avoid"

@@ -1,0 +1,165 @@
+"""The words of tools/systemd-oomd, and what it prints."""
+from __future__ import annotations
+
+import argparse
+import contextlib
+import itertools
+import json
+import sys
+from collections.abc import Iterator
+
+from psirules.program import Kill, Pace, Program, processors
+from psirules.replays import accepted
+from psirules.rules_file import RulesFile
+from psirules.wording import Fault, seconds
+from psisystemd.engine import Engine
+from psisystemd.replayed import kept_trace, replayed, warnings
+from psisystemd.settings import Settings
+from psisystemd.told import SWAP, Decision
+from psisystemd.values import percent
+
+TOLD, NOT_RUN = 0, 2
+ABOUT = """Says whom systemd-oomd would have killed in TRACE, when and why, by the settings of a machine.
+
+  tools/systemd-oomd incident.trace --settings incident/systemd
+
+FOLDER is what tools/record stored as `systemd` in a recording, or a folder of files as they stand on a machine from its root
+on: etc/systemd/oomd.conf.d/*.conf, usr/lib/systemd/system/user@.service.d/*.conf and so on, merged as systemd does."""
+STATUS = """A kill changes nothing, as in `psi_oomd replay`: what stands after the first supposes that it freed nothing.
+
+The status is 0 where all was printed, and 2 where something couldn't be run: a wrong word, a bad setting, a trace that psi_oomd
+refuses."""
+
+
+class Words(argparse.ArgumentParser):
+    """Words that aren't those of the command are a fault."""
+
+    def error(self, message: str) -> None:  # type: ignore[override]
+        raise Fault(f"{message}\n{self.format_usage()}".rstrip())
+
+
+def version(word: str) -> int:
+    """A version of systemd."""
+    if not (word.isascii() and word.isdigit() and 247 <= int(word) <= 9999):
+        raise argparse.ArgumentTypeError(f"{word} is no version of systemd from 247 on, such as 252")
+    return int(word)
+
+
+def interval(word: str) -> int:
+    """Seconds between evaluations of rules."""
+    if not (word.isascii() and word.isdigit() and 1 <= int(word) <= 3600):
+        raise argparse.ArgumentTypeError(f"{word} is no whole number from 1 to 3600")
+    return int(word)
+
+
+def parser() -> Words:
+    form = argparse.RawDescriptionHelpFormatter
+    words = Words(prog="systemd-oomd", description=ABOUT, epilog=STATUS, formatter_class=form, allow_abbrev=False)
+    add = words.add_argument
+    add("trace", metavar="TRACE", help="a trace, or - for the standard input")
+    add("--settings", metavar="FOLDER", required=True, help="the settings of a machine")
+    add("--systemd", metavar="N", type=version, help="by which version of systemd; that of the recording, or 257, if left out")
+    add("--compare", metavar="FILE", help="print the kills by these rules of oomd's form too")
+    add("--interval-s", metavar="N", type=interval, help="with --compare: the interval of evaluations, as of `psi_oomd replay`")
+    add("--all", dest="is_all", action="store_true", help="print each candidate that isn't chosen")
+    add("--json", dest="is_json", action="store_true", help="print it as JSON")
+    return words
+
+
+def complain(text: str) -> None:
+    print(f"systemd-oomd: {text}", file=sys.stderr)
+
+
+class Compared:
+    """The kills by rules of oomd's form."""
+
+    def __init__(self, name: str, rules: RulesFile, kills: list[Kill]) -> None:
+        self.name, self.rules, self.kills = name, rules, kills
+
+    def line(self, kill: Kill) -> str:
+        return f"{seconds(kill.moment)} s  by {self.name}: would kill {kill.path}, {self.rules.killer(kill)}"
+
+    def verdict(self, own: list[Decision]) -> str:
+        """How the first kills differ."""
+        one, other = (own[0] if own else None), (self.kills[0] if self.kills else None)
+        if not one or not other:
+            who = "systemd-oomd" if one else self.name if other else "neither"
+            return f"first kill: by {who} alone" if one or other else "no kill by either"
+        apart = other.moment - one.moment
+        when = "at the same moment" if not apart else f"{seconds(abs(apart))} s {'later' if apart > 0 else 'earlier'} by {self.name}"
+        return f"first kill: {'the same victim' if one.victim == other.path else 'another victim'}, {when}"
+
+
+def compared(program: Program, name: str, trace: str, interval_s: int | None) -> Compared:
+    """The trace by a rules file."""
+    with contextlib.ExitStack() as files:
+        rules, file = accepted(program, name, files)
+        return Compared(name, rules, program.replay(trace, file, Pace(None, interval_s), processors()))
+
+
+def told_decisions(decisions: list[Decision], is_all: bool) -> Iterator[tuple[int, list[str]]]:
+    """The decisions by their moments, in lines. A group that is killed for swap again, look for look, is told once."""
+    for _, same in itertools.groupby(decisions, key=lambda it: (it.by, it.victim, it.by == SWAP or it.moment)):
+        first, *others = same
+        lines = first.lines(is_all)
+        if others:
+            gap = lines[-1][: len(lines[-1]) - len(lines[-1].lstrip())]
+            lines.append(f"{gap}again at {len(others)} looks that found new samples, up to {seconds(others[-1].moment)} s")
+        yield first.moment, lines
+
+
+def tell_lines(engine: Engine, other: Compared | None, is_all: bool) -> None:
+    """For people: what was done in order of time, and how near the limits came."""
+    told = [(moment, 0, lines) for moment, lines in told_decisions(engine.decisions, is_all)]
+    told += [(it.moment, 1, [other.line(it)]) for it in other.kills] if other else []
+    for _, _, lines in sorted(told, key=lambda it: it[:2]):
+        print("\n".join(lines))
+    kills = list(engine.kills())
+    if not kills:
+        print("nobody would be killed")
+    if other:
+        print(other.verdict(kills))
+    for course in sorted(engine.pressure.courses.values(), key=lambda it: it.path):
+        print(f"watched for memory pressure: {course.told()}")
+    if not engine.pressure.courses:
+        print("watched for memory pressure: no group of the trace")
+    swap, memory, moment = engine.swap.most
+    if engine.swap.was_watched and engine.swap.is_absent:
+        print("watched for swap: the machine has none")
+    elif swap >= 0:
+        limit = percent(engine.swap.settings.limits.swap_used)
+        print(f"watched for swap: at most {percent(swap)} used, at {seconds(moment)} s, with {percent(memory)} of memory; limit {limit}")
+
+
+def tell_json(engine: Engine, other: Compared | None, given: argparse.Namespace, settings: Settings) -> None:
+    """For programs."""
+    swap, memory, moment = engine.swap.most
+    told: dict[str, object] = {
+        "trace": given.trace,
+        "settings": given.settings,
+        "systemd": settings.version,
+        "decisions": [it.record() for it in engine.decisions],
+        "watched": [it.record() for it in engine.pressure.courses.values()],
+        "swap": {"most_percent": swap / 100, "memory_percent": memory / 100, "at_ns": moment} if swap >= 0 else None,
+        "compared": other and {"rules": other.name, "kills": [other.rules.record(it) for it in other.kills]},
+    }
+    json.dump(told, sys.stdout, indent=1)
+    print()
+
+
+def run(given: argparse.Namespace) -> int:
+    if given.interval_s and not given.compare:
+        raise Fault("--interval-s is of the rules of --compare: systemd-oomd looks each second")
+    settings = Settings(given.settings, given.systemd)
+    program = Program()
+    program.prepare()
+    with kept_trace(given.trace) as trace:
+        engine = replayed(program, trace, settings, processors())
+        other = compared(program, given.compare, trace, given.interval_s) if given.compare else None
+    for text in [*settings.notes, *warnings(engine, settings)]:
+        complain(text)
+    if given.is_json:
+        tell_json(engine, other, given, settings)
+    else:
+        tell_lines(engine, other, given.is_all)
+    return TOLD

@@ -1,0 +1,248 @@
+"""systemd-oomd's rule: what it looks at, when, and whom it chooses.
+
+It follows what systemd 252 and 257 do, which is one rule: they differ in settings alone. Each second it looks at the pressure of
+groups, and each 0.15 s at the machine's swap. docs/SYSTEMD.md has what is otherwise here.
+"""
+from __future__ import annotations
+
+from collections.abc import Iterable
+from dataclasses import dataclass, replace
+
+from psirec.groups import ROOT
+from psirules.wording import seconds
+from psisystemd.candidates import gathered, is_avoided, memory_of
+from psisystemd.settings import Settings
+from psisystemd.told import MEMORY_PRESSURE, SWAP, Candidate, Course, Decision, size
+from psisystemd.values import SECOND, WHOLE, percent
+from psisystemd.world import Group, World
+
+SWAP_INTERVAL = 150 * SECOND // 1000
+RECLAIM = 30 * SECOND
+"""For so long a scan counts."""
+PAUSE = 15 * SECOND
+LEAST_SWAP_PERCENT = 5
+
+
+@dataclass
+class Look:
+    """What is kept of a watched group from look to look: since when it is above its limit, how many pages were scanned at the look
+    before, and when a scan was seen last."""
+
+    group: Group
+    limit: int
+    duration: int
+    since: int | None = None
+    scanned: int = 0
+    last_scan: int | None = None
+    is_told: bool = False
+
+
+class Scans:
+    """How many pages each group scanned between the two last samples. A look that finds no new sample keeps what the one before
+    it found."""
+
+    def __init__(self) -> None:
+        self.samples = 0
+        self.moments = (0, 0)
+        self.totals: dict[Group, int] = {}
+        self.risen: dict[str, int] = {}
+
+    def take(self, now: int, world: World) -> None:
+        """Looks."""
+        if world.samples == self.samples:
+            return
+        self.samples = world.samples
+        self.moments = (self.moments[1], now)
+        before, self.totals, self.risen = self.totals, {}, {}
+        for group in world.groups.values():
+            sample = memory_of(group)
+            if sample:
+                self.totals[group] = sample.scanned
+                # What a group had scanned when the trace began isn't known to be new.
+                old = before.get(group, sample.scanned if group.made == 0 else 0)
+                self.risen[group.path] = sample.scanned - (old if old <= sample.scanned else 0)
+
+    def span(self) -> str:
+        return f" in {seconds(self.moments[1] - self.moments[0])} s"
+
+
+class PressureRule:
+    """The rule of memory pressure."""
+
+    def __init__(self, world: World, settings: Settings) -> None:
+        self.world, self.settings = world, settings
+        self.looks: dict[str, Look] = {}
+        self.lost: set[Group] = set()
+        self.unread: set[str] = set()
+        """Watched groups that had no sample of memory at some look."""
+        self.courses: dict[str, Course] = {}
+        self.scans = Scans()
+        self.has_candidates = False
+        self.rests_until = 0
+
+    def look(self, now: int, averages: dict[str, int]) -> list[Decision]:
+        """What is done at this moment, by each group's full memory pressure over 10 s in hundredths of a percent."""
+        self.scans.take(now, self.world)
+        self.update(now, averages)
+        above = [it for it in self.looks.values() if it.since is not None]
+        targets = sorted((it for it in above if now - (it.since or 0) >= it.duration), key=lambda it: it.group.path)
+        had, self.has_candidates = self.has_candidates, bool(above)
+        if not targets or now < self.rests_until:
+            return []
+        decisions = []
+        self.has_candidates = False
+        for target in targets:
+            if target.last_scan is None or now - target.last_scan > RECLAIM:
+                decisions += self.told_once(now, target, averages)
+                continue
+            self.has_candidates = True
+            self.rests_until = now + PAUSE
+            target.is_told = False
+            return [*decisions, self.decided(now, target, averages, had)]
+        return decisions
+
+    def update(self, now: int, averages: dict[str, int]) -> None:
+        """Reads the watched groups. One whose account was off isn't watched any more until it is made again."""
+        before, self.looks = self.looks, {}
+        for path, group in self.world.groups.items():
+            watched = self.settings.watched(path)
+            if not watched.pressure:
+                continue
+            sample = memory_of(group)
+            if not group.is_accounted:
+                self.lost.add(group)
+            elif sample is None:
+                self.unread.add(path)
+            if sample is None or group in self.lost:
+                continue
+            look = before.get(path)
+            if not look or look.group is not group:
+                look = Look(group, watched.limit, watched.duration, scanned=sample.scanned if group.made == 0 else 0)
+            self.looks[path] = look
+            if sample.scanned != look.scanned and (sample.scanned > look.scanned or sample.scanned > 0):
+                look.last_scan = now
+            look.scanned = sample.scanned
+            self.judge(now, look, averages[path])
+
+    def judge(self, now: int, look: Look, pressure: int) -> None:
+        """Whether it is above its limit, and since when."""
+        if pressure > look.limit:
+            look.since = now if look.since is None else look.since
+        else:
+            look.since, look.is_told = None, False
+        path = look.group.path
+        self.courses.setdefault(path, Course(path, look.limit, look.duration)).take(now, pressure, look.since)
+
+    def why(self, now: int, target: Look, averages: dict[str, int]) -> str:
+        path = target.group.path
+        pressure = f"{percent(averages[path])} > {percent(target.limit)}"
+        return f"memory pressure of {path} {pressure} for {seconds(now - (target.since or 0))} s"
+
+    def told_once(self, now: int, target: Look, averages: dict[str, int]) -> list[Decision]:
+        """That nothing was scanned, where it is the first look at which that holds somebody back."""
+        if target.is_told:
+            return []
+        target.is_told = True
+        reason = "the root's scans aren't looked at" if target.group.path == ROOT else f"no scan was seen for {seconds(RECLAIM)} s"
+        why = f"{self.why(now, target, averages)}; but {reason}"
+        return [Decision(now, None, MEMORY_PRESSURE, target.group.path, why)]
+
+    def decided(self, now: int, target: Look, averages: dict[str, int], had_candidates: bool) -> Decision:
+        """Whom it kills, or why nobody. Where candidates weren't looked at before, all that they ever scanned counts."""
+        path = target.group.path
+        scanned = self.scans.risen if had_candidates else self.ever_scanned()
+        found = gathered(self.world, self.settings, self.looks, path, scanned)
+        ranked = sorted(found, key=lambda it: (it.preference == "omit", is_avoided(it), -it.scanned, -it.memory, it.path))
+        span = self.scans.span() if had_candidates else " ever"
+        why = self.why(now, target, averages)
+        return chosen(self.world, Decision(now, None, MEMORY_PRESSURE, path, why, ranked, span))
+
+    def ever_scanned(self) -> dict[str, int]:
+        samples = {path: memory_of(group) for path, group in self.world.groups.items()}
+        return {path: it.scanned for path, it in samples.items() if it}
+
+
+class SwapRule:
+    """The rule of swap."""
+
+    def __init__(self, world: World, settings: Settings) -> None:
+        self.world, self.settings = world, settings
+        self.samples = 0
+        self.is_told = False
+        self.most = (-1, -1, 0)
+        """The greatest share of swap that was used, the share of memory at that moment, and the moment (ns)."""
+        self.was_watched = self.is_absent = False
+
+    def is_due(self) -> bool:
+        """Whether a look would find a new sample; without one it finds what the look before found."""
+        return self.world.samples != self.samples
+
+    def look(self, now: int) -> list[Decision]:
+        """What is done at this moment."""
+        self.samples = self.world.samples
+        watched = [path for path in self.world.groups if self.settings.watched(path).swap]
+        host, root = self.world.host, self.world.groups[ROOT].sample
+        self.was_watched = self.was_watched or bool(watched)
+        self.is_absent = host is not None and host.swap == 0
+        if not watched or not host or not host.swap or not root:
+            return []
+        limit = self.settings.limits.swap_used
+        available, used = max(0, host.memory - root.memory), host.swap - host.swap_free
+        memory = (host.memory - available) * WHOLE // host.memory if host.memory else 0
+        shares = (used * WHOLE // host.swap, memory)
+        self.most = max(self.most, (*shares, now), key=lambda it: it[:2])
+        left = WHOLE - limit
+        if not (available < host.memory * left // WHOLE and host.swap_free < host.swap * left // WHOLE):
+            self.is_told = False
+            return []
+        found = gathered(self.world, self.settings, watched, ROOT, {})
+        least = host.swap * LEAST_SWAP_PERCENT // 100
+        little = f"not above {LEAST_SWAP_PERCENT} % of swap"
+        judged = [replace(it, passed_over="omit" if it.preference == "omit" else little if it.swap <= least else "") for it in found]
+        ranked = sorted(judged, key=lambda it: (it.preference == "omit", is_avoided(it), -it.swap, it.path))
+        why = f"memory used {percent(shares[1])} and swap used {percent(shares[0])} of {size(host.swap)}, both > {percent(limit)}"
+        decision = chosen(self.world, Decision(now, None, SWAP, ROOT, why, ranked))
+        was_told, self.is_told = self.is_told, decision.victim is None
+        return [] if was_told and self.is_told else [decision]
+
+
+def chosen(world: World, decision: Decision) -> Decision:
+    """With the first candidate that isn't passed over as the victim. Where nothing runs in it, nobody is killed, and it is passed
+    over for no other."""
+    first: Candidate | None = next((it for it in decision.candidates if not it.passed_over), None)
+    if not first:
+        return replace(decision, why=f"{decision.why}; but there is no candidate")
+    if not world.groups[first.path].has_tasks():
+        return replace(decision, why=f"{decision.why}; but in {first.path}, which it would choose, nothing runs")
+    return replace(decision, victim=first.path)
+
+
+class Engine:
+    """Both rules over a trace."""
+
+    def __init__(self, settings: Settings) -> None:
+        self.world = World()
+        self.pressure, self.swap = PressureRule(self.world, settings), SwapRule(self.world, settings)
+        self.decisions: list[Decision] = []
+        self.next_look = SWAP_INTERVAL
+
+    def look_at_swap(self, until: int) -> None:
+        """The looks at swap before a moment (ns) that find something new: the first of them, since others find the same."""
+        if self.next_look < until:
+            if self.swap.is_due():
+                self.decisions += self.swap.look(self.next_look)
+            self.next_look = -(-until // SWAP_INTERVAL) * SWAP_INTERVAL
+
+    def take(self, moment: int, verb: str, fields: list[str]) -> None:
+        """A line of the trace. Looks before its moment don't see it."""
+        self.look_at_swap(moment)
+        self.world.take(moment, verb, fields)
+
+    def look_at_pressure(self, now: int, averages: dict[str, int]) -> None:
+        """At a second, after the lines of its moment."""
+        self.look_at_swap(now + 1)
+        self.decisions += self.pressure.look(now, averages)
+
+    def kills(self) -> Iterable[Decision]:
+        """The decisions by which somebody is killed."""
+        return (it for it in self.decisions if it.victim is not None)

@@ -1,0 +1,83 @@
+"""What oomd.conf and its drop-in files say: the limits for all."""
+from __future__ import annotations
+
+import difflib
+import os
+from dataclasses import dataclass, replace
+
+from psirec.systemd_settings import CONFIGURATIONS
+from psisystemd.texts import Setting, drop_ins, settings_of
+from psisystemd.values import SECOND, duration, share
+
+SHARE = "a percentage such as 60%, from 0% to 100%, with at most two decimals"
+DURATION = "a time of at least 1 s, such as 20s or 1min 30s"
+SECTION = "OOM"
+# From this version on oomd.conf is looked for below /run and /usr too.
+MAIN_ANYWHERE = 256
+
+
+@dataclass(frozen=True)
+class Limits:
+    """Shares in hundredths of a percent, and ns."""
+
+    swap_used: int = 9000
+    pressure: int = 6000
+    duration: int = 30 * SECOND
+    places: tuple[tuple[str, str], ...] = ()
+    """Which settings are given, and where."""
+
+    def changed(self, setting: Setting) -> Limits:
+        """With this setting."""
+        if setting.name == "DefaultMemoryPressureDurationSec":
+            return self.put(setting, "duration", checked_duration(setting) or Limits.duration)
+        found = share(setting.value)
+        if found is None:
+            raise setting.fault(SHARE)
+        return self.put(setting, NAMES[setting.name], found)
+
+    def put(self, setting: Setting, field: str, value: int) -> Limits:
+        places = tuple({**dict(self.places), setting.name: setting.place}.items())
+        return replace(self, **{field: value}, places=places)
+
+
+NAMES = {"SwapUsedLimit": "swap_used", "DefaultMemoryPressureLimit": "pressure", "DefaultMemoryPressureDurationSec": "duration"}
+
+
+def checked_duration(setting: Setting) -> int | None:
+    """The ns of a time of at least a second; none where it is empty or 0, which stand for what is the default there."""
+    if not setting.value:
+        return None
+    found = duration(setting.value)
+    if found == 0:
+        return None
+    if found is None or found < SECOND:
+        raise setting.fault(DURATION)
+    return found
+
+
+def unknown(setting: Setting, names: list[str], where: str) -> str:
+    """That systemd knows no such setting there."""
+    meant = difflib.get_close_matches(setting.name, names, 1)
+    guess = f"; did you mean {meant[0]}?" if meant else ""
+    return f"{setting.place}: there is no setting {setting.name} in {where}, so it is passed over{guess}"
+
+
+def configurations(root: str, version: int) -> list[str]:
+    """oomd.conf and its drop-in files, the one that counts last at the end."""
+    mains = [os.path.join(root, it, "oomd.conf") for it in CONFIGURATIONS]
+    main = [it for it in (mains if version >= MAIN_ANYWHERE else mains[:1]) if os.path.exists(it)]
+    return main[:1] + drop_ins(root, [f"{it}/oomd.conf.d" for it in CONFIGURATIONS])
+
+
+def read_limits(root: str, version: int, notes: list[str]) -> Limits:
+    """The limits of a folder of files. What is passed over goes to the notes."""
+    limits = Limits()
+    for path in configurations(root, version):
+        for setting in settings_of(path):
+            if setting.section != SECTION:
+                notes.append(f"{setting.place}: {setting.name} stands in [{setting.section}], and means nothing outside of [{SECTION}]")
+            elif setting.name in NAMES:
+                limits = limits.changed(setting)
+            else:
+                notes.append(unknown(setting, list(NAMES), "oomd.conf"))
+    return limits

@@ -1,0 +1,125 @@
+"""A trace by systemd-oomd's rule: psi_oomd replays it, and says what its pressure is each second."""
+from __future__ import annotations
+
+import contextlib
+import itertools
+import shutil
+import sys
+import tempfile
+from collections.abc import Iterable, Iterator
+from dataclasses import dataclass
+
+from psireplay.command import Fault as ReplayFault
+from psireplay.lines import Report, read
+from psirec.groups import ROOT
+from psirules.program import Kill, Program, Refusal
+from psirules.wording import Fault, listed
+from psisystemd.engine import Engine
+from psisystemd.settings import Settings
+from psisystemd.told import MEMORY_PRESSURE, SWAP, Decision
+from psisystemd.world import lines_of
+
+LOOK_MS = 1000
+BY = (MEMORY_PRESSURE, SWAP)
+"""By what is killed, by number, as rulesets have them."""
+
+
+@contextlib.contextmanager
+def kept_trace(name: str) -> Iterator[str]:
+    """The file of a trace, which is read twice: the standard input is kept in one meanwhile."""
+    if name != "-":
+        yield name
+        return
+    with tempfile.NamedTemporaryFile(prefix="psisystemd-", suffix=".trace") as file:
+        shutil.copyfileobj(sys.stdin.buffer, file)
+        file.flush()
+        yield file.name
+
+
+@dataclass(frozen=True)
+class Second:
+    """A look: its moment (ns), and the full memory pressure over 10 s of the groups that are watched for it, in hundredths of a
+    percent."""
+
+    moment: int
+    averages: dict[str, int]
+
+
+def kept(printed: Iterable[bytes], settings: Settings) -> Iterator[bytes]:
+    """The lines without the reports that no look needs: those of other resources, and of groups that aren't watched. The root's
+    stand at each second."""
+    is_kept = True
+    for line in printed:
+        if line[:5] not in (b"some ", b"full "):
+            words = line.split(b" ")
+            is_kept = words[0] != b"report" or words[3] == b"memory\n" and is_needed(words[2].decode("latin-1"), settings)
+        if is_kept:
+            yield line
+
+
+def is_needed(path: str, settings: Settings) -> bool:
+    return path == ROOT or settings.watched(path).pressure
+
+
+def seconds_of(printed: Iterable[bytes], settings: Settings) -> Iterator[Second]:
+    """The looks of a replay."""
+    reports = (it for it in read(kept(printed, settings)) if isinstance(it, Report))
+    for moment, of_moment in itertools.groupby(reports, key=lambda it: it.moment):
+        yield Second(moment, {it.path: it.full.avg10 for it in of_moment})
+
+
+def decide(engine: Engine, trace: str, seconds: Iterator[Second]) -> None:
+    """Takes the trace's lines and the looks, one after another by their moments."""
+    with open(trace, "rb") as file:
+        lines = lines_of(file)
+        line = next(lines, None)
+        for second in seconds:
+            while line and line[0] <= second.moment:
+                engine.take(*line)
+                line = next(lines, None)
+            engine.look_at_pressure(second.moment, second.averages)
+        while line:
+            engine.take(*line)
+            line = next(lines, None)
+
+
+def replayed(program: Program, trace: str, settings: Settings, threads: int) -> Engine:
+    """What systemd-oomd would have done in a trace by these settings, or a fault."""
+    words = ["replay", f"--tick-ms={LOOK_MS}", "--report-s=1", f"--workers={min(threads, 64)}", "--", trace]
+    engine = Engine(settings)
+    with tempfile.TemporaryFile() as said:
+        with program.started(words, said) as child:
+            assert child.stdout is not None
+            first = child.stdout.readline()
+            if first:
+                try:
+                    decide(engine, trace, seconds_of(itertools.chain([first], child.stdout), settings))
+                except ReplayFault as fault:
+                    raise Fault(str(fault)) from fault
+        if child.returncode:
+            said.seek(0)
+            raise Refusal(trace, said.read(4096).decode("utf-8", "replace").strip(), child.returncode)
+        if not first:
+            raise Fault(f"{program.path} printed no replay: let the variable PSI_OOMD name a psi_oomd")
+    return engine
+
+
+def kills_of(decisions: Iterable[Decision]) -> list[Kill]:
+    """The kills as replays have them: what it was by stands for the ruleset."""
+    return [Kill(it.moment, BY.index(it.by), 0, it.victim) for it in decisions if it.victim is not None]
+
+
+def warnings(engine: Engine, settings: Settings) -> list[str]:
+    """What the trace or the settings don't have, by which nothing could be killed."""
+    found = []
+    pressure, swap = engine.pressure, engine.swap
+    unread = sorted(pressure.unread - set(pressure.courses))
+    if unread:
+        found.append(f"the trace has no sample of the memory of {listed(unread)}: what is watched there isn't known")
+    elif not (pressure.courses or swap.was_watched):
+        found.append("no group of the trace is watched: no unit of the settings with `kill` is one of its groups")
+    if ROOT in pressure.courses:
+        found.append("/ is watched for memory pressure, by which systemd-oomd never kills: it doesn't look at the root's scans")
+    if swap.was_watched and swap.most[0] < 0 and not swap.is_absent:
+        found.append("swap can't be judged: the trace has no `host` line, or no `mem` line of /")
+    return found

@@ -1,0 +1,95 @@
+"""Texts of settings: what systemd.syntax(7) says of sections, settings, comments and long lines."""
+from __future__ import annotations
+
+import os
+import re
+from collections.abc import Iterator
+from dataclasses import dataclass
+
+from psirules.wording import Fault, quoted
+
+
+@dataclass(frozen=True)
+class Setting:
+    """A setting, the section in which it stands, and its file and line."""
+
+    place: str
+    section: str
+    name: str
+    value: str
+
+    def fault(self, wanted: str) -> Fault:
+        """That its value isn't what it has to be."""
+        return Fault(f"{self.place}: {self.name} is {quoted(self.value)}: it has to be {wanted}")
+
+
+def bytes_at(path: str) -> bytes:
+    """The bytes of a file."""
+    try:
+        with open(path, "rb") as file:
+            return file.read()
+    except OSError as fault:
+        raise Fault(f"{path}: {fault.strerror}") from fault
+
+
+def text_at(path: str) -> str:
+    """The text of a file, which has to be UTF-8."""
+    data = bytes_at(path)
+    try:
+        return data.decode("utf-8")
+    except UnicodeDecodeError as fault:
+        line = data.count(b"\n", 0, fault.start) + 1
+        raise Fault(f"{path} line {line}: it isn't UTF-8") from fault
+
+
+def whole_lines(text: str) -> Iterator[tuple[int, str]]:
+    """Each line with its number from 1, without comments and empty lines; one that ends in a backslash goes on in the next, and
+    comments between don't end it."""
+    begun: tuple[int, str] | None = None
+    for number, line in enumerate(text.split("\n"), 1):
+        if line.lstrip()[:1] in ("#", ";"):
+            continue
+        first, front = begun or (number, "")
+        if line.endswith("\\"):
+            begun = (first, front + line[:-1] + " ")
+            continue
+        begun = None
+        if (front + line).strip():
+            yield first, (front + line).strip()
+    if begun and begun[1].strip():
+        yield begun[0], begun[1].strip()
+
+
+def settings_of(path: str) -> Iterator[Setting]:
+    """The settings of a file, in order. A line that is none is a fault."""
+    section = ""
+    for number, line in whole_lines(text_at(path)):
+        place = f"{path} line {number}"
+        if line.startswith("["):
+            if not re.fullmatch(r"\[[^\]\[]+\]", line):
+                raise Fault(f"{place}: {quoted(line)} is no section: write [OOM], or [Slice]")
+            section = line[1:-1]
+            continue
+        name, is_there, value = line.partition("=")
+        if not is_there or not name.strip():
+            raise Fault(f"{place}: {quoted(line)} is no setting: write NAME=VALUE")
+        if not section:
+            raise Fault(f"{place}: {name.strip()} stands before any section, so it is passed over: write [OOM], or [Slice], above")
+        yield Setting(place, section, name.strip(), value.strip())
+
+
+def drop_ins(root: str, folders: list[str]) -> list[str]:
+    """The drop-in files in these folders, of which the first counts where several have a file of one name, in the order of their
+    names. One that is empty, or leads to /dev/null, only hides the others."""
+    found: dict[str, str] = {}
+    for folder in folders:
+        try:
+            names = os.listdir(os.path.join(root, folder))
+        except (FileNotFoundError, NotADirectoryError):
+            continue
+        except OSError as fault:
+            raise Fault(f"{os.path.join(root, folder)}: {fault.strerror}") from fault
+        for name in names:
+            if name.endswith(".conf"):
+                found.setdefault(name, os.path.join(root, folder, name))
+    return [found[name] for name in sorted(found)]

@@ -1,0 +1,109 @@
+"""What comes of it: kills, why nobody was killed, and how near the limits came."""
+from __future__ import annotations
+
+from dataclasses import dataclass, field
+
+from psirules.wording import seconds
+from psisystemd.values import percent
+
+MEMORY_PRESSURE, SWAP = "memory pressure", "swap"
+MOST_TOLD = 4
+UNITS = ((1 << 30, "G"), (1 << 20, "M"), (1 << 10, "K"))
+
+
+def size(count: int) -> str:
+    """So many bytes, with one decimal of a unit."""
+    for unit, letter in UNITS:
+        if count >= unit:
+            return f"{count / unit:.1f}{letter}"
+    return str(count)
+
+
+@dataclass(frozen=True)
+class Candidate:
+    """A group that could be chosen: pages scanned in the time by which it is ranked, bytes of memory and swap, and what it asks for.
+    `passed_over` says why it wasn't chosen, if not for its rank alone."""
+
+    path: str
+    scanned: int
+    memory: int
+    swap: int
+    preference: str
+    passed_over: str = ""
+
+    def told(self, by: str, span: str) -> str:
+        """By what it was ranked."""
+        rank = f"scanned {self.scanned} pages{span}, memory {size(self.memory)}" if by == MEMORY_PRESSURE else f"swap {size(self.swap)}"
+        return ", ".join(filter(None, [rank, self.passed_over or ("avoid" if self.preference == "avoid" else "")]))
+
+
+@dataclass(frozen=True)
+class Decision:
+    """What is done at a moment (ns): whom it kills, or none, by what, the watched group, why, and all candidates by their ranks.
+    `span` says in which time pages were counted."""
+
+    moment: int
+    victim: str | None
+    by: str
+    watched: str
+    why: str
+    candidates: list[Candidate] = field(default_factory=list)
+    span: str = ""
+
+    def lines(self, is_all: bool) -> list[str]:
+        """For people."""
+        when = f"{seconds(self.moment)} s"
+        gap = " " * (len(when) + 2)
+        chosen = next((it for it in self.candidates if it.path == self.victim), None)
+        others = [it for it in self.candidates if it is not chosen]
+        shown = others if is_all else others[:MOST_TOLD]
+        told = [f"{when}  would kill {self.victim}" if self.victim else f"{when}  would kill nobody", f"{gap}{self.why}"]
+        if chosen:
+            told.append(f"{gap}chosen: {chosen.told(self.by, self.span)}")
+        told += [f"{gap}not {it.path}: {it.told(self.by, self.span)}" for it in shown]
+        if others[len(shown) :]:
+            told.append(f"{gap}not {len(others) - len(shown)} more, which --all shows")
+        return told
+
+    def record(self) -> dict[str, object]:
+        """For programs."""
+        candidates = [
+            {"path": it.path, "scanned": it.scanned, "memory": it.memory, "swap": it.swap, "preference": it.preference,
+             "passed_over": it.passed_over or None}
+            for it in self.candidates
+        ]  # fmt: skip
+        return {
+            "moment_ns": self.moment, "victim": self.victim, "by": self.by, "watched": self.watched, "why": self.why,
+            "candidates": candidates,
+        }  # fmt: skip
+
+
+@dataclass
+class Course:
+    """How near a watched group came: its limit, the greatest pressure (hundredths of a percent) and when (ns), and for how long at
+    most it was above."""
+
+    path: str
+    limit: int
+    duration: int
+    most: int = -1
+    most_at: int = 0
+    longest: int | None = None
+
+    def take(self, moment: int, pressure: int, since: int | None) -> None:
+        """The pressure at a moment, and since when it is above its limit."""
+        if pressure > self.most:
+            self.most, self.most_at = pressure, moment
+        if since is not None:
+            self.longest = max(self.longest or 0, moment - since)
+
+    def told(self) -> str:
+        above = "never above it" if self.longest is None else f"above it for {seconds(self.longest)} s at most"
+        limits = f"limit {percent(self.limit)} for {seconds(self.duration)} s"
+        return f"{self.path}: at most {percent(self.most)}, at {seconds(self.most_at)} s; {limits}, {above}"
+
+    def record(self) -> dict[str, object]:
+        return {
+            "path": self.path, "limit_percent": self.limit / 100, "duration_ns": self.duration, "most_percent": self.most / 100,
+            "most_at_ns": self.most_at, "longest_above_ns": self.longest,
+        }  # fmt: skip

@@ -1,0 +1,204 @@
+"""What units say of systemd-oomd: by their files and drop-in files as systemd merges them, and by `systemctl show`."""
+from __future__ import annotations
+
+import os
+import re
+from collections.abc import Iterator
+from dataclasses import dataclass, field, replace
+from typing import TypeVar
+
+from psirec.layout import escaped_path
+from psirec.systemd_settings import SYSTEM_UNITS, USER_UNITS
+from psirules.wording import Fault
+from psisystemd.limits import DURATION, SHARE, checked_duration, unknown
+from psisystemd.texts import Setting, drop_ins, settings_of, text_at
+from psisystemd.values import SECOND, duration, share, share_of_scale
+
+TYPES = ("service", "slice", "scope")
+"""The types of units that may have such settings."""
+SECTIONS = {"service": "Service", "slice": "Slice", "scope": "Scope"}
+MODES = {"auto": False, "kill": True}
+PREFERENCES = ("none", "avoid", "omit")
+SWAP, PRESSURE = "ManagedOOMSwap", "ManagedOOMMemoryPressure"
+LIMIT, DURATION_OF_UNIT = "ManagedOOMMemoryPressureLimit", "ManagedOOMMemoryPressureDurationSec"
+PREFERENCE, POLICY = "ManagedOOMPreference", "OOMPolicy"
+NAMES = (SWAP, PRESSURE, LIMIT, DURATION_OF_UNIT, PREFERENCE)
+POLICIES = ("continue", "stop", "kill")
+# From this version on a unit has a duration of its own.
+OWN_DURATION = 257
+# What `systemctl show` calls that duration.
+SHOWN_DURATION = "ManagedOOMMemoryPressureDurationUSec"
+
+
+Meaning = TypeVar("Meaning")
+
+
+@dataclass(frozen=True)
+class Unit:
+    """What is to be done in a unit's group. The limit is in hundredths of a percent, the duration in ns; none where oomd.conf
+    says it. `is_whole` is memory.oom.group, none where nothing is said of it."""
+
+    swap: bool = False
+    pressure: bool = False
+    limit: int | None = None
+    duration: int | None = None
+    preference: str | None = None
+    is_whole: bool | None = None
+    slice: str | None = None
+    places: dict[str, str] = field(default_factory=dict)
+    """Where each setting stands."""
+
+    def changed(self, setting: Setting, version: int) -> Unit:
+        """With this setting, of which systemd knows the name."""
+        places = {**self.places, setting.name: setting.place}
+        if setting.name in (SWAP, PRESSURE):
+            is_on = chosen(setting, MODES, "auto")
+            return replace(self, swap=is_on, places=places) if setting.name == SWAP else replace(self, pressure=is_on, places=places)
+        if setting.name == LIMIT:
+            found = share(setting.value) if setting.value else 0
+            if found is None:
+                raise setting.fault(SHARE)
+            return replace(self, limit=found or None, places=places)
+        if setting.name == DURATION_OF_UNIT:
+            if duration(setting.value) == 0:
+                raise setting.fault(DURATION)
+            found = checked_duration(setting)
+            return replace(self, duration=found, places=places) if version >= OWN_DURATION else self
+        if setting.name == PREFERENCE:
+            return replace(self, preference=chosen(setting, dict(zip(PREFERENCES, PREFERENCES)), "none"), places=places)
+        if setting.name == POLICY:
+            policy = chosen(setting, {it: it == "kill" for it in POLICIES}, "stop")
+            return replace(self, is_whole=policy, places=places)
+        return replace(self, slice=setting.value, places=places)
+
+
+def chosen(setting: Setting, words: dict[str, Meaning], empty: str) -> Meaning:
+    """What one of the words stands for; an empty value for what another does."""
+    value = setting.value or empty
+    if value not in words:
+        raise setting.fault(" or ".join(words))
+    return words[value]
+
+
+# ---------------------------------------------------------------- files
+
+
+def template_of(name: str) -> str | None:
+    """The template of an instance: user@.service of user@1000.service."""
+    prefix, is_instance, rest = name.partition("@")
+    instance, _, kind = rest.rpartition(".")
+    return f"{prefix}@.{kind}" if is_instance and instance else None
+
+
+def widened(name: str) -> str | None:
+    """The name without its part after the last dash: a-b-.service of a-b-c.service, and a-.service of that."""
+    stem = name.partition("@")[0] if "@" in name else name.rpartition(".")[0]
+    front = stem.removesuffix("-").rpartition("-")[0]
+    return f"{front}-{name[len(stem):]}" if front else None
+
+
+def drop_in_names(name: str) -> Iterator[str]:
+    """The names whose drop-in files are this unit's too, the nearest first."""
+    at: str | None = name
+    while at:
+        yield at
+        if template := template_of(at):
+            yield template
+        at = widened(at)
+
+
+class UnitFiles:
+    """The files of units in a folder of files, of the system's manager or of the users'."""
+
+    def __init__(self, root: str, is_users: bool, version: int, notes: list[str]) -> None:
+        self.root, self.version, self.notes = root, version, notes
+        folders = USER_UNITS if is_users else SYSTEM_UNITS
+        self.folders = [it for it in folders if os.path.isdir(os.path.join(root, it))]
+        self.known: dict[str, Unit] = {}
+
+    def unit(self, name: str) -> Unit:
+        """What is said of this unit, all in all."""
+        if name not in self.known:
+            self.known[name] = self.read(name)
+        return self.known[name]
+
+    def read(self, name: str) -> Unit:
+        kind = name.rpartition(".")[2]
+        unit = Unit()
+        for path in self.paths(name, kind):
+            for setting in settings_of(path):
+                if setting.section == SECTIONS[kind] and self.is_known(setting, kind):
+                    unit = unit.changed(setting, self.version)
+        return unit
+
+    def paths(self, name: str, kind: str) -> list[str]:
+        """The unit's file, or that of its template, and then its drop-in files."""
+        files = [os.path.join(self.root, it, one) for one in (name, template_of(name)) if one for it in self.folders]
+        mains = [it for it in files if os.path.exists(it)][:1]
+        folders = [f"{it}/{one}.d" for it in self.folders for one in drop_in_names(name)]
+        return mains + drop_ins(self.root, folders + [f"{it}/{kind}.d" for it in self.folders])
+
+    def is_known(self, setting: Setting, kind: str) -> bool:
+        """Whether it is one of these settings. One that has their beginning and that nobody knows is noted."""
+        if setting.name == DURATION_OF_UNIT and self.version < OWN_DURATION:
+            self.note(f"{setting.place}: {setting.name} means nothing before systemd {OWN_DURATION}")
+        elif setting.name.startswith("ManagedOOM") and setting.name not in NAMES:
+            self.note(unknown(setting, list(NAMES), "units"))
+        return setting.name in NAMES or setting.name == "Slice" or setting.name == POLICY and kind != "slice"
+
+    def note(self, text: str) -> None:
+        if text not in self.notes:
+            self.notes.append(text)
+
+    def named(self) -> list[str]:
+        """The units and templates of which some file says something, in order."""
+        found = set()
+        for folder in self.folders:
+            for name in os.listdir(os.path.join(self.root, folder)):
+                plain = name.removesuffix(".d")
+                if plain.rpartition(".")[2] in TYPES and plain.rpartition(".")[0]:
+                    found.add(plain)
+        return sorted(found)
+
+
+# ---------------------------------------------------------------- systemctl show
+
+
+def shown_units(path: str, version: int) -> dict[str, tuple[str, Unit]]:
+    """Units by their groups' paths, each with its name, as `systemctl show` printed them: blocks of lines with an empty one between."""
+    found: dict[str, tuple[str, Unit]] = {}
+    block: list[Setting] = []
+    for number, line in enumerate([*text_at(path).splitlines(), ""], 1):
+        name, is_there, value = line.partition("=")
+        if line and not is_there:
+            raise Fault(f"{path} line {number}: it is no line of `systemctl show`, which are NAME=VALUE")
+        if line:
+            block.append(Setting(f"{path} line {number}", "", name, value))
+        elif block:
+            shown = {it.name: it for it in block}
+            group = shown["ControlGroup"].value if "ControlGroup" in shown else ""
+            if group:
+                unit_name = shown["Id"].value if "Id" in shown else group
+                found[escaped_path(os.fsencode(group))] = (unit_name, shown_unit(shown, version))
+            block = []
+    return found
+
+
+def shown_unit(shown: dict[str, Setting], version: int) -> Unit:
+    """What a block says."""
+    unit = Unit()
+    for name in (SWAP, PRESSURE, PREFERENCE):
+        if name in shown:
+            unit = unit.changed(shown[name], version)
+    if LIMIT in shown:
+        limit = share_of_scale(shown[LIMIT].value)
+        if limit is None:
+            raise shown[LIMIT].fault("a number up to 4294967295, which is 100%")
+        unit = replace(unit, limit=limit or None, places={**unit.places, LIMIT: shown[LIMIT].place})
+    setting = shown.get(SHOWN_DURATION)
+    if setting and version >= OWN_DURATION and not re.fullmatch(r"infinity|\[not set\]|", setting.value):
+        found = duration(setting.value)
+        if found is None or found < SECOND:
+            raise setting.fault(DURATION)
+        unit = replace(unit, duration=found, places={**unit.places, DURATION_OF_UNIT: setting.place})
+    return unit
