@@ -1,0 +1,193 @@
+"""The words of tools/package, and what it makes of them."""
+from __future__ import annotations
+
+import argparse
+import hashlib
+import os
+import re
+import subprocess
+import sys
+import tempfile
+import time
+
+from psireplay.command import Fault, Words
+from psireplay.program import TOP, built_program
+
+from .archives import gzipped, tar_of
+from .commands import PROGRAMS, TOOLS
+from .completions import BASH, ZSH, Words as Offered, script_of
+from .debian import ARCHITECTURE, NAME, UNIT, Facts, own_documents, package_of
+from .elf import least_libc
+from .pages import page_of
+from .tree import LIBRARY, PAGES, Member, bytes_of, documents_of, pages_of_programs, programs_of, tools_of
+from .usage import Help, commands_in, help_of, options_in, said_by
+
+ABOUT = "Makes the packages of the programs and the tools: a .deb of Debian's and a .tar.gz of the same files."
+STATUS = (
+    "Programs that aren't given are built by ./psi_oomd --build and ./psi_observe --build, which proves them where that is due. "
+    "The last lines are the sums of both files, as sha256sum has them. The status is 1 where nothing was made. "
+    "Times in the files are those of the commit, or what SOURCE_DATE_EPOCH says."
+)
+ORIGIN = """\
+{commit}
+version {version}
+proved by {kit}
+the proof can be run again in a checkout of this commit: by ./psi_oomd --build, and by .ci/run with all tests
+"""
+# Where nobody says otherwise Debian's systemd enables each service on the first boot of a machine.
+PRESET = f"disable {UNIT}\n"
+NOT_TOLD = "a kit that nobody named: these programs were handed to tools/package"
+TAG = re.compile(r"v([0-9][0-9A-Za-z.+-]*)")
+
+
+def git(*words: str) -> str:
+    """What git says of the repository."""
+    done = subprocess.run(["git", "-C", TOP, *words], capture_output=True, encoding="utf-8")
+    if done.returncode:
+        raise Fault(f"git {' '.join(words)}: {done.stderr.strip()}: a package is made in a checkout with its history")
+    return done.stdout.strip()
+
+
+def version_of(commit: str, is_changed: bool) -> str:
+    """The version of a package: that of a tag of this commit, as v1.0, or one below each release, by the commit's day. What stands
+    behind a hyphen comes before the release in Debian's order, by a tilde: v1.0-rc1 is 1.0~rc1."""
+    tags = filter(None, map(TAG.fullmatch, git("tag", "--points-at", "HEAD").split("\n")))
+    day = time.strftime("%Y%m%d", time.gmtime(int(git("log", "-1", "--format=%ct"))))
+    version = next((tag[1].replace("-", "~") for tag in tags), f"0~git{day}.{commit[:12]}")
+    return version + ("+changes" if is_changed else "")
+
+
+def kit_of(given: argparse.Namespace) -> str:
+    """What proved the programs: what is said by --kit; or the kit at hand, where they were built with it now."""
+    if given.kit:
+        return str(given.kit)
+    if given.program or given.observer:
+        return NOT_TOLD
+    try:
+        return said_by(["rt", "version"]).strip()
+    except OSError as fault:
+        raise Fault(f"rt version: {fault.strerror}: let --kit say what proved the programs") from None
+
+
+def programs_named(given: argparse.Namespace) -> dict[str, bytes]:
+    """The bytes of both programs, built where they aren't given."""
+    paths = dict(zip(PROGRAMS, (given.program, given.observer)))
+    return {name: bytes_of(path or built_program(os.path.join(TOP, name))) for name, path in paths.items()}
+
+
+# ---------------------------------------------------------------- what is made of what the tools say
+
+
+def write(members: list[Member], folder: str) -> None:
+    """Installs these files in a folder."""
+    for member in members:
+        path = os.path.join(folder, member.path)
+        os.makedirs(os.path.dirname(path), exist_ok=True)
+        if member.target:
+            os.symlink(member.target, path)
+        else:
+            with open(path, "wb") as file:
+                file.write(member.data)
+            os.chmod(path, member.mode)
+
+
+def helps_of(folder: str) -> dict[str, tuple[Help, dict[str, Help]]]:
+    """What each tool says of itself where it is installed, and of each of its commands."""
+    found = {}
+    for tool in TOOLS:
+        path = os.path.join(folder, LIBRARY, "tools", tool.file)
+        about = help_of(path)
+        found[tool.command] = about, {it.words: help_of(path, it.words) for it in about.commands}
+    return found
+
+
+def completions(folder: str, helps: dict[str, tuple[Help, dict[str, Help]]]) -> list[Member]:
+    """The completions of both shells: a file that each name leads to, since bash looks for a file of the command's name."""
+    offered = []
+    for name in PROGRAMS:
+        offered.append(Offered(name, commands_in(said_by([os.path.join(folder, "bin", name), "--help"]), name)))
+    for name, (about, commands) in helps.items():
+        found = {"": options_in(about.options), **{it: options_in(about.options) for it, about in commands.items()}}
+        offered.append(Offered(name, found))
+    bash, first = "share/bash-completion/completions", offered[0].name
+    members = [Member(f"{bash}/{first}", script_of(BASH, offered))]
+    members += [Member(f"{bash}/{it.name}", target=first) for it in offered[1:]]
+    return [*members, Member(f"share/zsh/vendor-completions/_{first}", script_of(ZSH, offered))]
+
+
+def pages(helps: dict[str, tuple[Help, dict[str, Help]]], facts: Facts) -> list[Member]:
+    """The manual pages, compressed as Debian has them."""
+    date = time.strftime("%Y-%m-%d", time.gmtime(facts.seconds))
+    found = pages_of_programs(TOP)
+    for tool in TOOLS:
+        found[f"{tool.command}.1"] = page_of(tool, *helps[tool.command], date, f"{NAME} {facts.version}")
+    return [Member(f"{PAGES}/{name}.gz", gzipped(page, facts.seconds)) for name, page in sorted(found.items())]
+
+
+# ---------------------------------------------------------------- the command
+
+
+def files_of(programs: dict[str, bytes], facts: Facts, kit: str) -> list[Member]:
+    """All files that are installed."""
+    origin = ORIGIN.format(commit=facts.commit, version=facts.version, kit=kit)
+    members = [*programs_of(TOP, programs, origin), *tools_of(TOP), *documents_of(TOP), *own_documents(facts)]
+    members.append(Member(f"lib/systemd/system/{UNIT}", bytes_of(TOP, "tools", "psipack", UNIT)))
+    members.append(Member(f"lib/systemd/system-preset/50-{NAME}.preset", PRESET.encode()))
+    with tempfile.TemporaryDirectory() as folder:
+        write(members, folder)
+        helps = helps_of(folder)
+        return [*members, *completions(folder, helps), *pages(helps, facts)]
+
+
+def facts_of(programs: dict[str, bytes]) -> Facts:
+    """What the package says of itself."""
+    commit, is_changed = git("rev-parse", "HEAD"), bool(git("status", "--porcelain", "--untracked-files=no"))
+    told = f"{commit}, with changes" if is_changed else commit
+    libc = max((least_libc(name, data) for name, data in programs.items()), key=lambda it: [*map(int, it.split("."))])
+    said = os.environ.get("SOURCE_DATE_EPOCH") or git("log", "-1", "--format=%ct")
+    if not said.isdecimal():
+        raise Fault(f"SOURCE_DATE_EPOCH is {said!r}, which is no number of seconds")
+    maintainer = git("log", "-1", "--format=%an <%ae>")
+    return Facts(version_of(commit, is_changed), told, libc, maintainer, int(said))
+
+
+def parser() -> Words:
+    """The words that there are."""
+    words = Words("package", ABOUT, STATUS)
+    words.add_argument("--program", metavar="FILE", help="the built psi_oomd")
+    words.add_argument("--observer", metavar="FILE", help="the built psi_observe")
+    words.add_argument("--kit", metavar="LINE", help="what proved the programs that are given, as `rt version` has it")
+    words.add_argument("--into", metavar="FOLDER", default=".", help="where the files are written; here if left out")
+    return words
+
+
+def make() -> None:
+    """Makes both files, and tells their sums."""
+    given = parser().parse_args()
+    programs = programs_named(given)
+    facts = facts_of(programs)
+    members = files_of(programs, facts, kit_of(given))
+    name = f"{NAME}_{facts.version}_{ARCHITECTURE}"
+    made = {
+        f"{name}.deb": package_of(members, facts),
+        f"{name}.tar.gz": gzipped(tar_of(members, f"{NAME}-{facts.version}", facts.seconds), facts.seconds),
+    }
+    os.makedirs(given.into, exist_ok=True)
+    for file, data in made.items():
+        with open(os.path.join(given.into, file), "wb") as stream:
+            stream.write(data)
+        print(f"{hashlib.sha256(data).hexdigest()}  {file}")
+
+
+def main() -> int:
+    """Runs the command; answers its status."""
+    try:
+        make()
+        sys.stdout.flush()
+    except Fault as fault:
+        print(f"package: {fault}", file=sys.stderr)
+        return 1
+    except OSError as fault:
+        print(f"package: {fault.filename or 'the output'}: {fault.strerror}", file=sys.stderr)
+        return 1
+    return 0

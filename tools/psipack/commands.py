@@ -1,0 +1,35 @@
+"""What the package installs under which name: the one table of its commands."""
+from __future__ import annotations
+
+from dataclasses import dataclass
+
+
+@dataclass(frozen=True)
+class Tool:
+    """A tool: its file in `tools`, the command that it is once installed, and what it does, for the head of its manual page."""
+
+    file: str
+    command: str
+    about: str
+
+
+# A tool that is added to `tools` gets a line here. Its manual page and its completions are made of its own --help.
+TOOLS = (
+    Tool("record", "psi-record", "record what the scheduler, the groups and the memory of a machine do"),
+    Tool("psitrace", "psi-trace", "make a trace of a recording, or of a text of ftrace"),
+    Tool("chart", "psi-chart", "draw what psi_oomd printed"),
+    Tool("top", "psi-top", "list the groups that stalled most in what psi_oomd printed"),
+    Tool("openmetrics", "psi-openmetrics", "write what psi_oomd printed as metrics with timestamps"),
+    Tool("compare", "psi-compare", "hold a trace against the machine's own pressure files"),
+    Tool("rules", "psi-rules", "test, compare and mend rules files on recorded traces"),
+    Tool("fleet", "psi-fleet", "replay many traces by one rules file, on many machines"),
+    Tool("ftrace-check", "psi-ftrace-check", "say what in a text of ftrace makes a trace of it wrong"),
+    Tool("fold", "psi-fold", "make a trace of the same pressure with fewer lines"),
+    Tool("blame", "psi-blame", "say who ran while a group waited"),
+    Tool("report", "psi-report", "write an incident on one page"),
+    Tool("systemd-oomd", "psi-systemd-oomd", "say whom systemd-oomd would have killed"),
+)
+# The programs, each with a manual page in `docs`.
+PROGRAMS = ("psi_oomd", "psi_observe")
+# What stands in `tools` for those who have a checkout.
+OF_CHECKOUTS = ("package", "psipack")

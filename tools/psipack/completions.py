@@ -1,0 +1,142 @@
+"""Completions for bash and zsh of the commands, of their options and of the values that an option takes."""
+from __future__ import annotations
+
+import re
+from dataclasses import dataclass
+
+# Of these the value is a file. Of others it is a number, a path of a group or a text, for which nothing is offered.
+FILES = re.compile(r"FILE|FOLDER|DIR|OUT|TRACE|TEXT")
+
+
+@dataclass(frozen=True)
+class Words:
+    """What can be typed behind a name: its commands, each with its options and their values as they are written. What has no
+    commands has the one without a name."""
+
+    name: str
+    commands: dict[str, dict[str, str]]
+
+
+BASH = """\
+# Completion of psi_oomd and its tools for bash: made by tools/package of what they say by --help.
+
+# What can be typed behind a name: its commands; behind one of these, or where there is none, its options.
+_psi_oomd_words()
+{{
+    case $1 in
+{words}
+    esac
+}}
+
+# What the value of an option can be: FILE, words, or nothing that is known.
+_psi_oomd_value()
+{{
+    case $1 in
+{values}
+    esac
+}}
+
+_psi_oomd()
+{{
+    local name=${{1##*/}} word=${{COMP_WORDS[COMP_CWORD]}} before=${{COMP_WORDS[COMP_CWORD-1]}} command= words value
+    COMPREPLY=()
+    words=$(_psi_oomd_words "$name")
+    if [[ $COMP_CWORD -gt 1 && " $words " == *" ${{COMP_WORDS[1]}} "* && ${{COMP_WORDS[1]}} != -* ]]; then
+        command=${{COMP_WORDS[1]}}
+        words=$(_psi_oomd_words "$name $command")
+    fi
+    # bash takes --name=value apart at the sign.
+    if [[ $word == = ]]; then
+        word=
+    elif [[ $before == = ]]; then
+        before=${{COMP_WORDS[COMP_CWORD-2]}}
+    fi
+    value=
+    [[ $COMP_CWORD -le 1 ]] || value=$(_psi_oomd_value "$name${{command:+ $command}} $before")
+    case $value in
+    FILE) ;;
+    ?*) mapfile -t COMPREPLY < <(compgen -W "$value" -- "$word"); return ;;
+    *) mapfile -t COMPREPLY < <(compgen -W "$words" -- "$word") ;;
+    esac
+    [[ ${{#COMPREPLY[@]}} -gt 0 ]] || mapfile -t COMPREPLY < <(compgen -f -- "$word")
+}}
+
+complete -o filenames -F _psi_oomd {names}
+"""
+
+ZSH = """\
+#compdef {names}
+# Completion of psi_oomd and its tools for zsh: made by tools/package of what they say by --help.
+
+# What can be typed behind a name: its commands; behind one of these, or where there is none, its options.
+_psi_oomd_words() {{
+    case $1 in
+{words}
+    esac
+}}
+
+# What the value of an option can be: FILE, words, or nothing that is known.
+_psi_oomd_value() {{
+    case $1 in
+{values}
+    esac
+}}
+
+_psi_oomd() {{
+    local name=${{words[1]:t}} before=${{words[CURRENT-1]}} command= value
+    local -a offered
+    offered=(${{=$(_psi_oomd_words $name)}})
+    if (( CURRENT > 2 && ${{offered[(Ie)$words[2]]}} )) && [[ $words[2] != -* ]]; then
+        command=$words[2]
+        offered=(${{=$(_psi_oomd_words "$name $command")}})
+    fi
+    if [[ $words[CURRENT] == --*=* ]]; then
+        before=${{words[CURRENT]%%=*}}
+        compset -P '*='
+    fi
+    (( CURRENT > 2 )) || [[ $words[CURRENT] == --*=* ]] && value=$(_psi_oomd_value "$name${{command:+ $command}} $before")
+    case $value in
+    (FILE) _files ;;
+    (?*) compadd -- ${{=value}} ;;
+    (*) compadd -- $offered || _files ;;
+    esac
+}}
+
+_psi_oomd "$@"
+"""
+
+
+def offered(program: Words) -> dict[str, list[str]]:
+    """What is offered behind each name, and behind each name with a command."""
+    named = [command for command in program.commands if command]
+    found = {program.name: [*named, *program.commands.get("", {})]}
+    return {**found, **{f"{program.name} {command}": list(program.commands[command]) for command in named}}
+
+
+def valued(program: Words) -> dict[str, str]:
+    """What the value of each option is, behind the words up to that option: FILE, or the values that there are."""
+    found: dict[str, str] = {}
+    for command, options in program.commands.items():
+        front = f"{program.name} {command}".rstrip()
+        for option, value in options.items():
+            if value.startswith("{"):
+                found[f"{front} {option}"] = " ".join(value.strip("{}").split(","))
+            elif FILES.fullmatch(value):
+                found[f"{front} {option}"] = "FILE"
+    return found
+
+
+def cases(rows: dict[str, str]) -> str:
+    """The rows as branches of a shell's `case`, which print what stands behind. Values that are alike share a branch."""
+    alike: dict[str, list[str]] = {}
+    for key, text in rows.items():
+        alike.setdefault(text, []).append(f'"{key}"')
+    return "\n".join(f"    {' | '.join(keys)}) printf '%s\\n' '{text}' ;;" for text, keys in alike.items())
+
+
+def script_of(template: str, programs: list[Words]) -> bytes:
+    """The completions of these programs, by the text of one of the shells."""
+    words = {key: " ".join(found) for program in programs for key, found in offered(program).items()}
+    values = {key: value for program in programs for key, value in valued(program).items()}
+    names = " ".join(program.name for program in programs)
+    return template.format(names=names, words=cases(words), values=cases(values)).encode()

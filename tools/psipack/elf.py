@@ -1,0 +1,54 @@
+"""What a program asks of the machine's C library, by the versions of the symbols that it takes from there."""
+from __future__ import annotations
+
+import struct
+
+from psireplay.command import Fault
+
+MAGIC = b"\x7fELF\x02\x01"  # 64 bits, the least byte first
+X86_64 = 62
+NEEDED_VERSIONS = 0x6FFFFFFE  # SHT_GNU_verneed of <elf.h>
+LIBRARY = "libc.so.6"
+PREFIX = "GLIBC_"
+
+
+def least_libc(name: str, data: bytes) -> str:
+    """The least version of the C library that has all symbols which this program takes, as 2.34."""
+    if data[:6] != MAGIC or struct.unpack_from("<H", data, 18)[0] != X86_64:
+        raise Fault(f"{name} is no program for x86-64: {data[:4]!r} is at its start")
+    found = [needed for library, needed in needed_versions(data) if library == LIBRARY]
+    versions = [tuple(map(int, needed.removeprefix(PREFIX).split("."))) for needed in found if needed.startswith(PREFIX)]
+    if not versions:
+        raise Fault(f"{name} asks for no version of the C library")
+    return ".".join(map(str, max(versions)))
+
+
+def needed_versions(data: bytes) -> list[tuple[str, str]]:
+    """Each library that the program names with a version of its symbols, and that version."""
+    offset, size, count = struct.unpack_from("<Q", data, 40)[0], *struct.unpack_from("<HH", data, 58)
+    sections = [struct.unpack_from("<IIQQQQIIQQ", data, offset + size * number) for number in range(count)]
+    found: list[tuple[str, str]] = []
+    for section in sections:
+        if section[1] == NEEDED_VERSIONS:
+            names = sections[section[6]][4]
+            found += versions_at(data, section[4], section[7], names)
+    return found
+
+
+def versions_at(data: bytes, at: int, libraries: int, names: int) -> list[tuple[str, str]]:
+    """The versions of a table (Elf64_Verneed, Elf64_Vernaux) that begins there, of so many libraries."""
+    found: list[tuple[str, str]] = []
+    for _ in range(libraries):
+        _, count, library, first, following = struct.unpack_from("<HHIII", data, at)
+        version = at + first
+        for _ in range(count):
+            _, _, _, name, more = struct.unpack_from("<IHHII", data, version)
+            found.append((text_at(data, names + library), text_at(data, names + name)))
+            version += more
+        at += following
+    return found
+
+
+def text_at(data: bytes, at: int) -> str:
+    """The text that begins there, up to its zero byte."""
+    return data[at : data.index(b"\0", at)].decode()

@@ -1,0 +1,67 @@
+"""The manual pages of the tools, made of what each says by --help. The programs have pages of their own in `docs`."""
+from __future__ import annotations
+
+import re
+
+from .commands import Tool
+from .usage import Help, Item
+
+HEAD = """.\\" Made of what `{name} --help` says, when it was packed.
+.TH {title} 1 "{date}" "{source}" "User Commands"
+.SH NAME
+{name} \\- {about}
+.SH SYNOPSIS
+"""
+CALL = """.SY {name}
+{words}
+.YS
+"""
+SEE_ALSO = """.SH SEE ALSO
+.BR psi_oomd (1),
+which has the forms of traces and rules. The documents of the package lie in
+.IR /usr/share/doc/psi-oomd .
+"""
+STATUS = re.compile(r"(?:The )?status\b")
+
+
+def page_of(tool: Tool, about: Help, commands: dict[str, Help], date: str, source: str) -> bytes:
+    """The page of a tool, with a section for each of its commands."""
+    name = escaped(tool.command)
+    lines = [HEAD.format(title=tool.command.upper(), date=date, source=source, name=name, about=escaped(tool.about))]
+    calls = [f"{command} {found.usage}" for command, found in commands.items()] or [about.usage]
+    lines += [CALL.format(name=name, words=escaped(words)) for words in calls]
+    said, statuses = parted(about.before)
+    notes, more = parted(about.behind)
+    lines += [".SH DESCRIPTION\n", *map(paragraph, said)]
+    lines += items_of(about.arguments) if not commands else []
+    for command, found in commands.items():
+        lines.append(f".SH {escaped(command.upper())}\n")
+        lines += [*map(paragraph, found.before), *items_of(found.arguments + found.options), *map(paragraph, found.behind)]
+    lines += [".SH OPTIONS\n", *items_of(about.options)] if not commands else []
+    for title, paragraphs in (("NOTES", notes), ("EXIT STATUS", statuses + more)):
+        lines += [f".SH {title}\n", *map(paragraph, paragraphs)] if paragraphs else []
+    return "".join([*lines, SEE_ALSO]).encode()
+
+
+def parted(paragraphs: list[str]) -> tuple[list[str], list[str]]:
+    """These paragraphs without those on the status, and these."""
+    return [it for it in paragraphs if not STATUS.match(it)], [it for it in paragraphs if STATUS.match(it)]
+
+
+def paragraph(text: str) -> str:
+    """A paragraph: one with an indented or an aligned line is shown as it stands."""
+    lines = text.split("\n")
+    if any(line.startswith(" ") or re.search(r"\S {2,}\S", line) for line in lines):
+        return ".PP\n.nf\n" + "".join(f"{escaped(line)}\n" for line in lines) + ".fi\n"
+    return ".PP\n" + "".join(f"{escaped(line)}\n" for line in lines)
+
+
+def items_of(items: list[Item]) -> list[str]:
+    """A list of arguments or options."""
+    return [f".TP\n.B {escaped(item.words)}\n{escaped(item.about)}\n" for item in items]
+
+
+def escaped(text: str) -> str:
+    """The text as roff shows it: a hyphen stays the sign that is typed, and no line is a request."""
+    text = text.replace("\\", "\\e").replace("-", "\\-")
+    return "\\&" + text if text.startswith((".", "'")) else text

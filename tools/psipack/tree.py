@@ -1,0 +1,120 @@
+"""The files of the package: what of the repository is installed, where, and in which words."""
+from __future__ import annotations
+
+import os
+import re
+import subprocess
+from dataclasses import dataclass
+
+from psireplay.command import Fault
+
+from .commands import OF_CHECKOUTS, PROGRAMS, TOOLS
+
+LIBRARY = "lib/psi-oomd"
+DOCUMENTS = "share/doc/psi-oomd"
+PAGES = "share/man/man1"
+PYTHON = b"#!/usr/bin/env python3\n"
+# Debian's own Python, which leaves no compiled files in folders that no package owns.
+INSTALLED_PYTHON = b"#!/usr/bin/python3 -B\n"
+COMMANDS = {tool.file: tool.command for tool in TOOLS}
+NAMED_TOOL = re.compile(rf"(?<![\w./-])tools/({'|'.join(map(re.escape, COMMANDS))})(?![\w/-]|\.\w)")
+LINK = re.compile(r"(!?)\[([^\]]*)\]\(([^):#]+)(#[^)]*)?\)")
+
+
+@dataclass(frozen=True)
+class Member:
+    """A file, or where `target` is given a symbolic link: its path below the folder of installation, its bytes and its mode."""
+
+    path: str
+    data: bytes = b""
+    mode: int = 0o644
+    target: str = ""
+
+
+def tracked(top: str, *names: str) -> list[tuple[str, int]]:
+    """The files below these names of which git knows, with their modes there: what lies beside them isn't packed."""
+    words = ["git", "-C", top, "ls-files", "-sz", "--", *names]
+    listed = subprocess.run(words, check=True, stdout=subprocess.PIPE, encoding="utf-8").stdout
+    rows = [row.partition("\t") for row in listed.split("\0") if row]
+    return sorted((path, 0o755 if head.startswith("100755") else 0o644) for head, _, path in rows)
+
+
+def bytes_of(*path: str) -> bytes:
+    """The bytes of a file; one that can't be read is a fault."""
+    name = os.path.join(*path)
+    try:
+        with open(name, "rb") as file:
+            return file.read()
+    except OSError as fault:
+        raise Fault(f"{name}: {fault.strerror}") from None
+
+
+def renamed(text: str) -> str:
+    """A text in which the commands have the names that they have once they are installed."""
+    text = NAMED_TOOL.sub(lambda found: COMMANDS[found[1]], text)
+    text = re.sub(rf"\./({'|'.join(PROGRAMS)})\b", r"\1", text)
+    return re.sub(rf"man -l docs/({'|'.join(PROGRAMS)})\.1", r"man \1", text)
+
+
+def with_whole_paths(text: str) -> str:
+    """A text in which the documents have whole paths."""
+    text = re.sub(rf"docs/({'|'.join(PROGRAMS)})\.1", r"\1(1)", text)
+    return re.sub(r"(?<![\w/-])docs/(?=[A-Z]+\.md)", f"/usr/{DOCUMENTS}/docs/", text)
+
+
+# ---------------------------------------------------------------- the parts
+
+
+def programs_of(top: str, programs: dict[str, bytes], origin: str) -> list[Member]:
+    """The programs, their launcher, and what `--version` says of them."""
+    members = [Member(f"{LIBRARY}/origin", origin.encode())]
+    for name, data in programs.items():
+        members.append(Member(f"{LIBRARY}/programs/{name}", data, 0o755))
+        members.append(Member(f"{LIBRARY}/{name}", bytes_of(top, name), 0o755))
+        members.append(Member(f"bin/{name}", target=f"../{LIBRARY}/{name}"))
+    return members
+
+
+def tools_of(top: str) -> list[Member]:
+    """The tools with their modules, and their commands."""
+    members = []
+    for path, mode in tracked(top, "tools"):
+        if path.split("/")[1] not in OF_CHECKOUTS:
+            text = bytes_of(top, path).decode()
+            data = with_whole_paths(renamed(text)).encode()
+            members.append(Member(f"{LIBRARY}/{path}", INSTALLED_PYTHON + data[len(PYTHON) :] if data.startswith(PYTHON) else data, mode))
+    known = {member.path for member in members}
+    for tool in TOOLS:
+        if f"{LIBRARY}/tools/{tool.file}" not in known:
+            raise Fault(f"git knows no tools/{tool.file}, which is to be {tool.command}")
+        members.append(Member(f"bin/{tool.command}", target=f"../{LIBRARY}/tools/{tool.file}"))
+    return members
+
+
+def documents_of(top: str) -> list[Member]:
+    """The documents and the examples. What leads to a file that isn't installed is no link there."""
+    files = tracked(top, "README.md", "CHANGELOG.md", "LICENSE", "docs", "examples")
+    paths = {path for path, mode in files if mode == 0o644 and not path.endswith(".1")}
+    members = []
+    for path in sorted(paths):
+        data = bytes_of(top, path)
+        if path.endswith(".md"):
+            data = without_dead_links(renamed(data.decode()), path, paths).encode()
+        members.append(Member(f"{DOCUMENTS}/{path}", data))
+    return members
+
+
+def without_dead_links(text: str, path: str, paths: set[str]) -> str:
+    """The text of a document, in which only those are links that lead to one of these paths or below it."""
+
+    def link(found: re.Match[str]) -> str:
+        target = os.path.normpath(os.path.join(os.path.dirname(path), found[3]))
+        is_there = any(it == target or it.startswith(f"{target}/") for it in paths)
+        return found[0] if is_there else found[2]
+
+    return LINK.sub(link, text)
+
+
+def pages_of_programs(top: str) -> dict[str, bytes]:
+    """The manual pages that `docs` has, by their names."""
+    return {f"{name}.1": with_whole_paths(renamed(bytes_of(top, "docs", f"{name}.1").decode())).encode() for name in PROGRAMS}

@@ -1,0 +1,115 @@
+"""Reads what a tool says of itself by --help, and what the launcher says of the programs, for manual pages and completions."""
+from __future__ import annotations
+
+import os
+import re
+import subprocess
+import sys
+from dataclasses import dataclass, field
+
+from psireplay.command import Fault
+
+# So wide that few lines are broken, and no colours: what is read is the same wherever it runs.
+ENVIRONMENT = {"COLUMNS": "100", "NO_COLOR": "1", "TERM": "dumb", "LC_ALL": "C.UTF-8", "PYTHONDONTWRITEBYTECODE": "1"}
+SECTION = re.compile(r"(positional arguments|options|optional arguments):")
+ITEM = re.compile(r" {2}(\S.*?)(?: {2,}(\S.*))?")
+COMMAND = re.compile(r" {4}([a-z][a-z-]*) {2,}(\S.*)")
+# How an option is written: its name, and the name of its value or the values that it takes.
+OPTION = re.compile(r"(--?[a-z][a-z0-9-]*)(?:[ =](\{[^}]*\}|'[^']*'|[A-Z][A-Z0-9_:=.]*))?")
+
+
+@dataclass(frozen=True)
+class Item:
+    """An argument or an option: how it is written, and what it means."""
+
+    words: str
+    about: str
+
+
+@dataclass
+class Help:
+    """What --help has: how the tool is called, without its name, paragraphs on it, its arguments and options, its commands with
+    what each does, and paragraphs behind these. A paragraph that is indented is shown as it stands."""
+
+    usage: str
+    before: list[str] = field(default_factory=list)
+    arguments: list[Item] = field(default_factory=list)
+    options: list[Item] = field(default_factory=list)
+    commands: list[Item] = field(default_factory=list)
+    behind: list[str] = field(default_factory=list)
+
+
+def said_by(words: list[str]) -> str:
+    """What this command prints on standard output; one that fails is a fault."""
+    done = subprocess.run(words, capture_output=True, encoding="utf-8", env={**os.environ, **ENVIRONMENT})
+    if done.returncode:
+        raise Fault(f"{' '.join(words)}: status {done.returncode}: {done.stderr.strip()}")
+    return done.stdout
+
+
+def help_of(path: str, *command: str) -> Help:
+    """What a tool says of itself, or of one of its commands."""
+    return help_in(said_by([sys.executable, "-B", path, *command, "--help"]))
+
+
+def help_in(text: str) -> Help:
+    """What stands in a text of --help."""
+    head, *blocks = re.split(r"\n\n", text.rstrip("\n"))
+    words = re.sub(r"\s+", " ", head.removeprefix("usage: "))
+    found = Help(usage_without_name(words))
+    for block in blocks:
+        first, _, rest = block.partition("\n")
+        title = SECTION.fullmatch(first)
+        if title and title[1] == "positional arguments":
+            read_items(rest, found.arguments, found.commands)
+        elif title:
+            read_items(rest, found.options, [])
+        else:
+            (found.behind if found.options else found.before).append(block)
+    if not found.options:
+        raise Fault(f"no option stands in this help:\n{text}")
+    return found
+
+
+def usage_without_name(words: str) -> str:
+    """The words of a usage behind the tool's name, and its command's where it has one: from the first that isn't a plain word."""
+    _, *rest = words.split(" ")
+    while rest and re.fullmatch("[a-z][a-z-]*", rest[0]):
+        rest.pop(0)
+    return " ".join(rest)
+
+
+def read_items(text: str, items: list[Item], commands: list[Item]) -> None:
+    """Adds the arguments or options of a section, and the commands that stand below an argument."""
+    for line in text.split("\n"):
+        command, item = COMMAND.fullmatch(line), ITEM.fullmatch(line)
+        if command:
+            commands.append(Item(command[1], command[2]))
+        elif item and not line.startswith("   "):
+            items.append(Item(item[1], item[2] or ""))
+        elif items:
+            last = items.pop()
+            items.append(Item(last.words, f"{last.about} {line.strip()}".strip()))
+
+
+def options_in(items: list[Item]) -> dict[str, str]:
+    """The options of these items, each with its value as it is written: nothing where it takes none."""
+    found: dict[str, str] = {}
+    for item in items:
+        written = OPTION.findall(item.words)
+        value = next((value for _, value in written if value), "")
+        found.update({name: value for name, _ in written})
+    return found
+
+
+def commands_in(text: str, program: str) -> dict[str, dict[str, str]]:
+    """The commands of a program in the launcher's --help, with the options of each and their values. A program without commands
+    has the one without a name."""
+    joined = re.sub(r"\n {10,}(?=\[)", " ", text)
+    found: dict[str, dict[str, str]] = {}
+    for line in re.findall(rf"^ +{program} (.*)$", joined, re.MULTILINE):
+        words = re.sub(r" {2,}.*", "", line)
+        first = words.split(" ")[0]
+        command = first if re.fullmatch("[a-z]+", first) else ""
+        found.setdefault(command, {}).update(dict(OPTION.findall(words)))
+    return found
