@@ -14,7 +14,7 @@ from .faults import chart_fault, must_say
 from .printed import AVERAGES, LEVELS, RESOURCES, Printed
 
 KILL = 146 * 10**9
-SHADED = "behind the first kill: others as recorded"
+SHADED = "after the first kill: others as recorded"
 
 
 @functools.lru_cache(maxsize=None)

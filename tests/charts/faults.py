@@ -1,4 +1,4 @@
-"""Checks that what can't be drawn is told, with what to do about it."""
+"""Checks that what can't be drawn is reported, with what to do about it."""
 from __future__ import annotations
 
 import functools

@@ -71,7 +71,8 @@ def check_several_groups(program: str) -> None:
     must_be("the names of panels", drawn.panel_names(), named)
     for resource in RESOURCES:
         scales = {tuple(text for text, _ in drawn.numbers(it)) for it in drawn.all("g", f"panel {resource}")}
-        must_be(f"scales of {resource}, how many", len(scales), 1)
+        # That of a panel in which nothing is goes from 0 to 1 %.
+        must_be(f"scales of {resource}, how many", len(scales - {("0 %", "1 %")}), 1)
     four = Drawn(drawn_of(story(program), "--group=/", "--group=/web", "--group=/batch", "--group=/batch/index"))
     must_be("the title of four groups", four.title, "Pressure of 4 groups, 5 min, 1 would-be kill")
 
@@ -96,7 +97,7 @@ def check_a_group_that_ends_and_comes_again(program: str) -> None:
     lives = [len(line) for line in drawn.lines(drawn.panel("io"), "some avg10")]
     must_be("reports of each life", lives, [4, 5])
     must_be_near("its end", [(it,) for it in drawn.places("gone")], [(drawn.x(10 * 10**9),)])
-    must_be("what is told of its end", drawn.mark_texts("gone"), [["/a was gone at 10 s"]])
+    must_be("what is told of its end", drawn.mark_texts("gone"), [["/a was gone by 10 s"]])
     whole = Drawn(piped(words, [], COMES_AGAIN.encode()))
     must_be("the root's reports", [len(line) for line in whole.lines(whole.panel("io"), "some avg10")], [15])
     must_be("ends of other groups", whole.marks("gone"), [])
@@ -105,7 +106,7 @@ def check_a_group_that_ends_and_comes_again(program: str) -> None:
 def check_the_end_of_a_killed_group(program: str) -> None:
     drawn = Drawn(drawn_of(story(program), "--group", "/batch"))
     must_be_near("the end of the import", [(it,) for it in drawn.places("gone")], [(drawn.x(222 * 10**9),)])
-    must_be("what is told of it", drawn.hints("gone"), [["/batch/import was gone at 222 s"]])
+    must_be("what is told of it", drawn.hints("gone"), [["/batch/import was gone by 222 s"]])
     must_be("ends before it", Drawn(drawn_of(story(program), "--to", "221")).marks("gone"), [])
 
 
@@ -219,5 +220,24 @@ def check_it_stands_alone(program: str) -> None:
         must(not re.search(r"url\(|@import|@font-face|href|<script|\son[a-z]+=", drawn.text), "it loads and runs nothing")
         must("@media (prefers-color-scheme: dark)" in drawn.text, "it has dark colours")
         legend = " ".join(drawn.texts(drawn.one("g", "legend")))
-        for word in ("10 s", "60 s", "300 s", "some", "full", "trigger", "killed"):
+        for word in ("10 s", "60 s", "300 s", "some", "full", "killed"):
             must(word in legend, f"the legend has {word}")
+        has_events = any(re.match("[0-9]+ event", text) for panel in drawn.panels() for text in drawn.texts(panel))
+        must_be("whether the legend has events", "trigger" in legend, has_events)
+
+
+def check_what_takes_no_room(program: str) -> None:
+    """A panel without pressure is low, and the legend leaves out what isn't drawn: here there is one wait for IO, and no more. An
+    average that only climbs from 0 is thin, with a word: in 2 s all do, of which each is 0 elsewhere."""
+    drawn = Drawn(drawn_of(run([program, "replay", "examples/one-wait.trace", "--tick-ms", "500", "--report-s", "1"])))
+    heights = []
+    for resource in RESOURCES:
+        places = [place for _, place in drawn.numbers(drawn.panel(resource))]
+        heights.append(max(places) - min(places))
+    must(heights[0] > 4 * heights[1] and heights[1] == heights[2] > 0, f"the heights of io, memory, cpu: {heights}")
+    legend = " ".join(drawn.texts(drawn.one("g", "legend")))
+    must("trigger" not in legend and "killed" not in legend and "300 s" in legend, legend)
+    said = "thin: avg10 and avg60 and avg300 only climb from 0, where the trace begins"
+    must_be("panels that say so", [said in drawn.texts(drawn.panel(it)) for it in RESOURCES], [True, False, False])
+    must_be("thin lines", len([it for it in drawn.svg.iter(f"{SVG}polyline") if it.get("class") == "climbing"]), 6)
+    must("climbing" not in Drawn(drawn_of(story(program), "--group=/batch")).text.partition("</style>")[2], "none of the story is")

@@ -88,7 +88,7 @@ def check_marks_stand_where_the_clock_says(program: str) -> None:
     must_be("marks, how many", len(drawn.time_texts), 10)
     hint = "/batch/import would be killed at 14:00:38.5 by ruleset 0, action 0"
     must_be("what is told of the kill", drawn.hints("kill"), [[hint]])
-    must_be("what is told of the end", drawn.hints("gone"), [["/batch/import was gone at 14:01:54.5"]])
+    must_be("what is told of the end", drawn.hints("gone"), [["/batch/import was gone by 14:01:54.5"]])
     must_be_near("the kill", [(it,) for it in drawn.places("kill")], [(LEFT + 146 * (RIGHT - LEFT) / 300,)])
 
 

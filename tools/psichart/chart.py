@@ -23,12 +23,26 @@ MARKS_TOP = 74
 # Between the texts of upright lines and the first panel there is room for that panel's name.
 NAME_ROOM = 18
 LEGEND = 50
+# Between two panels; and how high one is in which nothing stalled.
+PANEL_GAP = 48
+FLAT_HEIGHT = 30
 # A second row of the legend, where two replays are drawn.
 LEGEND_ROW = 20
 AVERAGES = ("10 s", "60 s", "300 s")
 # A title has the paths of so many groups at most, and so many letters if it names who kills.
 TITLED = 3
 TITLE_ROOM = 100
+
+
+class Place(NamedTuple):
+    """Where a panel stands: from its top, and so high."""
+
+    top: int
+    height: int
+
+    @property
+    def bottom(self) -> int:
+        return self.top + self.height
 
 
 class Wanted(NamedTuple):
@@ -55,9 +69,8 @@ class Chart:
         self.marks_top = MARKS_TOP + (LEGEND_ROW if wanted.recorded else 0)
         self.marks_bottom = self.marks_top + ROW * max(rows, default=0)
         self.top = self.marks_bottom + 14 + (NAME_ROOM if rows else 0)
-        self.plot_height = 300 if len(self.panels) == 1 else 132 if len(self.panels) <= 5 else 96
-        self.panel_height = self.plot_height + 48
-        self.bottom = self.top + len(self.panels) * self.panel_height - 28
+        self.places = self.places_of()
+        self.bottom = self.places[-1].bottom + PANEL_GAP - 28
         self.svg = ElementTree.Element("svg", {"xmlns": "http://www.w3.org/2000/svg", "role": "img"})
 
     # ------------------------------------------------------------ what is drawn
@@ -77,6 +90,16 @@ class Chart:
             return []
         return [MemoryPanel(name, self.axis, memory_thresholds(rules, path, samples.host), samples.lives[path])]
 
+    def places_of(self) -> list[Place]:
+        """Where the panels stand, one below the other; those without pressure are low."""
+        full = [it for it in self.panels if not it.is_flat()]
+        height = 300 if len(full) == 1 else 132 if len(full) <= 5 else 96
+        places, top = list[Place](), self.top
+        for panel in self.panels:
+            places.append(Place(top, FLAT_HEIGHT if panel.is_flat() else height))
+            top = places[-1].bottom + PANEL_GAP
+        return places
+
     def moments(self) -> list[Moment]:
         """The kills, and the ends of groups."""
         return [self.kill(it) for it in self.replay.kills] + [self.end(it) for it in self.replay.gone()]
@@ -95,9 +118,10 @@ class Chart:
         return Moment(kill.moment, "kill", hint, texts)
 
     def end(self, gone: Gone) -> Moment:
+        # The first report without it is known, and not when it went.
         was = f"{gone.path} was gone"
-        at = f"{was} at {self.axis.told(gone.moment)}"
-        return Moment(gone.moment, "gone", at, (at, at, at, was, was))
+        by = f"{was} by {self.axis.told(gone.moment)}"
+        return Moment(gone.moment, "gone", by, (by, by, by, was, was))
 
     def title(self, most: int) -> str:
         groups = self.replay.groups
@@ -116,6 +140,10 @@ class Chart:
             return f" by {len(names)} rulesets"
         return "".join(f" by '{name}'" for name in names.values())
 
+    def has_events(self) -> bool:
+        """Whether there are ticks for events, so that the legend has them."""
+        return any(panel.has_events() for panel in self.panels)
+
     # ------------------------------------------------------------ the drawing
 
     def draw(self) -> Element:
@@ -130,14 +158,15 @@ class Chart:
             self.draw_legend_beside()
             self.draw_supposed()
         self.draw_time()
-        for number, panel in enumerate(self.panels):
-            # Panels of one kind reach up to the same, so that groups can be compared.
-            most = max(it.most() for it in self.panels if it.kind == panel.kind)
-            panel.draw(self.svg, self.top + number * self.panel_height, self.plot_height, most)
+        for panel, at in zip(self.panels, self.places):
+            # Panels of one kind reach up to the same, so that groups can be compared; but for those in which nothing is.
+            alike = [it for it in self.panels if it.kind == panel.kind]
+            panel.draw(self.svg, at.top, at.height, max(it.most() for it in ([panel] if panel.is_flat() else alike)))
         self.draw_marks()
         return self.svg
 
     def draw_legend(self) -> None:
+        """The looks of what is drawn; those of events and of kills where there are some."""
         legend = add(self.svg, "g", class_="legend")
         y = LEGEND
         add(legend, "text", "average over", x=16, y=y + 4)
@@ -146,13 +175,15 @@ class Chart:
         for (text, classes), x in zip(items, (106, 184, 262, 370, 460)):
             add(legend, "polyline", class_=classes, points=f"{x},{y} {x + 32},{y}")
             add(legend, "text", text, x=x + 38, y=y + 4)
-        add(legend, "path", class_="tick some", d=f"M552 {y - 6}v6")
-        add(legend, "path", class_="tick full", d=f"M558 {y}v6")
-        add(legend, "text", "event of a trigger: some above, full below", x=568, y=y + 4)
-        kill = add(legend, "g", class_="kill")
-        add(kill, "line", x1=834, y1=y - 7, x2=834, y2=y + 7)
-        add(kill, "path", d=f"M830 {y - 7}h8l-4 7z")
-        add(kill, "text", "would be killed", x=844, y=y + 4)
+        if self.has_events():
+            add(legend, "path", class_="tick some", d=f"M552 {y - 6}v6")
+            add(legend, "path", class_="tick full", d=f"M558 {y}v6")
+            add(legend, "text", "event of a trigger: some above, full below", x=568, y=y + 4)
+        if any(moment.kind == "kill" for mark in self.marks for moment in mark.moments):
+            kill = add(legend, "g", class_="kill")
+            add(kill, "line", x1=834, y1=y - 7, x2=834, y2=y + 7)
+            add(kill, "path", d=f"M830 {y - 7}h8l-4 7z")
+            add(kill, "text", "would be killed", x=844, y=y + 4)
 
     def draw_legend_beside(self) -> None:
         """The looks of the two replays."""
@@ -165,27 +196,25 @@ class Chart:
             add(legend, "polyline", class_=classes, points=f"{x},{y} {x + 32},{y}")
             add(legend, "text", text, x=x + 38, y=y + 4)
         add(legend, "rect", class_="supposed", x=592, y=y - 7, width=32, height=14)
-        add(legend, "text", "behind the first kill: others as recorded", x=630, y=y + 4)
+        add(legend, "text", "after the first kill: others as recorded", x=630, y=y + 4)
 
     def draw_supposed(self) -> None:
-        """A shade over all panels behind the first kill, where it is supposed that others do what they did."""
+        """A shade over all panels after the first kill, where it is supposed that others do what they did."""
         first = min((kill.moment for kill in self.replay.kills), default=self.axis.end)
         if first >= self.axis.end:
             return
         left = self.axis.x(max(first, self.axis.start))
         shade = add(self.svg, "g", class_="shade")
-        for number in range(len(self.panels)):
-            top = self.top + number * self.panel_height
-            add(shade, "rect", class_="supposed", x=left, y=top, width=RIGHT - left, height=self.plot_height)
+        for at in self.places:
+            add(shade, "rect", class_="supposed", x=left, y=at.top, width=RIGHT - left, height=at.height)
 
     def draw_time(self) -> None:
         """The lines of the time axis through all panels, and their numbers below the last."""
         axis = add(self.svg, "g", class_="time")
         for mark in self.axis.marks():
             x = self.axis.x(mark.moment)
-            for number in range(len(self.panels)):
-                top = self.top + number * self.panel_height
-                add(axis, "line", class_="grid", x1=x, y1=top, x2=x, y2=top + self.plot_height)
+            for at in self.places:
+                add(axis, "line", class_="grid", x1=x, y1=at.top, x2=x, y2=at.bottom)
             add(axis, "text", mark.text, x=x, y=self.bottom + 16, text_anchor="middle")
         middle = (LEFT + RIGHT) / 2
         add(self.svg, "text", self.axis.caption(), class_="small", x=middle, y=self.bottom + 34, text_anchor="middle")

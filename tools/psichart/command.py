@@ -3,14 +3,18 @@ from __future__ import annotations
 
 import argparse
 import re
-from typing import NamedTuple, Optional, Union
+import shutil
+import sys
+import tempfile
+from typing import IO, NamedTuple, Optional, Union
 from xml.etree import ElementTree
 
 from psireplay.command import Fault, Words, run_tool
 from psireplay.lines import RESOURCES
 from psireplay.program import opened
-from psireplay.rules import Rules
+from psireplay.rules import Rules, unmatched
 from psireplay.samples import Samples
+from psireplay.stalls import ranked
 from psireplay.times import SECOND, WallTime, seconds, wall_time
 
 from .axes import time_axis
@@ -36,6 +40,7 @@ class Given(NamedTuple):
     rules: Optional[str]
     trace: Optional[str]
     beside: Optional[str]
+    top: Optional[int]
 
 
 def moment(word: str) -> Moment:
@@ -48,11 +53,39 @@ def moment(word: str) -> Moment:
     raise argparse.ArgumentTypeError(f"{word} is no number of seconds, and no time as 2026-11-28T13:58:12Z")
 
 
+def count(word: str) -> int:
+    """How many groups are drawn."""
+    if not re.fullmatch("[1-9][0-9]?", word):
+        raise argparse.ArgumentTypeError(f"{word} is no number from 1 to 99")
+    return int(word)
+
+
+class Summary(NamedTuple):
+    """What tools/psitrace said of a trace: when that began, where it said so, and where (ns) the recording begins in it."""
+
+    wall: Optional[WallTime]
+    begins: int
+
+
+def summary_of(name: str) -> Summary:
+    """The summary that a file has."""
+    with opened(name) as file:
+        said = file.read().decode("utf-8", "replace")
+    if not re.search("^psitrace: ", said, re.MULTILINE):
+        raise Fault(f"{name} has no line of psitrace: give what it said of the recording, by `2> FILE`")
+    start = re.search(r"^psitrace: 0 is (\S+) (\S+) UTC$", said, re.MULTILINE)
+    begins = re.search(r"^psitrace: the recording begins at (\d+)\.(\d{3}) s", said, re.MULTILINE)
+    lead_in = int(begins[1]) * SECOND + int(begins[2]) * SECOND // 1000 if begins else 0
+    return Summary(wall_time(f"{start[1]}T{start[2]}Z") if start else None, lead_in)
+
+
 HELP = {
     "group": "a group whose pressure is drawn, several times for several: / if left out",
     "resource": "the one resource to draw: all if left out, irq where reports have it",
     "from": "where the chart begins: seconds, or a time with --start",
     "to": "where the chart ends, likewise",
+    "top": "draw the groups that stalled most, so many of them, in place of --group",
+    "summary": "what psitrace said of the trace, in a file: when it began, in place of --start, and where the recording begins",
     "start": "when the trace began, as 2026-11-28T13:58:12Z: all times are by the clock",
     "rules": "the rules of the replay: draws thresholds of the groups, and names rulesets",
     "trace": "the trace of the replay: draws the groups' memory too",
@@ -64,10 +97,12 @@ def words() -> Words:
     parser = Words("chart", ABOUT, AFTER)
     option = parser.add_argument
     option("--group", action="append", metavar="PATH", help=HELP["group"])
+    option("--top", type=count, metavar="N", help=HELP["top"])
     option("--resource", choices=RESOURCES, help=HELP["resource"])
-    option("--from", dest="start", type=moment, default=0, metavar="S", help=HELP["from"])
+    option("--from", dest="start", type=moment, metavar="S", help=HELP["from"])
     option("--to", dest="end", type=moment, metavar="S", help=HELP["to"])
     option("--start", dest="wall", type=wall_time, metavar="TIME", help=HELP["start"])
+    option("--summary", metavar="FILE", help=HELP["summary"])
     option("--rules", metavar="FILE", help=HELP["rules"])
     option("--trace", metavar="FILE", help=HELP["trace"])
     option("--beside", metavar="FILE", help=HELP["beside"])
@@ -87,10 +122,17 @@ def since_start(given: Moment, wall: Optional[WallTime], option: str) -> int:
 
 def read_words() -> Given:
     given = words().parse_args()
-    start = since_start(given.start, given.wall, "--from")
+    if given.top and given.group:
+        raise Fault("--top chooses the groups: not with --group")
+    if given.summary is not None:
+        if given.wall:
+            raise Fault("--summary has the time of --start: give one of both")
+        given.wall, begins = summary_of(given.summary)
+        given.start = begins if given.start is None else given.start
+    start = since_start(given.start or 0, given.wall, "--from")
     end = None if given.end is None else since_start(given.end, given.wall, "--to")
     groups = list(dict.fromkeys(given.group or ["/"]))
-    return Given(groups, given.resource, start, end, given.wall, given.rules, given.trace, given.beside)
+    return Given(groups, given.resource, start, end, given.wall, given.rules, given.trace, given.beside, given.top)
 
 
 def resources_of(replay: Replay, given: Given) -> list[str]:
@@ -102,7 +144,7 @@ def resources_of(replay: Replay, given: Given) -> list[str]:
 
 
 def must_have_reports(replay: Replay, resources: list[str], start: int, end: int, groups: list[str]) -> None:
-    """Some report of these groups must be in the time: what to do about it is told."""
+    """Some report of these groups must be in the time; else the fault says what to do."""
     series = [it for (path, resource), it in replay.series.items() if path in groups and resource in resources]
     if start < end and any(start <= moment <= end for it in series for moment in it.moments):
         return
@@ -125,11 +167,24 @@ def read_recorded(name: str, groups: list[str], replay: Replay) -> Replay:
     return recorded
 
 
+def read_top(printed: IO[bytes], given: Given) -> tuple[Given, Replay]:
+    """What was printed of the groups that stalled most, which takes reading it twice."""
+    with tempfile.TemporaryFile() as kept:
+        shutil.copyfileobj(printed, kept)
+        kept.seek(0)
+        groups = [it.path for it in ranked(kept)][: given.top]
+        kept.seek(0)
+        given = given._replace(groups=groups or ["/"])
+        return given, read_replay(kept, given.groups)
+
+
 def chart() -> bytes:
     given = read_words()
     rules = Rules(given.rules) if given.rules is not None else None
     with open(0, "rb", closefd=False) as printed:
-        replay = read_replay(printed, given.groups)
+        given, replay = read_top(printed, given) if given.top else (given, read_replay(printed, given.groups))
+    for what in unmatched(rules.rulesets, replay.rounds.paths | {"/"}) if rules else ():
+        print(f"chart: note: no group of the replay matches {what}", file=sys.stderr)
     end = replay.end.moment if given.end is None else min(given.end, replay.end.moment)
     resources = resources_of(replay, given)
     for path in given.groups:

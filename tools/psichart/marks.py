@@ -12,7 +12,7 @@ NAMED = 4
 
 
 class Moment(NamedTuple):
-    """What happens at a moment (ns): how it is drawn, all that is told of it, and texts from the longest to the shortest."""
+    """What happens at a moment (ns): how it is drawn, all that is said of it, and texts from the longest to the shortest."""
 
     moment: int
     kind: str
@@ -36,7 +36,7 @@ class Mark:
         self.text = short(self.moments[0].texts[length], 96 if length == 0 else 64) + more
 
     def told(self) -> str:
-        """What is told of each moment, but of many only of the first ones."""
+        """What is said of each moment, but of many only of the first ones."""
         lines = [it.hint for it in self.moments[:NAMED]]
         return "\n".join(lines + ([f"and {len(self.moments) - NAMED} more"] if len(self.moments) > NAMED else []))
 

@@ -6,6 +6,7 @@ from typing import Iterator, NamedTuple, Optional
 
 from psireplay.lines import AVERAGES, LEVELS
 from psireplay.samples import Life, Sample
+from psireplay.times import SECOND
 
 from .axes import TimeAxis, byte_step, share_step, told_bytes
 from .replay import Replay, Series
@@ -15,6 +16,8 @@ from .thresholds import Threshold, draw_thresholds
 # A panel reaches at least up to 1 %, or 1 MiB, so that next to nothing doesn't look like much.
 LEAST_SHARE = 100
 LEAST_BYTES = 1024**2
+# An average that began at 0 means something after so many of its periods.
+SETTLED = 3
 # So many letters have room left of a panel.
 COUNT_ROOM = 17
 
@@ -48,8 +51,20 @@ class Panel:
         """How far up it reaches at least."""
         raise NotImplementedError
 
+    def is_flat(self) -> bool:
+        """Whether there is nothing in it that takes height."""
+        return False
+
+    def has_events(self) -> bool:
+        """Whether it has ticks for events."""
+        return False
+
     def step(self, most: int) -> int:
         raise NotImplementedError
+
+    def apart(self, most: int) -> int:
+        """How far apart its lines are: a low one has none between its ends."""
+        return most if self.is_flat() else self.step(most)
 
     def number(self, value: int, step: int) -> str:
         raise NotImplementedError
@@ -59,7 +74,7 @@ class Panel:
 
     def draw(self, svg: Element, top: float, height: float, most: int) -> None:
         """Draws it so that it reaches up to so much, or a little more."""
-        step = self.step(most)
+        step = self.apart(most)
         frame = Frame(top, height, -(-most // step) * step)
         panel = add(svg, "g", class_=f"panel {self.kind}")
         add(panel, "text", self.name, class_="name", x=16, y=top - 13)
@@ -91,9 +106,19 @@ class Curves:
         for average, level in itertools.product(reversed(AVERAGES), LEVELS):
             shares = self.series.shares[level, average]
             lines = add(panel, "g", class_=f"series {level} {average}{self.look}")
+            look = {"class_": "climbing"} if self.does_climb(average) else {}
             for places in self.unbroken() if shares else ():
                 points = ((self.axis.x(self.series.moments[it]), frame.bottom - shares[it] * frame.scale) for it in places)
-                add_line(lines, thinned(points))
+                add_line(lines, thinned(points), **look)
+
+    def does_climb(self, average: str) -> bool:
+        """Whether all that is shown of an average is how it climbs from 0, where averages begin: what it would be on a machine that
+        ran before isn't known there."""
+        period = int(average[len("avg") :]) * SECOND
+        if self.axis.start >= period or self.axis.end >= SETTLED * period:
+            return False
+        each = [[shares[place] for place in self.shown] for shares in (self.series.shares[level, average] for level in LEVELS) if shares]
+        return any(any(it) for it in each) and all(one <= other for it in each for one, other in zip(it, it[1:]))
 
     def unbroken(self) -> Iterator[list[int]]:
         """The places of the reports, cut where the group wasn't there for two pixels or more."""
@@ -130,6 +155,13 @@ class PressurePanel(Panel):
     def most(self) -> int:
         return max(LEAST_SHARE, *(it.most() for it in self.curves), *(it.level for it in self.thresholds))
 
+    def is_flat(self) -> bool:
+        """No pressure, no event, and no threshold of a rule."""
+        return not any(it.most() for it in self.curves) and not self.has_events() and not self.thresholds
+
+    def has_events(self) -> bool:
+        return any(moments for events in self.events for moments in events)
+
     def step(self, most: int) -> int:
         return share_step(most)
 
@@ -139,6 +171,10 @@ class PressurePanel(Panel):
     def draw_inside(self, panel: Element, frame: Frame) -> None:
         for curves in self.curves:
             curves.draw(panel, frame)
+        climbing = [it for it in AVERAGES if self.curves[0].does_climb(it)]
+        if climbing:
+            text = f"thin: {' and '.join(climbing)} only climb{'s' if len(climbing) == 1 else ''} from 0, where the trace begins"
+            add(panel, "text", text, class_="small", x=RIGHT, y=frame.top - 13, text_anchor="end")
         self.draw_events(panel, frame.bottom + 5)
 
     def draw_events(self, panel: Element, top: float) -> None:

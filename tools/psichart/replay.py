@@ -46,12 +46,14 @@ class Rounds:
         self.before: set[str] = set()
         self.now: set[str] = set()
         self.gone: list[Gone] = []
+        self.paths: set[str] = set()
 
     def take(self, moment: int, path: str) -> None:
         if moment != self.moment:
             self.close()
             self.moment, self.number = moment, self.number + 1
         self.now.add(path)
+        self.paths.add(path)
 
     def close(self) -> None:
         """Ends the round."""

@@ -29,6 +29,7 @@ text { font: 12px sans-serif; fill: #222; }
 .edge { stroke: #888; }
 .series { fill: none; stroke-linejoin: round; stroke-linecap: round; }
 .some, .memory-use { stroke-width: 1.5; }
+.climbing { stroke-width: 0.75; }
 .full, .swap-use { stroke-width: 3; stroke-dasharray: 5 7; }
 .avg10 { stroke: #d55e00; }
 .avg60 { stroke: #0072b2; }
@@ -84,10 +85,10 @@ def add(parent: Element, tag: str, text: Optional[str] = None, **attributes: Uni
     return element
 
 
-def add_line(parent: Element, points: Iterable[Point]) -> None:
-    """A line through these points. A point alone stands twice: a line of no length is drawn as a dot."""
+def add_line(parent: Element, points: Iterable[Point], **look: str) -> None:
+    """A line through these points, of a look. A point alone stands twice: a line of no length is drawn as a dot."""
     places = [f"{decimal(x)},{decimal(y)}" for x, y in points]
-    add(parent, "polyline", points=" ".join(places * 2 if len(places) == 1 else places))
+    add(parent, "polyline", points=" ".join(places * 2 if len(places) == 1 else places), **look)
 
 
 def counted(number: int, what: str) -> str:

@@ -1,4 +1,4 @@
-"""How a tool reads its words, and how it tells of a fault."""
+"""How a tool reads its words, and how it reports a fault."""
 from __future__ import annotations
 
 import argparse
@@ -11,7 +11,7 @@ class Fault(Exception):
 
 
 class Words(argparse.ArgumentParser):
-    """Reads a tool's words. A wrong one is a fault, told with the usage."""
+    """Reads a tool's words. A wrong one is a fault, reported with the usage."""
 
     def __init__(self, name: str, about: str, after: str = "") -> None:
         super().__init__(prog=name, description=about, epilog=after, allow_abbrev=False)
@@ -21,7 +21,7 @@ class Words(argparse.ArgumentParser):
 
 
 def run_tool(name: str, work: Callable[[], bytes]) -> int:
-    """Writes what the work gives to standard output. A fault of it, or of writing, is told, and the status is 1."""
+    """Writes what the work gives to standard output. A fault of it, or of writing, is reported, and the status is 1."""
     try:
         output = work()
         with open(1, "wb", closefd=False) as stream:

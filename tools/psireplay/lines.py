@@ -1,4 +1,4 @@
-"""The lines that `psi_oomd replay` prints, read in order. docs/FORMATS.md tells what each means."""
+"""The lines that `psi_oomd replay` prints, read in order. docs/COMMANDS.md says what each means."""
 from __future__ import annotations
 
 import re

@@ -1,7 +1,9 @@
-"""The program that tools and tests run: the one that the variable PSI_OOMD names, or else the launcher beside the tools."""
+"""The program that tools and tests run: the one that the variable PSI_OOMD names, or else the launcher above the tools' folder. So
+it is in a checkout, where the launcher builds it, and where it is installed, with the program that is there."""
 from __future__ import annotations
 
 import os
+import shutil
 import subprocess
 import tempfile
 from typing import IO, Iterator
@@ -10,6 +12,7 @@ from .command import Fault
 
 TOP = os.path.dirname(os.path.dirname(os.path.dirname(os.path.abspath(__file__))))
 LAUNCHER = os.path.join(TOP, "psi_oomd")
+VARIABLE = "PSI_OOMD"
 # A trace without events, for a run that only reads rules.
 NO_EVENTS = b"psitrace 1 cpus=1\n0 end\n"
 # The longest tick allows the longest traces, so what `replay` took at some tick is taken at this one.
@@ -19,13 +22,18 @@ REFUSALS = (2, 3)
 ADVICE = "build ./psi_oomd, or let the variable PSI_OOMD name the program"
 
 
+def named_program() -> str:
+    """The program's name as it is given, or the launcher's."""
+    return os.environ.get(VARIABLE) or LAUNCHER
+
+
 def program_path() -> str:
     """The program's name as a whole path. It needn't be there."""
-    return os.path.abspath(os.environ.get("PSI_OOMD") or LAUNCHER)
+    return os.path.abspath(shutil.which(named_program()) or named_program())
 
 
 def built_program(launcher: str = LAUNCHER) -> str:
-    """The program of a launcher, built where it is older than its sources, which the launcher then tells on standard error.
+    """The program of a launcher, built where it is older than its sources, which the launcher then reports on standard error.
 
     The launcher looks at all sources at each start, so what is run more than once is run without it."""
     done = subprocess.run([launcher, "--build"], stdout=subprocess.PIPE, encoding="utf-8")
@@ -45,7 +53,7 @@ def start(words: list[str], notes: IO[bytes]) -> subprocess.Popen[bytes]:
 
 
 def finish(run: subprocess.Popen[bytes], notes: IO[bytes], what: str) -> str:
-    """What the run printed. Where its status isn't 0 that is a fault, told with the program's own words."""
+    """What the run printed. Where its status isn't 0 that is a fault, in the program's own words."""
     assert run.stdin and run.stdout
     try:
         run.stdin.close()
@@ -96,7 +104,7 @@ class CheckedTrace:
         self.end = 0
 
     def lines(self) -> Iterator[bytes]:
-        """All lines; behind them `end` is the trace's end in ns."""
+        """All lines; after them `end` is the trace's end in ns."""
         with opened(self.name) as file, tempfile.TemporaryFile() as notes:
             run = start(["check", "-", LONGEST_TICK], notes)
             assert run.stdin

@@ -1,6 +1,6 @@
 """What a rules file says: the names of rulesets and plugins, and the thresholds that a chart can show.
 
-The program decides whether a file is one, so what is read here has the form that docs/FORMATS.md tells.
+The program decides whether a file is one, so what is read here has the form that docs/RULES.md describes.
 """
 from __future__ import annotations
 
@@ -69,6 +69,17 @@ def plugin_of(value: Any) -> Plugin:
 def ruleset_of(value: Any) -> Ruleset:
     detectors = [plugin_of(it) for group in value["detectors"] for it in group[1:]]
     return Ruleset(printable(value["name"]), detectors, [plugin_of(it) for it in value["actions"]])
+
+
+def unmatched(rulesets: list[Ruleset], paths: set[str]) -> list[str]:
+    """The patterns of these rulesets that match none of these groups, each with its ruleset: such a rule does nothing there."""
+    found = []
+    for ruleset in rulesets:
+        patterns = [it for plugin in [*ruleset.detectors, *ruleset.actions] for it in plugin.args.get("cgroup", "").split(",") if it]
+        for pattern in dict.fromkeys(patterns):
+            if not any(does_match(pattern, path) for path in paths):
+                found.append(f"'{pattern}' of ruleset '{ruleset.name}'")
+    return found
 
 
 class Rules:

@@ -24,7 +24,7 @@ class Life:
 
 
 class Samples:
-    """The samples of these groups, by path and by life, and the machine's memory in bytes as it was last told."""
+    """The samples of these groups, by path and by life, and the machine's memory in bytes as it was last reported."""
 
     def __init__(self, name: str, groups: list[str], end: int) -> None:
         """Reads a trace, which must be one that ends at this moment in ns."""

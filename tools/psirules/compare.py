@@ -7,12 +7,12 @@ from dataclasses import dataclass
 from psirules import telling
 from psirules.expectations import victims
 from psirules.program import Kill, Program
-from psirules.replays import Traces, accepted, no_input
+from psirules.replays import Traces, accepted, no_input, note_unmatched
 from psirules.rules_file import RulesFile
 from psirules.telling import Outcome
 from psirules.wording import Fault, seconds
 
-ABOUT = """Replays each trace by the rules of OLD and by those of NEW, and tells of each, by the first kill that differs:
+ABOUT = """Replays each trace by the rules of OLD and by those of NEW, and says of each, by the first kill that differs:
 
   same           the same groups are killed at the same moments
   earlier by S   the same group is killed, so many seconds earlier by NEW
@@ -35,7 +35,7 @@ class Difference:
 def difference(old: list[Kill], new: list[Kill], old_rules: RulesFile, new_rules: RulesFile) -> Difference:
     """What the first kill that differs says, number by number."""
     for number, (one, other) in enumerate(itertools.zip_longest(old, new)):
-        earlier = f", behind {victims(new[:number])} by both" if number else ""
+        earlier = f", after {victims(new[:number])} by both" if number else ""
         if one is None:
             word = f"only in {new_rules.name}"
             return Difference(word, one, other, f"{word}: {other.path} {new_rules.killed(other)}{earlier}")
@@ -87,6 +87,8 @@ def run(given: argparse.Namespace) -> int:
         old, old_file = accepted(program, given.old, files)
         new, new_file = accepted(program, given.new, files)
         replays = Traces(given.traces, given.pace, given.jobs).replays(program, [old_file, new_file])
+    whole = [trace for trace, *found in zip(given.traces, *replays) if not any(isinstance(it, Fault) for it in found)]
+    note_unmatched(whole, [old, new])
     compared = []
     for trace, one, other in zip(given.traces, *replays):
         fault = next((it for it in (one, other) if isinstance(it, Fault)), None)
@@ -101,7 +103,7 @@ def run(given: argparse.Namespace) -> int:
 
 
 def tell_lines(outcomes: list[Outcome]) -> None:
-    """A line for each trace; what couldn't be run is told on standard error."""
+    """A line for each trace; what couldn't be run is reported on standard error."""
     for outcome in outcomes:
         if outcome.is_ok is None:
             telling.complain(outcome.told)

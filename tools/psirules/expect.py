@@ -3,10 +3,10 @@ import argparse
 import contextlib
 from collections.abc import Iterable
 
-from psirules import expectations, telling
+from psirules import by_systemd, expectations, telling
 from psirules.expectations import Expectation
 from psirules.program import Kill, Program
-from psirules.replays import STANDARD_INPUT, Traces, accepted
+from psirules.replays import STANDARD_INPUT, Traces, accepted, note_unmatched
 from psirules.rules_file import RulesFile, bytes_of
 from psirules.telling import Outcome
 from psirules.wording import Fault
@@ -19,8 +19,10 @@ ABOUT = """Replays each trace by the rules of FILE, and holds its kills against 
   at most N kills          there are no more
   no kill before S         the first kill, if there is one, isn't earlier
 
-What stands behind a # is a comment. PATH and PATTERN are written as in rules files: in a component, * is any run of bytes.
-TRACE may be - for the standard input, once."""
+What follows a # is a comment. PATH and PATTERN are written as in rules files: in a component, * is any run of bytes.
+TRACE may be - for the standard input, once.
+
+With --by systemd-oomd the kills are those of tools/systemd-oomd by the settings of FOLDER; RULESET is `memory pressure` or `swap`."""
 STATUS = "The status is 0 where all holds, 1 where something doesn't, and 2 where something couldn't be run."
 
 
@@ -59,19 +61,46 @@ def tell_lines(judged: Iterable[Judged], is_named: bool) -> None:
             print(f"{'ok' if outcome.is_ok else 'FAIL':<6}{name}: {outcome.told}")
 
 
-def judge(given: argparse.Namespace, program: Program) -> list[Judged]:
+def check_words(given: argparse.Namespace) -> None:
+    """Raises a fault where the words don't fit together."""
     if given.traces.count(STANDARD_INPUT) > 1:
         raise Fault("- is given twice, and the standard input is read once")
+    if given.by == by_systemd.NAME:
+        if given.settings is None:
+            raise Fault(f"--by {given.by} wants the settings of a machine: give --settings FOLDER")
+        if given.rules or given.tick_ms or given.interval_s:
+            raise Fault(f"--rules, --tick-ms and --interval-s aren't for --by {given.by}, which looks each second by its settings")
+    elif given.settings is not None or given.systemd:
+        raise Fault(f"--settings and --systemd are for --by {by_systemd.NAME}")
+    elif given.rules is None:
+        raise Fault(f"the following arguments are required: --rules, or --by {by_systemd.NAME} and --settings")
+
+
+def check(wanted: list[Expectation], name: str, rules: RulesFile) -> None:
+    """Raises a fault where a line of the WANT file can't be judged by these rules."""
+    for it in wanted:
+        try:
+            it.check(rules)
+        except Fault as fault:
+            raise Fault(f"{name} line {it.line}: {fault}") from fault
+
+
+def judge(given: argparse.Namespace, program: Program) -> list[Judged]:
+    check_words(given)
     wanted = expectations.read(given.want, bytes_of(given.want))
     program.prepare()
+    traces = Traces(given.traces, given.pace, given.jobs)
     with contextlib.ExitStack() as files:
-        rules, file = accepted(program, given.rules, files)
-        for it in wanted:
-            try:
-                it.check(rules)
-            except Fault as fault:
-                raise Fault(f"{given.want} line {it.line}: {fault}") from fault
-        (replays,) = Traces(given.traces, given.pace, given.jobs).replays(program, [file])
+        if given.by == by_systemd.NAME:
+            rules: RulesFile = by_systemd.BySystemd(given.settings)
+            check(wanted, given.want, rules)
+            replays = by_systemd.replays(program, given.settings, given.systemd, traces)
+        else:
+            rules, file = accepted(program, given.rules, files)
+            check(wanted, given.want, rules)
+            (replays,) = traces.replays(program, [file])
+    if given.by != by_systemd.NAME:
+        note_unmatched([trace for trace, found in zip(given.traces, replays) if not isinstance(found, Fault)], [rules])
     return [Judged(trace, found, wanted, rules) for trace, found in zip(given.traces, replays)]
 
 
@@ -80,6 +109,6 @@ def run(given: argparse.Namespace) -> int:
     named = [Outcome(f"{it.trace}: {outcome.name}", outcome.is_ok, outcome.told) for it in judged for outcome in it.outcomes]
 
     def record(status: int) -> object:
-        return {"rules": given.rules, "want": given.want, "status": status, "traces": [it.record() for it in judged]}
+        return {"rules": given.rules or given.settings, "want": given.want, "status": status, "traces": [it.record() for it in judged]}
 
     return telling.tell(given.form, named, record, lambda: tell_lines(judged, len(judged) > 1))

@@ -46,7 +46,7 @@ class Expectation(ABC):
 
     @abstractmethod
     def verdict(self, kills: list[Kill], rules: RulesFile) -> Verdict:
-        """Whether these kills, in the order in which they were told, are what is wanted."""
+        """Whether these kills, in the order in which they were printed, are what is wanted."""
 
     def check(self, rules: RulesFile) -> None:
         """Raises a fault where it can't be judged by these rules."""
@@ -161,7 +161,7 @@ def read_line(line: int, text: str) -> Expectation:
 
 
 def read(name: str, data: bytes) -> list[Expectation]:
-    """The expectations of a WANT file. A comment goes from a `#`, at the line's start or behind a space, to the line's end."""
+    """The expectations of a WANT file. A comment goes from a `#`, at the line's start or after a space, to the line's end."""
     wanted = []
     for number, line in enumerate(data.decode("utf-8", "replace").splitlines(), 1):
         text = " ".join(re.sub(r"(^|\s)#.*", "", line).split())

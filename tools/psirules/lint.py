@@ -14,10 +14,10 @@ from psirules.rules_file import bytes_of, kept
 from psirules.telling import Form
 from psirules.wording import Fault, quoted
 
-ABOUT = """Tells what psi_oomd refuses in FILE (comments, commas behind the last item, plugins and values that only oomd has),
-what it passes over in silence (a misspelt argument does nothing; the name that was probably meant is told), and what it takes
+ABOUT = """Reports what psi_oomd refuses in FILE (comments, commas after the last item, plugins and values that only oomd has),
+what it passes over in silence (a misspelt argument does nothing; it names the one that was probably meant), and what it takes
 otherwise than oomd 0.5.0 (a size without a letter). With --fix a corrected file is printed, which psi_oomd takes, and each
-change is told on standard error; LOST stands behind those by which the rules do other things than in oomd."""
+change is reported on standard error; LOST marks those by which the rules do other things than in oomd."""
 STATUS = """The status is 0 where nothing is wrong, 1 where something is, and 2 where FILE can't be read. With --fix it is 0
 where the printed file means what FILE does, 1 where some of that is lost, and 2 where nothing could be printed."""
 WHOLE_FILE = "the file"
@@ -35,7 +35,7 @@ CAUSES = {
 
 
 def place_told(said: str, data: Any) -> str:
-    """The place of a fault, as the program tells it, with the names that stand there."""
+    """The place of a fault, as the program writes it, with the names that stand there."""
     lists = {"ruleset": "rulesets", "group": "detectors", "action": "actions"}
     told, at = [], data
     for kind, number in re.findall(r"(ruleset|group|item|action) ([0-9]+)", said):
@@ -58,7 +58,7 @@ def verdict(data: bytes, read: Any) -> Finding | None:
             if not refusal.said.startswith("rules"):
                 raise
             cause = refusal.said.rpartition(": ")[2]
-            what = f"{refusal.said}: {CAUSES.get(cause, 'docs/FORMATS.md has its cause')}"
+            what = f"{refusal.said}: {CAUSES.get(cause, 'docs/RULES.md has its cause')}"
             return Finding(place_told(refusal.said, read), Kind.REFUSED, what)
     return None
 
@@ -99,12 +99,12 @@ class Linted:
 
 
 def told_fix(linted: Linted, name: str) -> int:
-    """Prints the corrected file, and tells what was changed."""
+    """Prints the corrected file, and reports what was changed."""
     for finding in linted.findings:
         telling.complain(finding.told_change() if linted.fixed else finding.told())
     if linted.fixed is None:
         telling.complain(
-            f"{name} can't be corrected: mend by hand what is told above, and look at docs/FORMATS.md, `Rules files`"
+            f"{name} can't be corrected: mend by hand what is reported above, and look at docs/RULES.md"
         )
         return telling.NOT_RUN
     sys.stdout.flush()

@@ -112,7 +112,7 @@ class Mender:
                 continue
             what = missing("action", action["name"], effect)
             if effect is Effect.STOPS:
-                self.find(here, Kind.REFUSED, what, "it is taken out, with all behind it and the rest that it begins", True)
+                self.find(here, Kind.REFUSED, what, "it is taken out, with all after it and the rest that it begins", True)
                 break
             self.find(here, Kind.REFUSED, what, "it is taken out", effect is not Effect.CONTINUES)
         if actions and not kept:
@@ -139,7 +139,7 @@ class Mender:
         return None
 
     def arguments(self, place: str, args: dict[str, Any], plugin: Plugin) -> Effect | None:
-        """Corrects arguments; tells where one of them makes a plugin that can't be said here."""
+        """Corrects arguments; says where one of them makes a plugin that can't be said here."""
         for name in list(args):
             if name in plugin.of_oomd or plugin.form_of(name):
                 continue
@@ -164,9 +164,9 @@ class Mender:
     def of_oomd(self, place: str, args: dict[str, Any], plugin: Plugin) -> None:
         """What arguments mean in oomd that mean nothing here."""
         if spelled(args.get("dry")) in ("true", "True", "1") and "dry" in plugin.of_oomd:
-            self.find(place, Kind.NOTE, "oomd would tell this kill and not do it; here each kill is only told")
+            self.find(place, Kind.NOTE, "oomd would log this kill and not do it; here each kill is only printed")
         if "threshold_anon" in args and "threshold_anon" in plugin.of_oomd:
-            what = "no argument 'threshold_anon': no trace tells anonymous memory apart"
+            what = "no argument 'threshold_anon': a trace doesn't know anonymous memory"
             self.find(place, Kind.DIFFERS, what, "it takes the place of 'threshold', which counts all memory", True)
             args["threshold"] = args.pop("threshold_anon")
 

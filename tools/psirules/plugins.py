@@ -1,4 +1,4 @@
-"""The plugins that psi_oomd knows, as docs/FORMATS.md has them in its tables, and what oomd 0.5.0 knows beside them."""
+"""The plugins that psi_oomd knows, as the tables of docs/RULES.md have them, and what oomd 0.5.0 knows beside them."""
 from dataclasses import dataclass, field
 from enum import Enum
 
@@ -60,9 +60,9 @@ ACTIONS = {
 class Effect(Enum):
     """What oomd's own plugin of this name does, as far as its place in a list goes."""
 
-    CONTINUES = "lets what stands behind it go on, and does nothing that a replay shows"
+    CONTINUES = "lets what follows it go on, and does nothing that a replay shows"
     STOPS = "ends its list"
-    DECIDES = "decides by what no trace tells"
+    DECIDES = "decides by what no trace has"
     ACTS = "does what no replay shows"
     WAITS_FOR_CPU = "looks at a resource that is neither io nor memory"
 

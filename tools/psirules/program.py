@@ -2,7 +2,6 @@
 import os
 import re
 import shlex
-import shutil
 import subprocess
 import tempfile
 from collections.abc import Callable, Iterable, Sequence
@@ -10,10 +9,9 @@ from concurrent.futures import ThreadPoolExecutor
 from dataclasses import dataclass
 from typing import IO, TypeVar
 
+from psireplay.program import VARIABLE, named_program, program_path
 from psirules.wording import Fault
 
-TOP = os.path.dirname(os.path.dirname(os.path.dirname(os.path.abspath(__file__))))
-VARIABLE = "PSI_OOMD"
 EMPTY_TRACE = b"psitrace 1 cpus=1\n0 end\n"
 
 KILL = re.compile(r"kill ([0-9]+) ruleset=([0-9]+) action=([0-9]+) (/\S*)\n")
@@ -21,8 +19,8 @@ END = re.compile(r"end ([0-9]+) ticks=[0-9]+ events=[0-9]+ kills=([0-9]+)\n")
 
 WRONG_WORDS, RULES_REFUSED = 1, 3
 ADVICE = {
-    WRONG_WORDS: "the program doesn't take these words; docs/FORMATS.md has those of `replay`",
-    2: "that line can't stand there; docs/FORMATS.md has the cause under `Causes`, and `psi_oomd check {file}` looks again",
+    WRONG_WORDS: "the program doesn't take these words; docs/COMMANDS.md has those of `replay`",
+    2: "that line can't stand there; docs/TRACES.md has the cause under `Causes`, and `psi_oomd check {file}` looks again",
     RULES_REFUSED: "`tools/rules lint {file}` says what is wrong, and with --fix gives a corrected file",
     4: "look for a slip in its name",
     5: "it can't be read: it is a folder, or it may not be opened",
@@ -36,7 +34,7 @@ Answer = TypeVar("Answer")
 
 @dataclass(frozen=True)
 class Kill:
-    """A kill that a replay told: its moment in ns, who did it, both by number from 0, and the victim's path."""
+    """A kill that a replay printed: its moment in ns, who did it, both by number from 0, and the victim's path."""
 
     moment: int
     ruleset: int
@@ -58,7 +56,7 @@ class Pace:
 
 @dataclass(frozen=True)
 class RulesAt:
-    """A rules file: where its bytes lie, and its own name, which is told."""
+    """A rules file: where its bytes lie, and its own name, for messages."""
 
     path: str
     name: str
@@ -82,11 +80,11 @@ class Program:
     """The psi_oomd beside the tools, or the one that the variable PSI_OOMD names."""
 
     def __init__(self) -> None:
-        self.path = os.environ.get(VARIABLE) or os.path.join(TOP, "psi_oomd")
+        self.path = named_program()
 
     def absolute(self) -> str:
         """Its path from the root, as other hosts have to have it too."""
-        return os.path.abspath(shutil.which(self.path) or self.path)
+        return program_path()
 
     def replay(self, trace: str, rules: RulesAt, pace: Pace, threads: int) -> list[Kill]:
         """The kills of this trace by these rules, or a fault. The reports, of which one is left, are passed over."""

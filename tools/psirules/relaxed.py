@@ -31,7 +31,7 @@ class Reading:
         return text.removeprefix(BYTE_ORDER_MARK)
 
     def strict(self, text: str) -> str:
-        """The text without comments, and without commas behind the last item of a list or an object."""
+        """The text without comments, and without commas after the last item of a list or an object."""
         kept, line = [], 1
         for found in TOKEN.finditer(text):
             token = found[0]
@@ -39,7 +39,7 @@ class Reading:
                 self.changes.append((f"line {line}: a comment", TAKEN_OUT))
                 kept.append(" ")
             elif token == "," and BEHIND_A_COMMA.match(text, found.end()):
-                self.changes.append((f"line {line}: a comma behind the last item", TAKEN_OUT))
+                self.changes.append((f"line {line}: a comma after the last item", TAKEN_OUT))
             else:
                 kept.append(token)
             line += token.count("\n")
@@ -58,7 +58,7 @@ class Reading:
             except json.JSONDecodeError as other:
                 raise Fault(place_of(other)) from other
         if text[end:].strip():
-            self.changes.append((f"{quoted(text[end:].strip()[:40])} behind the whole", TAKEN_OUT))
+            self.changes.append((f"{quoted(text[end:].strip()[:40])} after the whole", TAKEN_OUT))
         return data
 
     def decoded(self, text: str, is_strict: bool) -> tuple[Any, int]:

@@ -1,11 +1,17 @@
 """Traces by rules: each replayed, side by side."""
 import contextlib
 import functools
+from collections.abc import Callable
+import mmap
+import os
+import re
 from dataclasses import dataclass
 
+from psirules.patterns import matches
 from psirules.program import Kill, Pace, Program, RulesAt, processors, side_by_side
 from psirules.rules_file import RulesFile, bytes_of, kept
-from psirules.wording import Fault
+from psirules.telling import complain
+from psirules.wording import Fault, quoted
 
 STANDARD_INPUT = "-"
 
@@ -24,6 +30,31 @@ class Traces:
         calls = [functools.partial(program.replay, trace, file, self.pace) for file, trace in pairs]
         found = side_by_side(calls, self.jobs or processors())
         return [found[number * len(self.names) :][: len(self.names)] for number in range(len(rules))]
+
+    def each(self, replay: Callable[[str, int], list[Kill]]) -> list[list[Kill] | Fault]:
+        """The kills of each trace by another way to replay it, which is told how many threads are left for it."""
+        return side_by_side([functools.partial(replay, trace) for trace in self.names], self.jobs or processors())
+
+
+def groups_of(trace: str) -> set[str] | None:
+    """The groups that a trace ever has; None of one that has the root alone, which rules on groups are no answer to, and of one that
+    can't be read twice."""
+    if not os.path.isfile(trace) or not os.path.getsize(trace):
+        return None
+    with open(trace, "rb") as file, mmap.mmap(file.fileno(), 0, access=mmap.ACCESS_READ) as data:
+        found = {path.decode("latin-1") for path in re.findall(rb"^[0-9]+ group (\S+)$", data, re.MULTILINE)}
+    return found | {"/"} if found else None
+
+
+def note_unmatched(traces: list[str], rules: list[RulesFile]) -> None:
+    """Says which patterns of rules match no group of a trace: there such a rule does nothing, whatever happens."""
+    for trace in traces:
+        groups = groups_of(trace)
+        for file in rules if groups is not None else ():
+            for number, pattern in file.patterns():
+                if not any(matches(pattern, path) for path in groups or ()):
+                    what = f"'{pattern}' of ruleset {number} {quoted(file.ruleset_name(number))} in {file.name}"
+                    complain(f"note: no group of {trace} matches {what}")
 
 
 def no_input(names: list[str]) -> None:

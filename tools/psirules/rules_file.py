@@ -20,7 +20,7 @@ def bytes_of(name: str) -> bytes:
 
 @contextmanager
 def kept(data: bytes, name: str) -> Iterator[RulesAt]:
-    """A rules file with these bytes, as long as it is needed. So the rules that are run are those whose names are told,
+    """A rules file with these bytes, as long as it is needed. So the rules that are run are those whose names are shown,
     though the file changes meanwhile or is a pipe."""
     with tempfile.NamedTemporaryFile(prefix="psirules-", suffix=".json") as file:
         file.write(data)
@@ -47,7 +47,7 @@ class RulesFile:
         return f"{ruleset}, action {kill.action} {quoted(self.plugin_name(kill))}"
 
     def killed(self, kill: Kill) -> str:
-        """When and by whom, to stand behind the victim."""
+        """When and by whom, to follow the victim."""
         return f"killed at {seconds(kill.moment)} s by {self.killer(kill)}"
 
     def record(self, kill: Kill) -> dict[str, object]:
@@ -67,6 +67,15 @@ class RulesFile:
         if not named and ruleset.isascii() and ruleset.isdigit() and int(ruleset) < len(self.rulesets):
             return [int(ruleset)]
         return named
+
+    def patterns(self) -> list[tuple[int, str]]:
+        """The patterns of groups that the rulesets have, each with its ruleset's number, once."""
+        found = []
+        for number, ruleset in enumerate(self.rulesets):
+            plugins = [it for group in ruleset["detectors"] for it in group[1:]] + ruleset["actions"]
+            named = [it for plugin in plugins for it in str(plugin.get("args", {}).get("cgroup", "")).split(",") if it]
+            found += [(number, it) for it in dict.fromkeys(named)]
+        return found
 
     def ruleset_names(self) -> list[str]:
         return [self.ruleset_name(number) for number in range(len(self.rulesets))]

@@ -41,7 +41,7 @@ def values_of(text: str) -> list[str]:
     found = re.fullmatch(r"([0-9.]+)([KMGTkmgt%]?):([0-9.]+)\2:([0-9.]+)\2", text)
     numbers = [found[1], found[3], found[4]] if found else []
     if not found or not all(map(places.is_number, numbers)):
-        raise Fault(f"{quoted(text)} is no FROM:TO:STEP: write 20:90:10, or one letter behind each as in 512M:2048M:512M")
+        raise Fault(f"{quoted(text)} is no FROM:TO:STEP: write 20:90:10, or one letter after each as in 512M:2048M:512M")
     start, end, step = map(Decimal, numbers)
     if not step or start > end:
         raise Fault(f"{quoted(text)} has no value: FROM is at most TO, and STEP above 0")
@@ -101,7 +101,7 @@ def replay(values: tuple[str, ...], axes: list[Axis], rules: RulesFile, given: a
         except Refusal as refusal:
             if refusal.status != RULES_REFUSED:
                 raise
-            advice = "docs/FORMATS.md has the argument's form and range under `Arguments`"
+            advice = "docs/RULES.md has the argument's form and range under `Arguments`"
             raise Fault(f"{named(axes, values)}: {refusal.said}: {advice}") from refusal
 
 

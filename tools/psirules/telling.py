@@ -1,4 +1,4 @@
-"""How outcomes are told: as lines for people, as TAP (version 13) for harnesses of tests, or as JSON."""
+"""How outcomes are reported: as lines for people, as TAP (version 13) for harnesses of tests, or as JSON."""
 import json
 import sys
 from collections.abc import Callable

@@ -10,7 +10,7 @@ class Fault(Exception):
 
 
 def seconds(ns: int) -> str:
-    """A time in seconds, without zeros behind the last decimal."""
+    """A time in seconds, without zeros after the last decimal."""
     sign, ns = ("-", -ns) if ns < 0 else ("", ns)
     return sign + f"{ns // SECOND}.{ns % SECOND:09}".rstrip("0").rstrip(".")
 

@@ -2,7 +2,7 @@
 import argparse
 from collections.abc import Callable
 
-from psirules import compare, expect, lint, sweep
+from psirules import by_systemd, compare, expect, from_systemd, lint, sweep
 from psirules.program import Pace
 from psirules.telling import Form
 from psirules.wording import Fault
@@ -10,7 +10,7 @@ from psirules.wording import Fault
 ABOUT = """Tests, compares and mends rules files of psi_oomd on recorded traces.
 
 Each command replays by the psi_oomd that stands beside the folder of this tool, or by the program that the variable PSI_OOMD
-names, and tells what that prints. `tools/rules COMMAND --help` has the words of each."""
+names, and reports what that prints. `tools/rules COMMAND --help` has the words of each."""
 STATUS = """The status is 0 where all is well, 1 where an expectation fails, traces differ or a rules file has faults, and 2
 where something couldn't be run: a wrong word, a file that isn't there, a trace or rules file that the program refuses."""
 
@@ -32,7 +32,7 @@ def number(least: int, most: int) -> Callable[[str], int]:
 
 
 def add_form(command: argparse.ArgumentParser, has_tap: bool) -> None:
-    """How the answer is told."""
+    """How the answer is written."""
     forms = command.add_mutually_exclusive_group()
     if has_tap:
         forms.add_argument(
@@ -57,6 +57,18 @@ def add_replay(command: argparse.ArgumentParser) -> None:
     add_form(command, True)
 
 
+def add_expect(command: argparse.ArgumentParser) -> None:
+    """What is wanted, of which traces, and by whom kills are."""
+    command.add_argument("want", metavar="WANT", help="the file with what is wanted")
+    command.add_argument("traces", metavar="TRACE", nargs="+", help="a trace")
+    command.add_argument("--rules", metavar="FILE", help="the rules file")
+    command.add_argument("--by", choices=("oomd", by_systemd.NAME), default="oomd", help="who kills: oomd, by --rules, if left out")
+    command.add_argument("--settings", metavar="FOLDER", help="with --by systemd-oomd: its settings, as of tools/systemd-oomd")
+    command.add_argument("--systemd", type=number(247, 9999), metavar="N", help="with it: by which version of systemd")
+    add_replay(command)
+    command.set_defaults(run=expect.run)
+
+
 def parser() -> Words:
     words = Words(prog="rules", description=ABOUT, epilog=STATUS, formatter_class=argparse.RawDescriptionHelpFormatter)
     commands = words.add_subparsers(dest="command", required=True, metavar="COMMAND")
@@ -65,12 +77,7 @@ def parser() -> Words:
         form = argparse.RawDescriptionHelpFormatter
         return commands.add_parser(name, description=about, epilog=status, help=brief, formatter_class=form, allow_abbrev=False)
 
-    command = add("expect", expect.ABOUT, expect.STATUS, "hold the kills of traces against what is wanted")
-    command.add_argument("want", metavar="WANT", help="the file with what is wanted")
-    command.add_argument("traces", metavar="TRACE", nargs="+", help="a trace")
-    command.add_argument("--rules", metavar="FILE", required=True, help="the rules file")
-    add_replay(command)
-    command.set_defaults(run=expect.run)
+    add_expect(add("expect", expect.ABOUT, expect.STATUS, "hold the kills of traces against what is wanted"))
     command = add("compare", compare.ABOUT, compare.STATUS, "tell what other rules change, trace by trace")
     command.add_argument("old", metavar="OLD", help="a rules file")
     command.add_argument("new", metavar="NEW", help="the one that is to take its place")
@@ -87,9 +94,13 @@ def parser() -> Words:
     command.set_defaults(run=sweep.run)
     command = add("lint", lint.ABOUT, lint.STATUS, "tell what is wrong in a rules file, or correct it")
     command.add_argument("file", metavar="FILE", help="the rules file, or - for the standard input")
-    command.add_argument("--fix", action="store_true", help="print a corrected file, and tell each change on standard error")
+    command.add_argument("--fix", action="store_true", help="print a corrected file, and report each change on standard error")
     add_form(command, False)
     command.set_defaults(run=lint.run)
+    command = add("from-systemd", from_systemd.ABOUT, from_systemd.STATUS, "print the rules that are nearest to systemd-oomd's settings")
+    command.add_argument("folder", metavar="FOLDER", help="the settings, as of tools/systemd-oomd")
+    command.add_argument("--systemd", type=number(247, 9999), metavar="N", help="by which version of systemd")
+    command.set_defaults(run=from_systemd.run)
     return words
 
 
