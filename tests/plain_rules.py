@@ -1,6 +1,6 @@
 """What rules files and drop-in files say, read plainly: for checks of what psi_oomd makes of them.
 
-It follows docs/FORMATS.md alone. A file's bytes become rulesets, with every argument as the text in which it is printed, or the
+It follows docs/RULES.md alone. A file's bytes become rulesets, with every argument as the text in which it is printed, or the
 first fault on the walk through the file; parts are put into rulesets; and rulesets become the line that `rules` prints.
 """
 from __future__ import annotations

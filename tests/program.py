@@ -5,6 +5,8 @@ from __future__ import annotations
 import os
 import sys
 
+# Whether the program was named from outside: then nothing else is built unasked.
+IS_NAMED = bool(os.environ.get("PSI_OOMD")) or "--program" in sys.argv[1:2]
 TOP = os.path.dirname(os.path.dirname(os.path.abspath(__file__)))
 sys.path.append(os.path.join(TOP, "tools"))
 
@@ -20,6 +22,8 @@ def program_of(words: list[str], name: str = "psi_oomd") -> tuple[str, list[str]
         os.environ[variable] = words[1]
         words = words[2:]
     program = os.path.abspath(os.environ.get(variable) or launcher)
+    if IS_NAMED and program == launcher:
+        sys.exit(f"psi_oomd was named, and {name} wasn't: the variable {variable} names it; without both names both are built")
     try:
         program = built_program(launcher) if program == launcher else program
     except Fault as fault:

@@ -1,4 +1,4 @@
-"""Runs a program and counts what the system itself tells of it: calls that read and write, threads that were started, and the
+"""Runs a program and counts what the system itself reports of it: calls that read and write, threads that were started, and the
 addresses that were asked for."""
 from __future__ import annotations
 

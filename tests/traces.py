@@ -113,7 +113,7 @@ STALLS_ASLEEP = """psitrace 1 cpus=2
 3500000000 unstall 2
 5000000000 end
 """
-# What docs/FORMATS.md shows a live line of.
+# The trace of which docs/COMMANDS.md shows a live line.
 BETWEEN = """psitrace 1 cpus=1
 0 fork 1 / 0
 0 switch 0 1 idle
