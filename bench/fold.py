@@ -23,7 +23,7 @@ from collections.abc import Iterator
 sys.dont_write_bytecode = True
 sys.path.insert(0, os.path.join(os.path.dirname(os.path.dirname(os.path.abspath(__file__))), "tools"))
 
-from psirec.fold import Fold  # noqa: E402
+from psifold.fold import Fold  # noqa: E402
 
 THREADS = 6
 SLICES = ("/system.slice", "/user.slice", "/batch.slice")

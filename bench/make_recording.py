@@ -19,7 +19,7 @@ sys.dont_write_bytecode = True
 TOP = os.path.dirname(os.path.dirname(os.path.abspath(__file__)))
 sys.path.insert(0, os.path.join(TOP, "tools"))
 
-from psirec.formats import INTEGERS, Format, formats_of, sections_of  # noqa: E402
+from psiread.formats import INTEGERS, Format, formats_of, sections_of  # noqa: E402
 
 PAGE, HEAD, LONGEST = 4096, 16, 1 << 27
 START = 10**12

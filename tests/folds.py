@@ -15,8 +15,8 @@ from traces import MS, Event, Maker
 
 sys.path.insert(0, TOOLS)
 
-from psirec.fold import Fold  # noqa: E402
-from psirec.fold_victims import Victim  # noqa: E402
+from psifold.fold import Fold  # noqa: E402
+from psifold.victims import Victim  # noqa: E402
 
 TOTAL = re.compile(rb"total=([0-9]+)")
 

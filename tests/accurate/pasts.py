@@ -12,10 +12,10 @@ from recorded import TOOLS, accepted, compared, converted, recording
 
 sys.path.insert(0, TOOLS)
 
-from psirec.clocks import Clocks  # noqa: E402
-from psirec.groups import Groups  # noqa: E402
-from psirec.lead_in import FACTORS, TICK, LeadIn, Shares, Stage, averages_in, stretches_of, timeline  # noqa: E402
-from psirec.world import World  # noqa: E402
+from psicompare.clocks import Clocks  # noqa: E402
+from psiconvert.lead_in import FACTORS, TICK, LeadIn, Shares, Stage, averages_in, stretches_of, timeline  # noqa: E402
+from psiworld.groups import Groups  # noqa: E402
+from psiworld.world import World  # noqa: E402
 
 LEAD = 720
 # So many points may averages be off at the start, by their periods: avg10 moves by that much within a tick, of which the machine's

@@ -8,14 +8,14 @@ from recorded import TOOLS
 
 sys.path.insert(0, TOOLS)
 
-from psirec.agreement import Growth, asked_of, growths_of, sampling_of  # noqa: E402
-from psirec.clocks import Clocks  # noqa: E402
-from psirec.compare import row_of  # noqa: E402
-from psirec.compare_table import Limits, Shown, report  # noqa: E402
-from psirec.events import AverageProbe, Event, Marker, ShowProbe  # noqa: E402
-from psirec.moments import Moments  # noqa: E402
-from psirec.pressure import File, Readings, Totals  # noqa: E402
-from psirec.source import Source  # noqa: E402
+from psicompare.agreement import Growth, asked_of, growths_of, sampling_of  # noqa: E402
+from psicompare.clocks import Clocks  # noqa: E402
+from psicompare.command import row_of  # noqa: E402
+from psicompare.moments import Moments  # noqa: E402
+from psicompare.table import Limits, Shown, report  # noqa: E402
+from psiread.events import AverageProbe, Event, Marker, ShowProbe  # noqa: E402
+from psiread.pressure import File, Readings, Totals  # noqa: E402
+from psiread.source import Source  # noqa: E402
 
 MS, SECOND = 10**6, 10**9
 RESOURCES = ("io", "memory", "cpu")

@@ -9,8 +9,8 @@ from recorded import TOOLS, accepted, compared, converted, digest_of, digests, h
 
 sys.path.insert(0, TOOLS)
 
-from psirec.events import Event, ReadyProbe, Switch, Wakeup  # noqa: E402
-from psirec.wakeups import Counting, bounds_of, counted_at, lag_bounds, put_at, with_wakeups  # noqa: E402
+from psiconvert.wakeups import Counting, bounds_of, counted_at, lag_bounds, put_at, with_wakeups  # noqa: E402
+from psiread.events import Event, ReadyProbe, Switch, Wakeup  # noqa: E402
 
 # The part of the stored recording that was kept, s.
 PART = ("--to", "20")

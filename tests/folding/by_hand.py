@@ -6,7 +6,7 @@ from typing import Any
 
 from folds import folded, lines_between, must_replay_alike, printed
 from must import must, must_be
-from psirec import fold_processor
+from psifold import processor
 from traces import MS, Maker
 
 SECOND = 1000 * MS
@@ -82,7 +82,7 @@ def check_as_many_groups_as_there_may_be(program: str) -> None:
 
 def check_how_many_joint_states_there_are(_: str) -> None:
     """Whether each window of a processor has at most one joint state more than it has sums, and what rounding leaves stays small."""
-    few_of, most = fold_processor.few_of, 0
+    few_of, most = processor.few_of, 0
 
     def counted(spent: dict[int, int], sums: Any, left: Any) -> Any:
         few = few_of(spent, sums, left)
@@ -90,14 +90,14 @@ def check_how_many_joint_states_there_are(_: str) -> None:
         must_be("the time of all", sum(few.times.values()), sum(spent.values()))
         return few
 
-    setattr(fold_processor, "few_of", counted)
+    setattr(processor, "few_of", counted)
     try:
         for number in range(12):
             for maker in (Busy(number, 1), Maker(number + 500, 2)):
                 _, fold = folded(maker.trace(), 2 * maker.tick)
                 most = max([most, *map(abs, fold.check.behind.values())])
     finally:
-        setattr(fold_processor, "few_of", few_of)
+        setattr(processor, "few_of", few_of)
     must(most < 10, f"a sum is off by {most} ns")
 
 

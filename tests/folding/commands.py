@@ -12,7 +12,9 @@ from io import StringIO
 from folds import must_print_alike, text_of
 from must import must, must_be
 from program import TOP
-from psirec import fold_recording, folder, psitrace, slices
+from psiconvert import command, folded
+from psiread import slices
+from psirecord import folder
 from recorded import accepted, recording, tool
 
 EXAMPLES = os.path.join(TOP, "examples")
@@ -25,12 +27,12 @@ def check_slices(program: str) -> None:
     for name in ("cg-2", "wakeups"):
         with recording(name) as folder:
             whole, plain = tool("psitrace", folder, "--fold=1"), tool("psitrace", folder)
-            before = slices.READ_BYTES, psitrace.LARGE
+            before = slices.READ_BYTES, command.LARGE
             try:
-                slices.READ_BYTES, psitrace.LARGE = 1 << 18, 0
+                slices.READ_BYTES, command.LARGE = 1 << 18, 0
                 status, found, said = here([folder, "--fold=1"])
             finally:
-                slices.READ_BYTES, psitrace.LARGE = before
+                slices.READ_BYTES, command.LARGE = before
         must_be(f"the status of {name}", status, 0)
         accepted(program, found)
         must_print_alike(f"{name} in slices", whole.output, found)
@@ -42,7 +44,7 @@ def here(words: list[str]) -> tuple[int, bytes, str]:
     """Runs psitrace in this process: its status, what it wrote, and what it said."""
     said = StringIO()
     with tempfile.NamedTemporaryFile() as file, redirect_stderr(said):
-        status = psitrace.main([*words, "-o", file.name])
+        status = command.main([*words, "-o", file.name])
         return status, file.read(), said.getvalue()
 
 
@@ -112,20 +114,20 @@ def check_words_and_faults(_: str) -> None:
 
 def check_the_limit(_: str) -> None:
     """Whether no more events are written than a trace may have: the trace then ends with its last window that has room."""
-    for large in (psitrace.LARGE, 0):
+    for large in (command.LARGE, 0):
         lines = limited(large)
         must(600 < len(lines) <= 901 and re.fullmatch(rb"[1-9][0-9]?000000000 end", lines[-1]), f"{len(lines)} lines, and {lines[-1]!r}")
 
 
 def limited(large: int) -> list[bytes]:
     """The lines of a trace that ends at a limit, where a recording of so many bytes is large."""
-    before = fold_recording.MOST_EVENTS, psitrace.LARGE
+    before = folded.MOST_EVENTS, command.LARGE
     try:
-        fold_recording.MOST_EVENTS, psitrace.LARGE = 900, large
+        folded.MOST_EVENTS, command.LARGE = 900, large
         with recording("mix-2") as folder:
             must_be("the status, and what is written without force", here([folder, "--fold=1"])[:2], (3, b""))
             status, output, _ = here([folder, "--fold=1", "--force"])
             must_be("the status by force", status, 3)
             return output.splitlines()
     finally:
-        fold_recording.MOST_EVENTS, psitrace.LARGE = before
+        folded.MOST_EVENTS, command.LARGE = before

@@ -13,8 +13,8 @@ from importlib.util import module_from_spec, spec_from_loader
 from folds import Settled, Wide, files_of, folded, must_print_alike, must_replay_alike, printed, text_of, window_of
 from must import must, must_be
 from program import TOP
-from psirec.fold import Fold
-from psirec.fold_victims import victims_in
+from psifold.fold import Fold
+from psifold.victims import victims_in
 from recorded import accepted, recording, tool
 from traces import MS, RUNAWAY, Maker
 

@@ -7,10 +7,10 @@ from typing import Any
 
 from folds import folded, must_replay_alike
 from must import Wrong, must
-from psirec import fold, fold_processor
-from psirec.fold_check import Different
-from psirec.fold_lines import Line, Writer
-from psirec.joint import Element, Kind
+from psifold import fold, processor
+from psifold.check import Different
+from psifold.joint import Element, Kind
+from psifold.lines import Line, Writer
 from traces import MS
 
 SECOND = 1000 * MS
@@ -66,7 +66,7 @@ def other_kind(joint_state: Any) -> Any:
 
 
 WRONG: tuple[tuple[str, object, str, Callable[[Any], Any]], ...] = (
-    ("a joint state is lost", fold_processor, "few_of", state_lost),
+    ("a joint state is lost", processor, "few_of", state_lost),
     ("moments are a us later", Writer, "write", wrong_lines(us_later)),
     ("a processor is another", Writer, "write", wrong_lines(elsewhere)),
     ("a wakeup is lost", Writer, "write", wrong_lines(without_first("wake"))),

@@ -1,4 +1,4 @@
-"""Wrong recorders: each edit of tools/psirec makes one, and a case of tests/record must tell it from the right one."""
+"""Wrong recorders: each edit of tools/psirecord makes one, and a case of tests/record must tell it from the right one."""
 from __future__ import annotations
 
 import concurrent.futures
@@ -12,7 +12,7 @@ Edit = tuple[str, str, str, str]
 
 # Which file, what stands there, what a wrong recorder has instead, and the case that must fail.
 EDITS: tuple[Edit, ...] = (
-    ("record_command.py", "    if missing:", "    if False:", "nothing_is_there"),
+    ("command.py", "    if missing:", "    if False:", "nothing_is_there"),
     ("machine.py", 'elif os.path.exists(f"{self.groups}/cgroup.events"):', "elif False:", "in_a_container"),
     ("folder.py", "os.mkdir(path)", "os.makedirs(path, exist_ok=True)", "the_folder_is_there_already"),
     ("undoing.py", "self.steps.pop()\n            try", "self.steps.pop(0)\n            try", "a_whole_machine"),
@@ -74,12 +74,12 @@ EDITS: tuple[Edit, ...] = (
     ("folder.py", "os.posix_fallocate(file, 0, RESERVE_BYTES)", "pass", "a_full_file_system"),
     ("folder.py", "os.unlink(f\"{self.path}/{RESERVE}\")", "pass", "a_whole_machine"),
     ("folder.py", "FULL = (errno.ENOSPC, errno.EDQUOT, errno.EFBIG)", "FULL = ()", "a_full_disk"),
-    ("record_command.py", "suppress(OSError, ValueError):\n            os.write", "suppress():\n            os.write", "nobody_reads"),
-    ("record_command.py", "folder.discard()", "pass", "an_event_that_must_be"),
-    ("record_command.py", "remove_left_behind(machine, tell)", "pass", "killed_and_started_again"),
-    ("record_command.py", "(before + behind) / 2", "before - 1", "the_two_clocks"),
-    ("record_command.py", "ending.is_whole = False", "pass", "statistics_are_switched_off_meanwhile"),
-    ("record_command.py", "if left:", "if False:", "what_cannot_be_undone"),
+    ("command.py", "suppress(OSError, ValueError):\n            os.write", "suppress():\n            os.write", "nobody_reads"),
+    ("command.py", "folder.discard()", "pass", "an_event_that_must_be"),
+    ("command.py", "remove_left_behind(machine, tell)", "pass", "killed_and_started_again"),
+    ("command.py", "(before + behind) / 2", "before - 1", "the_two_clocks"),
+    ("command.py", "ending.is_whole = False", "pass", "statistics_are_switched_off_meanwhile"),
+    ("command.py", "if left:", "if False:", "what_cannot_be_undone"),
     ("systemd_settings.py", "if not place_of(machine).is_booted():", "if False:", "settings_that_are_not_wanted"),
     ("systemd_settings.py", "if last in setting)", 'if SETTING.search(read_file(f"{root}/{name}")))', "settings_of_systemd_oomd"),
     ("systemd_settings.py", "is_kept if goes_on else ", "", "settings_of_systemd_oomd"),
@@ -90,7 +90,7 @@ EDITS: tuple[Edit, ...] = (
 
 def edited(top: str, edit: Edit) -> str | None:
     """The file with this edit; nothing where what is to be edited doesn't stand there once."""
-    with open(f"{top}/tools/psirec/{edit[0]}", encoding="utf-8") as file:
+    with open(f"{top}/tools/psirecord/{edit[0]}", encoding="utf-8") as file:
         text = file.read()
     return text.replace(edit[1], edit[2]) if text.count(edit[1]) == 1 else None
 
@@ -99,7 +99,7 @@ def is_found(top: str, edit: Edit) -> bool:
     """Whether the case fails on the wrong recorder."""
     with tempfile.TemporaryDirectory(prefix="wrong") as scratch:
         shutil.copytree(f"{top}/tools", f"{scratch}/tools")
-        with open(f"{scratch}/tools/psirec/{edit[0]}", "w", encoding="utf-8") as file:
+        with open(f"{scratch}/tools/psirecord/{edit[0]}", "w", encoding="utf-8") as file:
             file.write(edited(top, edit) or "")
         environment = {**os.environ, "RECORD_TOOLS": f"{scratch}/tools"}
         words = [f"{top}/tests/record", edit[3]]

@@ -1,1 +1,1 @@
-"""What `tools/record` writes and `tools/psitrace`, `tools/compare` and `tools/ftrace-check` read."""
+"""The form of a recording: the names by which `tools/record` writes and all else reads. Both need it, and it needs neither."""

@@ -6,7 +6,6 @@ from collections.abc import Iterator
 from dataclasses import dataclass
 from typing import Any
 
-from psirec.groups import ROOT
 from psirules import telling
 from psirules.lint import written
 from psirules.patterns import is_pattern
@@ -14,6 +13,7 @@ from psirules.wording import quoted
 from psisystemd.settings import BELOW_MANAGER, Settings
 from psisystemd.units import DURATION_OF_UNIT, LIMIT, PREFERENCE, PRESSURE, SWAP, TYPES, Unit, UnitFiles, template_of
 from psisystemd.values import SECOND, percent
+from psiworld.groups import ROOT
 
 ABOUT = """Prints rules for psi_oomd that are nearest to what systemd-oomd does by the settings of FOLDER, which is one as
 tools/systemd-oomd takes it. For each setting that rules can't say, or say otherwise, a line stands on standard error, which ends in LOST

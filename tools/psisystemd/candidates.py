@@ -3,10 +3,10 @@ from __future__ import annotations
 
 from collections.abc import Iterable, Iterator
 
-from psirec.groups import ROOT
 from psisystemd.settings import Settings
 from psisystemd.told import Candidate
 from psisystemd.world import Group, Sample, World
+from psiworld.groups import ROOT
 
 
 def is_below(path: str, above: str) -> bool:

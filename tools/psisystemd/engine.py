@@ -8,13 +8,13 @@ from __future__ import annotations
 from collections.abc import Iterable
 from dataclasses import dataclass, replace
 
-from psirec.groups import ROOT
 from psirules.wording import seconds
 from psisystemd.candidates import gathered, is_avoided, memory_of
 from psisystemd.settings import Settings
 from psisystemd.told import MEMORY_PRESSURE, SWAP, Candidate, Course, Decision, size
 from psisystemd.values import SECOND, WHOLE, percent
 from psisystemd.world import Group, World
+from psiworld.groups import ROOT
 
 SWAP_INTERVAL = 150 * SECOND // 1000
 RECLAIM = 30 * SECOND

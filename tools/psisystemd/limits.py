@@ -5,7 +5,7 @@ import difflib
 import os
 from dataclasses import dataclass, replace
 
-from psirec.systemd_settings import CONFIGURATIONS
+from psirec.systemd import CONFIGURATIONS
 from psisystemd.texts import Setting, drop_ins, settings_of
 from psisystemd.values import SECOND, duration, share
 

@@ -11,13 +11,13 @@ from dataclasses import dataclass
 
 from psireplay.command import Fault as ReplayFault
 from psireplay.lines import Report, read
-from psirec.groups import ROOT
 from psirules.program import Kill, Program, Refusal
 from psirules.wording import Fault, listed
 from psisystemd.engine import Engine
 from psisystemd.settings import Settings
 from psisystemd.told import MEMORY_PRESSURE, SWAP, Decision
 from psisystemd.world import lines_of
+from psiworld.groups import ROOT
 
 LOOK_MS = 1000
 BY = (MEMORY_PRESSURE, SWAP)

@@ -9,7 +9,7 @@ import os
 import re
 from dataclasses import dataclass, replace
 
-from psirec.systemd_settings import CONFIGURATIONS, GROUPS, SYSTEM_UNITS, UNITS, USER_UNITS, VERSION
+from psirec.systemd import CONFIGURATIONS, GROUPS, SYSTEM_UNITS, UNITS, USER_UNITS, VERSION
 from psirules.wording import Fault
 from psisystemd.limits import Limits, read_limits
 from psisystemd.texts import text_at

@@ -8,7 +8,7 @@ from dataclasses import dataclass, field, replace
 from typing import TypeVar
 
 from psirec.layout import escaped_path
-from psirec.systemd_settings import SYSTEM_UNITS, USER_UNITS
+from psirec.systemd import SYSTEM_UNITS, USER_UNITS
 from psirules.wording import Fault
 from psisystemd.limits import DURATION, SHARE, checked_duration, unknown
 from psisystemd.texts import Setting, drop_ins, settings_of, text_at

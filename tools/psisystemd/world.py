@@ -7,7 +7,7 @@ from __future__ import annotations
 from collections.abc import Iterator
 from dataclasses import dataclass, field
 
-from psirec.groups import ROOT, parent_of
+from psiworld.groups import ROOT, parent_of
 
 
 @dataclass(frozen=True)

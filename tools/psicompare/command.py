@@ -1,0 +1,276 @@
+"""Holds a trace against the recording of which it was made: the totals of each group's pressure that the trace gives, beside those
+of the machine's own files.
+
+  tools/compare FOLDER TRACE
+
+FOLDER is what tools/record wrote, and TRACE what tools/psitrace made of it. The trace's totals are added up as the machine's kernel
+did: at the moments at which it sampled each group, and in 32 bits. Where the recording doesn't show these moments, the phase of
+each group's grid is fitted, and said. With --tick-ms the totals are those of a replay with such ticks: the program is the psi_oomd
+beside tools, or the one that the variable PSI_OOMD names.
+
+The table has, for each file whose total grew by at least --shown-s, the growth from the first reading of the machine's files in
+the trace to the last, in us, by the machine and by the trace, and how much the trace is above or below, in percent. What is
+beyond its limit has a mark (!); where the machine's own sums lost something, since they have 32 bits, it has another (w). The kernel
+shows zeros in the root's full line of cpu, and so does the trace.
+
+The status is 0 where all totals are within the limits, 1 where one isn't, and 2 where there was nothing to compare: faulty
+words, something that can't be read, or no trace.
+"""
+from __future__ import annotations
+
+import os
+import subprocess
+import sys
+from collections.abc import Callable, Iterable, Iterator, Sequence
+from typing import NamedTuple
+
+from psiconvert.wakeups import bounds_of, lag_bounds, with_wakeups
+from psiread.pressure import compared, machine_readings, made_in, readings_within, replay_series
+from psiread.recording import read_recording
+from psiread.source import Source, Unreadable
+from psiread.words import SECOND, Parser, length, nanoseconds, number_from, share
+from psireplay.program import named_program
+
+from .agreement import Growth, asked_of, growths_of, sampling_of
+from .clocks import Clocks
+from .moments import COMMON_RATE, Moments, period_of
+from .table import LEVELS, MICROSECONDS, Limits, Row, Shown, Span, cell_of, report
+
+BEYOND, NOTHING = 1, 2
+# How far totals may be off, in percent, at the root and in groups: at the kernel's moments, and by a replay.
+LIMITS, REPLAY_LIMITS = (1.5, 2.5), (2.5, 4.0)
+TOO_FEW = "less than two readings of the machine's pressure files lie in the trace"
+
+
+class Options(NamedTuple):
+    """What the command line says: times in ns and us, limits in percent. `tick_ms` is none where the kernel's moments are asked for,
+    and `hertz` where the recording is to tell it."""
+
+    folder: str
+    trace: str
+    start: int
+    tick_ms: int | None
+    hertz: int | None
+    lag: int | None
+    lead_in: int
+    limits: Limits
+    shown: int
+
+
+def options_of(given: list[str]) -> Options:
+    """What these words say."""
+    words = Parser("compare", __doc__, NOTHING)
+    words.add_argument("folder", metavar="FOLDER", help="the recording")
+    words.add_argument("trace", metavar="TRACE", help="the trace that was made of it")
+    words.add_argument("--from", dest="start", metavar="S", type=nanoseconds, default=0,
+                       help="where in the recording the trace begins, as --from of psitrace or its summary says (0)")  # fmt: skip
+    words.add_argument("--lead-in", dest="lead_in", metavar="LENGTH", type=length, default=0,
+                       help="that the trace has a pretended past of this length, as --lead-in of psitrace said")  # fmt: skip
+    words.add_argument("--tick-ms", metavar="N", type=int, help="compare with a replay by psi_oomd with such ticks")
+    words.add_argument("--hz", dest="hertz", metavar="N", type=number_from(24, 10_000),
+                       help="the rate of the kernel's timer, CONFIG_HZ (as the recording says, else 250)")  # fmt: skip
+    words.add_argument("--lag-us", dest="lag", metavar="N", type=number_from(1, 10_000),
+                       help="of a recording that doesn't say: how long before its event the kernel counts a wakeup at most")  # fmt: skip
+    words.add_argument("--root", metavar="PERCENT", type=share, help="the limit at the root (1.5; of a replay 2.5)")
+    words.add_argument("--groups", metavar="PERCENT", type=share, help="the limit in groups (2.5; of a replay 4)")
+    words.add_argument("--least-s", metavar="S", type=share, default=0.5, help="totals below this have no limit (0.5)")
+    words.add_argument("--shown-s", metavar="S", type=share, default=0.01, help="totals below this aren't shown (0.01)")
+    found = words.words_of(given)
+    root, groups = LIMITS if found["tick_ms"] is None else REPLAY_LIMITS
+    if found["tick_ms"] is not None and (found["hertz"] or found["lag"]):
+        words.error("--hz and --lag-us are for the kernel's own moments: not with --tick-ms")
+    limits = Limits(
+        root if found["root"] is None else found["root"],
+        groups if found["groups"] is None else found["groups"],
+        round(found["least_s"] * MICROSECONDS),
+    )
+    shown = round(found["shown_s"] * MICROSECONDS)
+    lag = None if found["lag"] is None else found["lag"] * 1000
+    return Options(found["folder"], found["trace"], found["start"], found["tick_ms"], found["hertz"], lag, found["lead_in"], limits, shown)
+
+
+def start_of(options: Options, source: Source) -> int:
+    """Where the trace begins, in ns of the recording's clock."""
+    return source.start + options.start - options.lead_in
+
+
+def span_line(first: int, last: int, length: int) -> str:
+    """What is compared: from which reading to which, and how long that was (ns)."""
+    return f"from reading {first} to {last} of the machine's files, {length / SECOND:.3f} s, in us"
+
+
+# ---------------------------------------------------------------- by a replay
+
+
+def end_of(trace: str) -> int:
+    """How long a trace lasts, in ns, by its last line."""
+    try:
+        with open(trace, "rb") as file:
+            file.seek(0, os.SEEK_END)
+            file.seek(max(0, file.tell() - 64))
+            words = file.read().split(b"\n")[-2].split(b" ")
+    except (OSError, IndexError) as fault:
+        raise Unreadable(f"{trace}: {getattr(fault, 'strerror', None) or 'this is no trace'}") from None
+    if len(words) != 2 or words[1] != b"end" or not words[0].isdigit():
+        raise Unreadable(f"{trace}: it has no end line")
+    return int(words[0])
+
+
+def replayed(trace: str, tick_ms: int) -> str:
+    """What psi_oomd prints of the trace, with a report each second."""
+    program = named_program()
+    words = [program, "replay", trace, "--tick-ms", str(tick_ms), "--report-s", "1"]
+    try:
+        done = subprocess.run(words, capture_output=True, text=True)
+    except OSError as fault:
+        raise Unreadable(f"{program}: {fault.strerror}") from None
+    if done.returncode:
+        raise Unreadable(f"{' '.join(words)}: status {done.returncode}: {done.stderr.strip()}")
+    return done.stdout
+
+
+def by_replay(options: Options, tick_ms: int) -> tuple[list[Row], Shown]:
+    """What a replay says of the trace."""
+    source = read_recording(options.folder, True)
+    start, end = start_of(options, source), end_of(options.trace)
+    series = replay_series(replayed(options.trace, tick_ms))
+    found = compared(machine_readings(options.folder, source), series, made_in(source), start, start + end)
+    if found is None:
+        raise Unreadable(TOO_FEW)
+    rows = [Row(pair.file, pair.machine, pair.replay) for pair in found.pairs]
+    return rows, Shown([span_line(found.first, found.last, found.length)], "replay", "", options.shown)
+
+
+# ---------------------------------------------------------------- at the kernel's own moments
+
+
+def clocks_of(trace: str, edited: Callable[[Iterable[str]], Iterable[str]] = iter) -> Clocks:
+    """The clocks of a trace whose lines were edited. Whether all of it is legal psi_oomd knows; what can't be followed isn't."""
+    number = 1
+
+    def counted(lines: Iterable[str]) -> Iterator[str]:
+        nonlocal number
+        for number, line in enumerate(lines, 2):
+            yield line
+
+    try:
+        with open(trace, encoding="ascii") as file:
+            if file.readline().split()[:1] != ["psitrace"]:
+                raise Unreadable(f"{trace}: this is no trace")
+            clocks = Clocks(edited(counted(file)))
+    except OSError as fault:
+        raise Unreadable(f"{trace}: {fault.strerror}") from None
+    except (LookupError, ValueError, TypeError):
+        raise Unreadable(f"{trace}: line {number} can't be followed: psi_oomd check says what is wrong with it") from None
+    if clocks.now != end_of(trace):
+        raise Unreadable(f"{trace}: it goes on after its end")
+    return clocks
+
+
+def extremes_of(options: Options, source: Source) -> list[Clocks]:
+    """The clocks of the trace with each wakeup as late as it may have been counted, and as early, where that is known at all."""
+    if not source.has_ready_probe and options.lag is None:
+        return []
+    found = []
+    for is_first in (False, True):
+        start = start_of(options, source)
+        bounds = bounds_of(source.events, start) if source.has_ready_probe else lag_bounds(options.lag or 0)
+        found.append(clocks_of(options.trace, lambda lines, bounds=bounds, first=is_first: with_wakeups(lines, bounds, first)))
+    return found
+
+
+def row_of(growth: Growth, phase: int | None, extremes: Sequence[Growth] = ()) -> Row:
+    """A file's row; `phase` (ns) is none where the moments of sampling are known, and `extremes` are what the trace may give too."""
+    right = growth.true if growth.true != growth.told else None
+    note = "" if phase is None else f"{phase // 10**6} ms"
+    some, full = ([it.told[level] for it in (growth, *extremes)] for level in range(len(LEVELS)))
+    bars = (Span(min(some), max(some)), Span(min(full), max(full))) if extremes else None
+    return Row(growth.file, growth.machine, growth.told, bars, right, note)
+
+
+def is_shown(machine: dict[str, tuple[int, int]], options: Options) -> bool:
+    """Whether a group's files grew so much that a fit is worth while."""
+    return max(max(it) for it in machine.values()) >= min(options.shown, options.limits.least)
+
+
+def by_moments(options: Options) -> tuple[list[Row], Shown]:
+    """What the trace says where each group is sampled when the kernel did."""
+    source = read_recording(options.folder, True)
+    start, clocks = start_of(options, source), clocks_of(options.trace)
+    told = Moments(source, machine_readings(options.folder, source))
+    inside = readings_within(told.readings, start, start + clocks.now)
+    if len(inside) < 2:
+        raise Unreadable(TOO_FEW)
+    hertz = options.hertz or told.hertz or COMMON_RATE
+    extremes, rows = extremes_of(options, source), []
+    for asked in asked_of([told.readings[number] for number in inside], clocks, start):
+        if told.knows(asked.path, inside[-1]) or is_shown(asked.machine, options):
+            sampling = sampling_of(asked, clocks, told, inside, start, hertz)
+            ways = [growths_of(asked, it, sampling, hertz) for it in (clocks, *extremes)]
+            rows += [row_of(growth, sampling.phase, others) for growth, *others in zip(*ways)]
+    first, last = (min(it.moment for it in told.readings[number].values()) for number in (inside[0], inside[-1]))
+    fitted = any(row.note for row in rows)
+    head = [span_line(inside[0], inside[-1], last - first), *sampling_lines(told, fitted, hertz, options), *bar_lines(options, source)]
+    return sorted(rows), Shown(head, "trace", "phase" if fitted else "", options.shown)
+
+
+def bar_lines(options: Options, source: Source) -> list[str]:
+    """What a percentage from one number to another means."""
+    if source.has_ready_probe:
+        return ["from .. to: with wakeups at their events, and when psi counted them; what lies between the recording doesn't say"]
+    if options.lag:
+        return [f"from .. to: with wakeups at their events, and {options.lag // 1000} us before, as --lag-us says"]
+    return []
+
+
+def sampling_lines(told: Moments, fitted: bool, hertz: int, options: Options) -> list[str]:
+    """How the moments of sampling came to be known."""
+    if told.is_known:
+        line = "each group is sampled when the kernel did, as the recording says"
+        return [line + "; of those with a phase it doesn't, and that is fitted by all readings" * fitted]
+    rate = f"its timer has {hertz} Hz" + ("" if options.hertz else ", which is a guess: --hz sets it")
+    period = f"{period_of(hertz) / SECOND:.3f} s"
+    return [
+        "the recording doesn't say when the kernel sampled: each group is sampled at its readings and each",
+        f"{period} ({rate}), and how far after the first reading that begins, its phase, is fitted by all readings",
+    ]
+
+
+def cause_lines(rows: Sequence[Row], limits: Limits) -> list[str]:
+    """Why totals are beyond their limits, as far as that is known."""
+    cells = [(row, cell_of(row, level, limits)) for row in rows for level in range(len(LEVELS))]
+    beyond = [(row, cell) for row, cell in cells if cell.is_beyond]
+    short = [row for row, cell in beyond if row.file.resource == "cpu" and not row.bars and cell.off and cell.off[1] < 0]
+    lines = []
+    if short:
+        lines.append(
+            f"{len(short)} of cpu are too small: the kernel counts a wakeup before it writes the event, and this recording doesn't say"
+            " how long before. record --wakeups does; --lag-us N shows what up to N us make of it"
+        )
+    if len(short) < len(beyond):
+        lines.append(f"{len(beyond) - len(short)} have no cause that is known here: see what psitrace says was mended, guessed or lost")
+    return lines
+
+
+# ---------------------------------------------------------------- the command
+
+
+def run(options: Options) -> int:
+    """Compares, and prints the table; answers the status."""
+    rows, shown = by_moments(options) if options.tick_ms is None else by_replay(options, options.tick_ms)
+    text, beyond = report(rows, options.limits, shown)
+    print(text)
+    if options.tick_ms is None:
+        for line in cause_lines(rows, options.limits):
+            print(line)
+    return BEYOND if beyond else 0
+
+
+def main(given: list[str]) -> int:
+    """Runs the command; answers its status."""
+    options = options_of(given)
+    try:
+        return run(options)
+    except Unreadable as fault:
+        print(f"compare: {fault}", file=sys.stderr)
+        return NOTHING

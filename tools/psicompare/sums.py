@@ -1,0 +1,84 @@
+"""A group's totals as the kernel adds them up (`collect_percpu_times` of `kernel/sched/psi.c`): at each of its moments of sampling,
+of each state the mean of what it grew by on the processors, each by the ticks of the timer for which the group kept it busy.
+
+The kernel holds these growths in 32 bits: of a state that held for 4.295 s or longer between two moments it counts the rest alone.
+"""
+from __future__ import annotations
+
+from collections.abc import Sequence
+from itertools import accumulate
+from operator import add
+from typing import NamedTuple
+
+from psiread.words import SECOND
+
+from .clocks import STATES, Clocks
+
+WIDTH = 2**32
+NONIDLE = STATES - 1
+# The growths of the states of one processor in one interval, ns.
+Times = Sequence[int]
+
+
+class Step(NamedTuple):
+    """What the totals of the states grow by at a moment of sampling, ns: as the kernel adds them up, in 32 bits, and as it would
+    in 64."""
+
+    told: list[int]
+    true: list[int]
+
+
+def shares(processors: Sequence[Times], hertz: int) -> list[int]:
+    """The shares of the states but `nonidle` of an interval, ns; `hertz` is the rate of the kernel's timer."""
+    weights = [times[NONIDLE] * hertz // SECOND for times in processors]
+    whole = max(1, sum(weights))
+    return [sum(times[state] * weight for times, weight in zip(processors, weights)) // whole for state in range(NONIDLE)]
+
+
+def step_of(processors: Sequence[Times], hertz: int) -> Step:
+    """What an interval adds to the totals."""
+    true = shares(processors, hertz)
+    if all(times[NONIDLE] < WIDTH for times in processors):
+        return Step(true, true)
+    return Step(shares([[time % WIDTH for time in times] for times in processors], hertz), true)
+
+
+class Totals(NamedTuple):
+    """By how much the totals of the states have grown since the first of some moments, ns: as a `Step` has them."""
+
+    told: list[int]
+    true: list[int]
+
+
+class Sums:
+    """A group's totals at any choice of these moments (ns of the trace, ascending), which are the moments of sampling then."""
+
+    def __init__(self, clocks: Clocks, group: int, moments: Sequence[int], hertz: int) -> None:
+        self.hertz = hertz
+        self.places = {moment: place for place, moment in enumerate(moments)}
+        self.times = [list(accumulate(times, added, initial=(0,) * STATES)) for times in clocks.times(group, moments)]
+        self.steps: dict[tuple[int, int], Step] = {}
+
+    def step(self, first: int, last: int) -> Step:
+        """What the stretch between the moments at these places adds, which is computed once."""
+        if (first, last) not in self.steps:
+            grown = [[after - before for before, after in zip(times[first], times[last])] for times in self.times]
+            self.steps[first, last] = step_of(grown, self.hertz)
+        return self.steps[first, last]
+
+    def at(self, chosen: Sequence[int]) -> dict[int, Totals]:
+        """The totals at each of these moments, in their order, from the first of them on."""
+        told = true = [0] * NONIDLE
+        found = {chosen[0]: Totals(told, true)}
+        for before, after in zip(chosen, chosen[1:]):
+            step = self.step(self.places[before], self.places[after])
+            is_same = told is true and step.told is step.true
+            told = list(map(add, told, step.told))
+            true = told if is_same else list(map(add, true, step.true))
+            found[after] = Totals(told, true)
+        return found
+
+
+def added(times: Times, more: Times) -> tuple[int, ...]:
+    """Both together."""
+    return tuple(map(add, times, more))

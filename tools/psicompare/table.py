@@ -1,0 +1,133 @@
+"""The table of tools/compare: what of each file's totals is shown, and what is beyond its limits."""
+from __future__ import annotations
+
+from collections.abc import Sequence
+from typing import NamedTuple
+
+from psiread.pressure import File
+
+LEVELS = ("some", "full")
+MICROSECONDS = 10**6
+
+
+class Limits(NamedTuple):
+    """How far a total may be off, in percent, at the root and in other groups; and from how many us on that is asked of it."""
+
+    root: float
+    groups: float
+    least: int
+
+    def most(self, file: File) -> float:
+        """How far the totals of this file may be off, in percent."""
+        return self.root if file.path == "/" else self.groups
+
+
+class Span(NamedTuple):
+    """From where to where something lies: a total's growth, in us, of which the recording doesn't say more."""
+
+    low: int
+    high: int
+
+
+class Row(NamedTuple):
+    """What is set side by side of a file: by how much its totals of some and full grew, us. `bars` says between which growths those
+    of the trace may lie. Where the machine's sums have lost something, `right` has what they should have been; and `note` stands in
+    a column of its own."""
+
+    file: File
+    machine: tuple[int, int]
+    trace: tuple[int, int]
+    bars: tuple[Span, Span] | None = None
+    right: tuple[int, int] | None = None
+    note: str = ""
+
+
+class Cell(NamedTuple):
+    """One number of a row: by how many percent the trace is off, at least and at most, whether that is asked of it, and whether it
+    is too far."""
+
+    off: tuple[float, float] | None
+    is_asked: bool
+    is_beyond: bool
+
+
+def bar_of(row: Row, level: int) -> Span:
+    """Between what the trace's some (0) or full (1) may lie."""
+    return row.bars[level] if row.bars else Span(row.trace[level], row.trace[level])
+
+
+def cell_of(row: Row, level: int, limits: Limits) -> Cell:
+    """What is to be said of a row's some (0) or full (1)."""
+    machine, bar, most = row.machine[level], bar_of(row, level), limits.most(row.file)
+    is_asked = max(machine, bar.high) >= limits.least
+    if not machine:
+        return Cell(None, is_asked, is_asked)
+    low, high = (100 * (it - machine) / machine for it in bar)
+    return Cell((low, high), is_asked, is_asked and (low > most or high < -most))
+
+
+def words_of(row: Row, level: int, cell: Cell) -> list[str]:
+    """The three cells of a table's row: the machine's growth, the trace's, and how far that is off."""
+    words = "-"
+    if cell.off:
+        low, high = (f"{it:+.1f}" for it in cell.off)
+        words = f"{low} % " if low == high else f"{low} .. {high} % "
+    is_wrong = row.right is not None and row.right[level] != row.trace[level]
+    return [str(row.machine[level]), str(row.trace[level]), f"{words}{'w ' * is_wrong}{'! ' * cell.is_beyond}".rstrip()]
+
+
+def table_of(rows: Sequence[Sequence[str]]) -> str:
+    """A table in Markdown whose columns stand below each other; the first two go to the left."""
+    widths = [max(len(row[place]) for row in rows) for place in range(len(rows[0]))]
+    columns = list(enumerate(widths))
+    lines = [
+        "| " + " | ".join(row[place].ljust(width) if place < 2 else row[place].rjust(width) for place, width in columns) + " |"
+        for row in rows
+    ]
+    rule = "|" + "|".join("-" * (width + 1) + ("-" if place < 2 else ":") for place, width in columns) + "|"
+    return "\n".join([lines[0], rule, *lines[1:]])
+
+
+def wrap_lines(rows: Sequence[Row]) -> list[str]:
+    """What the machine's files should have said where its sums have lost something."""
+    lines = [
+        f"  {row.file.path} {row.file.resource}: some {row.right[0]}, full {row.right[1]}" for row in rows if row.right is not None
+    ]
+    head = "the machine is wrong there (w): a state held for more than 4.294 s between two of its samplings, and its sums have 32 bits"
+    return [f"{head}. By the trace it is, in us:", *lines, ""] if lines else []
+
+
+def verdict_of(cells: Sequence[Cell], limits: Limits, has_bars: bool) -> str:
+    """How many totals are within their limits."""
+    asked, beyond = sum(it.is_asked for it in cells), sum(it.is_beyond for it in cells)
+    least, said = f"{limits.least / MICROSECONDS:g} s", f"{limits.root:g} % at the root, {limits.groups:g} % in groups"
+    said += " of what the trace may be" * has_bars
+    if beyond:
+        return f"{beyond} of {asked} totals from {least} on are beyond (!) their limits: {said}"
+    return f"all {asked} totals from {least} on are within {said}" if asked else f"no total is from {least} on"
+
+
+class Shown(NamedTuple):
+    """How a table is shown: the lines above it, what its second numbers are called, the head of its notes (empty where it has
+    none), and from how many us on a file is shown."""
+
+    head: list[str]
+    second: str
+    notes: str
+    least: int
+
+
+def report(rows: Sequence[Row], limits: Limits, shown: Shown) -> tuple[str, int]:
+    """The table with what it says, and how many totals are beyond their limits."""
+    notes = [shown.notes] if shown.notes else []
+    table = [["group", "resource", "some: machine", shown.second, "", "full: machine", shown.second, "", *notes]]
+    cells = []
+    chosen = [row for row in rows if max(*row.machine, *row.trace) >= shown.least]
+    for row in rows:
+        pair = [cell_of(row, level, limits) for level in range(len(LEVELS))]
+        cells += pair
+        if row in chosen:
+            words = [word for level, cell in enumerate(pair) for word in words_of(row, level, cell)]
+            table.append([row.file.path, row.file.resource, *words, *([row.note] if notes else [])])
+    lines = [*shown.head, "", table_of(table), "", *wrap_lines(chosen), verdict_of(cells, limits, any(it.bars for it in rows))]
+    return "\n".join(lines), sum(it.is_beyond for it in cells)

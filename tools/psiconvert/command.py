@@ -1,0 +1,322 @@
+"""Makes a psitrace of a recording of a whole machine, or of ftrace's text, and says on standard error how far it holds.
+
+  tools/psitrace FOLDER > X.trace             what tools/record wrote: groups, memory, and all that a trace can say
+  tools/psitrace TEXT --cpus N > X.trace      text of trace, trace_pipe, trace-cmd report or perf script: as much as it has
+
+A text is a file (also a gzipped one) or - for the standard input. S is a number of seconds with at most nine decimals, from
+the start of the recording. The trace begins at 0 wherever it is cut. It has version 2 with --interrupts, and where a group wasn't
+accounted all the time (its cgroup.pressure was 0); else version 1.
+
+The status is 0; 1 for faulty words; 2 where something can't be read or written; 3 where events were lost or a limit of traces
+was met: then nothing is written, unless --force is given, with which the longest stretch without loss is; and 4 where the check of
+a folded trace found a difference, which is a fault of this tool.
+"""
+from __future__ import annotations
+
+import argparse
+import os
+import re
+import sys
+from collections.abc import Iterable
+from typing import NamedTuple
+
+from psifold.check import Different
+from psifold.words import Folding, add_window, folding_lines, folding_of
+from psiftrace.text import read_text
+from psiread.events import Event, Interrupts, SwitchProbe, WaitEnds
+from psiread.pressure import spans_of
+from psiread.recording import read_recording, text_of
+from psiread.slices import Survey
+from psiread.source import Faulty, Source, Unreadable
+from psiread.waits import Method, best_method
+from psiread.window import Window, longest_stretch, loss_text, overlapping
+from psiread.words import SECOND, Parser, length, nanoseconds, number_from
+from psirec.layout import PRESSURE, RESOURCES, escaped_path
+from psiworld.limits import MOST_PROCESSORS
+
+from .convert import Converted, Past, Wanted, convert
+from .folded import convert_folded
+from .lead_in import TICK, averages_in
+from .summary import limit_lines, summary_of
+from .unwritten import UNWRITTEN, silent_tasks, with_unwritten
+from .wakeups import Counting, Wakeups
+
+FAULTY, UNREADABLE, LOST, DIFFERENT = 1, 2, 3, 4
+LEVELS = ("some", "full")
+# A recording of so many bytes is folded in a process of its own.
+LARGE = 16 << 20
+MOST_TRIGGERS = 256
+# A lead-in, ns.
+LEAST_PAST, MOST_PAST = 300 * SECOND, 3600 * SECOND
+# A trigger's window in us.
+LEAST_WINDOW, MOST_WINDOW = 500_000, 10_000_000
+DEFAULT_PREFERENCES = {"prefer": "prefer", "avoid": "avoid", "omit": "avoid"}
+
+
+class Options(NamedTuple):
+    """What the command line says. Times are ns from the start of the recording."""
+
+    source: str
+    output: str | None
+    processors: int | None
+    method: Method | None
+    start: int
+    end: int | None
+    deepest: int | None
+    triggers: list[str]
+    has_interrupts: bool
+    is_forced: bool
+    folding: Folding | None
+    counting: Counting | None
+    lead_in: int | None
+
+
+def trigger_of(text: str) -> str:
+    """A trigger's words, as the trace has them."""
+    words = text.split()
+    is_whole = len(words) == 5 and words[0].startswith("/") and words[1] in RESOURCES and words[2] in LEVELS
+    if not is_whole or not all(re.fullmatch("[1-9][0-9]{0,7}", word) for word in words[3:]):
+        raise argparse.ArgumentTypeError(f"'{text}' isn't 'PATH io|memory|cpu some|full THRESHOLD WINDOW'")
+    if not LEAST_WINDOW <= int(words[4]) <= MOST_WINDOW or int(words[3]) > int(words[4]):
+        raise argparse.ArgumentTypeError(f"'{text}': a window is {LEAST_WINDOW} to {MOST_WINDOW} us, a threshold at most that")
+    return " ".join([escaped_path(words[0].encode("utf-8", "surrogateescape")), *words[1:]])
+
+
+def parser() -> Parser:
+    """The words that there are."""
+    words = Parser("psitrace", __doc__, FAULTY)
+    words.add_argument("source", metavar="FOLDER|TEXT", help="a folder of tools/record, or a file of ftrace's text")
+    words.add_argument("-o", dest="output", metavar="FILE", help="write the trace there, and not to the standard output")
+    words.add_argument("--cpus", dest="processors", metavar="N", type=number_from(1, MOST_PROCESSORS),
+                       help="how many processors the machine of a text has (without it: as many as the text tells)")  # fmt: skip
+    words.add_argument("--iowait", dest="method", choices=[it.value for it in Method],
+                       help="what tells a wait for IO: a probe of the recorder, sched_stat_iowait, or each sleep in state D"
+                       " (without it the first of these that the recording has)")  # fmt: skip
+    words.add_argument("--wakeups", dest="counting", choices=[it.value for it in Counting],
+                       help="where a wakeup stands: when psi counted it, by a probe of the recorder; halfway from there to its event;"
+                       " or at its event (without it the first of these that the recording has)")  # fmt: skip
+    words.add_argument("--from", dest="start", metavar="S", type=nanoseconds, default=0, help="begin the trace there")
+    words.add_argument("--to", dest="end", metavar="S", type=nanoseconds, help="end it there")
+    words.add_argument("--groups", dest="deepest", metavar="DEPTH", type=number_from(0, 32),
+                       help="groups down to so many levels below the root; what is deeper counts in the one above; 0: the"
+                       " root alone")  # fmt: skip
+    words.add_argument("--trigger", dest="triggers", metavar="'PATH RES LEVEL THRESHOLD WINDOW'", type=trigger_of,
+                       action="append", default=[],
+                       help="put a trigger into the trace, times in us, such as '/ memory full 100000 1000000'; also more"
+                       " than once")  # fmt: skip
+    words.add_argument("--interrupts", dest="has_interrupts", action="store_true",
+                       help="write for how long interrupts held up who ran, where the recorder's machine accounted"
+                       " them")  # fmt: skip
+    words.add_argument("--lead-in", dest="lead_in", metavar="LENGTH", type=length,
+                       help="begin with a pretended past of this length, as 12min, by which averages begin as the machine's did; at"
+                       " least 5min")  # fmt: skip
+    add_window(words, "--fold", False, "fold the trace into windows of S seconds, the tick's length or a whole part of it: with the"
+               " same pressure at such ticks it is as long as the recording, and not as busy")  # fmt: skip
+    words.add_argument("--force", dest="is_forced", action="store_true",
+                       help="write what is sound, though something was lost: the longest stretch without loss")  # fmt: skip
+    return words
+
+
+def options_of(given: list[str]) -> Options:
+    """What these words say."""
+    words = parser()
+    found = words.words_of(given)
+    if len(found["triggers"]) > MOST_TRIGGERS:
+        words.error(f"more than {MOST_TRIGGERS} triggers")
+    if found["end"] is not None and found["end"] <= found["start"]:
+        words.error("--to is not after --from")
+    if found["lead_in"] is not None and (not LEAST_PAST <= found["lead_in"] <= MOST_PAST or found["lead_in"] % TICK):
+        words.error(f"--lead-in is {LEAST_PAST // SECOND} to {MOST_PAST // SECOND} s, in whole ticks of 2 s")
+    found["folding"] = folding_of(found)
+    if found["folding"] and found["lead_in"]:
+        words.error("--lead-in isn't for --fold: make the trace with its past, and fold that by tools/fold")
+    found["method"] = Method(found["method"]) if found["method"] else None
+    found["counting"] = Counting(found["counting"]) if found["counting"] else None
+    return Options(**found)
+
+
+# ---------------------------------------------------------------- what is written
+
+
+def tell(line: str) -> None:
+    """Says something on standard error."""
+    print(f"psitrace: {line}", file=sys.stderr)
+
+
+class Reading(NamedTuple):
+    """What is to be converted: all of it, or what is rare in it where it is to be folded; then also its events in slices, and the
+    tasks that never leave a processor."""
+
+    source: Source
+    slices: Iterable[list[Event]]
+    silent: set[int]
+
+
+def reading_of(options: Options) -> Reading:
+    """Reads what is to be converted."""
+    if not os.path.isdir(options.source):
+        source = read_text(options.source, options.processors)
+        return Reading(source, [source.events], silent_tasks(source.events))
+    if options.processors:
+        raise Faulty("--cpus is for texts: a recording tells its processors")
+    if options.folding is None:
+        return Reading(read_recording(options.source, options.is_forced), [], set())
+    survey = Survey(options.source)
+    source = read_recording(options.source, options.is_forced, survey.read)
+    return Reading(source, survey.slices(source.whole_from), survey.silent)
+
+
+def part_of(options: Options, whole: Window) -> Window:
+    """The part that the options name."""
+    end = whole.end if options.end is None else min(whole.start + options.end, whole.end)
+    if whole.start + options.start > end:
+        raise Faulty("--from is after the end of the recording")
+    return Window(whole.start + options.start, end)
+
+
+def method_of(options: Options, source: Source) -> Method:
+    """What tells waits for IO: what was asked for, if the recording has it."""
+    best = best_method(source.events, source.has_switch_probe)
+    kinds = {type(event) for event in source.events} if options.method else set()
+    has_probe = source.has_switch_probe or SwitchProbe in kinds
+    has = {Method.PROBE: has_probe, Method.STATISTICS: WaitEnds in kinds, Method.STATE: True}
+    if options.method and not has[options.method]:
+        raise Faulty(f"--iowait {options.method.value}: the recording has no such events; it has {best.value}")
+    return options.method or best
+
+
+def wakeups_of(options: Options, source: Source) -> Wakeups:
+    """What puts each wakeup where it was asked for, if the recording tells."""
+    counting = options.counting or (Counting.PROBE if source.has_ready_probe else Counting.EVENT)
+    if counting is not Counting.EVENT and not source.has_ready_probe:
+        raise Faulty(f"--wakeups {counting.value}: the recording has no such probe (record --wakeups)")
+    return Wakeups(counting)
+
+
+def check_interrupts(options: Options, source: Source) -> None:
+    """Interrupts that are asked for must be in the recording."""
+    if options.has_interrupts and not any(isinstance(event, Interrupts) for event in source.events):
+        raise Faulty("--interrupts: the recording has no such events: its kernel doesn't account interrupts, or is newer than 6.9")
+
+
+def upon_of(options: Options, source: Source) -> dict[str, list[str]]:
+    """What is to be written once a group is there: its preference, and its triggers."""
+    upon: dict[str, list[str]] = {}
+    for path, preference in sorted(source.snapshot.groups.items()):
+        if preference != "none":
+            upon.setdefault(path, []).append(f"prefer {path} {DEFAULT_PREFERENCES[preference]}")
+    for trigger in options.triggers:
+        upon.setdefault(trigger.split(" ")[0], []).append(f"trigger {trigger}")
+    return upon
+
+
+def past_of(options: Options, source: Source, window: Window) -> Past | None:
+    """The pretended past that is asked for: what the machine's files said at the reading that is nearest to the window's start."""
+    if options.lead_in is None:
+        return None
+    spans = spans_of(source) if os.path.isdir(options.source) else {}
+    number = min(spans, key=lambda it: abs(spans[it][0] - window.start), default=None)
+    averages = averages_in(text_of(options.source, PRESSURE), number) if number is not None else {}
+    if not averages:
+        raise Faulty("--lead-in: the recording has no reading of the machine's pressure files")
+    return Past(options.lead_in // TICK, averages)
+
+
+def put_in_unwritten(source: Source, window: Window) -> None:
+    """Puts in the switches that weren't written, and counts those of the window."""
+    source.events, moments = with_unwritten(source.events, source.gaps)
+    source.mended[UNWRITTEN] += sum(window.start <= it <= window.end for it in moments)
+
+
+def losses_of(source: Source, window: Window, whole: Window) -> list[str]:
+    """What was lost in the window; of a whole recording also what was lost before its first event."""
+    gaps = source.gaps if window == whole else overlapping(source.gaps, window)
+    return [f"lost: {it}" for it in [*source.losses, *([loss_text(gaps, whole)] if gaps else [])]]
+
+
+def write(options: Options, parts: Iterable[bytes]) -> None:
+    """Writes the trace."""
+    try:
+        if options.output is None:
+            sys.stdout.buffer.writelines(parts)
+            sys.stdout.buffer.flush()
+        else:
+            with open(options.output, "wb") as file:
+                file.writelines(parts)
+    except OSError as fault:
+        raise Unreadable(f"{options.output or 'standard output'}: {fault.strerror}") from None
+
+
+def size_of(path: str) -> int:
+    """How many bytes a file has, or the files of a folder."""
+    names = [os.path.join(path, name) for name in os.listdir(path)] if os.path.isdir(path) else [path]
+    return sum(os.path.getsize(name) for name in names if os.path.isfile(name))
+
+
+class Made(NamedTuple):
+    """What was made, as it is written, and what more is to be told."""
+
+    converted: Converted
+    parts: Iterable[bytes]
+    told: list[str]
+
+
+def converted_of(options: Options, reading: Reading, wanted: Wanted) -> Made:
+    """Converts, and folds where that is wanted."""
+    source, wakeups = reading.source, wakeups_of(options, reading.source)
+    if options.folding is None:
+        source.events = wakeups.put(source.events)
+        source.notes.append(wakeups.text())
+        put_in_unwritten(source, wanted.window)
+        converted = convert(source, wanted)
+        return Made(converted, [("\n".join(converted.lines) + "\n").encode("ascii")], [])
+    is_large = size_of(options.source) >= LARGE
+    made = convert_folded(source, wakeups.slices(reading.slices), reading.silent, wanted, options.folding, is_large)
+    source.notes.append(wakeups.text())
+    return Made(made.converted, made.spool.parts(), folding_lines(options.folding, made.outcome))
+
+
+def run(options: Options) -> int:
+    """Converts, tells and writes; answers the status."""
+    reading = reading_of(options)
+    source = reading.source
+    if source.processors > MOST_PROCESSORS:
+        tell(f"limit: {source.processors} processors, and a trace has {MOST_PROCESSORS} at most: nothing is written")
+        return LOST
+    whole = Window(source.start, source.stop)
+    window = part_of(options, whole)
+    losses = losses_of(source, window, whole)
+    if losses and options.is_forced:
+        window = longest_stretch(overlapping(source.gaps, window), window)
+    upon = upon_of(options, source)
+    method = method_of(options, source)
+    check_interrupts(options, source)
+    wanted = Wanted(window, method, options.deepest, upon, options.has_interrupts, past_of(options, source, window))
+    made = converted_of(options, reading, wanted)
+    converted = made.converted
+    never_made = [path for path, words in upon.items() if any(it.startswith("trigger") for it in words)]
+    if never_made:
+        raise Faulty(f"--trigger: there is no group {never_made[0]} in the trace")
+    losses += limit_lines(source, converted)
+    for line in [*summary_of(source, converted, method, window, whole), *made.told, *losses]:
+        tell(line)
+    if losses and not options.is_forced:
+        tell("nothing is written; --force writes what is sound")
+        return LOST
+    write(options, made.parts)
+    return LOST if losses else 0
+
+
+def main(given: list[str]) -> int:
+    """Runs the command; answers its status."""
+    try:
+        return run(options_of(given))
+    except Faulty as fault:
+        tell(str(fault))
+        return FAULTY
+    except Unreadable as fault:
+        tell(str(fault))
+        return UNREADABLE
+    except Different as fault:
+        tell(f"the check of the folded trace found a difference, and nothing is written: {fault}")
+        return DIFFERENT

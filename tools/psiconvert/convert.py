@@ -1,0 +1,297 @@
+"""Makes a trace of a recording: what there was at its start, and then what happened."""
+from __future__ import annotations
+
+from bisect import bisect_left
+from collections import Counter
+from collections.abc import Sequence, Sized
+from dataclasses import dataclass, field
+from typing import NamedTuple
+
+from psiread.events import NAMES, NEVER, Attach, Event, GroupMade, GroupRemoved
+from psiread.source import Snapshot, Source
+from psiread.waits import Method, waits_for_io
+from psiread.window import Window
+from psirec.layout import escaped_path
+from psiworld.groups import ROOT, Groups, parent_of
+from psiworld.limits import MOST_EVENTS, MOST_PROCESSORS, MOST_SWITCHES, MOST_TASKS
+from psiworld.world import How, State, World
+
+from .accounts import Accounts, accounts_of, is_end_of
+from .first import Beginning, First, beginning_of, tells_of_births
+from .lead_in import TICK, Averages, LeadIn
+from .player import Player, Samples
+
+
+class Known(NamedTuple):
+    """What is known of a task before the trace begins."""
+
+    path: str
+    process: int
+    first: First
+    is_stalled: bool
+
+
+@dataclass
+class Prior:
+    """What is known before the trace begins: groups, those of them that aren't accounted, tasks and samples of memory. `is_sound`
+    says whether nothing was lost up to then. A task that no event names up to the moment `settled` (ns) did at the start what is
+    known of it here."""
+
+    groups: list[str]
+    off: set[str]
+    tasks: dict[int, Known]
+    samples: Samples
+    settled: int
+    is_sound: bool = True
+    mended: Counter[str] = field(default_factory=Counter)
+
+
+class Converted(NamedTuple):
+    """A trace's lines, and what is to be told of how they were made. Of a folded trace `folded` has the lines."""
+
+    lines: list[str]
+    world: World
+    counts: Counter[str]
+    waits: int
+    uninterruptible: int
+    victims: list[tuple[int, int]]
+    limit: str | None
+    begins: int = 0
+    without_past: int = 0
+    folded: Sized | None = None
+
+
+class Told(NamedTuple):
+    """What all events tell together: the places of the switches by which a wait for IO begins, and who was accounted when."""
+
+    waits: set[int]
+    accounts: Accounts
+
+
+# ---------------------------------------------------------------- what was there before
+
+
+def snapshot_prior(snapshot: Snapshot, events: Sequence[Event], beginning: Beginning, off: set[str]) -> Prior:
+    """What a snapshot says of the recording's first moment, though it was taken later: what came since isn't in it."""
+    first_events: dict[str, type] = {}
+    for event in events:
+        if isinstance(event, (GroupMade, GroupRemoved)) and not event.hierarchy:
+            first_events.setdefault(escaped_path(event.path), type(event))
+    groups = [path for path in sorted(snapshot.groups) if first_events.get(path) is not GroupMade]
+    moved = {it.task for it in events if isinstance(it, Attach) and not it.hierarchy and it.moment < snapshot.moment}
+    settled = next((it.moment for it in events if is_end_of(snapshot, it)), NEVER)
+    prior = Prior(groups, off, {}, Samples(), settled)
+    for number, task in snapshot.tasks.items():
+        if number in beginning.born:
+            continue
+        path = task.path
+        while path != ROOT and first_events.get(path) is GroupMade:
+            path = parent_of(path)
+        if moved & {number, task.process}:
+            prior.mended["task moved before the snapshot, whose group at the start is guessed"] += 1
+        state = State.RUNNING if task.state == "R" else State.ASLEEP
+        prior.tasks[number] = Known(path, task.process, First(state, task.processor), False)
+    if snapshot.tasks:
+        unlisted = set(beginning.tasks) - set(prior.tasks)
+        prior.mended["task that the snapshot doesn't list, taken to be in the root"] += len(unlisted)
+    return prior
+
+
+def world_prior(world: World, samples: Samples, is_sound: bool) -> Prior:
+    """What a world that was played up to here knows."""
+    tasks = {
+        number: Known(task.group, task.process, First(task.state, task.processor), task.is_stalled)
+        for number, task in world.tasks.items()
+    }
+    groups = sorted(world.groups.live - world.groups.leaving)
+    return Prior(groups, world.off, tasks, samples, 0 if is_sound else NEVER, is_sound)
+
+
+# ---------------------------------------------------------------- the first moment
+
+
+def first_of(number: int, prior: Prior, beginning: Beginning) -> First:
+    """What the task did at the first moment. What an event says goes before what was known."""
+    known, said = prior.tasks.get(number), beginning.tasks.get(number)
+    if said is None:
+        state, processor, _ = known.first if known else First(State.ASLEEP, 0)
+        is_idle = state is State.RUNNING and processor in beginning.runs
+        return First(State.ASLEEP if is_idle or (state is State.READY and not prior.is_sound) else state, processor)
+    if said.state is State.READY and said.moment > prior.settled:
+        return First(late_state(known), said.processor)
+    if said.state is State.ASLEEP and known and known.first.state is State.WAITING:
+        return First(State.WAITING, said.processor)
+    if said.state is State.RUNNING and beginning.runs.get(said.processor) != number:
+        return First(State.ASLEEP, said.processor)
+    return said
+
+
+def late_state(known: Known | None) -> State:
+    """What a task did at the start that runs later without a wakeup: one that wasn't known to run or to be ready was woken, or
+    made, by a task of which the kernel writes no events. Taken for ready it would wait from the start on."""
+    if known is None:
+        return State.ASLEEP
+    return State.READY if known.first.state is State.RUNNING else known.first.state
+
+
+def begin_task(world: World, number: int, known: Known, first: First, is_stalled: bool) -> None:
+    """Writes a task that is there at the first moment: turns of no length make it sleep, wait or stall."""
+    processor = first.processor if first.processor < world.processors else 0
+    task = world.fork(number, known.path, processor, known.process)
+    if first.state is State.RUNNING and not world.running(processor):
+        world.run(number, processor)
+        if is_stalled:
+            world.stall(task)
+    elif first.state is State.READY:
+        if is_stalled:
+            world.detour(number, How.PREEMPT, True)
+    else:
+        world.detour(number, How.WAIT if first.state is State.WAITING else How.SLEEP, is_stalled)
+
+
+def begin_groups(world: World, prior: Prior) -> None:
+    """Writes the groups that there are at the first moment."""
+    for words in world.upon.pop(ROOT, ()):
+        world.put(words)
+    for path in prior.groups:
+        world.make_group(path)
+        world.switch_accounting(path, path not in prior.off)
+
+
+def begin(world: World, prior: Prior, beginning: Beginning) -> None:
+    """Writes what else there is then: samples, and tasks; those that run come last."""
+    if prior.samples.host:
+        world.put(f"host {prior.samples.host}")
+    for path, sample in sorted(prior.samples.groups.items()):
+        if path in world.groups.live:
+            world.put(f"mem {path} {sample}")
+    firsts = {number: first_of(number, prior, beginning) for number in {*prior.tasks, *beginning.tasks}}
+    order = {State.ASLEEP: 0, State.WAITING: 0, State.READY: 1, State.RUNNING: 2}
+    for number in sorted(chosen(firsts, prior, beginning), key=lambda it: (order[firsts[it].state], it)):
+        first = firsts[number]
+        known = prior.tasks.get(number) or Known(ROOT, number, first, False)
+        is_stalled = beginning.stalled.get(number, known.is_stalled and number not in beginning.depths)
+        begin_task(world, number, known, first, is_stalled)
+
+
+def chosen(firsts: dict[int, First], prior: Prior, beginning: Beginning) -> list[int]:
+    """The tasks of the first moment: all, or where they are too many those that an event names, and then one of each group,
+    so that it isn't empty."""
+    if len(firsts) <= MOST_TASKS // 2:
+        return list(firsts)
+    named = [number for number in firsts if number in beginning.tasks]
+    of_groups = {known.path: number for number, known in prior.tasks.items() if number not in beginning.tasks}
+    return [*named, *of_groups.values()]
+
+
+# ---------------------------------------------------------------- the whole
+
+
+def place_of(events: Sequence[Event], moment: int) -> int:
+    """Where the events of this moment begin."""
+    return bisect_left([event.moment for event in events], moment)
+
+
+def player_of(world: World, source: Source, told: Told) -> Player:
+    """What plays the recording's events in this world."""
+    return Player(world, source.events, told.waits, told.accounts.found, source.snapshot.types)
+
+
+def prior_of(source: Source, until: int, told: Told, deepest: int | None, is_sound: bool) -> Prior:
+    """What is known when the event at the place `until` is next."""
+    beginning = beginning_of(source.events, tells_of_births(source.events))
+    prior = snapshot_prior(source.snapshot, source.events, beginning, told.accounts.off)
+    if not until:
+        return prior
+    world = World(source.processors, Groups(deepest))
+    begin_groups(world, prior)
+    begin(world, prior, beginning)
+    player = player_of(world, source, told)
+    for place in range(until):
+        player.play(place, source.events[place])
+        world.lines.clear()
+    after = world_prior(world, player.samples, is_sound)
+    after.mended = prior.mended
+    return after
+
+
+def limit_of(world: World) -> str | None:
+    """The limit of traces that the world is beyond, if any."""
+    if len(world.lines) >= MOST_EVENTS:
+        return f"{MOST_EVENTS} events"
+    if len(world.tasks) > MOST_TASKS:
+        return f"{MOST_TASKS} tasks"
+    return f"{MOST_SWITCHES} switches of accounting" if world.switches > MOST_SWITCHES else None
+
+
+def play(player: Player, source: Source, places: range, window: Window) -> str | None:
+    """Plays these events up to the window's end, or to a limit of traces, which it answers."""
+    world = player.world
+    for place in places:
+        event = source.events[place]
+        written, now = len(world.lines), world.now
+        world.now = max(event.moment - window.start, now)
+        player.play(place, event)
+        limit = limit_of(world)
+        if limit:
+            del world.lines[written:]
+            world.now = now
+            return limit
+    world.now = max(window.length(), world.now)
+    return None
+
+
+class Past(NamedTuple):
+    """What is pretended to have been before a recording: for how many ticks, and what the machine's averages were then."""
+
+    ticks: int
+    averages: dict[str, Averages]
+
+    def length(self) -> int:
+        """In ns."""
+        return self.ticks * TICK
+
+
+class Wanted(NamedTuple):
+    """What is to be made of a recording: of which part, by what waits for IO are told, with how many levels of groups,
+    with which lines once a group is there, whether with interrupts, and with what pretended past."""
+
+    window: Window
+    method: Method
+    deepest: int | None
+    upon: dict[str, list[str]]
+    has_interrupts: bool = False
+    lead_in: Past | None = None
+
+
+def convert(source: Source, wanted: Wanted) -> Converted:
+    """Makes the trace."""
+    window, deepest = wanted.window, wanted.deepest
+    told = Told(waits_for_io(source.events, wanted.method), accounts_of(source.events, source.snapshot))
+    is_sound = not any(gap.start < window.start for gap in source.gaps)
+    places = range(place_of(source.events, window.start), place_of(source.events, window.end + 1))
+    prior = prior_of(source, places.start, told, deepest, is_sound)
+    world = World(source.processors, Groups(deepest), wanted.has_interrupts)
+    world.upon = wanted.upon
+    world.mended.update(prior.mended)
+    begin_groups(world, prior)
+    origin, lead_in = window.start, None
+    if wanted.lead_in:
+        lead_in = LeadIn(world, wanted.lead_in.averages, wanted.lead_in.ticks, MOST_PROCESSORS)
+        lead_in.play()
+        origin -= wanted.lead_in.length()
+    begin(world, prior, beginning_of(source.events[places.start : places.stop], tells_of_births(source.events)))
+    player = player_of(world, source, told)
+    limit = play(player, source, places, Window(origin, window.end))
+    if world.groups.leaving:
+        world.mended["removed group that a task never left"] += len(world.groups.leaving)
+    counts = Counter(NAMES[type(event)] for event in source.events[places.start : places.stop])
+    lines = [f"psitrace {world.version()} cpus={world.processors}", *world.lines, f"{world.now} end"]
+    uninterruptible = waits_for_io(source.events, Method.STATE)
+    told_waits = count_in(told.waits, places), count_in(uninterruptible, places)
+    return Converted(lines, world, counts, *told_waits, player.victims, limit, window.start - origin, lead_in.left_out if lead_in else 0)
+
+
+def count_in(found: set[int], places: range) -> int:
+    """How many of these are among the places."""
+    return sum(it in places for it in found)

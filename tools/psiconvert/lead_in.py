@@ -1,0 +1,261 @@
+"""A lead-in: a pretended past before a recording's first event, by which the averages of its groups begin as the machine's did.
+
+A trace's averages begin at 0. Each average of a pressure file is brought to what the machine's file said by three stretches of
+constant pressure, the last 20 s, the 100 s before and what is before these: so many numbers as there are averages. Each group has
+processors of its own for it, beyond those of the machine: a few made-up tasks wait, stall and run there for the times that give it
+its shares, and what groups above have of that already is taken into account. At the end all of these tasks are gone.
+"""
+from __future__ import annotations
+
+import re
+from collections.abc import Iterable, Sequence
+from typing import NamedTuple
+
+from psiread.words import SECOND
+from psirec.layout import RESOURCES, escaped_path
+from psiworld.groups import ROOT, prefixes_of
+from psiworld.world import How, State, World
+
+TICK = 2 * SECOND
+# What is left of an average after a tick, by its period in s: those of kernel/sched/psi.c.
+FACTORS = {10: 1677 / 2048, 60: 1981 / 2048, 300: 2034 / 2048}
+# The last two stretches, in ticks.
+LAST, MIDDLE = 10, 50
+# Made-up tasks have numbers from here on, beyond those of kernels.
+FIRST_NUMBER = 4_000_000_000
+# A group has as few processors of its own as bring its shares this near to what is wanted, percent, but no more than so many; and one
+# with averages below so many percent has no lead-in.
+NEAR, MOST_OWN, LEAST = 0.5, 48, 0.5
+STRETCHES = 3
+WHOLE = 100.0
+PRESSURES = [(resource, level) for resource in RESOURCES for level in ("some", "full")]
+SAMPLE = re.compile(r"sample (\d+) (\S+) (io|memory|cpu)\n((?:(?:some|full) avg10=[\d.]+ avg60=[\d.]+ avg300=[\d.]+ total=\d+\n){2})")
+LINE = re.compile(r"(some|full) avg10=([\d.]+) avg60=([\d.]+) avg300=([\d.]+)")
+
+# The averages of a group's files by resource and level: percent over 10, 60 and 300 s.
+Averages = dict[tuple[str, str], tuple[float, float, float]]
+
+
+class Shares(NamedTuple):
+    """The percent of a tick for which some and all tasks of a group on a processor wait for IO, are short of memory, and wait for
+    the processor."""
+
+    io_some: float
+    io_full: float
+    memory_some: float
+    memory_full: float
+    cpu_some: float
+    cpu_full: float
+
+
+def averages_in(text: str, number: int) -> dict[str, Averages]:
+    """What a reading of the pressure files said of each group, by its path."""
+    found: dict[str, Averages] = {}
+    for sample in SAMPLE.finditer(text):
+        if int(sample[1]) == number:
+            for line in LINE.finditer(sample[4]):
+                averages = float(line[2]), float(line[3]), float(line[4])
+                path = escaped_path(sample[2].encode("utf-8", "surrogateescape"))
+                found.setdefault(path, {})[sample[3], line[1]] = averages
+    return found
+
+
+def stretches_of(averages: Sequence[float], ticks: int) -> list[float]:
+    """The pressure of the three stretches, the first one first, by which averages that began at 0 come to these; each from 0 to 100
+    percent, and as near as that lets them come."""
+    lengths = (ticks - MIDDLE - LAST, MIDDLE, LAST)
+    rows = []
+    for factor in FACTORS.values():
+        first, middle, last = (factor**length for length in lengths)
+        rows.append((last * middle * (1 - first), last * (1 - middle), 1 - last))
+    found = [WHOLE / 2] * 3
+    for _ in range(500):
+        for place in range(3):
+            gain = sum(row[place] ** 2 for row in rows)
+            off = [sum(map(float.__mul__, row, found)) - average for row, average in zip(rows, averages)]
+            step = sum(row[place] * it for row, it in zip(rows, off)) / gain
+            found[place] = min(WHOLE, max(0.0, found[place] - step))
+    return found
+
+
+def possible(shares: Iterable[float]) -> Shares:
+    """The nearest shares that one processor can have: full is never more than some, and while all wait for IO nobody is ready."""
+    io_some, io_full, memory_some, memory_full, cpu_some, cpu_full = (min(WHOLE, max(0.0, it)) for it in shares)
+    io_full, memory_full = min(io_full, io_some), min(memory_full, memory_some)
+    cpu_some = min(cpu_some, WHOLE - io_full)
+    memory_some = min(memory_some, WHOLE - io_full + memory_full)
+    return Shares(io_some, io_full, memory_some, memory_full, cpu_some, min(cpu_full, cpu_some))
+
+
+class Status(NamedTuple):
+    """What is the case on a group's processor from some percent of a tick on: whether a task waits for IO, is stalled, and all are
+    stalled; whether one is ready, one more waits, and one from outside runs."""
+
+    waits: bool
+    stalls: bool
+    all_stall: bool
+    is_ready: bool
+    is_queued: bool
+    is_outside: bool
+
+
+def timeline(shares: Shares) -> list[tuple[float, Status]]:
+    """The statuses of a tick in their order: first none is ready, so that all who wait for IO wait alone; then the group's own task
+    runs, then one more waits beside it, and then both wait for one from outside."""
+    begins = shares.io_full
+    some = max(begins, shares.memory_full)
+    ends = some + shares.memory_some - shares.memory_full
+    queued, outside = WHOLE - shares.cpu_some, WHOLE - shares.cpu_full
+    places = {0.0, begins, shares.io_some, shares.memory_full, some, ends, queued, outside}
+    return [
+        (at, Status(at < shares.io_some, at < shares.memory_full or some <= at < ends, at < shares.memory_full, at >= begins,
+                    at >= queued and at >= begins, at >= outside and at >= begins))
+        for at in sorted(it for it in places if it < WHOLE)
+    ]  # fmt: skip
+
+
+class Stage:
+    """A processor of a group, with the five tasks that are made up for it: one waits for IO, one is stalled asleep, one runs, one
+    waits beside it, and one of the root takes the processor from both."""
+
+    def __init__(self, world: World, path: str, processor: int, number: int) -> None:
+        self.world, self.processor = world, processor
+        self.waiter, self.staller, self.runner, self.other, self.outsider = range(number, number + 5)
+        for task in range(number, number + 5):
+            world.fork(task, ROOT if task == self.outsider else path, processor, task)
+            world.detour(task, How.SLEEP)
+
+    def put(self, task: int, state: State, is_stalled: bool) -> None:
+        """The task does this from now on, by a turn of no length."""
+        world, it = self.world, self.world.tasks[task]
+        if it.state is state and it.is_stalled == is_stalled:
+            return
+        world.run(task, self.processor)
+        if is_stalled and not it.is_stalled:
+            world.stall(it)
+        elif it.is_stalled and not is_stalled:
+            world.unstall(it)
+        how = {State.ASLEEP: How.SLEEP, State.WAITING: How.WAIT, State.READY: How.PREEMPT}.get(state)
+        if how:
+            world.leave(self.processor, how)
+
+    def show(self, status: Status) -> None:
+        """Brings about a status."""
+        ready, asleep = State.READY, State.ASLEEP
+        stalls_ready = status.all_stall and status.is_ready
+        self.put(self.waiter, State.WAITING if status.waits else asleep, False)
+        self.put(self.staller, asleep, status.stalls and not stalls_ready)
+        self.put(self.other, ready if status.is_queued else asleep, status.is_queued and stalls_ready)
+        if not status.is_outside:
+            self.put(self.outsider, asleep, False)
+        own = State.RUNNING if status.is_ready and not status.is_outside else ready if status.is_ready else asleep
+        self.put(self.runner, own, stalls_ready)
+        if status.is_outside:
+            self.put(self.outsider, State.RUNNING, False)
+
+    def end(self) -> None:
+        """All of its tasks are gone."""
+        for task in (self.waiter, self.staller, self.other, self.outsider, self.runner):
+            self.put(task, State.ASLEEP, False)
+        for task in (self.waiter, self.staller, self.other, self.outsider, self.runner):
+            self.world.run(task, self.processor)
+            self.world.leave(self.processor, How.EXIT)
+
+
+class Diffusion:
+    """Whole percents of ticks whose mean is a share: averages know no others."""
+
+    def __init__(self) -> None:
+        self.rest: dict[tuple[str, tuple[str, str]], float] = {}
+
+    def percent(self, path: str, pressure: tuple[str, str], share: float) -> float:
+        """What this tick's share is, half a percent above a whole one, which is rounded down."""
+        owed = self.rest.get((path, pressure), 0.0) + share
+        whole = int(owed)
+        self.rest[path, pressure] = owed - whole
+        return min(WHOLE, whole + 0.5) if whole else 0.0
+
+
+class LeadIn:
+    """The lead-in of a world in which the groups are made: its stages, and the pressure of each stretch."""
+
+    def __init__(self, world: World, averages: dict[str, Averages], ticks: int, most: int) -> None:
+        self.world, self.ticks = world, ticks
+        live = {path: it for path, it in averages.items() if path in world.groups.live}
+        wanted = {path: it for path, it in live.items() if max(max(each) for each in it.values()) >= LEAST}
+        # A group comes behind those below it.
+        self.paths = sorted(wanted, key=lambda path: (-path.count("/") if path != ROOT else 1, path))
+        self.shares = {path: {key: stretches_of(it, ticks) for key, it in wanted[path].items()} for path in self.paths}
+        self.stages: dict[str, list[Stage]] = {}
+        self.left_out = 0
+        self.make_stages(world.processors, most)
+
+    def make_stages(self, first: int, most: int) -> None:
+        """Gives each group its processors, from `first` on and fewer than `most`: as few as come near enough to its shares."""
+        own: list[dict[str, Shares]] = [{} for _ in range(STRETCHES)]
+        for path in list(self.paths):
+            if first >= most:
+                self.paths.remove(path)
+                self.left_out += 1
+                continue
+            offs = [(self.off(path, count, own), count) for count in range(1, min(MOST_OWN, most - first) + 1)]
+            count = next((count for off, count in offs if off <= NEAR), min(offs)[1])
+            number = FIRST_NUMBER + 5 * first
+            self.stages[path] = [Stage(self.world, path, first + place, number + 5 * place) for place in range(count)]
+            for stretch, shares in enumerate(own):
+                shares[path] = possible(self.rest_of(path, count, self.wanted(path, stretch), shares))
+            first += count
+        self.world.processors = max(self.world.processors, first)
+
+    def wanted(self, path: str, stretch: int) -> list[float]:
+        """The shares of a group in a stretch."""
+        return [self.shares[path][key][stretch] if key in self.shares[path] else 0.0 for key in PRESSURES]
+
+    def off(self, path: str, count: int, own: list[dict[str, Shares]]) -> float:
+        """How far the shares of a group with so many processors of its own are off at most, percent, by what those below have."""
+        worst = 0.0
+        for stretch, shares in enumerate(own):
+            rest = self.rest_of(path, count, self.wanted(path, stretch), shares)
+            missed = max(abs(one - other) for one, other in zip(rest, possible(rest)))
+            worst = max(worst, missed * count / (count + sum(len(self.stages[it]) for it in shares if is_below(it, path))))
+        return worst
+
+    def play(self) -> None:
+        """Writes it, tick by tick."""
+        diffusion = Diffusion()
+        for tick in range(self.ticks):
+            stretch = 2 if tick >= self.ticks - LAST else 1 if tick >= self.ticks - LAST - MIDDLE else 0
+            acts = []
+            own: dict[str, Shares] = {}
+            for path in self.paths:
+                shares = [diffusion.percent(path, key, it) for key, it in zip(PRESSURES, self.wanted(path, stretch))]
+                own[path] = possible(self.rest_of(path, len(self.stages[path]), shares, own))
+                acts += [(at, stage, status) for at, status in timeline(own[path]) for stage in self.stages[path]]
+            for at, stage, status in sorted(acts, key=lambda it: it[0]):
+                self.world.now = tick * TICK + int(at * TICK / WHOLE)
+                stage.show(status)
+        self.world.now = self.ticks * TICK
+        for stages in self.stages.values():
+            for stage in stages:
+                stage.end()
+
+    def rest_of(self, path: str, count: int, wanted: Sequence[float], own: dict[str, Shares]) -> list[float]:
+        """What so many processors of a group must have each, so that with those of the groups below its shares are as wanted. The
+        root's full of cpu is shown as 0, whatever it is."""
+        below = [(len(self.stages[it]), seen_from(own[it], path)) for it in own if is_below(it, path)]
+        whole = count + sum(it for it, _ in below)
+        rest = [whole * share - sum(number * it[place] for number, it in below) for place, share in enumerate(wanted)]
+        return [it / count for it in rest]
+
+
+def is_below(path: str, above: str) -> bool:
+    """Whether a group is below another one."""
+    return path != above and (above == ROOT or above in prefixes_of(path))
+
+
+def seen_from(shares: Shares, path: str) -> Shares:
+    """What a group above has by a processor of one below. At the root who runs from outside is its own, and isn't stalled."""
+    if path != ROOT:
+        return shares
+    hidden = max(0.0, shares.memory_full - (WHOLE - shares.cpu_full))
+    return shares._replace(memory_full=shares.memory_full - hidden, cpu_full=0.0)

@@ -1,0 +1,305 @@
+"""Plays a recording's events in the world of a trace. What doesn't fit what is known is believed and counted: in a sound
+recording that is rare, and after lost events the counts are the measure of the damage."""
+from __future__ import annotations
+
+from collections import Counter, defaultdict
+from collections.abc import Callable, Sequence
+
+from psiread.events import (
+    CLONE_INTO_CGROUP, CLONE_THREAD, GONE, Attach, AttachProbe, Event, Exec, FirstWakeup, GroupMade, GroupRemoved, Interrupts,
+    Marker, Migration, NewTask, StallBegins, StallEnds, Switch, Victim, Wakeup,
+)  # fmt: skip
+from psirec.layout import MARK, PLAIN_TYPE, escaped_path
+from psiworld.groups import ROOT
+from psiworld.world import How, State, Task, World
+
+from .accounts import Account
+
+# The letter of a task that leaves and stays ready.
+STAYS = "R"
+# A trace has no larger number of bytes or pages.
+MOST_MEMORY = 2**60
+
+
+class Samples:
+    """The last samples of memory: that of the machine, and those of groups by path, as a trace spells them."""
+
+    def __init__(self) -> None:
+        self.host = ""
+        self.groups: dict[str, str] = {}
+
+
+class Player:
+    """Plays events one by one. `waits` has the places of the switches by which a wait for IO begins, `accounts` what was found of
+    the accounting of groups at which places, and `types` the types of groups that are known."""
+
+    def __init__(
+        self, world: World, events: Sequence[Event], waits: set[int], accounts: dict[int, list[Account]], types: dict[str, str]
+    ) -> None:
+        self.world, self.waits, self.accounts, self.types = world, waits, accounts, dict(types)
+        self.samples = Samples()
+        self.victims: list[tuple[int, int]] = []
+        # By the task that moves others: what the probe told of the move that is under way.
+        self.moves: dict[int, AttachProbe] = {}
+        # The group that each process made last.
+        self.groups_made: dict[int, str] = {}
+        self.mended: Counter[str] = world.mended
+        # By exec a thread takes over a number, some time before that is told: the places where it is, and the old numbers.
+        self.changes: dict[int, list[tuple[int, int]]] = defaultdict(list)
+        for place, event in enumerate(events):
+            if isinstance(event, Exec) and event.task != event.old:
+                self.changes[event.task].append((place, event.old))
+
+    def play(self, place: int, event: Event) -> None:
+        """Plays the event at this place."""
+        if isinstance(event, Switch):
+            self.switch(place, event)
+        elif isinstance(event, Wakeup):
+            self.wake(place, event)
+        elif isinstance(event, Migration):
+            self.migrate(event)
+        elif isinstance(event, (StallBegins, StallEnds)):
+            self.stall(event)
+        elif isinstance(event, Interrupts):
+            self.world.interrupt(event.processor, event.delta)
+        elif isinstance(event, Marker):
+            self.mark(event)
+        elif isinstance(event, NewTask):
+            self.new_task(event)
+        elif isinstance(event, FirstWakeup):
+            self.first_wakeup(event)
+        elif isinstance(event, Exec):
+            self.exec(event)
+        elif isinstance(event, AttachProbe):
+            self.moves[event.current] = event
+        elif isinstance(event, Attach):
+            self.attach(event)
+        elif isinstance(event, (GroupMade, GroupRemoved)):
+            self.group(event)
+        elif isinstance(event, Victim):
+            self.victims.append((self.world.now, event.task))
+        for account in self.accounts.get(place, ()):
+            self.world.switch_accounting(*account)
+
+    # ------------------------------------------------------------ who is who
+
+    def group_of(self, number: int) -> str:
+        """The group of a task that is there, else the root."""
+        task = self.world.tasks.get(number)
+        return task.group if task else ROOT
+
+    def is_there(self, number: int, place: int, fits: Callable[[Task], bool]) -> bool:
+        """Whether the trace has the task. A number that an exec is about to change is changed where an event fits the thread
+        alone that takes it over."""
+        changes = self.changes.get(number)
+        while changes and changes[0][0] < place:
+            changes.pop(0)
+        tasks = self.world.tasks
+        if changes and changes[0][1] in tasks:
+            first, thread = tasks.get(number), tasks[changes[0][1]]
+            if first is None or (not fits(first) and fits(thread)):
+                self.change_number(number, changes.pop(0)[1])
+        return number in tasks
+
+    def change_number(self, number: int, old: int) -> None:
+        """The thread `old` has taken over the number of its process's first thread. That one, if it isn't gone yet, leaves
+        under the thread's number."""
+        self.world.swap_numbers(number, old)
+        self.mended["number changed by exec"] += 1
+
+    def is_swapped(self, number: int, processor: int) -> bool:
+        """Whether the one that runs there is the first thread of a process, and has by now the number of the thread that
+        takes over its own."""
+        changes = self.changes.get(self.world.running(processor))
+        return bool(changes and changes[0][1] == number)
+
+    # ------------------------------------------------------------ switches
+
+    def switch(self, place: int, event: Switch) -> None:
+        """One task leaves, and another runs."""
+        self.leaver(place, event)
+        self.follower(place, event)
+        world, processor = self.world, event.processor
+        if world.running(processor) == event.next:
+            return
+        if world.running(processor):
+            world.leave(processor, self.how(place, event), event.next)
+        else:
+            world.run(event.next, processor)
+
+    def how(self, place: int, event: Switch) -> How:
+        """How the task leaves. One that stays ready doesn't wait, though its mark may say so."""
+        if event.state == STAYS:
+            return How.PREEMPT
+        if event.state in GONE:
+            return How.EXIT
+        return How.WAIT if place in self.waits else How.SLEEP
+
+    def leaver(self, place: int, event: Switch) -> None:
+        """Makes the task that leaves run, where it isn't known to. Who was known to run there must have gone to sleep."""
+        world, number, processor = self.world, event.previous, event.processor
+        running = world.running(processor)
+        if running == number:
+            return
+        if not number:
+            world.leave(processor, How.SLEEP)
+            self.mended["processor was idle, though a task was known to run"] += 1
+            return
+        if self.is_swapped(number, processor):
+            self.change_number(running, number)
+            return
+        if not self.is_there(number, place, lambda task: task.is_on(processor, State.RUNNING)):
+            world.fork(number, ROOT, processor, number)
+            self.mended["task first met when it left"] += 1
+        elif world.running(processor) != number:
+            self.mended["task left that wasn't known to run"] += 1
+        world.run(number, processor, How.SLEEP)
+
+    def follower(self, place: int, event: Switch) -> None:
+        """Makes the task that is to run ready, where it isn't known to be."""
+        world, number, processor = self.world, event.next, event.processor
+        if not number or world.running(processor) == number:
+            return
+        if not self.is_there(number, place, lambda task: task.is_on(processor, State.READY)):
+            world.fork(number, ROOT, processor, number)
+            self.mended["task first met when it ran"] += 1
+            return
+        if world.running(processor) != number and not world.tasks[number].is_on(processor, State.READY):
+            self.mended["task ran that wasn't known to be ready there"] += 1
+            world.ready(number, processor)
+
+    # ------------------------------------------------------------ tasks come, wake and move about
+
+    def wake(self, place: int, event: Wakeup) -> None:
+        """A task that slept is ready. One that is woken before it slept goes on."""
+        if not self.is_there(event.task, place, Task.is_blocked):
+            self.world.fork(event.task, ROOT, event.target, event.task)
+            self.mended["task first met when it was woken"] += 1
+        elif self.world.tasks[event.task].is_blocked():
+            self.world.ready(event.task, event.target)
+
+    def migrate(self, event: Migration) -> None:
+        """A ready task goes to another processor. Of one that waits for IO the kernel ends the wait there, and not at the
+        wakeup that follows; what it does then has no word but sleep."""
+        task = self.world.tasks.get(event.task)
+        if task and task.state is State.READY:
+            self.world.ready(event.task, event.target)
+        elif task and task.state is State.WAITING:
+            self.world.end_wait(event.task)
+            self.mended["wait for IO ended at a migration"] += 1
+
+    def new_task(self, event: NewTask) -> None:
+        """A task is made, asleep until its first wakeup, in the group of its parent, which is the one that runs."""
+        process = self.process_of(event.current) if event.flags & CLONE_THREAD else event.task
+        path = self.group_of(event.current)
+        if event.flags & CLONE_INTO_CGROUP:
+            path = self.named_group(event.current) or path
+        self.world.fork(event.task, path, event.processor, process)
+        self.world.detour(event.task, How.SLEEP)
+
+    def process_of(self, number: int) -> int:
+        """The process of a thread, as far as it is known."""
+        task = self.world.tasks.get(number)
+        return task.process if task else number
+
+    def named_group(self, parent: int) -> str | None:
+        """The group in which a parent made a task that it named to clone(2), which no event tells. Most likely it is the one
+        that the parent's process made last, if nothing is in that."""
+        path = self.groups_made.get(self.process_of(parent))
+        is_likely = path in self.world.groups.live and not self.world.groups.tasks[path or ROOT]
+        guess = "the group that its parent made last" if is_likely else "its parent's group"
+        self.mended[f"new task whose group its parent named, put into {guess}"] += 1
+        return path if is_likely else None
+
+    def first_wakeup(self, event: FirstWakeup) -> None:
+        """A task that was made is ready. Where only this was recorded it is made now, by the one that runs."""
+        if event.task not in self.world.tasks:
+            self.world.fork(event.task, self.group_of(event.current), event.target, event.task)
+        else:
+            self.world.ready(event.task, event.target)
+
+    def exec(self, event: Exec) -> None:
+        """The number of a thread has changed; often that was noticed before."""
+        if event.task == event.old or event.old not in self.world.tasks:
+            return
+        if event.task not in self.world.tasks or self.world.running(event.processor) == event.old:
+            self.change_number(event.task, event.old)
+
+    def stall(self, event: StallBegins | StallEnds) -> None:
+        """The running task goes into its first memory stall, or out of its last."""
+        task = self.world.tasks.get(event.current)
+        is_end = isinstance(event, StallEnds)
+        if not task or task.is_stalled != is_end or (isinstance(event, StallEnds) and event.flags):
+            return
+        if self.world.running(event.processor) != event.current:
+            self.mended["task stalled that wasn't known to run"] += 1
+            self.world.run(event.current, event.processor, How.SLEEP)
+        if is_end:
+            self.world.unstall(task)
+        else:
+            self.world.stall(task)
+
+    # ------------------------------------------------------------ groups and memory
+
+    def attach(self, event: Attach) -> None:
+        """A process goes to another group, with all its threads, or a single thread does. Of a process's first thread the event
+        alone doesn't tell which, and then all are taken to go."""
+        probe = self.moves.pop(event.current, None)
+        if event.hierarchy:
+            return
+        path = self.world.make_group(escaped_path(event.path))
+        is_told = probe is not None and probe.task == event.task
+        first = self.world.tasks.get(event.task)
+        if first and first.process != event.task:
+            self.types.pop(path, None)  # a thread went alone, so the group isn't a plain one
+        others = [
+            task for number, task in self.world.tasks.items()
+            if task.process == event.task and number != event.task and task.group != path
+        ]  # fmt: skip
+        if first and first.group != path:
+            self.world.move(first, path)
+        if probe is not None and is_told and not probe.whole:
+            return
+        if others and not is_told and self.types.get(path) != PLAIN_TYPE:
+            self.mended["first thread of a process moved, the others taken to go with it"] += 1
+        for task in others:
+            self.world.move(task, path)
+
+    def group(self, event: GroupMade | GroupRemoved) -> None:
+        """A group comes or goes."""
+        if event.hierarchy:
+            return
+        path = escaped_path(event.path)
+        if isinstance(event, GroupRemoved):
+            self.samples.groups.pop(path, None)
+            self.types.pop(path, None)
+            self.world.remove_group(path)
+            return
+        self.groups_made[self.process_of(event.current)] = path
+        if self.world.groups.is_leaving(path):
+            self.world.make_again(path)
+        else:
+            self.world.make_group(path)
+
+    def mark(self, event: Marker) -> None:
+        """A marker: of the recorder's own, samples of memory become lines."""
+        if not event.text.startswith(MARK.encode()):
+            return
+        words = event.text.decode("utf-8", "surrogateescape")[len(MARK) :].split()
+        if words[:1] == ["host"]:
+            sample = sample_of(words[1:])
+            if sample:
+                self.samples.host = sample
+                self.world.put(f"host {sample}")
+        elif words[:1] == ["mem"] and len(words) == 5:
+            path, sample = escaped_path(words[1].encode("utf-8", "surrogateescape")), sample_of(words[2:])
+            if sample and path in self.world.groups.live:
+                self.samples.groups[path] = sample
+                self.world.put(f"mem {path} {sample}")
+
+
+def sample_of(words: Sequence[str]) -> str | None:
+    """The three numbers of a sample as a trace spells them, if these are such."""
+    if len(words) != 3 or not all(word.isascii() and word.isdecimal() and int(word) <= MOST_MEMORY for word in words):
+        return None
+    return " ".join(str(int(word)) for word in words)

@@ -1,0 +1,126 @@
+"""What a conversion says on standard error: what was read, how waits for IO are told, what was mended, and what was lost."""
+from __future__ import annotations
+
+from datetime import datetime, timezone
+
+from psiread.source import Source
+from psiread.waits import Method
+from psiread.window import Window, seconds
+from psiread.words import SECOND
+from psiworld.groups import ROOT
+from psiworld.world import World
+
+from .convert import Converted
+
+# How long it takes until an average that began at 0 means something: three of its periods, in s.
+SETTLED_10, SETTLED_60 = 30, 180
+
+
+def moment_text(realtime: int) -> str:
+    """A moment in ns since 1970, in UTC."""
+    whole = datetime.fromtimestamp(realtime // SECOND, timezone.utc)
+    return f"{whole:%Y-%m-%d %H:%M:%S}.{realtime % SECOND // 10**6:03} UTC"
+
+
+def waits_text(method: Method, converted: Converted) -> str:
+    """By what waits for IO are told, and what that is worth."""
+    if method is Method.STATE:
+        return (
+            f"waits for IO by state D alone: all {converted.uninterruptible} such sleeps count, on a journaling file system up"
+            " to 3.5 times too long"
+        )
+    way = "psi's own mark" if method is Method.PROBE else "sched_stat_iowait"
+    return f"waits for IO by {way}: {converted.waits}; sleeps in state D: {converted.uninterruptible}"
+
+
+def exact_seconds(moment: int) -> str:
+    """A moment in seconds, with all of its nine decimals."""
+    return f"{moment // SECOND}.{moment % SECOND:09}"
+
+
+def counted(found: dict[str, int]) -> str:
+    """Kinds with their numbers, the most first."""
+    return ", ".join(f"{kind} {count}" for kind, count in sorted(found.items(), key=lambda it: (-it[1], it[0])) if count)
+
+
+def whole_lines(source: Source, converted: Converted, window: Window, whole: Window) -> list[str]:
+    """What there is of the trace."""
+    groups, count = converted.world.groups.made, len(converted.lines if converted.folded is None else converted.folded)
+    lines = [f"{seconds(converted.world.now)} s, processors {source.processors}, groups {groups}, lines {count}"]
+    if window != whole:
+        start = window.start - whole.start
+        end = start + converted.world.now - converted.begins
+        lines.append(f"of {seconds(whole.length())} s: --from {exact_seconds(start)} --to {exact_seconds(end)}")
+    if source.realtime is not None:
+        lines.append(f"0 is {moment_text(window.start - converted.begins + source.realtime)}")
+    return lines
+
+
+def accounting_lines(source: Source, world: World) -> list[str]:
+    """Who wasn't accounted, if somebody wasn't, and what the trace makes of it."""
+    lines = []
+    if ROOT in source.snapshot.unaccounted:
+        lines.append("the machine doesn't account the root, a trace does")
+    if world.switches:
+        version = "so it has version 2" + ("" if world.has_interrupts else ", without times of interrupts")
+        groups = ", ".join(sorted(world.switched))
+        lines.append(f"not accounted all the time: {groups}: lines `pressure` {world.switches}, {version}")
+    return lines
+
+
+def told_lines(source: Source, converted: Converted) -> list[str]:
+    """What a trace has no word for, or another."""
+    lines = list(source.notes)
+    omitted = [path for path, preference in sorted(source.snapshot.groups.items()) if preference == "omit"]
+    if omitted:
+        lines.append(f"omit is told as avoid: {', '.join(omitted)}")
+    lines += accounting_lines(source, converted.world)
+    if converted.counts["psi_account_irqtime"] and not converted.world.has_interrupts:
+        lines.append("times of interrupts are left out: --interrupts writes them, into a trace of version 2")
+    lines += [f"the kernel's own killer chose task {task} at {seconds(moment)} s" for moment, task in converted.victims]
+    return lines
+
+
+def summary_of(source: Source, converted: Converted, method: Method, window: Window, whole: Window) -> list[str]:
+    """All lines but those of what was lost. Where nothing is said of mending, nothing was mended."""
+    mended = {**source.mended, **converted.world.mended}
+    return [
+        *whole_lines(source, converted, window, whole),
+        f"events: {counted(converted.counts)}",
+        waits_text(method, converted),
+        *told_lines(source, converted),
+        *(f"mended: {kind}: {count}" for kind, count in sorted(mended.items()) if count),
+        *past_lines(converted),
+    ]
+
+
+def other_way(converted: Converted) -> str:
+    """What else helps where a trace has too many events, which is the limit that is met most."""
+    if not converted.limit or not converted.limit.endswith(" events"):
+        return ""
+    if converted.folded is not None:
+        return ", and --fold with a longer window and --groups make it smaller"
+    return ", and --fold 1 makes a trace as long as the recording, with the same pressure at ticks of a second"
+
+
+def past_lines(converted: Converted) -> list[str]:
+    """With what averages begin."""
+    if not converted.begins:
+        settled = f"avg10 means something from {SETTLED_10} s on, avg60 from {SETTLED_60} s on"
+        return [f"averages begin at 0, as the machine's didn't: {settled}"]
+    lines = [f"the recording begins at {seconds(converted.begins)} s: what is before is made up, so that averages begin as the machine's"]
+    if converted.without_past:
+        lines.append(f"lead-in: groups whose averages begin at 0, since there are too few processors for more: {converted.without_past}")
+    return lines
+
+
+def limit_lines(source: Source, converted: Converted) -> list[str]:
+    """The limits of traces that were met."""
+    lines = [
+        f"limit: {why}: {len(paths)} folded into the group above, first {paths[0]}; --groups sets how deep groups go"
+        for why, paths in sorted(converted.world.groups.limits.items())
+    ]
+    if converted.limit:
+        end = seconds(converted.world.now)
+        lines.append(f"limit: more than {converted.limit}: what comes after {end} s; --from and --to cut{other_way(converted)}")
+    return lines

@@ -1,0 +1,108 @@
+"""Switches that a kernel didn't write. There are kernels that write no event of some tasks: in a virtual machine of Linux 6.18
+none of the threads of process 1, and none of the idle tasks but the first processor's. That such a task leaves isn't told, and
+whoever follows it would seem to wait until it does something itself.
+
+The next event of the processor tells who runs there. Where that one was ready, the switch to it is put where the one that left was
+seen last. It may have gone on for a while, but far less than its follower, who often runs for many ms before anything is written.
+"""
+from __future__ import annotations
+
+from collections.abc import Iterator, Sequence
+from operator import itemgetter
+from typing import NamedTuple
+
+from psiread.events import Event, Exec, FirstWakeup, Gap, Migration, Switch, Wakeup
+from psiread.window import Window, overlapping
+
+# What such a switch is called where they are counted.
+UNWRITTEN = "switch that wasn't written, put where the task that left was seen last"
+# The letters of tasks that leave and stay ready, and of those that sleep.
+STAYS, SLEEPS = "R", "S"
+
+
+class Ready(NamedTuple):
+    """On which processor a task waits to run, and since when that is known (ns)."""
+
+    processor: int
+    moment: int
+
+
+def renamed(events: Sequence[Event]) -> set[tuple[int, int]]:
+    """The numbers that an exec changes for one another: a processor where that happens goes from one to the other without a
+    switch."""
+    changes = [(event.old, event.task) for event in events if isinstance(event, Exec) and event.old != event.task]
+    return {*changes, *((new, old) for old, new in changes)}
+
+
+def silent_tasks(events: Sequence[Event]) -> set[int]:
+    """Tasks that ran and never left, by what is written."""
+    switches = [event for event in events if isinstance(event, Switch)]
+    return {event.next for event in switches} - {event.previous for event in switches}
+
+
+class Chains:
+    """Who runs on each processor, and who waits to: what switches tell, and the tasks in which events are written."""
+
+    def __init__(self, events: Sequence[Event], gaps: Sequence[Gap]) -> None:
+        self.gaps, self.renamed, self.silent = gaps, renamed(events), silent_tasks(events)
+        self.running: dict[int, int] = {}
+        # When each processor's last event was, in ns.
+        self.moments: dict[int, int] = {}
+        self.ready: dict[int, Ready] = {}
+
+    def missing(self, event: Event) -> list[Switch]:
+        """The switches that must have been on the event's processor before it, and weren't written."""
+        processor = event.processor
+        runs = event.previous if isinstance(event, Switch) else event.current
+        known = self.running.get(processor, runs)
+        self.running[processor] = runs
+        if known == runs or (known, runs) in self.renamed or self.is_gap(event):
+            return []
+        follows = [runs] if runs in self.ready or not runs else []
+        return list(self.switches(processor, [known, *self.waiting(processor, {known, runs}), *follows]))
+
+    def waiting(self, processor: int, others: set[int]) -> list[int]:
+        """Tasks that write no switch and were ready there, the first first: whoever follows them, they ran before it."""
+        waiting = [it for it in self.silent - others if it in self.ready and self.ready[it].processor == processor]
+        return sorted(waiting, key=lambda it: self.ready[it].moment)
+
+    def is_gap(self, event: Event) -> bool:
+        """Whether events of the processor were lost right before this one."""
+        since = Window(self.moments[event.processor], event.moment)
+        return any(gap.processor == event.processor for gap in overlapping(self.gaps, since))
+
+    def switches(self, processor: int, route: Sequence[int]) -> Iterator[Switch]:
+        """Switches from one of these tasks to the next: each as soon as it can have been."""
+        moment = self.moments[processor]
+        for previous, following in zip(route, route[1:]):
+            self.ready.pop(previous, None)
+            moment = max(moment, self.ready.pop(following).moment if following else 0)
+            yield Switch(moment, processor, previous, previous, SLEEPS if previous else STAYS, following)
+
+    def take(self, event: Event) -> None:
+        """Takes an event that was written."""
+        self.moments[event.processor] = event.moment
+        if isinstance(event, Switch):
+            self.running[event.processor] = event.next
+            self.ready.pop(event.next, None)
+            self.ready.pop(event.previous, None)
+            if event.state == STAYS and event.previous:
+                self.ready[event.previous] = Ready(event.processor, event.moment)
+        elif isinstance(event, (Wakeup, FirstWakeup)) or (isinstance(event, Migration) and event.task in self.ready):
+            self.ready[event.task] = Ready(event.target, event.moment)
+
+
+def with_unwritten(events: Sequence[Event], gaps: Sequence[Gap]) -> tuple[list[Event], list[int]]:
+    """The events with the switches among them that weren't written, and the moments of these; not where events were lost, since
+    then nothing is known of who ran meanwhile."""
+    chains = Chains(events, gaps)
+    whole: list[Event] = []
+    moments: list[int] = []
+    for event in events:
+        missing = chains.missing(event)
+        moments += (it.moment for it in missing)
+        whole += missing
+        chains.take(event)
+        whole.append(event)
+    whole.sort(key=itemgetter(0))
+    return whole, moments

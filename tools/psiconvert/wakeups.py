@@ -1,0 +1,160 @@
+"""When the kernel counts a task as ready: in `psi_task_change`, some time before it writes the event of the wakeup. Where a recording
+has the probe on it, a wakeup can be taken for either moment, or for the middle between them; in truth the task was ready from
+somewhere in between on, so both together bound its waits for a processor.
+"""
+from __future__ import annotations
+
+from bisect import bisect_left
+from collections import Counter, defaultdict
+from collections.abc import Callable, Iterable, Iterator, Sequence
+from enum import Enum
+from operator import itemgetter
+
+from psiread.events import Event, FirstWakeup, ReadyProbe, Switch, Wakeup
+from psiworld.world import LABEL_STEP
+
+# A probe that is further before a wakeup than this, ns, belongs to something else.
+LONGEST_LAG = 50_000_000
+MOMENT = itemgetter(0)
+
+
+class Counting(Enum):
+    """At which moment a wakeup stands in the trace."""
+
+    PROBE = "probe"  # when psi counted it
+    MIDDLE = "middle"  # halfway from there to its event
+    EVENT = "event"  # when its event was written
+
+
+def counted_at(events: Sequence[Event], told: dict[int, int] | None = None) -> dict[int, int]:
+    """When psi counted each wakeup, ns, by its place among the events. Also who goes to another processor, or to another group, is
+    counted anew: what follows without a wakeup is none. Who takes events in parts gives what is known of tasks from part to part."""
+    told = {} if told is None else told
+    found: dict[int, int] = {}
+    for place, event in enumerate(events):
+        if isinstance(event, ReadyProbe):
+            told[event.task] = event.moment
+        elif isinstance(event, Switch):
+            told.pop(event.next, None)
+        elif isinstance(event, (Wakeup, FirstWakeup)):
+            moment = told.pop(event.task, None)
+            if moment is not None and event.moment - moment < LONGEST_LAG:
+                found[place] = moment
+    return found
+
+
+def put_at(events: Sequence[Event], counted: dict[int, int], counting: Counting) -> list[Event]:
+    """The events with each wakeup at the moment that is wanted, in the order of their moments."""
+    if counting is Counting.EVENT or not counted:
+        return list(events)
+    moved: list[Event] = list(events)
+    for place, moment in counted.items():
+        event = events[place]
+        moved[place] = event._replace(moment=moment if counting is Counting.PROBE else (moment + event.moment) // 2)
+    moved.sort(key=MOMENT)
+    return moved
+
+
+class Wakeups:
+    """Puts the wakeups of a recording where they are wanted, and counts how far before their events psi counted them: how many by
+    each so many ns, and of how many that isn't told."""
+
+    def __init__(self, counting: Counting) -> None:
+        self.counting = counting
+        self.told: dict[int, int] = {}
+        self.lags: Counter[int] = Counter()
+        self.untold = 0
+
+    def put(self, events: Sequence[Event]) -> list[Event]:
+        """The next events, with their wakeups where they are wanted."""
+        counted = counted_at(events, self.told)
+        self.lags.update(events[place].moment - moment for place, moment in counted.items())
+        self.untold += sum(isinstance(event, (Wakeup, FirstWakeup)) for event in events) - len(counted)
+        return put_at(events, counted, self.counting)
+
+    def slices(self, slices: Iterable[list[Event]]) -> Iterator[list[Event]]:
+        """The same of events in slices. What comes to stand before its slice goes into the one before."""
+        before: list[Event] | None = None
+        for events in slices:
+            moved = self.put(events)
+            if before is not None:
+                first = bisect_left(moved, events[0].moment, key=MOMENT) if events else 0
+                yield sorted([*before, *moved[:first]], key=MOMENT) if first else before
+                moved = moved[first:]
+            before = moved
+        if before is not None:
+            yield before
+
+    def lag_at(self, place: int) -> float:
+        """How far apart the two moments are, us, at this place of all wakeups, the shortest first."""
+        for lag, count in sorted(self.lags.items()):
+            if place < count:
+                return lag / 1000
+            place -= count
+        raise IndexError(place)
+
+    def text(self) -> str:
+        """At which moment wakeups stand, and how far those are apart."""
+        count = sum(self.lags.values())
+        if not count:
+            return (
+                "wakeups at their events, which psi counts somewhat earlier: waits for CPU come out short by that, and record --wakeups"
+                " says by how much"
+            )
+        way = {
+            Counting.PROBE: "when psi counts them, and not at their events",
+            Counting.MIDDLE: "halfway from when psi counts them to their events",
+            Counting.EVENT: "at their events, and not when psi counts them",
+        }[self.counting]
+        middle, most = (self.lag_at((count - 1) // 2) + self.lag_at(count // 2)) / 2, self.lag_at(count * 99 // 100)
+        return f"wakeups {way}: {middle:.1f} us apart at the median, {most:.1f} at 99 of 100; unknown of {self.untold}"
+
+
+# ---------------------------------------------------------------- the wakeups of a trace
+
+# When a wakeup may have been counted, ns of the trace, by the task's label and the moment of its line: first, and last.
+Bounds = Callable[[str, int], tuple[int, int]]
+
+
+def bounds_of(events: Sequence[Event], start: int) -> Bounds:
+    """By the probes of a recording whose trace begins at `start`: the line of a wakeup may stand anywhere from one to the other."""
+    pairs: dict[int, list[tuple[int, int]]] = defaultdict(list)
+    for place, moment in counted_at(events).items():
+        event = events[place]
+        pairs[event.task].append((moment - start, event.moment - start))  # type: ignore[union-attr]
+
+    def bounds(label: str, moment: int) -> tuple[int, int]:
+        own = pairs.get(int(label) % LABEL_STEP, [])
+        while own and own[0][1] < moment:
+            own.pop(0)
+        return own[0] if own and own[0][0] <= moment else (moment, moment)
+
+    return bounds
+
+
+def lag_bounds(lag: int) -> Bounds:
+    """Where nothing tells: up to so many ns before the line."""
+    return lambda _, moment: (moment - lag, moment)
+
+
+def with_wakeups(lines: Iterable[str], bounds: Bounds, is_first: bool) -> list[str]:
+    """A trace's lines with each wakeup as early as it may have been, or as late, but none before the task has done what stands
+    before it in the trace."""
+    runs: dict[str, str] = {}
+    lasts: dict[str, int] = {}
+    found: list[tuple[int, str]] = []
+    for line in lines:
+        words = line.split()
+        moment = int(words[0])
+        if words[1] == "switch":
+            lasts[runs.get(words[2], "")] = lasts[words[3]] = moment
+            runs[words[2]] = words[3]
+        elif words[1] == "wake":
+            first, last = bounds(words[2], moment)
+            moment = max(first if is_first else last, lasts.get(words[2], 0))
+            line = f"{moment} {line.partition(' ')[2]}"
+        elif words[1] in ("fork", "move", "stall", "unstall", "migrate"):
+            lasts[words[2]] = moment
+        found.append((moment, line))
+    found.sort(key=MOMENT)
+    return [line for _, line in found]

@@ -1,0 +1,116 @@
+"""Folds the windows of all processors: here, or as soon as there is much to do in processes of their own, each for its share of the
+processors. A window is handed in, and what came of it is taken out later, in the same order."""
+from __future__ import annotations
+
+import contextlib
+import multiprocessing
+import os
+from collections import deque
+from collections.abc import Sequence
+from multiprocessing.connection import Connection
+from multiprocessing.process import BaseProcess
+from queue import Queue
+from threading import Thread
+from typing import NamedTuple
+
+from .processor import FoldedProcessor, Piece, Turn
+from .sums import Plan, Sums
+from .world import Catalog
+
+# From so many joint states of a window on there are several processes, and so many at most.
+MUCH, MOST_WORKERS = 4_000, 8
+
+class Work(NamedTuple):
+    """A window: what came to the catalog, which sums are kept where that has changed, and the turns by processor."""
+
+    news: tuple[list[str], list[int | None], list[int]]
+    plan: Plan | None
+    turns: dict[int, Turn]
+
+
+class Share:
+    """Some of the processors, with a catalog of its own."""
+
+    def __init__(self, processors: Sequence[int], count: int) -> None:
+        self.catalog = Catalog()
+        self.folded = {processor: FoldedProcessor(processor, count) for processor in processors}
+        self.sums = Sums(self.catalog, [])
+
+    def of(self, work: Work) -> Work:
+        """What of a window is of these processors."""
+        return work._replace(turns={processor: work.turns[processor] for processor in self.folded})
+
+    def fold(self, work: Work) -> dict[int, Piece]:
+        """What comes of a window, by processor."""
+        self.catalog.add(*work.news)
+        if work.plan is not None:
+            self.sums = Sums(self.catalog, work.plan)
+        return {processor: self.folded[processor].fold(turn, self.sums, self.catalog) for processor, turn in work.turns.items()}
+
+    def serve(self, own: Connection, others: Sequence[Connection]) -> None:
+        """Folds what comes along a line, in a process of its own, as long as the line is held at the other end. It is taken off the
+        line at once, so that who sends it never waits for who wants to be heard."""
+        for line in others:
+            line.close()
+        due: Queue[Work | None] = Queue()
+        Thread(target=take_all, args=(own, due), daemon=True).start()
+        with contextlib.suppress(KeyboardInterrupt, BrokenPipeError):
+            while (work := due.get()) is not None:
+                own.send(self.fold(work))
+
+
+def take_all(line: Connection, due: Queue[Work | None]) -> None:
+    """Takes what comes along a line; none is the end."""
+    with contextlib.suppress(EOFError, OSError):
+        while True:
+            due.put(line.recv())
+    due.put(None)
+
+
+class Crew:
+    """All processors, in shares. At first they are here."""
+
+    def __init__(self, processors: int, workers: int | None = None) -> None:
+        most = max(len(os.sched_getaffinity(0)) - 1, 1) if workers is None else max(workers, 1)
+        count = min(processors, MOST_WORKERS, most)
+        self.shares = [Share(range(start, processors, count), processors) for start in range(count)]
+        self.lines: list[Connection] = []
+        self.processes: list[BaseProcess] = []
+        self.waiting: deque[dict[int, Piece] | None] = deque()
+
+    def hand_in(self, work: Work) -> None:
+        """A further window."""
+        if not self.lines and len(self.shares) > 1 and sum(len(turn.spent) for turn in work.turns.values()) >= MUCH:
+            self.start()
+        if self.lines:
+            for share, line in zip(self.shares, self.lines):
+                line.send(share.of(work))
+            self.waiting.append(None)
+        else:
+            self.waiting.append({number: piece for share in self.shares for number, piece in share.fold(share.of(work)).items()})
+
+    def take_out(self) -> dict[int, Piece]:
+        """What came of the first window that wasn't taken out yet, by processor."""
+        pieces = self.waiting.popleft()
+        return {number: piece for line in self.lines for number, piece in line.recv().items()} if pieces is None else pieces
+
+    def start(self) -> None:
+        """From now on each share has a process of its own."""
+        context = multiprocessing.get_context("fork")
+        pairs = [context.Pipe() for _ in self.shares]
+        every = [end for pair in pairs for end in pair]
+        for share, (here, there) in zip(self.shares, pairs):
+            others = [end for end in every if end is not there]
+            process = context.Process(target=share.serve, args=(there, others), daemon=True)
+            process.start()
+            self.processes.append(process)
+            self.lines.append(here)
+        for _, there in pairs:
+            there.close()
+
+    def close(self) -> None:
+        """Ends the processes, once all was taken out."""
+        for line in self.lines:
+            line.close()
+        for process in self.processes:
+            process.join()

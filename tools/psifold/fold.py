@@ -1,0 +1,208 @@
+"""Folds a trace: what happened within a window of time is told by few lines that give the same times.
+
+A replay knows of the interval of a tick only for how long each group was in each state on each processor. So within a window, which
+is a tick's length or a whole part of it, other events may stand in place of those that were, if they give the same times; and there
+are always such that are about as many as there are groups on the processors. What isn't about tasks stays as it was: samples of
+memory, preferences and triggers stand at their moments, and so do groups that come and go and accounts that are switched, each of
+which ends a window. At the end of a window those groups have tasks that had some.
+"""
+from __future__ import annotations
+
+from collections import deque
+from collections.abc import Callable, Iterable, Sequence
+from dataclasses import dataclass
+from heapq import merge
+from operator import itemgetter
+
+from .check import Check, Key, Window
+from .crew import Crew, Work
+from .lines import MOST_AT_ONCE, Line
+from .processor import Piece, Turn, moments_of
+from .sums import Plan, plan_of
+from .victims import Victim, Victims
+from .world import Catalog, FoldWorld, NotATrace
+
+# What is about neither tasks nor accounts, nor about which groups there are.
+KEPT = ("mem", "host", "prefer", "trigger")
+# So many windows may be under way at once.
+MOST_WAITING = 3
+
+
+class TooMany(Exception):
+    """There are more lines than a trace may have."""
+
+
+@dataclass
+class Counts:
+    """How many lines a trace had (those of events, and the end's), and how many come of them; the joint states of all windows and
+    processors, before and after; and how many windows there were."""
+
+    lines: int = 0
+    written: int = 0
+    had: int = 0
+    kept: int = 0
+    windows: int = 0
+
+
+@dataclass
+class Outcome:
+    """What came of a trace: how much; up to which moment (ns) it is written; and of those who might be killed up to how many kills
+    it is exact, where not up to any, how many tasks came to them later, and when the last did (ns)."""
+
+    counts: Counts
+    written: int
+    whole: int | None
+    came: int
+    last_came: int
+
+
+class Fold:
+    """Folds the lines of a trace of so many processors into windows of a length (ns); `put` takes what comes of them. Without those of
+    `victims` it gives the same times, too."""
+
+    def __init__(self, processors: int, length: int, put: Callable[[list[str]], None], victims: Sequence[Victim] = ()) -> None:
+        self.length, self.put = length, put
+        self.world = FoldWorld(processors)
+        self.crew = Crew(processors)
+        self.victims = Victims(victims)
+        self.plan: Plan | None = plan_of(self.world, ())
+        self.size = Catalog().size()
+        # The moment (ns) up to which windows are handed in, the next edge, and the first moment that a line may have behind.
+        self.start, self.edge, self.first = 0, length, 0
+        self.interrupted = [0] * processors
+        self.kept: list[Line] = []
+        self.now = 0
+        self.counts = Counts()
+        self.is_ended = False
+        self.check = Check(processors)
+        # What is to be written, in this order: windows, of which the crew has the lines; and lines that stand between them, each with
+        # the sets of groups without which sums are kept from there on.
+        self.due: deque[Window | tuple[str, list[tuple[str, ...]]]] = deque()
+        # The moment (ns) up to which all is written.
+        self.written = 0
+
+    def outcome(self) -> Outcome:
+        """What came of the lines so far."""
+        return Outcome(self.counts, self.written, self.victims.whole, self.world.came, self.world.last_came)
+
+    # ------------------------------------------------------------ lines
+
+    def take(self, lines: Iterable[str]) -> None:
+        """Takes the next lines, without their newlines."""
+        verbs, line, number = self.world.verbs, "", self.counts.lines
+        try:
+            for number, line in enumerate(lines, number + 1):
+                words = line.split(" ")
+                moment, act = int(words[0]), verbs.get(words[1])
+                if moment > self.edge:
+                    self.go_to(moment)
+                elif moment < self.now:
+                    raise NotATrace("its moment is before that of the line above")
+                self.now = moment
+                if act:
+                    act(moment, words)
+                else:
+                    self.take_other(moment, words, line)
+        except (KeyError, IndexError, ValueError, NotATrace) as fault:
+            why = str(fault) if isinstance(fault, NotATrace) else "a trace can't have it there"
+            raise NotATrace(f"line {number + 1}, '{line}': {why}") from None
+        self.counts.lines = number
+
+    def take_other(self, moment: int, words: list[str], line: str) -> None:
+        """A line that is no act of a task."""
+        verb, world = words[1], self.world
+        if self.is_ended:
+            raise NotATrace("it stands behind the end")
+        if verb in KEPT:
+            self.kept.append((moment, line))
+        elif verb == "group":
+            self.between(moment, line, lambda: world.group(words[2]))
+        elif verb == "rmgroup":
+            self.between(moment, line, lambda: world.rmgroup(words[2]), [words[2]])
+        elif verb == "pressure":
+            self.between(moment, line, lambda: world.pressure(words[2], words[3]))
+        elif verb == "end" and len(words) == 2:
+            self.flush(moment, True)
+            self.due.append((line, []))
+            self.is_ended = True
+            self.write(0)
+            self.crew.close()
+        else:
+            raise NotATrace("there is no such verb")
+
+    def between(self, moment: int, line: str, act: Callable[[], None], removed: Iterable[str] = ()) -> None:
+        """A line that ends a window: groups or accounts are others from it on."""
+        self.flush(moment, False, removed)
+        act()
+        removals, paths = self.victims.removals(self.world), self.world.paths
+        self.plan = plan_of(self.world, removals)
+        self.due.append((line, [tuple(paths[slot] for slot in it) for it in removals]))
+
+    # ------------------------------------------------------------ windows
+
+    def go_to(self, moment: int) -> None:
+        """Ends the windows that end before this moment (ns). Those in which nothing happens are one."""
+        self.flush(self.edge, True)
+        last = (moment - 1) // self.length * self.length
+        if last > self.edge:
+            self.flush(last, True)
+        self.edge = last + self.length
+
+    def flush(self, end: int, is_edge: bool, removed: Iterable[str] = ()) -> None:
+        """Hands a window in that ends at this moment (ns): at an edge, where a tick may be, or since groups or accounts change. Of
+        groups that are removed no task is left, and at an edge of none that has no task any more."""
+        world, paths = self.world, self.world.paths
+        populated = {paths[slot]: slot for slot, count in world.members.items() if count}
+        window = Window(self.start, end, accounted={paths[slot] for slot in world.live.values() if slot not in world.off})
+        window.populated = set(populated) if is_edge else None
+        window.lines = self.kept
+        spent, interrupts = world.close(end), world.close_interrupts()
+        turns = {}
+        for processor in range(world.processors):
+            told = moments_of(interrupts[processor], paths, self.interrupted[processor], self.first)
+            for it in told:
+                self.interrupted[processor] = it.moment
+                window.interrupts[processor, it.path] = window.interrupts.get((processor, it.path), 0) + it.length
+            kept = {path: self.kept_of(slot, processor) for path, slot in populated.items()} if is_edge else {}
+            turns[processor] = Turn(self.start, end, spent[processor], told, set(removed), window.populated, kept)
+        self.crew.hand_in(Work(world.catalog.since(self.size), self.plan, turns))
+        self.size, self.plan = world.catalog.size(), None
+        self.due.append(window)
+        self.kept, self.start, self.first = [], end, end + is_edge
+        self.counts.windows += is_edge
+        self.write(MOST_WAITING)
+
+    def kept_of(self, slot: int, processor: int) -> int:
+        """How many tasks must stand for a group that has some, on this processor: one on some processor; and of a group that might be
+        killed all that may ever be needed, since one that is made later is there in spite of a kill."""
+        return MOST_AT_ONCE if slot in self.world.watched else int(slot % self.world.processors == processor)
+
+    # ------------------------------------------------------------ what is written
+
+    def write(self, waiting: int) -> None:
+        """Writes what is due, but so many windows that may still be under way, and what is behind them."""
+        while self.due and (len(self.crew.waiting) > waiting or not isinstance(self.due[0], Window)):
+            due = self.due.popleft()
+            if isinstance(due, Window):
+                lines = self.lines_of(due, self.crew.take_out())
+                self.check.window(due, lines)
+            else:
+                lines = [due[0]]
+                self.check.between(due[0])
+                self.check.keep_without(due[1])
+            self.put(lines)
+            self.counts.written += len(lines)
+            if isinstance(due, Window):
+                self.written = due.end
+
+    def lines_of(self, window: Window, pieces: dict[int, Piece]) -> list[str]:
+        """The lines of a window, of which the sums are noted for the check."""
+        paths, each = self.world.paths, [window.lines]
+        for processor, piece in sorted(pieces.items()):
+            each.append(piece.lines)
+            self.counts.had += piece.had
+            self.counts.kept += piece.kept
+            for (slot, state, without), time in piece.sums.items():
+                if time:
+                    window.sums[Key(processor, paths[slot], state, tuple(paths[it] for it in without))] = time
+        return [line for _, line in merge(*each, key=itemgetter(0))]

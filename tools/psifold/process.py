@@ -1,0 +1,88 @@
+"""Folds in a process of its own, so that a recording's events are played meanwhile in this one. Lines go there in parts, and what came
+of them is told at the end."""
+from __future__ import annotations
+
+import contextlib
+import multiprocessing
+from multiprocessing.connection import Connection
+
+from psiread.source import Unreadable
+
+from .fold import Fold, Outcome
+
+END = b""
+
+
+class Here:
+    """Folds in this process."""
+
+    def __init__(self, fold: Fold) -> None:
+        self.fold = fold
+
+    def take(self, lines: list[str]) -> None:
+        """Folds these lines."""
+        self.fold.take(lines)
+
+    def end(self) -> None:
+        """All was taken."""
+
+    def outcome(self) -> Outcome:
+        """What came of the lines so far."""
+        return self.fold.outcome()
+
+
+class Elsewhere:
+    """Folds in another process."""
+
+    def __init__(self, fold: Fold) -> None:
+        context = multiprocessing.get_context("fork")
+        there, self.lines = context.Pipe(duplex=False)
+        self.told, said = context.Pipe(duplex=False)
+        self.process = context.Process(target=serve, args=(fold, there, said, (self.lines, self.told)))
+        self.process.start()
+        self.found: Outcome | None = None
+        there.close()
+        said.close()
+
+    def take(self, lines: list[str]) -> None:
+        """Hands these lines on, if there are some. One that can't be folded ends it there, which is told at the end."""
+        try:
+            if not lines:
+                return
+            self.lines.send_bytes("\n".join(lines).encode("ascii"))
+        except BrokenPipeError:
+            self.end()
+
+    def end(self) -> None:
+        """All was taken, or what went wrong there goes on here."""
+        with contextlib.suppress(BrokenPipeError):
+            self.lines.send_bytes(END)
+        self.lines.close()
+        try:
+            self.found, fault = self.told.recv()
+        except EOFError:
+            raise Unreadable("the process that folds has ended: was there no memory?") from None
+        self.process.join()
+        if fault is not None:
+            raise fault
+
+    def outcome(self) -> Outcome:
+        """What came of all lines."""
+        assert self.found
+        return self.found
+
+
+def serve(fold: Fold, lines: Connection, told: Connection, others: tuple[Connection, Connection]) -> None:
+    """Folds the lines that come, and tells what came of them."""
+    for line in others:
+        line.close()
+    fault: Exception | None = None
+    try:
+        while part := lines.recv_bytes():
+            fold.take(part.decode("ascii").split("\n"))
+    except (EOFError, KeyboardInterrupt):
+        return
+    except Exception as found:  # it is raised again where the lines come from
+        fault = found
+    lines.close()
+    told.send((fold.outcome(), fault))

@@ -1,0 +1,107 @@
+"""Folds the windows of one processor: of many joint states few, with the same sums, and the lines that give them."""
+from __future__ import annotations
+
+from collections import Counter
+from collections.abc import Sequence
+from typing import NamedTuple
+
+from .basis import FIELD_BITS, Basis, Fields, Units
+from .lines import Interrupt, Line, Writer
+from .rounding import Left, whole_times
+from .sums import Sum, Sums
+from .world import Catalog, Interrupts, bits_of
+
+# So long (ns) may the interrupts of one line be.
+MOST_INTERRUPTS = 10**9
+
+
+class Few(NamedTuple):
+    """Joint states with their times (ns) that stand for those of a window; the window's sums (ns); and how many joint states it
+    had."""
+
+    times: dict[int, int]
+    sums: dict[Sum, int]
+    had: int
+
+
+def few_of(spent: dict[int, int], sums: Sums, left: Left) -> Few:
+    """Few joint states with the sums of many. The longest come first, so that most of the others find room in theirs."""
+    columns: dict[int, int] = {}
+    states: dict[int, int] = {}
+    for state, time in spent.items():
+        column = sums.of(state)
+        columns[column] = columns.get(column, 0) + time
+        known = states.get(column)
+        if known is None or (state.bit_count(), state) < (known.bit_count(), known):
+            states[column] = state
+    used = sums.total
+    for column in columns:
+        used |= column
+    order = sorted(columns, key=lambda it: (-columns[it], it))
+    length, rows = sum(spent.values()), used.bit_count()
+    units = Units(used, Fields(rows, FIELD_BITS))
+    packed, times = [units.packed(column | sums.total) for column in order], [columns[column] for column in order]
+    basis = Basis(rows, length)
+    basis.take_all(packed, times)
+    whole = whole_times(basis.shares(), basis.divisor, order, sums.sum_of, left)
+    found = {sums.least(states[order[number]], order[number]): time for number, time in whole.items()}
+    totals = units.fields.numbers(sum(time * column for column, time in zip(packed, times)))
+    had = {sums.sum_of(bit): time for bit, time in zip(bits_of(used), totals) if bit != sums.size}
+    return Few(found, had, len(spent))
+
+
+def moments_of(interrupts: Interrupts, paths: Sequence[str], last: int, first: int) -> list[Interrupt]:
+    """When the interrupts of a window are told: each line as early as it may be, which is when all of its time has gone since the
+    line before, the first of which was at `last`, and not before `first` (ns). So none comes later than the last one did."""
+    told: list[Interrupt] = []
+    moment = last
+    parts = [interrupts.first] if interrupts.first else []
+    for slot, length in [*parts, *sorted(interrupts.others.items())]:
+        while length:
+            part = min(length, MOST_INTERRUPTS)
+            moment = max(moment + part, first)
+            told.append(Interrupt(moment, paths[slot], part))
+            length -= part
+    return told
+
+
+class Turn(NamedTuple):
+    """What is asked of a processor for a window: from when to when it goes (ns), in which joint states the processor was for how long
+    (ns), and what interrupts took. At its end no task may be in `removed`, or where `populated` is given in any group but these; and
+    there must be so many in each of `kept`."""
+
+    start: int
+    end: int
+    spent: dict[int, int]
+    interrupts: list[Interrupt]
+    removed: set[str]
+    populated: set[str] | None
+    kept: dict[str, int]
+
+
+class Piece(NamedTuple):
+    """What comes of a processor's window: its lines with their moments, the sums that it had (ns), and how many joint states it had
+    and has."""
+
+    lines: list[Line]
+    sums: dict[Sum, int]
+    had: int
+    kept: int
+
+
+class FoldedProcessor:
+    """A processor, and its lines so far."""
+
+    def __init__(self, processor: int, processors: int) -> None:
+        self.writer = Writer(processor, processors)
+        self.left: Left = Counter()
+
+    def fold(self, turn: Turn, sums: Sums, catalog: Catalog) -> Piece:
+        """The lines of a window."""
+        few = few_of(turn.spent, sums, self.left)
+        durations = {catalog.joint_state(state): time for state, time in few.times.items()}
+        lines = self.writer.write(turn.start, durations, turn.interrupts)
+        groups = self.writer.groups()
+        lines += self.writer.empty(turn.end, groups & turn.removed if turn.populated is None else groups - turn.populated)
+        lines += self.writer.keep(turn.end, turn.kept)
+        return Piece([(moment, f"{moment} {words}") for moment, words in lines], few.sums, few.had, len(durations))

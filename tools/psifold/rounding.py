@@ -1,0 +1,86 @@
+"""Whole ns for times that are fractions. What rounding leaves of each sum is carried into the next window, where rounding goes the
+other way: so no sum drifts, however many windows follow one another."""
+from __future__ import annotations
+
+from collections import Counter
+from collections.abc import Callable, Iterable
+
+from .basis import Share
+from .sums import Sum
+from .world import bits_of
+
+# By how many ns a sum is behind what it should be.
+Left = Counter[Sum]
+# Where a sum is behind by more ns than this, a ns of one joint state goes to another though their times are whole; at most so often.
+MOST_LEFT = 2
+MOST_STEPS = 20
+
+
+class Rounding:
+    """The times of joint states with these columns, by number. A time is so many parts of a ns as `divisor` says there are of one."""
+
+    def __init__(self, shares: list[Share], divisor: int, columns: list[int], behind: dict[int, int]) -> None:
+        self.divisor, self.columns = divisor, columns
+        self.times = {number: time // divisor for number, time in shares}
+        self.rests = {number: time % divisor for number, time in shares if time % divisor}
+        # By bit of a column: by how many parts of a ns the sum is behind.
+        self.behind = Counter({bit: left * divisor for bit, left in behind.items()})
+        for number, rest in self.rests.items():
+            for bit in bits_of(columns[number]):
+                self.behind[bit] += rest
+
+    def round(self) -> None:
+        """Gives what is left over, which is so many whole ns, to joint states whose times aren't whole: so that the squares of what
+        sums are behind are least."""
+        short = set(self.rests)
+        for _ in range(sum(self.rests.values()) // self.divisor):
+            number = min(sorted(short), key=lambda it: self.growth(self.columns[it], 0))
+            short.remove(number)
+            self.give(number, 1)
+        if self.is_far():
+            self.improve(set(self.rests) - short, short)
+        if self.is_far():
+            self.improve({number for number, time in self.times.items() if time}, set(self.times))
+
+    def is_far(self) -> bool:
+        """Whether some sum is behind, or before, by more than may be left to the next window."""
+        return any(abs(left) > MOST_LEFT * self.divisor for left in self.behind.values())
+
+    def growth(self, more: int, less: int) -> int:
+        """By how much the squares grow where these sums get a ns more, and those a ns less."""
+        one, behind = self.divisor, self.behind
+        return sum(one * (one - 2 * behind[bit]) for bit in bits_of(more)) + sum(one * (one + 2 * behind[bit]) for bit in bits_of(less))
+
+    def give(self, number: int, length: int) -> None:
+        """Gives a joint state so many ns."""
+        self.times[number] += length
+        for bit in bits_of(self.columns[number]):
+            self.behind[bit] -= length * self.divisor
+
+    def improve(self, givers: Iterable[int], takers: Iterable[int]) -> None:
+        """Lets joint states give a ns to others, as long as the squares fall by it."""
+        pairs = [(giver, taker) for giver in sorted(givers) for taker in sorted(takers) if giver != taker]
+        for _ in range(MOST_STEPS if pairs else 0):
+            sums = self.columns
+            found = [(self.growth(sums[taker] & ~sums[giver], sums[giver] & ~sums[taker]), giver, taker) for giver, taker in pairs]
+            growth, giver, taker = min(found)
+            if growth >= 0:
+                return
+            self.give(giver, -1)
+            self.give(taker, 1)
+            pairs = [it for it in pairs if self.times[it[0]]]
+
+
+def whole_times(shares: list[Share], divisor: int, columns: list[int], sum_of: Callable[[int], Sum], left: Left) -> dict[int, int]:
+    """The times in ns, by number of the joint state. `left` is carried from window to window."""
+    if divisor == 1 and not any(left.values()):
+        return {number: time for number, time in shares}
+    used = 0
+    for number, _ in shares:
+        used |= columns[number]
+    sums = {bit: sum_of(bit) for bit in bits_of(used)}
+    rounding = Rounding(shares, divisor, columns, {bit: left[one] for bit, one in sums.items()})
+    rounding.round()
+    for bit, one in sums.items():
+        left[one] = rounding.behind[bit] // divisor
+    return {number: time for number, time in rounding.times.items() if time}

@@ -1,0 +1,93 @@
+"""What the command lines of tools that fold share: the length of a window, and what is told of what was folded."""
+from __future__ import annotations
+
+import argparse
+import sys
+import time
+from typing import Any, NamedTuple
+
+from psiread.source import Faulty
+from psiread.window import seconds
+from psiread.words import SECOND, nanoseconds
+
+from .fold import Outcome
+from .victims import Victim, victims_of, victims_of_rules
+
+# A tick lasts a whole number of ms, 60 s at most.
+MILLISECOND, LONGEST_TICK = 10**6, 60 * SECOND
+
+
+def window_of(text: str) -> int:
+    """The length of a window in ns: whole ms, up to the longest tick."""
+    length = nanoseconds(text)
+    if not 0 < length <= LONGEST_TICK or length % MILLISECOND:
+        raise argparse.ArgumentTypeError(f"{text} is no window: it has 0.001 to 60 s, of whole ms, as ticks have")
+    return length
+
+
+def add_window(words: argparse.ArgumentParser, name: str, is_required: bool, text: str) -> None:
+    """The words that say how is folded: by the option of this name the window, and who might be killed."""
+    words.add_argument(name, dest="fold", metavar="S", type=window_of, required=is_required, help=text)
+    words.add_argument("--victims", metavar="PATTERNS", action="append", default=[],
+                       help="groups that might be killed, as patterns of rules with commas between: `whatif` is exact without"
+                       " them, too; also more than once")  # fmt: skip
+    words.add_argument("--rules", metavar="FILE", action="append", default=[],
+                       help="the same of all groups that the actions of a rules file might kill")  # fmt: skip
+
+
+class Folding(NamedTuple):
+    """How is folded: the length of a window (ns), and who might be killed."""
+
+    length: int
+    victims: list[Victim]
+
+
+def folding_of(found: dict[str, Any]) -> Folding | None:
+    """Takes these words out of those that were found; none where nothing is to be folded."""
+    length, patterns, rules = found.pop("fold"), found.pop("victims"), found.pop("rules")
+    if length is None and (patterns or rules):
+        raise Faulty("--victims and --rules say how to fold: --fold")
+    victims = [victim for text in patterns for victim in victims_of(text)]
+    return Folding(length, victims + [victim for name in rules for victim in victims_of_rules(name)]) if length else None
+
+
+def folding_lines(folding: Folding, outcome: Outcome) -> list[str]:
+    """What came of how much, and how far it holds."""
+    counts, length = outcome.counts, folding.length
+    tick = f"{length // MILLISECOND} ms" if length % SECOND else f"{length // SECOND} s"
+    return [
+        f"folded into {counts.windows} windows: lines {counts.lines} to {counts.written}, joint states {counts.had} to {counts.kept}",
+        f"a replay at ticks of {tick}, or of a multiple, prints what it prints of the trace that wasn't folded",
+        whatif_line(folding, outcome),
+    ]
+
+
+def whatif_line(folding: Folding, outcome: Outcome) -> str:
+    """How far `whatif` holds."""
+    if not folding.victims:
+        return "`whatif` is near behind the first kill, and not exact: --victims or --rules say who might be killed"
+    said = "`whatif` is exact behind kills of those who were named"
+    if outcome.whole is not None:
+        said += f", up to {outcome.whole} of them: more are at a time than can be told apart"
+    if outcome.came:
+        said += f"; but to these {outcome.came} tasks came later, the last at {seconds(outcome.last_came)} s: near behind a kill before"
+    return said
+
+
+class Progress:
+    """How far it is, on standard error where that is a terminal: seconds done, and of how many where that is known (ns)."""
+
+    def __init__(self, name: str, total: int | None = None) -> None:
+        self.name, self.total, self.is_shown, self.due = name, total, sys.stderr.isatty(), 0.0
+
+    def show(self, moment: int) -> None:
+        """So far it is (ns). It is said twice a second."""
+        if self.is_shown and time.monotonic() >= self.due:
+            self.due = time.monotonic() + 0.5
+            of = f" of {self.total // SECOND}" if self.total is not None else ""
+            print(f"\r{self.name}: {moment // SECOND}{of} s", end="", file=sys.stderr, flush=True)
+
+    def end(self) -> None:
+        """Nothing of it is left."""
+        if self.is_shown and self.due:
+            print("\r\033[K", end="", file=sys.stderr, flush=True)

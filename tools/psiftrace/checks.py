@@ -1,0 +1,202 @@
+"""Looks in text of ftrace for what makes a trace of it wrong without a word.
+
+An importer takes lines as they come: it can't know that lines are missing, that a task's number changed, or that a sleep in
+state D was no wait for IO. Each finding here has a threshold below which it changes totals by less than what pressure files
+of a machine and of a replay are apart anyway.
+"""
+from __future__ import annotations
+
+from collections import Counter
+
+from psiread.events import Event, Exec, FirstWakeup, Migration, Switch, WaitEnds, Wakeup
+from psiread.waits import UNINTERRUPTIBLE
+
+from .lines import FORMS, Line, event_of, forms_of, head_of
+from .text import ENTRIES, LOST
+
+# Times that go back by less are those of two processors' lines at about one moment, ns.
+LEAST_BACK = 10**6
+# With fewer switches than this nothing follows from what never comes.
+LEAST_SWITCHES = 200
+# Of the time of all sleeps in state D, so much at most may be no wait for IO.
+MOST_OTHER_SLEEP = 0.05
+# Where nothing tells which were, sleeps in state D may take so much of the text's time, on all processors together.
+MOST_UNKNOWN_SLEEP = 0.01
+# Processors begin apart by less than this where nothing was overwritten, ns.
+LEAST_APART = 10**8
+
+KINDS = ("sched_switch", "sched_wakeup", "sched_wakeup_new", "sched_migrate_task")
+
+
+class Sleeps:
+    """The sleeps in state D: which goes on, how long those were that a sched_stat_iowait told of, and the others (ns)."""
+
+    def __init__(self) -> None:
+        self.begun: dict[int, int] = {}
+        self.waits: Counter[bool] = Counter()
+        self.times: Counter[bool] = Counter()
+
+    def end(self, task: int, moment: int, is_wait: bool) -> None:
+        """A task's sleep ends, if one goes on."""
+        begun = self.begun.pop(task, None)
+        if begun is not None:
+            self.waits[is_wait] += 1
+            self.times[is_wait] += moment - begun
+
+
+class Check:
+    """What was seen in a text."""
+
+    def __init__(self) -> None:
+        self.kinds: Counter[str] = Counter()
+        self.faults: Counter[str] = Counter()
+        self.lost: list[int] = []
+        self.overwritten: list[tuple[int, int, int]] = []
+        self.backs: list[tuple[int, int]] = []
+        self.strangers: list[int] = []
+        self.execs: list[int] = []
+        self.sleeps = Sleeps()
+        self.runs: dict[int, int] = {}
+        self.firsts: dict[int, int] = {}
+        self.idle = 0
+        self.latest = 0
+
+    def take(self, number: int, line: bytes) -> None:
+        """Takes a line and its number, from 1."""
+        head = head_of(line[:-1] if line.endswith(b"\r") else line)
+        if head is None:
+            self.take_other(number, line)
+            return
+        forms = forms_of(head) if head.kind in FORMS else ()
+        if not forms or head.kind == "tracing_mark_write":
+            return
+        event = event_of(head, forms)
+        self.take_form(head, line, event)
+        if event:
+            self.kinds[head.kind] += 1
+            self.take_moment(number, event)
+            self.take_event(number, event)
+
+    def take_other(self, number: int, line: bytes) -> None:
+        """Takes a line that tells no event."""
+        entries, lost = ENTRIES.match(line), LOST.match(line)
+        if entries and entries[1] != entries[2]:
+            self.overwritten.append((number, int(entries[1]), int(entries[2])))
+        if lost:
+            self.lost.append(int(lost[2] or 0))
+
+    def take_form(self, head: Line, line: bytes, event: Event | None) -> None:
+        """Counts lines that an importer refuses or passes over."""
+        self.faults["perf"] += head.is_perf
+        self.faults["return"] += line.endswith(b"\r")
+        if event is None:
+            self.faults["fields"] += 1
+        elif b"_comm=" not in head.fields and head.kind == "sched_switch":
+            self.faults["plain"] += 1
+
+    def take_moment(self, number: int, event: Event) -> None:
+        """Looks at the time of an event."""
+        if self.latest - event.moment > LEAST_BACK:
+            self.backs.append((number, self.latest - event.moment))
+        self.latest = max(self.latest, event.moment)
+        self.firsts.setdefault(event.processor, event.moment)
+
+    def take_event(self, number: int, event: Event) -> None:
+        """Looks at what an event says."""
+        if isinstance(event, Switch):
+            if self.runs.get(event.processor, event.previous) != event.previous:
+                self.strangers.append(number)
+            self.runs[event.processor] = event.next
+            self.idle += not (event.previous and event.next)
+            self.sleeps.end(event.next, event.moment, False)
+            if event.state == UNINTERRUPTIBLE:
+                self.sleeps.begun[event.previous] = event.moment
+        elif isinstance(event, (Wakeup, FirstWakeup)):
+            self.sleeps.end(event.task, event.moment, False)
+        elif isinstance(event, WaitEnds):
+            self.sleeps.end(event.task, event.moment, True)
+        elif isinstance(event, Exec) and event.task != event.old:
+            self.execs.append(number)
+        elif isinstance(event, Migration):
+            self.firsts.setdefault(event.origin, event.moment)
+
+    # ------------------------------------------------------------ what follows
+
+    def findings(self) -> list[str]:
+        """What makes a trace of the text wrong; nothing where it can be trusted."""
+        return [*self.form_findings(), *self.missing_findings(), *self.order_findings(), *self.sleep_findings()]
+
+    def form_findings(self) -> list[str]:
+        """What an importer refuses or doesn't see; psitrace takes all of these forms."""
+        found = []
+        if not self.kinds["sched_switch"]:
+            found.append("there is no sched_switch line that can be read")
+        if self.faults["perf"]:
+            found.append(f"{self.faults['perf']} lines are perf's: an importer of ftrace's text passes over them")
+        if self.faults["plain"]:
+            found.append(f"{self.faults['plain']} switches have no names of fields: trace-cmd report needs -N")
+        if self.faults["fields"]:
+            found.append(f"{self.faults['fields']} events lack fields: the name of a task with a newline, or lines that were cut")
+        if self.faults["return"]:
+            found.append(f"{self.faults['return']} lines end in a carriage return")
+        return found
+
+    def missing_findings(self) -> list[str]:
+        """What isn't there."""
+        found = []
+        if self.lost:
+            found.append(f"{sum(self.lost)} events were lost, at {len(self.lost)} places")
+        for number, left, written in self.overwritten:
+            found.append(f"line {number}: the buffer was overwritten: {left} of {written} events are left")
+        if self.kinds["sched_switch"] >= LEAST_SWITCHES:
+            if not self.kinds["sched_wakeup"]:
+                found.append("there is no sched_wakeup: each sleep seems to last until the task runs. Was the event on?")
+            if not self.idle:
+                found.append("there is no switch from or to the idle task: no processor ever seems idle. Was it filtered out?")
+        if self.strangers:
+            found.append(
+                f"{len(self.strangers)} switches leave a task that didn't run there, first in line {self.strangers[0]}: lines are"
+                " missing, or a number changed by exec"
+            )
+        return found
+
+    def order_findings(self) -> list[str]:
+        """What stands at the wrong place or under another number."""
+        found = []
+        if self.backs:
+            number, back = self.backs[0]
+            found.append(
+                f"time goes back at {len(self.backs)} lines, first in line {number} by {back / 1e9:.3f} s: files of single"
+                " processors, or two recordings, one behind the other?"
+            )
+        if self.execs:
+            found.append(
+                f"{len(self.execs)} tasks took over another number by exec, first in line {self.execs[0]}: to an importer the old"
+                " one stays ready for ever"
+            )
+        return found
+
+    def sleep_findings(self) -> list[str]:
+        """How far state D is no wait for IO."""
+        other, waits = self.sleeps.times[False], self.sleeps.times[True]
+        count = self.sleeps.waits[False]
+        if self.kinds["sched_stat_iowait"]:
+            if other > MOST_OTHER_SLEEP * (other + waits):
+                return [f"{count} of {sum(self.sleeps.waits.values())} sleeps in state D, {other / 1e9:.3f} of"
+                        f" {(other + waits) / 1e9:.3f} s, weren't waits for IO"]  # fmt: skip
+            return []
+        length = self.latest - min(self.firsts.values(), default=0)
+        if other > MOST_UNKNOWN_SLEEP * length * max(len(self.firsts), 1):
+            return [f"no sched_stat_iowait tells which of the {count} sleeps in state D, {other / 1e9:.3f} s, were waits for IO"]
+        return []
+
+    def remarks(self) -> list[str]:
+        """What is worth a look, and makes nothing wrong by itself."""
+        said = [f"--cpus {max(self.firsts) + 1}"] if self.firsts else []
+        said += [f"{kind} {count}" for kind, count in sorted(self.kinds.items())]
+        absent = [kind for kind in KINDS if not self.kinds[kind]]
+        said += [f"no {kind}" for kind in absent]
+        apart = max(self.firsts.values(), default=0) - min(self.firsts.values(), default=0)
+        if apart > LEAST_APART:
+            said.append(f"processors begin up to {apart / 1e9:.3f} s apart")
+        return said

@@ -1,0 +1,51 @@
+"""Says what in a text of ftrace makes a trace of it wrong without a word, on standard error.
+
+  tools/ftrace-check TEXT
+
+TEXT is what trace, trace_pipe or trace-cmd report -N printed: a file, also a gzipped one, or - for the standard input. What an
+importer refuses by itself is said as well. tools/psitrace mends some of it: lines out of order, names with newlines, forms of
+trace-cmd and perf, numbers that change by exec, and sleeps in state D that sched_stat_iowait tells from waits for IO.
+
+The last line has what to give as --cpus, and how many lines of each event there are; nothing in it is a fault by itself.
+
+The status is 0 where nothing was found, 1 where something was, and 2 for faulty words and where TEXT can't be read.
+"""
+from __future__ import annotations
+
+import sys
+
+from psiread.source import Unreadable
+from psiread.words import Parser
+
+from .checks import Check
+from .text import bytes_of
+
+FOUND, UNREADABLE = 1, 2
+
+
+def tell(line: str) -> None:
+    """Says something on standard error."""
+    print(f"ftrace-check: {line}", file=sys.stderr)
+
+
+def main(given: list[str]) -> int:
+    """Runs the command; answers its status."""
+    words = Parser("ftrace-check", __doc__, UNREADABLE)
+    words.add_argument("text", metavar="TEXT", help="the file, or - for the standard input")
+    try:
+        data = bytes_of(words.words_of(given)["text"])
+    except Unreadable as fault:
+        tell(str(fault))
+        return UNREADABLE
+    check = Check()
+    lines = data.split(b"\n")
+    rest = lines.pop()
+    for number, line in enumerate(lines, 1):
+        check.take(number, line)
+    findings = check.findings()
+    if rest:
+        findings.append(f"line {len(lines) + 1}: it was cut, since no newline ends it")
+    for finding in findings:
+        tell(finding)
+    tell("; ".join(check.remarks()) or "there is no event")
+    return FOUND if findings else 0

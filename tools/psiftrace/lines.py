@@ -1,0 +1,161 @@
+"""Reads single lines of text that tells of a kernel's events: of `trace` and `trace_pipe`, of `trace-cmd report` with and
+without -N, and of `perf script`.
+
+The names of tasks may hold anything, so a line's fields are found by all that stands around the names: what lies between two
+of them is longer than a name, which has 15 bytes at most (`TASK_COMM_LEN` of Linux, less its closing zero).
+"""
+from __future__ import annotations
+
+import re
+from collections.abc import Callable
+from typing import NamedTuple
+
+from psiread.events import (
+    Attach, AttachProbe, Event, Exec, FirstWakeup, GroupMade, GroupRemoved, Marker, Migration, NewTask, StallBegins, StallEnds,
+    Switch, SwitchProbe, Victim, WaitEnds, Wakeup,
+)  # fmt: skip
+
+TIME = rb"(\d{1,10})\.(\d{1,9}):"
+FTRACE = rb"-(\d+) +(?:\([ \d-]+\) +)?\[(\d{1,5})\](?: +[A-Za-z0-9.*#]{4,6})? +" + TIME + rb" +([A-Za-z0-9_]+):(?: +(.*))?$"
+PERF = rb" +(?:\d+ +)?[a-z0-9_]+:([A-Za-z0-9_]+):(?: +(.*))?$"
+HEADS = (
+    # The kernel writes names with 16 columns, so the dash behind them stands at one place.
+    re.compile(rb".{16}" + FTRACE, re.DOTALL),
+    re.compile(rb" *\S.*?" + FTRACE, re.DOTALL),
+    re.compile(rb" *\S.*? +(?:\d+/)?(\d+) +\[(\d{1,5})\] +" + TIME + PERF, re.DOTALL),
+)
+
+
+class Line(NamedTuple):
+    """The head of a line and its rest: when and where the event was written, in which task, of what kind it is, and whether
+    perf wrote the line."""
+
+    moment: int
+    processor: int
+    current: int
+    kind: str
+    fields: bytes
+    is_perf: bool
+
+
+def head_of(line: bytes) -> Line | None:
+    """The line of an event, or none where it isn't one."""
+    for head in HEADS:
+        found = head.match(line)
+        if found:
+            current, processor, whole, part, kind, fields = found.groups()
+            moment = int(whole) * 10**9 + int(part.ljust(9, b"0"))
+            return Line(moment, int(processor), int(current), kind.decode(), fields or b"", head is HEADS[-1])
+    return None
+
+
+# ---------------------------------------------------------------- fields
+
+
+class Form(NamedTuple):
+    """How the fields of a kind are spelled, and what makes the event of them."""
+
+    pattern: re.Pattern[bytes]
+    make: Callable[[Line, tuple[bytes, ...]], Event]
+
+
+def form(pattern: bytes, make: Callable[[Line, tuple[bytes, ...]], Event]) -> Form:
+    """A form whose pattern is matched against all of the fields; a name in it may hold newlines."""
+    return Form(re.compile(pattern, re.DOTALL), make)
+
+
+def numbers(kind: type) -> Callable[[Line, tuple[bytes, ...]], Event]:
+    """What makes an event of this kind, whose fields are decimal numbers."""
+
+    def make(line: Line, fields: tuple[bytes, ...]) -> Event:
+        event: Event = kind(line.moment, line.processor, line.current, *map(int, fields))
+        return event
+
+    return make
+
+
+def switch(line: Line, fields: tuple[bytes, ...]) -> Event:
+    """A switch; of a state's letters the first counts, and `R+` is ready."""
+    previous, state, following = fields
+    return Switch(line.moment, line.processor, line.current, int(previous), state[:1].decode("latin-1"), int(following))
+
+
+def new_task(line: Line, fields: tuple[bytes, ...]) -> Event:
+    """A new task, whose flags are hexadecimal."""
+    return NewTask(line.moment, line.processor, line.current, int(fields[0]), int(fields[1], 16))
+
+
+def attach(line: Line, fields: tuple[bytes, ...]) -> Event:
+    """A task goes to a group."""
+    return Attach(line.moment, line.processor, line.current, int(fields[0]), fields[1], int(fields[2]))
+
+
+def group(kind: Callable[[int, int, int, int, bytes], Event]) -> Callable[[Line, tuple[bytes, ...]], Event]:
+    """A group comes or goes."""
+    return lambda line, fields: kind(line.moment, line.processor, line.current, int(fields[0]), fields[1])
+
+
+def stall_ends(line: Line, fields: tuple[bytes, ...]) -> Event:
+    """The end of a memory stall, whose flags are hexadecimal."""
+    return StallEnds(line.moment, line.processor, line.current, int(fields[0], 16))
+
+
+def marker(line: Line, fields: tuple[bytes, ...]) -> Event:
+    """A line of `trace_marker`."""
+    return Marker(line.moment, line.processor, line.current, fields[0])
+
+
+# Behind the ones that the kernel's own print formats give stand those of trace-cmd's plugins.
+PRIORITY = rb"(?: prio=-?\d+)?"
+PLAIN = rb"\[-?\d+\]"
+LEAVES = rb"prev_comm=.* prev_pid=(\d+)(?: prev_prio=-?\d+)? prev_state=(\S+)"
+COMES = rb"next_comm=.* next_pid=(\d+)(?: next_prio=-?\d+)?"
+FORMS: dict[str, tuple[Form, ...]] = {
+    "sched_switch": (
+        form(LEAVES + b" ==> " + COMES, switch),
+        form(rb".*:(\d+) " + PLAIN + rb" (\S+) ==> .*:(\d+) " + PLAIN, switch),
+    ),
+    "sched_wakeup": (
+        form(rb"comm=.* pid=(\d+)" + PRIORITY + rb"(?: success=\d+)? target_cpu=(\d+)", numbers(Wakeup)),
+        form(rb".*:(\d+) " + PLAIN + rb"(?: success=\d+)? CPU:(\d+)", numbers(Wakeup)),
+    ),
+    "sched_wakeup_new": (
+        form(rb"comm=.* pid=(\d+)" + PRIORITY + rb"(?: success=\d+)? target_cpu=(\d+)", numbers(FirstWakeup)),
+        form(rb".*:(\d+) " + PLAIN + rb"(?: success=\d+)? CPU:(\d+)", numbers(FirstWakeup)),
+    ),
+    "sched_migrate_task": (form(rb"comm=.* pid=(\d+)" + PRIORITY + rb" orig_cpu=(\d+) dest_cpu=(\d+)", numbers(Migration)),),
+    "sched_process_exec": (form(rb"filename=.* pid=(\d+) old_pid=(\d+)", numbers(Exec)),),
+    "sched_stat_iowait": (form(rb"comm=.* pid=(\d+) delay=\d+ \[ns\]", numbers(WaitEnds)),),
+    "task_newtask": (form(rb"pid=(\d+) comm=.* clone_flags=([0-9a-f]+) oom_score_adj=-?\d+", new_task),),
+    "cgroup_attach_task": (form(rb"dst_root=(\d+) dst_id=\d+ dst_level=\d+ dst_path=(.*) pid=(\d+) comm=.*", attach),),
+    "cgroup_mkdir": (form(rb"root=(\d+) id=\d+ level=\d+ path=(.*)", group(GroupMade)),),
+    "cgroup_rmdir": (form(rb"root=(\d+) id=\d+ level=\d+ path=(.*)", group(GroupRemoved)),),
+    "mark_victim": (form(rb"pid=(\d+)(?: .*)?", numbers(Victim)),),
+    "tracing_mark_write": (form(rb"(.*)", marker),),
+    "print": (form(rb"tracing_mark_write: (.*)", marker),),
+}  # fmt: skip
+
+# Probes have names of their own, but tell where they stand.
+PROBES = {
+    b"(psi_memstall_enter": form(rb"\(\S+\)", numbers(StallBegins)),
+    b"(psi_memstall_leave": form(rb"\(\S+\)(?: .*)? flags=0x([0-9a-f]+)(?: .*)?", stall_ends),
+    b"(psi_task_switch": form(rb"\(\S+\) pid=(\d+) io=(\d+)(?: .*)?", numbers(SwitchProbe)),
+    b"(cgroup_attach_task": form(rb"\(\S+\) pid=(\d+) all=(\d+)(?: .*)?", numbers(AttachProbe)),
+}
+
+
+def forms_of(line: Line) -> tuple[Form, ...]:
+    """The forms that the fields of this line may have; none where nobody asks for it."""
+    forms = FORMS.get(line.kind, ())
+    if not forms and line.fields.startswith((b"(psi_", b"(cgroup_")):
+        forms = tuple(it for start, it in PROBES.items() if re.match(re.escape(start) + rb"[+)]", line.fields))
+    return forms
+
+
+def event_of(line: Line, forms: tuple[Form, ...]) -> Event | None:
+    """The event that the line tells, or none where its fields aren't whole."""
+    for one in forms:
+        found = one.pattern.fullmatch(line.fields)
+        if found:
+            return one.make(line, found.groups())
+    return None

@@ -1,0 +1,192 @@
+"""Reads text that tells of a kernel's events, and mends of it what can be mended: lines out of order, names with newlines, a
+buffer whose beginning was overwritten, ends of lines as in files of Windows."""
+from __future__ import annotations
+
+import gzip
+import re
+import sys
+from collections import Counter
+from operator import itemgetter
+
+from psiread.events import NEVER, Event, FirstWakeup, Gap, Switch, Wakeup
+from psiread.recording import first_moment, first_moments
+from psiread.source import Faulty, Source, Unreadable
+from psirec.layout import START, STOP
+
+from .lines import Line, event_of, forms_of, head_of
+
+LOST = re.compile(rb"CPU:(\d+) \[(?:LOST )?(\d*) ?EVENTS(?: DROPPED)?\]")
+ENTRIES = re.compile(rb"# entries-in-buffer/entries-written: (\d+)/(\d+)")
+PROCESSORS = re.compile(rb"#.*#P:(\d+)|cpus=(\d+)$")
+GZIP = b"\x1f\x8b"
+# A name of 15 bytes that holds newlines reaches over so many lines more.
+MOST_JOINED = 3
+# The times of one processor go back by so much only where another recording begins, ns.
+MOST_BACK = 10**6
+
+
+def bytes_of(name: str) -> bytes:
+    """What stands in a file, also in one that is gzipped, or on the standard input, which is `-`."""
+    try:
+        if name == "-":
+            data = sys.stdin.buffer.read()
+        else:
+            with open(name, "rb") as file:
+                data = file.read()
+        return gzip.decompress(data) if data.startswith(GZIP) else data
+    except (OSError, EOFError) as fault:
+        raise Unreadable(f"{name}: {getattr(fault, 'strerror', None) or fault}") from None
+
+
+class Text:
+    """The events of a text, as they stand, and what there is to tell about it."""
+
+    def __init__(self, data: bytes) -> None:
+        self.lines = data.split(b"\n")
+        self.events: list[Event] = []
+        self.gaps: list[Gap] = []
+        self.mended: Counter[str] = Counter()
+        self.processors = 0
+        self.overwritten = 0
+        # Events that were lost on a processor since its last one, and when that was.
+        self.lost: dict[int, int] = {}
+        self.lasts: dict[int, int] = {}
+        if self.lines.pop():
+            self.mended["last line left out, since it was cut"] += 1
+        place = 0
+        while place < len(self.lines):
+            place += self.take(place)
+        self.gaps += [Gap(processor, self.lasts.get(processor, 0), NEVER, count) for processor, count in self.lost.items()]
+
+    def line_at(self, place: int) -> bytes:
+        """A line without its ending."""
+        line = self.lines[place]
+        if line.endswith(b"\r"):
+            self.mended["carriage return at a line's end"] += 1
+            return line[:-1]
+        return line
+
+    def take(self, place: int) -> int:
+        """Takes the line at this place; answers how many lines were taken."""
+        line = self.line_at(place)
+        head = head_of(line)
+        if head is None:
+            self.take_other(line)
+            return 1
+        forms = forms_of(head)
+        if not forms:
+            return 1
+        event = event_of(head, forms)
+        for more in range(1, MOST_JOINED + 1):
+            if event or place + more >= len(self.lines):
+                break
+            head = head._replace(fields=head.fields + b"\n" + self.lines[place + more])
+            event = event_of(head, forms)
+            if event:
+                self.mended["lines joined where a name holds a newline"] += more
+                self.add(event)
+                return more + 1
+        if event:
+            self.add(event)
+        else:
+            self.mended[f"{head.kind} whose fields can't be read"] += 1
+        return 1
+
+    def take_other(self, line: bytes) -> None:
+        """Takes a line that is no event's."""
+        lost, entries, processors = LOST.match(line), ENTRIES.match(line), PROCESSORS.match(line)
+        if lost:
+            self.lost[int(lost[1])] = self.lost.get(int(lost[1]), 0) + int(lost[2] or 0)
+        if entries:
+            self.overwritten += int(entries[2]) - int(entries[1])
+        if processors:
+            self.processors = max(self.processors, int(processors[1] or processors[2]))
+        if not (lost or entries or processors or line.startswith(b"#") or not line.strip()):
+            self.mended["line that tells no event, passed over"] += 1
+
+    def add(self, event: Event) -> None:
+        """An event comes behind those that were there."""
+        processor, last = event.processor, self.lasts.get(event.processor, 0)
+        if processor in self.lost:
+            self.gaps.append(Gap(processor, last, event.moment, self.lost.pop(processor)))
+        self.lasts[processor] = event.moment
+        self.events.append(event)
+
+
+# ---------------------------------------------------------------- order
+
+
+def parts_of(events: list[Event]) -> list[list[Event]]:
+    """The events of each recording that the text holds: where the time of one processor goes back another begins."""
+    parts: list[list[Event]] = [[]]
+    lasts: dict[int, int] = {}
+    for event in events:
+        if event.moment + MOST_BACK < lasts.get(event.processor, 0):
+            parts.append([])
+            lasts = {}
+        lasts[event.processor] = event.moment
+        parts[-1].append(event)
+    return parts
+
+
+def ordered(text: Text, source: Source) -> list[Event]:
+    """The events in the order of their times. Of several recordings the longest is taken, which is a loss."""
+    parts = parts_of(text.events)
+    longest = max(parts, key=lambda part: max(it.moment for it in part) - min(it.moment for it in part))
+    if len(parts) > 1:
+        source.losses.append(f"{len(parts)} recordings, one behind the other: the longest alone can be had")
+        first, last = min(it.moment for it in longest), max(it.moment for it in longest)
+        text.gaps = [gap for gap in text.gaps if first <= gap.start and (gap.end <= last or gap.end == NEVER)]
+    back = sum(after.moment < before.moment for before, after in zip(longest, longest[1:]))
+    if back:
+        text.mended["times that went back, and were put in order"] += back
+    return sorted(longest, key=itemgetter(0))
+
+
+def begin(text: Text, source: Source) -> None:
+    """Says where the trace begins: at the recorder's marker if there is one, else at the first event, or where the buffer was
+    overwritten, from where all processors have events."""
+    if text.overwritten > 0:
+        whole_from = max(first_moments(source.events).values())
+        source.events = [event for event in source.events if event.moment >= whole_from]
+        source.notes.append(
+            f"{text.overwritten} events were overwritten before the first: the trace begins where all processors have events"
+        )
+    marked = first_moment(source.events, START)
+    source.start = source.events[0].moment if marked is None else marked
+
+
+# ---------------------------------------------------------------- the whole
+
+
+def tell_missing(source: Source) -> None:
+    """What can't be in a whole recording of a machine."""
+    kinds = {type(event) for event in source.events}
+    if not {Wakeup, FirstWakeup} & kinds:
+        source.losses.append("there is no wakeup at all: was sched_wakeup on? Each sleep seems to last until the task runs")
+    if not any(isinstance(event, Switch) and not (event.previous and event.next) for event in source.events):
+        source.losses.append("there is no switch from or to the idle task: no processor ever seems idle")
+
+
+def processors_of(text: Text, given: int | None, greatest: int) -> int:
+    """How many processors there are: as many as were given, or as the text tells."""
+    if given is not None and greatest >= given:
+        raise Faulty(f"--cpus {given}: there are events of processor {greatest}, and they count from 0")
+    return given or max(text.processors, greatest + 1)
+
+
+def read_text(name: str, processors: int | None) -> Source:
+    """Reads a text of the machine's events."""
+    text = Text(bytes_of(name))
+    if not any(isinstance(event, Switch) for event in text.events):
+        raise Unreadable(f"{name}: no sched_switch can be read in it; is it text of ftrace with a clock in seconds?")
+    source = Source([], 0, 0, 0)
+    source.events = ordered(text, source)
+    source.processors = processors_of(text, processors, max(event.processor for event in source.events))
+    source.gaps = text.gaps
+    begin(text, source)
+    stop = first_moment(source.events, STOP)
+    source.stop = source.events[-1].moment if stop is None else stop
+    source.mended = text.mended
+    tell_missing(source)
+    return source

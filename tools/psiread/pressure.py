@@ -1,0 +1,158 @@
+"""The pressure files of a recording, and those that a replay prints: totals of stall time in us, over time."""
+from __future__ import annotations
+
+import re
+from bisect import bisect_left
+from collections.abc import Iterator
+from typing import NamedTuple
+
+from psirec.layout import MARK, PRESSURE, escaped_path
+
+from .events import GroupMade, Marker
+from .recording import text_of
+from .source import Source
+
+SAMPLE = re.compile(r"sample (\d+) (\S+) (io|memory|cpu)\nsome [^\n]*total=(\d+)\nfull [^\n]*total=(\d+)\n")
+REPORT = re.compile(r"report (\d+) (\S+) (io|memory|cpu)\nsome [^\n]*total=(\d+)\nfull [^\n]*total=(\d+)\n")
+READING = re.compile(rb"pressure (\d+) (begin|end)\s*")
+
+
+class File(NamedTuple):
+    """A pressure file: a group's, of a resource."""
+
+    path: str
+    resource: str
+
+
+class Totals(NamedTuple):
+    """Of a pressure file at a moment (ns): the total times of some and full, in us."""
+
+    moment: int
+    some: int
+    full: int
+
+
+# Of each file what a replay reported, in the order of time; and the readings of the machine's files, by number.
+Series = dict[File, list[Totals]]
+Readings = dict[int, dict[File, Totals]]
+
+
+def reading_markers(source: Source) -> Iterator[tuple[Marker, int, bool]]:
+    """The markers around the readings of the pressure files: with the reading's number, and whether it begins there."""
+    for event in source.events:
+        if isinstance(event, Marker) and event.text.startswith(MARK.encode()):
+            found = READING.fullmatch(event.text[len(MARK) :])
+            if found:
+                yield event, int(found[1]), found[2] == b"begin"
+
+
+def recorder_of(source: Source) -> int | None:
+    """The task that read the pressure files, where one did."""
+    return next((marker.current for marker, _, _ in reading_markers(source)), None)
+
+
+def spans_of(source: Source) -> dict[int, tuple[int, int]]:
+    """From when to when each reading of the pressure files went on, in ns of the recording's clock."""
+    begins: dict[int, int] = {}
+    spans: dict[int, tuple[int, int]] = {}
+    for marker, number, is_begin in reading_markers(source):
+        if is_begin:
+            begins[number] = marker.moment
+        elif number in begins:
+            spans[number] = begins[number], marker.moment
+    return spans
+
+
+def machine_readings(folder: str, source: Source) -> Readings:
+    """What the machine's own files said. The files of a reading were read one behind the other, so each has a moment of its
+    own between the first and the last of the reading."""
+    spans = spans_of(source)
+    found: dict[int, list[tuple[File, int, int]]] = {}
+    for number, path, resource, some, full in SAMPLE.findall(text_of(folder, PRESSURE)):
+        file = File(escaped_path(path.encode("utf-8", "surrogateescape")), resource)
+        found.setdefault(int(number), []).append((file, int(some), int(full)))
+    readings: Readings = {}
+    for number in sorted(set(found) & set(spans)):
+        (begin, end), files = spans[number], found[number]
+        readings[number] = {
+            file: Totals(begin + (end - begin) * (place + 1) // (len(files) + 1), some, full)
+            for place, (file, some, full) in enumerate(files)
+        }
+    return readings
+
+
+def replay_series(printed: str) -> Series:
+    """What a replay printed, in ns since the trace's start."""
+    series: Series = {}
+    for moment, path, resource, some, full in REPORT.findall(printed):
+        series.setdefault(File(path, resource), []).append(Totals(int(moment), int(some), int(full)))
+    return series
+
+
+def totals_at(totals: list[Totals], moment: int) -> Totals:
+    """The totals at a moment: those between two reports grow evenly from one to the other, and begin at 0."""
+    place = bisect_left([it.moment for it in totals], moment)
+    if place == len(totals):
+        return totals[-1]
+    after = totals[place]
+    before = totals[place - 1] if place else Totals(0, 0, 0)
+    part = (moment - before.moment) / (after.moment - before.moment) if after.moment > before.moment else 1.0
+    return Totals(moment, *(round(one + (other - one) * part) for one, other in zip(before[1:], after[1:])))
+
+
+class Pair(NamedTuple):
+    """What the machine and the replay say of a file: by how much its totals of some and full grew, in us."""
+
+    file: File
+    machine: tuple[int, int]
+    replay: tuple[int, int]
+
+
+class Compared(NamedTuple):
+    """Which readings were compared, how far they are apart (ns), and what came of each file."""
+
+    first: int
+    last: int
+    length: int
+    pairs: list[Pair]
+
+
+def growth(before: Totals, after: Totals) -> tuple[int, int]:
+    """By how much some and full grew, in us."""
+    return after.some - before.some, after.full - before.full
+
+
+def made_in(source: Source) -> dict[str, int]:
+    """When the groups that were made in a recording were, in ns, by path: the last of them, where one came again."""
+    made = (it for it in source.events if isinstance(it, GroupMade) and not it.hierarchy)
+    return {escaped_path(it.path): it.moment for it in made}
+
+
+def first_totals(file: File, readings: list[dict[File, Totals]], made: dict[str, int]) -> Totals | None:
+    """The totals from which a file's growth is counted: those of the first reading, and where its group wasn't accounted then, so
+    that it had no files, of the first that has some. None where the group was made later: it began at 0."""
+    is_new = file not in readings[0] and made.get(file.path, 0) > max(it.moment for it in readings[0].values())
+    return None if is_new else next(files[file] for files in readings if file in files)
+
+
+def readings_within(readings: Readings, start: int, end: int) -> list[int]:
+    """The numbers of the readings of which each file was read from `start` to `end`, ns of the recording's clock."""
+    return [number for number, files in readings.items() if all(start <= it.moment <= end for it in files.values())]
+
+
+def compared(readings: Readings, series: Series, made: dict[str, int], start: int, end: int) -> Compared | None:
+    """All files that both have at the last reading of a trace that lasts from `start` to `end`, in ns of the recording's
+    clock; `made` says when groups were made in it. None where less than two readings lie in the trace."""
+    inside = readings_within(readings, start, end)
+    if len(inside) < 2:
+        return None
+    first, last = readings[inside[0]], readings[inside[-1]]
+    pairs = []
+    for file, after in sorted(last.items()):
+        reports, before = series.get(file), first_totals(file, [readings[it] for it in inside], made)
+        if reports:
+            ours = totals_at(reports, before.moment - start) if before else Totals(0, 0, 0)
+            theirs = before or Totals(start, 0, 0)
+            pairs.append(Pair(file, growth(theirs, after), growth(ours, totals_at(reports, after.moment - start))))
+    root = File("/", "cpu")
+    return Compared(inside[0], inside[-1], last[root].moment - first[root].moment if root in last and root in first else 0, pairs)

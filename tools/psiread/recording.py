@@ -1,0 +1,280 @@
+"""Reads the folder of a recording. Its names are those of `psirec.layout`."""
+from __future__ import annotations
+
+import gzip
+import os
+import re
+import struct
+import zlib
+from collections.abc import Callable
+from operator import itemgetter
+from typing import BinaryIO, NamedTuple
+
+from psirec.layout import (
+    FORMATS, LOST_STATS, MARK, META, PREFERENCES, SKETCH_END, SNAPSHOT, SNAPSHOT_BEGINS, START, STOP, VERSION, Key, Probe, Reason,
+    PACKED, escaped_path, part_name, raw_name,
+)  # fmt: skip
+
+from .events import NEVER, Event, Gap, Marker
+from .formats import FormatFault, PageFormat, formats_of, page_format_of, sections_of
+from .pages import PageFault, read_pages
+from .records import Decoder, decoders_of
+from .source import ListedTask, Snapshot, Source, Unreadable
+from .words import ns_of
+
+# What a marker of a reading of the pressure files begins with, behind MARK.
+READING = "pressure"
+BIG_ENDIAN = ("s390x", "ppc64", "sparc64")
+
+
+def bytes_of(folder: str, name: str) -> bytes:
+    """What stands in a file of the folder."""
+    try:
+        with open(os.path.join(folder, name), "rb") as file:
+            return file.read()
+    except OSError as fault:
+        raise Unreadable(f"{name}: {fault.strerror}") from None
+
+
+class Parts:
+    """The pages of a processor that stand in parts, as one file."""
+
+    def __init__(self, names: list[str]) -> None:
+        self.names, self.file = names, open_part(names[0])
+
+    def read(self, size: int = -1) -> bytes:
+        """So many bytes, or all; fewer are the last."""
+        data = bytearray(self.file.read(size))
+        while self.names[1:] and (size < 0 or len(data) < size):
+            self.file.close()
+            self.names = self.names[1:]
+            self.file = open_part(self.names[0])
+            data += self.file.read(-1 if size < 0 else size - len(data))
+        return bytes(data)
+
+
+def open_part(name: str) -> BinaryIO | gzip.GzipFile:
+    """A part, which may be compressed."""
+    return gzip.open(name, "rb") if name.endswith(PACKED) else open(name, "rb")
+
+
+def open_raw(folder: str, processor: int) -> BinaryIO | Parts:
+    """The pages of a processor. A part that stands there twice was about to be compressed."""
+    names = set(os.listdir(folder))
+    parts: list[str] = []
+    while found := {part_name(processor, len(parts)), part_name(processor, len(parts)) + PACKED} & names:
+        parts.append(os.path.join(folder, min(found)))
+    return Parts(parts) if parts else open(os.path.join(folder, raw_name(processor)), "rb")
+
+
+def raw_bytes(folder: str, processor: int) -> bytes:
+    """All pages of a processor."""
+    try:
+        return open_raw(folder, processor).read()
+    except (OSError, EOFError, zlib.error) as fault:
+        raise Unreadable(f"{raw_name(processor)}: {getattr(fault, 'strerror', None) or fault}") from None
+
+
+def text_of(folder: str, name: str) -> str:
+    """The same as text, in which no byte is lost."""
+    return bytes_of(folder, name).decode("utf-8", "surrogateescape")
+
+
+class Meta:
+    """The lines of `meta`, and what they amount to."""
+
+    def __init__(self, text: str) -> None:
+        lines = [line.partition(" ") for line in text.splitlines() if line]
+        self.values: dict[str, list[str]] = {}
+        for key, _, value in lines:
+            self.values.setdefault(key, []).append(value)
+        self.last_key = lines[-1][0] if lines else ""
+
+    def one(self, key: str) -> str | None:
+        """The first value of this key, if it has one."""
+        values = self.values.get(key)
+        return values[0] if values else None
+
+    def processors(self) -> int:
+        """How many processors the machine has."""
+        count = self.one(Key.PROCESSORS)
+        if count is None or not re.fullmatch("[1-9][0-9]{0,4}", count):
+            raise Unreadable(f"{META}: there is no number of processors")
+        return int(count)
+
+    def version_fault(self) -> str | None:
+        """Why the folder isn't in a layout that is known, if so."""
+        version, words = self.one(Key.RECORDING), (self.one(Key.UNAME) or "").split()
+        if version not in (None, VERSION):
+            return f"{META}: this is a recording of version {version}, and {VERSION} is known"
+        if words and words[-1] in BIG_ENDIAN:
+            return f"{META}: pages of {words[-1]}, whose numbers are big-endian, aren't read"
+        return None
+
+    def end(self) -> str | None:
+        """Why the recording ended, or none where nothing says that it did."""
+        if self.one(Key.RECORDING) is None:
+            return Reason.SECONDS if self.last_key == SKETCH_END else None
+        return self.one(Key.END)
+
+    def is_ring(self) -> bool:
+        """Whether this is what a flight recorder kept."""
+        return Key.RING in self.values
+
+    def ring_start(self) -> int:
+        """The moment in ns from which on all processors have events, in a flight recorder's ring; else 0."""
+        start = self.one(Key.RING_START) or ""
+        return ns_of(start) if re.fullmatch(r"\d+(\.\d+)?", start) else 0
+
+    def realtime(self) -> int | None:
+        """How many ns CLOCK_REALTIME was ahead of CLOCK_MONOTONIC."""
+        found = re.fullmatch(r"realtime (\d+\.\d+) monotonic (\d+\.\d+)", self.one(Key.MOMENT) or "")
+        return ns_of(found[1]) - ns_of(found[2]) if found else None
+
+    def had_event(self, name: str) -> bool:
+        """Whether an event of this name was on."""
+        return any(event.rpartition("/")[2] == name for event in self.values.get(Key.EVENT, ()))
+
+    def lost(self, line: str) -> dict[int, int]:
+        """How many events each processor lost by this line of its `stats`."""
+        found = (re.fullmatch(rf"cpu(\d+) {line}: (\d+)", it) for it in self.values.get(Key.STATS, ()))
+        return {int(it[1]): int(it[2]) for it in found if it and int(it[2])}
+
+
+# ---------------------------------------------------------------- snapshot
+
+
+def snapshot_of(text: str) -> Snapshot:
+    """What a snapshot's lines list. A line that isn't one is passed over: a task's name may hold anything."""
+    snapshot = Snapshot()
+    for words in (line.split(" ", 6) for line in text.split("\n")):
+        if words[0] == "at" and len(words) == 2 and words[1].isdigit():
+            snapshot.moment = int(words[1])
+        elif words[0] == "group" and len(words) == 3 and words[2] in PREFERENCES:
+            snapshot.groups[path_of(words[1])] = words[2]
+        elif words[0] == "type" and len(words) == 3:
+            snapshot.types[path_of(words[1])] = words[2]
+        elif words[0] == "unaccounted" and len(words) == 2:
+            snapshot.unaccounted.append(path_of(words[1]))
+        elif words[0] == "task" and len(words) >= 6 and all(words[place].isdigit() for place in (1, 2, 4)):
+            snapshot.tasks[int(words[1])] = ListedTask(int(words[2]), words[3], int(words[4]), path_of(words[5]))
+    return snapshot
+
+
+def path_of(text: str) -> str:
+    """A path of the folder's files as a trace spells it."""
+    return escaped_path(text.encode("utf-8", "surrogateescape"))
+
+
+# ---------------------------------------------------------------- pages
+
+
+class Kernel(NamedTuple):
+    """How this recording's kernel writes its pages and records."""
+
+    page: PageFormat
+    decoders: dict[int, Decoder]
+
+
+def kernel_of(folder: str) -> Kernel:
+    """The formats that the recording brings along."""
+    sections = sections_of(text_of(folder, FORMATS))
+    try:
+        return Kernel(page_format_of(sections), decoders_of(formats_of(sections)))
+    except FormatFault as fault:
+        raise Unreadable(f"{FORMATS}: {fault}") from None
+
+
+def gaps_behind(processor: int, lost: int, gaps: list[Gap], last: Event | None) -> list[Gap]:
+    """What a processor lost behind the last page that was read, where these gaps were met and this was the last event: it stands in
+    the statistics alone, which tell how many events were lost in all."""
+    behind = lost - sum(gap.lost for gap in gaps)
+    return [Gap(processor, last.moment if last else 0, NEVER, behind)] if behind > 0 and all(gap.lost for gap in gaps) else []
+
+
+def read_processors(folder: str, meta: Meta, source: Source) -> None:
+    """Reads the pages of all processors, and brings their events into one order: by time, and within a processor as they
+    were written."""
+    kernel = kernel_of(folder)
+    overrun = {} if meta.is_ring() else meta.lost("overrun")
+    for processor in range(source.processors):
+        name = raw_name(processor)
+        try:
+            read = read_pages(raw_bytes(folder, processor), processor, kernel.page, kernel.decoders, meta.is_ring())
+        except (PageFault, struct.error, IndexError) as fault:
+            raise Unreadable(f"{name}: {fault}") from None
+        source.gaps += read.gaps
+        source.gaps += gaps_behind(processor, overrun.get(processor, 0), read.gaps, read.events[-1] if read.events else None)
+        if read.rest:
+            source.mended[f"bytes at the end of {name} that are no whole page"] += read.rest
+        source.events += read.events
+    source.events.sort(key=itemgetter(0))
+
+
+# ---------------------------------------------------------------- the whole
+
+
+def is_marker(event: Event, word: str) -> bool:
+    """Whether this is the recorder's own marker that begins with the word."""
+    return isinstance(event, Marker) and event.text.startswith((MARK + word).encode())
+
+
+def first_moments(events: list[Event]) -> dict[int, int]:
+    """When each processor's first event was, in ns."""
+    firsts: dict[int, int] = {}
+    for event in events:
+        firsts.setdefault(event.processor, event.moment)
+    return firsts
+
+
+def first_moment(events: list[Event], word: str) -> int | None:
+    """When this marker came first, in ns."""
+    return next((event.moment for event in events if is_marker(event, word)), None)
+
+
+def begin_ring(source: Source, start: int) -> None:
+    """Leaves what was overwritten in part: a flight recorder's trace begins where all processors have events, from `start`
+    on, at the next reading of the pressure files, so that what it is compared with is known."""
+    whole_from = max([start, *first_moments(source.events).values()])
+    source.events = [event for event in source.events if event.moment >= whole_from]
+    source.whole_from = whole_from
+    source.start = first_moment(source.events, READING) or whole_from
+
+
+def tell_losses(source: Source, meta: Meta) -> None:
+    """Notes what else was lost: events of which nobody knows when they were, and what came behind the end of the files."""
+    for line in LOST_STATS[1:]:
+        for processor, count in sorted(meta.lost(line).items()):
+            source.losses.append(f"cpu {processor}: {count} events by '{line}', nobody knows when")
+    reason = meta.end()
+    if reason is None or reason.split(" ")[0] in (Reason.DISK_FULL, Reason.FAILED):
+        lasts: dict[int, int] = {event.processor: event.moment for event in source.events}
+        source.gaps += [Gap(processor, moment, NEVER, 0) for processor, moment in sorted(lasts.items())]
+    if reason is not None and reason.split(" ")[0] in (Reason.DISK_FULL, Reason.FAILED):
+        source.notes.append(f"the recording ended early: {reason}")
+
+
+def read_recording(folder: str, is_forced: bool, read: Callable[[str, Meta, Source], None] = read_processors) -> Source:
+    """Reads a folder. One whose recorder was killed is read only where that is forced. `read` reads its events."""
+    meta = Meta(text_of(folder, META))
+    fault = meta.version_fault()
+    if fault is None and meta.end() is None and not is_forced:
+        fault = f"{META}: the recording has no end: its recorder was killed, or still runs; --force reads what is there"
+    if fault:
+        raise Unreadable(fault)
+    source = Source([], meta.processors(), 0, 0, realtime=meta.realtime(), has_switch_probe=meta.had_event(Probe.SWITCH))
+    source.has_moments = meta.had_event(Probe.SHOW) and meta.had_event(Probe.AVERAGE)
+    source.has_ready_probe = meta.had_event(Probe.READY)
+    source.snapshot = snapshot_of(text_of(folder, SNAPSHOT))
+    read(folder, meta, source)
+    if not source.events:
+        raise Unreadable("there are no events in it")
+    start = first_moment(source.events, START)
+    source.start = source.events[0].moment if start is None else start
+    if meta.is_ring():
+        begin_ring(source, meta.ring_start())
+    stop = first_moment(source.events, STOP)
+    source.stop = source.events[-1].moment if stop is None else stop
+    source.snapshot.moment = source.snapshot.moment or first_moment(source.events, SNAPSHOT_BEGINS) or source.start
+    tell_losses(source, meta)
+    return source

@@ -1,0 +1,128 @@
+"""Makes events of the records of ring buffers, by the formats that a recording brings along."""
+from __future__ import annotations
+
+from collections.abc import Callable
+from typing import Union
+
+from psirec.layout import Probe
+
+from .events import (
+    Attach, AttachProbe, AverageProbe, Event, Exec, FirstWakeup, GroupMade, GroupRemoved, Interrupts, Marker, Migration, NewTask,
+    ReadyProbe, ShowProbe, StallBegins, StallEnds, Switch, SwitchProbe, Victim, WaitEnds, Wakeup,
+)  # fmt: skip
+from .formats import Format, FormatFault, integers_of, state_letters, text_at
+
+# What makes the event of a record: its moment in ns, the processor, the pages, and from where to where the record stands.
+Decoder = Callable[[int, int, bytes, int, int], Event]
+
+CURRENT = "common_pid"
+
+# The events that are nothing but whole numbers: the fields behind the task in which they were written.
+NUMBERS: dict[str, tuple[type, tuple[str, ...]]] = {
+    "sched_wakeup": (Wakeup, ("pid", "target_cpu")),
+    "sched_wakeup_new": (FirstWakeup, ("pid", "target_cpu")),
+    "sched_migrate_task": (Migration, ("pid", "orig_cpu", "dest_cpu")),
+    "task_newtask": (NewTask, ("pid", "clone_flags")),
+    "sched_process_exec": (Exec, ("pid", "old_pid")),
+    "sched_stat_iowait": (WaitEnds, ("pid",)),
+    "mark_victim": (Victim, ("pid",)),
+    Probe.SWITCH: (SwitchProbe, (Probe.PID, Probe.IO)),
+    Probe.STALL_BEGINS: (StallBegins, ()),
+    Probe.STALL_ENDS: (StallEnds, (Probe.FLAGS,)),
+    Probe.INTERRUPT: (Interrupts, (Probe.DELTA,)),
+    Probe.ATTACH: (AttachProbe, (Probe.PID, Probe.ALL)),
+    Probe.SHOW: (ShowProbe, (Probe.GROUP, Probe.RES)),
+    Probe.AVERAGE: (AverageProbe, (Probe.WORK,)),
+    Probe.READY: (ReadyProbe, (Probe.PID,)),
+}
+
+
+def number_decoder(kind: type, form: Format, names: tuple[str, ...]) -> Decoder:
+    """For an event whose fields are these whole numbers."""
+    read = integers_of(form, (CURRENT, *names))
+
+    def decode(moment: int, processor: int, data: bytes, start: int, end: int) -> Event:
+        event: Event = kind(moment, processor, *read(data, start))
+        return event
+
+    return decode
+
+
+def switch_decoder(form: Format) -> Decoder:
+    """For `sched_switch`, whose state becomes a letter."""
+    read = integers_of(form, (CURRENT, "prev_pid", "prev_state", "next_pid"))
+    letters, stays = state_letters(form.print_format)
+    known: dict[int, str] = {0: "R"}
+
+    def letter_of(state: int) -> str:
+        # As the print format does: the lowest bit's letter stands first, and no letter's bit is R.
+        lowest = state & -state
+        known[state] = "R" if state & stays else letters.get(lowest, "R")
+        return known[state]
+
+    def decode(moment: int, processor: int, data: bytes, start: int, end: int) -> Event:
+        current, previous, state, following = read(data, start)
+        return Switch(moment, processor, current, previous, known.get(state) or letter_of(state), following)
+
+    return decode
+
+
+def group_decoder(kind: Union[type[GroupMade], type[GroupRemoved]], form: Format) -> Decoder:
+    """For `cgroup_mkdir` and `cgroup_rmdir`."""
+    read = integers_of(form, (CURRENT, "root"))
+    path = form.fields["path"]
+
+    def decode(moment: int, processor: int, data: bytes, start: int, end: int) -> Event:
+        current, hierarchy = read(data, start)
+        return kind(moment, processor, current, hierarchy, text_at(data, start, end, path))
+
+    return decode
+
+
+def attach_decoder(form: Format) -> Decoder:
+    """For `cgroup_attach_task`."""
+    read = integers_of(form, (CURRENT, "dst_root", "pid"))
+    path = form.fields["dst_path"]
+
+    def decode(moment: int, processor: int, data: bytes, start: int, end: int) -> Event:
+        current, hierarchy, task = read(data, start)
+        return Attach(moment, processor, current, hierarchy, text_at(data, start, end, path), task)
+
+    return decode
+
+
+def marker_decoder(form: Format) -> Decoder:
+    """For `print`, which is what a write into `trace_marker` becomes."""
+    read = integers_of(form, (CURRENT,))
+    text = form.fields["buf"]
+
+    def decode(moment: int, processor: int, data: bytes, start: int, end: int) -> Event:
+        return Marker(moment, processor, read(data, start)[0], text_at(data, start, end, text))
+
+    return decode
+
+
+def decoder_of(name: str, form: Format) -> Decoder | None:
+    """What reads this event's records, or none where nobody asks for them."""
+    if name in NUMBERS:
+        return number_decoder(NUMBERS[name][0], form, NUMBERS[name][1])
+    if name == "sched_switch":
+        return switch_decoder(form)
+    if name == "cgroup_attach_task":
+        return attach_decoder(form)
+    if name in ("cgroup_mkdir", "cgroup_rmdir"):
+        return group_decoder(GroupMade if name == "cgroup_mkdir" else GroupRemoved, form)
+    return marker_decoder(form) if name == "print" else None
+
+
+def decoders_of(formats: dict[str, Format]) -> dict[int, Decoder]:
+    """What reads the records, by the number that tells their event."""
+    decoders: dict[int, Decoder] = {}
+    for name, form in formats.items():
+        try:
+            decoder = decoder_of(name, form)
+        except KeyError as missing:
+            raise FormatFault(f"{name} has no field {missing}") from None
+        if decoder:
+            decoders[form.number] = decoder
+    return decoders

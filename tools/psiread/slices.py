@@ -1,0 +1,227 @@
+"""Reads a recording of any length within little memory: pages as they come, and the events of all processors in slices of time.
+
+What has to be known of all of it before the first slice is read by a *survey*: the events of which there are few, with the first and
+the last of each processor and the first of each kind; what was lost; and which tasks never leave a processor.
+"""
+from __future__ import annotations
+
+import struct
+import zlib
+from bisect import bisect_left
+from collections.abc import Iterator
+from operator import itemgetter
+
+from psirec.layout import FORMATS, MARK, Probe, raw_name
+
+from .events import NEVER, Event, Gap, Marker, Switch, SwitchProbe
+from .formats import formats_of, sections_of
+from .pages import Page, PageFault, page_at, records_of
+from .recording import Meta, gaps_behind, kernel_of, open_raw, text_of
+from .source import Source, Unreadable
+
+# Events of which a machine writes thousands a second; and so it does of markers that are samples of memory.
+OFTEN = (
+    "sched_switch", "sched_wakeup", "sched_migrate_task", "sched_stat_iowait", Probe.SWITCH, Probe.STALL_BEGINS, Probe.STALL_ENDS,
+    Probe.INTERRUPT, Probe.READY, Probe.SHOW, Probe.AVERAGE,
+)  # fmt: skip
+SAMPLES = (MARK + "mem ").encode(), (MARK + "host ").encode()
+# So many bytes of all processors are read at once.
+READ_BYTES = 8 << 20
+MOMENT = itemgetter(0)
+
+
+class WaitingSwitch(Switch):
+    """A switch by which a wait for IO begins, as the probe right before it told. The probe itself isn't kept."""
+
+    __slots__ = ()
+
+
+class Records:
+    """How a recording's kernel writes its pages, and which of its events are which."""
+
+    def __init__(self, folder: str) -> None:
+        self.kernel = kernel_of(folder)
+        numbers = {name: form.number for name, form in formats_of(sections_of(text_of(folder, FORMATS))).items()}
+        self.switch, self.probe = numbers.get("sched_switch", -1), numbers.get(Probe.SWITCH, -1)
+        # Those of which a survey needs nothing.
+        self.often = {numbers.get(name, -1) for name in OFTEN}
+
+
+class Reader:
+    """The pages of one processor's file, a part after another. `gaps` are those that were met so far, and `rest` is how many bytes
+    at the end are no whole page."""
+
+    def __init__(self, folder: str, processor: int, records: Records, is_ring: bool, size: int) -> None:
+        self.name, self.processor, self.records, self.is_ring = raw_name(processor), processor, records, is_ring
+        self.form = records.kernel.page
+        self.size = max(size // self.form.size, 1) * self.form.size
+        self.rest, self.before, self.gaps = 0, 0, list[Gap]()
+        # What the probe told last whose switch is still to come: the task, and whether it waits; and how many probes there were.
+        self.told: SwitchProbe | None = None
+        self.probes = 0
+        try:
+            self.file = open_raw(folder, processor)
+        except OSError as fault:
+            raise Unreadable(f"{self.name}: {fault.strerror}") from None
+
+    def data(self) -> bytes:
+        """The next whole pages; nothing at the end."""
+        try:
+            data = self.file.read(self.size)
+        except (OSError, EOFError, zlib.error) as fault:
+            raise Unreadable(f"{self.name}: {getattr(fault, 'strerror', None) or fault}") from None
+        self.rest = len(data) % self.form.size
+        return data[: len(data) - self.rest]
+
+    def pages(self, data: bytes) -> Iterator[Page]:
+        """The heads of pages. Whatever was lost is noted."""
+        for at in range(0, len(data), self.form.size):
+            page = page_at(data, at, self.form)
+            if page.lost and not self.is_ring:
+                self.gaps.append(Gap(self.processor, self.before, page.moment, max(page.lost, 0)))
+            self.is_ring = False
+            yield page
+
+    def part(self) -> list[Event] | None:
+        """The events of the next pages, or none where there are no more."""
+        data = self.data()
+        try:
+            return self.decoded(data) if data else None
+        except (PageFault, struct.error, IndexError) as fault:
+            raise Unreadable(f"{self.name}: {fault}") from None
+
+    def decoded(self, data: bytes) -> list[Event]:
+        """The events of these pages, but probes of switches."""
+        events: list[Event] = []
+        processor, decoders, switch, probe = self.processor, self.records.kernel.decoders, self.records.switch, self.records.probe
+        for page in self.pages(data):
+            for moment, start, end in records_of(data, page):
+                number = data[start] | data[start + 1] << 8
+                decoder = decoders.get(number)
+                if decoder:
+                    event = decoder(moment, processor, data, start, end)
+                    if number == switch:
+                        told, self.told = self.told, None
+                        if told is not None and told[4] and told[3] == event[3]:
+                            event = WaitingSwitch._make(event)
+                        events.append(event)
+                    elif number == probe:
+                        self.told = event
+                        self.probes += 1
+                    else:
+                        events.append(event)
+                self.before = moment
+        return events
+
+
+# ---------------------------------------------------------------- survey
+
+
+class Surveyed:
+    """What a survey finds of a processor: its rare events, how many there are of the others, who was switched to and from, and its
+    last event."""
+
+    def __init__(self, reader: Reader) -> None:
+        self.rare: list[Event] = []
+        self.coming, self.leaving = set[int](), set[int]()
+        self.last: Event | None = None
+        self.seen: set[int] = set()
+        while data := reader.data():
+            try:
+                self.take(reader, data)
+            except (PageFault, struct.error, IndexError) as fault:
+                raise Unreadable(f"{reader.name}: {fault}") from None
+        if self.last is not None and self.last is not (self.rare or [None])[-1]:
+            self.rare.append(self.last)
+        self.gaps, self.rest = reader.gaps, reader.rest
+
+    def take(self, reader: Reader, data: bytes) -> None:
+        """Takes the next pages. Of what is often the first is kept of each kind."""
+        records, processor, seen = reader.records, reader.processor, self.seen
+        decoders, switch, often = records.kernel.decoders, records.switch, records.often
+        last = None
+        for page in reader.pages(data):
+            for moment, start, end in records_of(data, page):
+                reader.before = moment
+                number = data[start] | data[start + 1] << 8
+                if number in decoders:
+                    last = moment, start, end
+                    if number == switch:
+                        event = decoders[number](moment, processor, data, start, end)
+                        self.leaving.add(event[3])
+                        self.coming.add(event[5])
+                    if number not in often or number not in seen:
+                        self.take_rare(decoders[number](moment, processor, data, start, end), number)
+        if last:
+            number = data[last[1]] | data[last[1] + 1] << 8
+            self.last = decoders[number](last[0], processor, data, *last[1:])
+
+    def take_rare(self, event: Event, number: int) -> None:
+        """Takes an event that may be rare: samples of memory aren't."""
+        if not (type(event) is Marker and event.text.startswith(SAMPLES)) or number not in self.seen:
+            self.rare.append(event)
+        self.seen.add(number)
+
+
+class Survey:
+    """Reads the folder of a recording twice: first for what is rare, and then in slices. `silent` are the tasks that run and never
+    leave."""
+
+    def __init__(self, folder: str) -> None:
+        self.folder, self.silent = folder, set[int]()
+        self.records, self.processors, self.is_ring = Records(folder), 0, False
+
+    def readers(self) -> list[Reader]:
+        """What reads each processor's pages from the first on."""
+        size = READ_BYTES // self.processors
+        return [Reader(self.folder, processor, self.records, self.is_ring, size) for processor in range(self.processors)]
+
+    def read(self, _: str, meta: Meta, source: Source) -> None:
+        """Reads all of the recording: the source gets what is rare, and what was lost."""
+        self.processors, self.is_ring = source.processors, meta.is_ring()
+        overrun = {} if self.is_ring else meta.lost("overrun")
+        coming, leaving = set[int](), set[int]()
+        for reader in self.readers():
+            found = Surveyed(reader)
+            coming |= found.coming
+            leaving |= found.leaving
+            source.gaps += found.gaps
+            source.gaps += gaps_behind(reader.processor, overrun.get(reader.processor, 0), found.gaps, found.last)
+            if found.rest:
+                source.mended[f"bytes at the end of {reader.name} that are no whole page"] += found.rest
+            source.events += found.rare
+        source.events.sort(key=MOMENT)
+        self.silent = coming - leaving
+
+    def slices(self, whole_from: int) -> Iterator[list[Event]]:
+        """The events in slices, but those before the moment from which on they are whole (ns)."""
+        for events in slices_of(self.readers()):
+            yield events if not events or events[0].moment >= whole_from else [it for it in events if it.moment >= whole_from]
+
+
+# ---------------------------------------------------------------- slices
+
+
+def slices_of(readers: list[Reader]) -> Iterator[list[Event]]:
+    """The events of all processors in their order, in slices: each has all events up to a moment that weren't in one before."""
+    waiting: dict[int, list[Event]] = {place: [] for place in range(len(readers))}
+    ended: set[int] = set()
+    boundary = 0
+    while True:
+        for place, events in waiting.items():
+            while place not in ended and (not events or events[-1].moment <= boundary):
+                part = readers[place].part()
+                if part is None:
+                    ended.add(place)
+                else:
+                    events += part
+        boundary = min((events[-1].moment for place, events in waiting.items() if place not in ended), default=NEVER)
+        found: list[Event] = []
+        for events in waiting.values():
+            end = bisect_left(events, boundary, key=MOMENT)
+            found += events[:end]
+            del events[:end]
+        found.sort(key=MOMENT)
+        yield found
+        if len(ended) == len(readers):
+            return

@@ -1,0 +1,81 @@
+"""Compresses the pages of a long recording as they come, in a process of its own with the least priority.
+
+The recorder writes pages into parts, as it writes them else; each part that is whole becomes a gzip file. So a machine that leaves no
+time for that takes more room on the disk meanwhile, and nothing is late or lost; a recorder that is killed leaves parts that are read.
+"""
+from __future__ import annotations
+
+import contextlib
+import gzip
+import os
+import re
+import select
+import shutil
+import signal
+from collections.abc import Iterator
+
+from psirec.layout import PACKED
+
+from .waiting import ENDING
+
+# So well, of 1 to 9: at 1 most is gained for the time that it takes.
+LEVEL = 1
+LEAST_PRIORITY = 19
+# How often it is looked for parts that are whole, s.
+PERIOD = 1.0
+PART = re.compile(r"cpu(\d+)\.(\d+)\.raw")
+UNFINISHED = ".part"
+
+
+class Compressor:
+    """The process that compresses the parts of a folder."""
+
+    def __init__(self, path: str) -> None:
+        reader, self.writer = os.pipe2(os.O_CLOEXEC)
+        self.number = os.fork()
+        if not self.number:
+            status = 1
+            with contextlib.suppress(BaseException):
+                serve(path, reader)
+                status = 0
+            os._exit(status)
+        os.close(reader)
+
+    def finish(self) -> tuple[float, bool]:
+        """Waits until all parts are compressed: how much time of a processor (s) that took in all, and whether all went well."""
+        os.close(self.writer)
+        _, status, usage = os.wait4(self.number, 0)
+        return usage.ru_utime + usage.ru_stime, status == 0
+
+
+def serve(path: str, line: int) -> None:
+    """Compresses what is whole until the line ends, and then the rest. Signals that end a recording are the recorder's matter. No
+    file of the recorder's stays open here."""
+    for number in ENDING:
+        signal.signal(number, signal.SIG_IGN)
+    os.closerange(3, line)
+    os.closerange(line + 1, 4096)
+    with contextlib.suppress(OSError):
+        os.setpriority(os.PRIO_PROCESS, 0, LEAST_PRIORITY)
+        os.sched_setscheduler(0, os.SCHED_IDLE, os.sched_param(0))
+    is_ended = False
+    while not is_ended:
+        is_ended = bool(select.select([line], [], [], PERIOD)[0])
+        for name in whole_parts(path, is_ended):
+            compress(f"{path}/{name}")
+
+
+def whole_parts(path: str, is_ended: bool) -> Iterator[str]:
+    """The parts of which no more is written: of each processor all but the last one, or all."""
+    parts = sorted((int(it[1]), int(it[2]), it[0]) for it in map(PART.fullmatch, os.listdir(path)) if it)
+    for place, (processor, _, name) in enumerate(parts):
+        if is_ended or (place + 1 < len(parts) and parts[place + 1][0] == processor):
+            yield name
+
+
+def compress(name: str) -> None:
+    """Puts the compressed file in the place of this one, once it is whole."""
+    with open(name, "rb") as source, gzip.open(name + PACKED + UNFINISHED, "wb", LEVEL) as packed:
+        shutil.copyfileobj(source, packed, 1 << 20)
+    os.rename(name + PACKED + UNFINISHED, name + PACKED)
+    os.unlink(name)

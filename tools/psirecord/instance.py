@@ -1,0 +1,177 @@
+"""An instance of the kernel's tracing, with ring buffers of its own, so that nobody else's tracing is touched.
+
+Documentation/trace/ftrace.rst tells of its files. Pages of the buffers are read as they are (`trace_pipe_raw`): an event has
+some 40 bytes there against 140 of text, the reader takes a fourth of the time, and the pages tell themselves what was lost.
+"""
+from __future__ import annotations
+
+import contextlib
+import errno
+import os
+import re
+from collections.abc import Callable, Iterator
+
+from psirec.layout import LOST_STATS, MARK, MOST_MARKER_BYTES, PREFIX, Key, Probe
+
+from .machine import SCHEDULER_STATISTICS, Machine, read_file, write_file
+from .probing import NEEDED, Say, Sources, Tell, without
+from .undoing import Undoing
+
+READ_BYTES = 1 << 16
+# One that also switched the sysctl kernel.sched_schedstats on tells so by its name: whoever finds it later knows what to undo.
+STATISTICS_SUFFIX = "-schedstats"
+INSTANCE = re.compile(rf"{PREFIX}(\d+)({STATISTICS_SUFFIX})?")
+PROBE = re.compile(rf"[a-z]\d*:({PREFIX}(\d+)/\w+) ")
+# An instance begins with the options of the top one, so those that matter are set.
+OPTIONS = {"overwrite": "1", "markers": "1"}
+
+
+class NotRecorded(Exception):
+    """Why nothing can be recorded, found only after the machine was changed."""
+
+
+class Instance:
+    """An instance, from before its first event until it is removed."""
+
+    def __init__(self, machine: Machine, name: str, undoing: Undoing) -> None:
+        self.machine, self.name, self.undoing = machine, name, undoing
+        self.folder = f"{machine.tracing}/instances/{name}"
+        self.buffers: dict[int, int] = {}
+        self.marker = -1
+        undoing.note(f"the instance {self.folder}", lambda: machine.remove_instance(name))
+        try:
+            machine.make_instance(name)
+        except OSError:
+            undoing.steps.pop()
+            raise
+
+    def write(self, file: str, text: str) -> None:
+        """Writes one of its files."""
+        write_file(f"{self.folder}/{file}", text)
+
+    def prepare(self, buffer_kb: int) -> None:
+        """Nothing is traced yet; times are CLOCK_MONOTONIC; a buffer has so many KiB for each processor."""
+        self.write("tracing_on", "0")
+        self.write("trace_clock", "mono")
+        self.write("buffer_size_kb", str(buffer_kb))
+        for option, value in OPTIONS.items():
+            if os.path.exists(f"{self.folder}/options/{option}"):
+                self.write(f"options/{option}", value)
+
+    def enable(self, event: str, wanted: str) -> None:
+        """Switches an event on, where `wanted` isn't empty for those that it fits alone."""
+        switch = f"events/{event}/enable"
+        self.undoing.note(f"the event {event}", lambda: self.write(switch, "0"))
+        try:
+            if wanted:
+                self.write(f"events/{event}/filter", wanted)
+            self.write(switch, "1")
+        except OSError:
+            self.undoing.steps.pop()
+            raise
+
+    def enable_all(self, sources: Sources, say: Say, tell: Tell) -> list[str]:
+        """Switches on what there is; what isn't is told, with what that costs. The events that are on."""
+        events = []
+        for event in sources.events:
+            try:
+                self.enable(event, sources.filters.get(event, ""))
+            except OSError as error:
+                say(Key.NO_EVENT, f"{event}: {error.strerror}")
+                if event in NEEDED or event.endswith(f"/{Probe.SWITCH}"):
+                    raise NotRecorded(f"the event {event} can't be switched on: {error.strerror}") from error
+                tell(f"no event {event}: {without(event)}")
+                continue
+            say(Key.EVENT, event)
+            events.append(event)
+        return events
+
+    def open_files(self) -> None:
+        """Opens the buffers and the marker. They are closed before anything is undone that was noted earlier: an instance
+        can't be removed while a file of it is open."""
+        self.undoing.note("open files", self.close_files)
+        self.marker = os.open(f"{self.folder}/trace_marker", os.O_WRONLY)
+        for processor in range(self.machine.processors()):
+            path = f"{self.folder}/per_cpu/cpu{processor}/trace_pipe_raw"
+            with contextlib.suppress(FileNotFoundError):
+                self.buffers[processor] = os.open(path, os.O_RDONLY | os.O_NONBLOCK)
+
+    def close_files(self) -> None:
+        """Closes them, once."""
+        files, self.buffers, self.marker = [*self.buffers.values(), self.marker], {}, -1
+        for file in files:
+            if file >= 0:
+                os.close(file)
+
+    def mark(self, words: str) -> bool:
+        """Writes a marker among the events; not one that the kernel might cut."""
+        line = words.encode(errors="surrogateescape")
+        if len(line) > MOST_MARKER_BYTES:
+            return False
+        os.write(self.marker, line)
+        return True
+
+    def note_mark(self, word: str) -> None:
+        """Writes one of the markers that are a word alone."""
+        self.mark(f"{MARK}{word}")
+
+    def pages(self, processor: int, most_bytes: float) -> Iterator[bytes]:
+        """What stands in a processor's buffer, without waiting for more, in pieces of whole pages; at most about so many
+        bytes."""
+        taken = 0
+        while taken < most_bytes:
+            try:
+                piece = os.read(self.buffers[processor], READ_BYTES)
+            except BlockingIOError:
+                return
+            except OSError as error:
+                if error.errno == errno.EINTR:
+                    continue
+                raise
+            if not piece:
+                return
+            taken += len(piece)
+            yield piece
+
+    def statistics(self, processor: int) -> dict[str, str]:
+        """The lines of `per_cpu/cpuN/stats`."""
+        text = read_file(f"{self.folder}/per_cpu/cpu{processor}/stats").decode(errors="replace")
+        return {key: value.strip() for key, _, value in (it.partition(":") for it in text.splitlines()) if value}
+
+
+def lost_events(statistics: dict[str, str], is_ring: bool) -> int:
+    """How many events of a processor were lost. A flight recorder's buffer is overwritten on purpose."""
+    return sum(int(statistics.get(it, 0)) for it in LOST_STATS if not (is_ring and it == "overrun"))
+
+
+def oldest_moment(statistics: dict[str, str]) -> float:
+    """Where a processor's buffer begins, in s, where older events were overwritten; else 0."""
+    return float(statistics.get("oldest event ts", 0)) if int(statistics.get("overrun", 0)) else 0.0
+
+
+def remover(remove: Callable[[str], None], name: str) -> Callable[[], None]:
+    """The step that removes what has this name."""
+    return lambda: remove(name)
+
+
+def remove_left_behind(machine: Machine, tell: Tell) -> None:
+    """Removes what recorders left that were killed: instances and probes that are named after a process that is gone."""
+
+    def is_left(number: str) -> bool:
+        return int(number) == os.getpid() or not os.path.exists(f"{machine.proc}/{number}")
+
+    undoing = Undoing()
+    for name in re.findall(PROBE, read_file(f"{machine.tracing}/kprobe_events").decode(errors="replace")):
+        if is_left(name[1]):
+            undoing.note(f"the probe {name[0]}", remover(machine.remove_probe, name[0]))
+    for instance in sorted(os.listdir(f"{machine.tracing}/instances")):
+        found = INSTANCE.fullmatch(instance)
+        if found and is_left(found[1]):
+            if found[2]:
+                undoing.note("kernel.sched_schedstats", lambda: write_file(f"{machine.proc}/{SCHEDULER_STATISTICS}", "0"))
+            undoing.note(f"the instance {instance}", remover(machine.remove_instance, instance))
+    for what, _ in undoing.steps:
+        tell(f"a recorder was killed: what it left is removed, {what}")
+    undoing.undo()
+    for what in undoing.left:
+        tell(f"can't be removed: {what}")

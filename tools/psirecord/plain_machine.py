@@ -1,0 +1,101 @@
+"""A folder of plain files in place of the machine, for tests: what the kernel does by itself is done here by hand.
+
+    DIR/tracing    a folder with the files of an instance, `instances` and, where probes can be had, `kprobe_events`
+    DIR/cgroup     the root of the control groups
+    DIR/proc       processes, `meminfo`, `pressure` and `sys/kernel/sched_schedstats`
+    DIR/btf        the kernel's types, as /sys/kernel/btf/vmlinux has them
+    DIR/trigger    a FIFO: what is written into it is a signal of pressure
+"""
+from __future__ import annotations
+
+import errno
+import os
+import re
+import select
+import shutil
+from collections.abc import Iterator
+from dataclasses import dataclass
+
+from .machine import Machine, read_file
+
+
+def plain_machine(folder: str) -> PlainMachine:
+    """The machine that this folder stands for."""
+    top = os.path.abspath(folder)
+    return PlainMachine(tracing=f"{top}/tracing", groups=f"{top}/cgroup", proc=f"{top}/proc", types=f"{top}/btf")
+
+
+def busy(path: str) -> OSError:
+    """What the kernel answers while something is in use."""
+    return OSError(errno.EBUSY, os.strerror(errno.EBUSY), path)
+
+
+def open_files() -> Iterator[str]:
+    """The files that this process has open."""
+    for number in os.listdir("/proc/self/fd"):
+        try:
+            yield os.readlink(f"/proc/self/fd/{number}")
+        except OSError:
+            continue
+
+
+@dataclass(frozen=True)
+class PlainMachine(Machine):
+    """A folder in place of the machine."""
+
+    def processors(self) -> int:
+        """As many as have buffers."""
+        return sum(bool(re.fullmatch(r"cpu\d+", it)) for it in os.listdir(f"{self.tracing}/per_cpu"))
+
+    def missing(self) -> Iterator[str]:
+        """A folder needs no root."""
+        return self.missing_files()
+
+    def instance(self, name: str) -> str:
+        """The folder of an instance."""
+        return f"{self.tracing}/instances/{name}"
+
+    def make_instance(self, name: str) -> None:
+        """A new instance has the files that the top one has."""
+        os.mkdir(self.instance(name))
+        for file in os.listdir(self.tracing):
+            source, copy = f"{self.tracing}/{file}", f"{self.instance(name)}/{file}"
+            if file in ("instances", "kprobe_events"):
+                continue
+            if os.path.isdir(source):
+                shutil.copytree(source, copy, symlinks=True)
+            else:
+                shutil.copy(source, copy, follow_symlinks=False)
+
+    def remove_instance(self, name: str) -> None:
+        """As the kernel, none of whose files is open."""
+        folder = self.instance(name)
+        if any(it.startswith(f"{folder}/") for it in open_files()):
+            raise busy(folder)
+        shutil.rmtree(folder)
+
+    def add_probe(self, definition: str) -> None:
+        """The probe's event stands beside the others from then on."""
+        super().add_probe(definition)
+        event = f"{self.tracing}/events/{definition.split()[0].partition(':')[2]}"
+        os.makedirs(event)
+        for file, text in (("enable", "0\n"), ("filter", "none\n"), ("format", f"name: {os.path.basename(event)}\n")):
+            with open(f"{event}/{file}", "w", encoding="ascii") as made:
+                made.write(text)
+
+    def remove_probe(self, name: str) -> None:
+        """As the kernel, which keeps the probes whose event is on in some instance."""
+        instances = [self.instance(it) for it in os.listdir(f"{self.tracing}/instances")]
+        if any(read_file(f"{it}/events/{name}/enable").startswith(b"1") for it in [self.tracing, *instances]):
+            raise busy(name)
+        with open(f"{self.tracing}/kprobe_events", encoding="ascii") as file:
+            kept = [line for line in file if line.split()[0].partition(":")[2] != name]
+        with open(f"{self.tracing}/kprobe_events", "w", encoding="ascii") as file:
+            file.writelines(kept)
+        shutil.rmtree(f"{self.tracing}/events/{name}")
+        if not os.listdir(os.path.dirname(f"{self.tracing}/events/{name}")):
+            os.rmdir(os.path.dirname(f"{self.tracing}/events/{name}"))
+
+    def open_trigger(self, resource: str, words: str) -> tuple[int, int]:
+        """A plain file signals nothing, a FIFO does."""
+        return os.open(f"{os.path.dirname(self.tracing)}/trigger", os.O_RDWR | os.O_NONBLOCK), select.POLLIN

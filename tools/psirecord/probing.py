@@ -1,0 +1,197 @@
+"""The events and probes from which a trace is made, and what is taken where one of them can't be had.
+
+A wait for IO is what the kernel counts as one (`in_iowait`), which is fewer sleeps than those in state D: on a journaling file
+system a third to a half of these aren't. Three sources tell it, the best first: a probe on `psi_task_switch` that reads the
+bit itself, the event `sched_stat_iowait`, which takes the sysctl kernel.sched_schedstats, and the state D.
+"""
+from __future__ import annotations
+
+import enum
+import os
+from collections.abc import Callable
+from dataclasses import dataclass, field
+
+from psirec.layout import SET_READY, Key, Probe
+
+from .kernel_types import KernelTypes
+from .machine import SCHEDULER_STATISTICS, Machine, read_file, write_file
+from .undoing import Undoing
+
+# Each event, and what a recording without it can't say.
+NEEDED = ("sched/sched_switch", "sched/sched_wakeup")
+EVENTS = {
+    "sched/sched_switch": "nothing can be said",
+    "sched/sched_wakeup": "nothing can be said",
+    "sched/sched_wakeup_new": "new tasks seem to be born when they first run",
+    "sched/sched_migrate_task": "a wait for IO that ends by a migration seems to last until the wakeup",
+    "sched/sched_process_exec": "a thread that calls exec seems to be ready for ever",
+    "task/task_newtask": "new tasks are taken to be in the root group",
+    "cgroup/cgroup_attach_task": "moves of tasks between groups aren't seen",
+    "cgroup/cgroup_mkdir": "new groups are seen by their first task only",
+    "cgroup/cgroup_rmdir": "groups that were removed seem to stay",
+    "oom/mark_victim": "the kernel's own kills aren't seen",
+}
+STATISTICS_EVENT = "sched/sched_stat_iowait"
+NO_STALLS = "memory stalls aren't recorded, so memory pressure will be 0"
+NO_WAKEUPS = "no probe of wakeups: when psi counts them isn't recorded, only when their events are written"
+# What a recording can't say without a probe.
+PROBES = {
+    Probe.STALL_BEGINS: NO_STALLS,
+    Probe.STALL_ENDS: NO_STALLS,
+    Probe.INTERRUPT: "times of interrupts aren't recorded",
+    Probe.ATTACH: "whether threads were moved alone is guessed",
+    Probe.SHOW: "when the kernel samples isn't recorded, and tools/compare fits it",
+    Probe.AVERAGE: "when the kernel samples isn't recorded, and tools/compare fits it",
+    Probe.READY: NO_WAKEUPS,
+}
+BY_PROBE, BY_STATISTICS, BY_STATE = "the kernel's own flag", "sched_stat_iowait", "state D"
+STATE_ALONE = "waits for IO are told by state D alone: up to 3.5 times too many on journaling file systems"
+
+def without(event: str) -> str:
+    """What a recording without this event, which may be that of a probe, can't say."""
+    return EVENTS.get(event) or PROBES.get(event.rpartition("/")[2], "nothing is known of what it tells")
+
+
+# Says (a key of `meta`, its value).
+Say = Callable[[str, str], None]
+# Tells the operator.
+Tell = Callable[[str], None]
+
+
+@dataclass
+class Sources:
+    """What is recorded: events as SYSTEM/EVENT, and filters of some."""
+
+    events: list[str] = field(default_factory=list)
+    filters: dict[str, str] = field(default_factory=dict)
+    waits: str = BY_STATE
+
+
+@dataclass(frozen=True)
+class Plan:
+    """A probe to be added: its event, the kernel's function, what it fetches, and which of its events are wanted."""
+
+    name: str
+    function: str
+    fetched: str = ""
+    wanted: str = ""
+
+    def definition(self, group: str) -> str:
+        """As `kprobe_events` takes it."""
+        return f"p:{group}/{self.name} {self.function} {self.fetched}".rstrip()
+
+
+def stall_plans() -> list[Plan]:
+    """Both run in the task itself. The flags at the leave are 0 where it is the outermost one."""
+    return [
+        Plan(Probe.STALL_BEGINS, "psi_memstall_enter"),
+        Plan(Probe.STALL_ENDS, "psi_memstall_leave", f"{Probe.FLAGS}=+0($arg1):u64"),
+    ]
+
+
+def switch_plan(types: KernelTypes) -> Plan | None:
+    """psi_task_switch(prev, next, sleep) runs right before the event of the switch. Without the filter a third of all events
+    would be its."""
+    places = types.members("task_struct", ("pid", "in_iowait"))
+    if not places:
+        return None
+    fetched = f"{Probe.PID}={places['pid'].fetch(1, 's32')} {Probe.IO}={places['in_iowait'].fetch(1, 'u32')}"
+    return Plan(Probe.SWITCH, "psi_task_switch", fetched, f"{Probe.IO} == 1")
+
+
+def interrupt_plan(machine: Machine, types: KernelTypes) -> Plan | None:
+    """psi_account_irqtime(task, delta), where the kernel accounts interrupts at all. Since 6.10 its parameters are others, and
+    none of them is the time."""
+    if not read_file(f"{machine.proc}/pressure/irq") or types.parameters("psi_account_irqtime") != 2:
+        return None
+    return Plan(Probe.INTERRUPT, "psi_account_irqtime", f"{Probe.DELTA}=$arg2:u32")
+
+
+def attach_plan(types: KernelTypes) -> Plan | None:
+    """cgroup_attach_task(group, task, whole): the event of that name doesn't tell whether the task goes alone."""
+    places = types.members("task_struct", ("pid",))
+    if not places or types.parameters("cgroup_attach_task") != 3:
+        return None
+    fetched = f"{Probe.PID}={places['pid'].fetch(2, 's32')} {Probe.ALL}=$arg3:u8"
+    return Plan(Probe.ATTACH, "cgroup_attach_task", fetched)
+
+
+def moment_plans(types: KernelTypes) -> list[Plan]:
+    """psi_show(file, group, resource) and psi_avgs_work(work) are where the kernel adds a group's times up: some events a second.
+    One of them alone would tell half of the moments."""
+    if types.parameters("psi_show") != 3 or types.parameters("psi_avgs_work") != 1:
+        return []
+    shows = f"{Probe.GROUP}=$arg2:x64 {Probe.RES}=$arg3:u32"
+    return [Plan(Probe.SHOW, "psi_show", shows), Plan(Probe.AVERAGE, "psi_avgs_work", f"{Probe.WORK}=$arg1:x64")]
+
+
+def ready_plan(types: KernelTypes) -> Plan | None:
+    """psi_task_change(task, clear, set): one event for each wakeup, and for each task that goes to another processor or group."""
+    places = types.members("task_struct", ("pid",))
+    if not places or types.parameters("psi_task_change") != 3:
+        return None
+    fetched = f"{Probe.PID}={places['pid'].fetch(1, 's32')} {Probe.SET}=$arg3:u32"
+    return Plan(Probe.READY, "psi_task_change", fetched, f"{Probe.SET} & {SET_READY}")
+
+
+def add_probes(machine: Machine, group: str, undoing: Undoing, say: Say, has_wakeups: bool) -> Sources:
+    """Adds the probes that can be had, those of wakeups where they are wanted; why another can't is said."""
+    types = KernelTypes(read_file(machine.types))
+    switch, attach, moments = switch_plan(types), attach_plan(types), moment_plans(types)
+    if not switch:
+        say(Key.NO_PROBE, f"psi_task_switch: {machine.types} has no task_struct with pid and in_iowait")
+    if not attach:
+        say(Key.NO_PROBE, f"cgroup_attach_task: {machine.types} has no such function of three parameters, or no pid of tasks")
+    if not moments:
+        say(Key.NO_PROBE, f"psi_show, psi_avgs_work: {machine.types} has not both, or with other parameters")
+    ready = ready_plan(types) if has_wakeups else None
+    if has_wakeups and not ready:
+        say(Key.NO_PROBE, f"psi_task_change: {machine.types} has no such function of three parameters, or no pid of tasks")
+    sources = Sources()
+    for plan in [*stall_plans(), *(it for it in (switch, interrupt_plan(machine, types), attach, ready) if it), *moments]:
+        definition, name = plan.definition(group), f"{group}/{plan.name}"
+        try:
+            undoing.note(f"the probe {name}", probe_remover(machine, name))
+            machine.add_probe(definition)
+        except OSError as error:
+            undoing.steps.pop()
+            say(Key.NO_PROBE, f"{definition}: {error.strerror}")
+            continue
+        sources.events.append(name)
+        if plan.wanted:
+            sources.filters[name] = plan.wanted
+        if plan.name == Probe.SWITCH:
+            sources.waits = BY_PROBE
+    return sources
+
+
+def probe_remover(machine: Machine, name: str) -> Callable[[], None]:
+    """The step that removes this probe."""
+    return lambda: machine.remove_probe(name)
+
+
+class Statistics(enum.Enum):
+    """Whether the kernel keeps the statistics by which it writes `sched_stat_iowait`."""
+
+    ON = "on"
+    OFF = "off"
+    ABSENT = "absent"
+
+
+def statistics_of(machine: Machine) -> Statistics:
+    """What the sysctl says, or that there is none."""
+    if not os.path.exists(f"{machine.proc}/{SCHEDULER_STATISTICS}"):
+        return Statistics.ABSENT
+    is_on = read_file(f"{machine.proc}/{SCHEDULER_STATISTICS}").strip() == b"1"
+    return Statistics.ON if is_on else Statistics.OFF
+
+
+def switch_statistics_on(machine: Machine, undoing: Undoing) -> None:
+    """Switches them on; they are switched off again at the end. OSError where that is refused."""
+    path = f"{machine.proc}/{SCHEDULER_STATISTICS}"
+    undoing.note("the sysctl kernel.sched_schedstats, which was 0", lambda: write_file(path, "0"))
+    try:
+        write_file(path, "1")
+    except OSError:
+        undoing.steps.pop()
+        raise

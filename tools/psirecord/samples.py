@@ -1,0 +1,214 @@
+"""What is read of groups, tasks and memory beside the events.
+
+All of it is read while the recording runs, and its moments are told by markers among the events: what changes meanwhile is
+seen by the events. A group or a task may be gone before it is read; then it is passed over.
+"""
+from __future__ import annotations
+
+import os
+from collections.abc import Callable, Iterator
+from dataclasses import dataclass, field
+
+from psirec import layout
+
+from .machine import Machine, read_file
+
+KIB = 1024
+# Attributes of a group's folder by which its owner asks oomd, or systemd-oomd, to kill it first or last.
+PREFERENCES = {
+    "user.oomd_prefer": "prefer",
+    "trusted.oomd_prefer": "prefer",
+    "user.oomd_avoid": "avoid",
+    "trusted.oomd_avoid": "avoid",
+    "user.oomd_omit": "omit",
+}
+
+Mark = Callable[[str], bool]
+
+
+@dataclass(frozen=True)
+class Group:
+    """A group: its folder, its path as a recording spells it, and the folder's number, which is another where a group of that
+    path was removed and made again."""
+
+    folder: str
+    path: str
+    number: int
+
+    def is_root(self) -> bool:
+        """The root has none of the files of memory, and its pressure stands below /proc."""
+        return self.path == "/"
+
+
+def groups(machine: Machine) -> Iterator[Group]:
+    """All groups, a parent before its children."""
+    pending = [(machine.groups, 0)]
+    while pending:
+        folder, number = pending.pop()
+        yield Group(folder, layout.escaped_path(os.fsencode(folder[len(machine.groups) :])), number)
+        try:
+            with os.scandir(folder) as entries:
+                children = sorted((it.path, it.inode()) for it in entries if it.is_dir(follow_symlinks=False))
+        except OSError:
+            continue
+        pending.extend(reversed(children))
+
+
+# ---------------------------------------------------------------- memory
+
+
+def memory_information(machine: Machine) -> dict[str, int]:
+    """/proc/meminfo, in bytes."""
+    lines = (it.split() for it in read_file(f"{machine.proc}/meminfo").decode(errors="replace").splitlines())
+    return {it[0].rstrip(":"): int(it[1]) * KIB for it in lines if len(it) > 1}
+
+
+def scanned_pages(group: Group) -> int:
+    """`pgscan` of `memory.stat`; 0 where it isn't told."""
+    for line in read_file(f"{group.folder}/memory.stat").splitlines():
+        if line.startswith(b"pgscan "):
+            return int(line.split()[1])
+    return 0
+
+
+def number_in(path: str) -> int | None:
+    """The number that a file has, or None where it can't be read."""
+    words = read_file(path).split()
+    return int(words[0]) if words and words[0].isdigit() else None
+
+
+def is_accounted(group: Group) -> bool | None:
+    """Whether the group's pressure is accounted, by its `cgroup.pressure`; None where there is no such file: the root may have
+    none, and before Linux 6.1 no group has one."""
+    number = number_in(f"{group.folder}/cgroup.pressure")
+    return None if number is None else number != 0
+
+
+@dataclass
+class MemorySampler:
+    """Writes the memory of the machine and of each group as markers, and the groups whose `cgroup.pressure` has changed,
+    which no event tells. `unaccounted` are those that weren't accounted when they were last looked at."""
+
+    machine: Machine
+    mark: Mark
+    unaccounted: set[Group] = field(default_factory=set)
+    too_long: int = 0
+
+    def sample(self) -> None:
+        """Once over all groups. The root's use of memory is what isn't available, so that rules on the root find some."""
+        known = memory_information(self.machine)
+        total, swap_total, swap_free = (known.get(it, 0) for it in ("MemTotal", "SwapTotal", "SwapFree"))
+        self.write(layout.host_marker(total, swap_total, swap_free))
+        self.write(layout.memory_marker("/", total - known.get("MemAvailable", total), swap_total - swap_free, 0))
+        unaccounted = set()
+        for group in groups(self.machine):
+            self.sample_memory(group)
+            if self.sample_accounting(group) is False:
+                unaccounted.add(group)
+        self.unaccounted = unaccounted
+
+    def sample_memory(self, group: Group) -> None:
+        """A group without the files of memory, as the root, has no sample."""
+        current = number_in(f"{group.folder}/memory.current")
+        if current is not None:
+            swap = number_in(f"{group.folder}/memory.swap.current") or 0
+            self.write(layout.memory_marker(group.path, current, swap, scanned_pages(group)))
+
+    def sample_accounting(self, group: Group) -> bool | None:
+        """Whether the group is accounted, which is told where it has changed. A group that was made since is accounted at first,
+        also where its path is that of one that wasn't."""
+        is_on = is_accounted(group)
+        if is_on is not None and is_on == (group in self.unaccounted):
+            self.write(layout.accounting_marker(group.path, is_on))
+        return is_on
+
+    def write(self, marker: str) -> None:
+        """Counts those that are too long for a marker: their paths are too long for a trace as well."""
+        if not self.mark(marker):
+            self.too_long += 1
+
+
+# ---------------------------------------------------------------- pressure files
+
+
+@dataclass(frozen=True)
+class Reading:
+    """The pressure files of all groups, read between two markers; `moment` is CLOCK_MONOTONIC in s."""
+
+    moment: float
+    text: bytes
+
+
+def read_pressure(machine: Machine, mark: Mark, number: int, moment: float) -> Reading:
+    """Reads all groups' pressure files. Each reading is a sample for the kernel too, so its totals depend on how often this
+    is done."""
+    mark(layout.pressure_marker(number, is_end=False))
+    parts = []
+    for group in groups(machine):
+        for resource in layout.RESOURCES:
+            path = f"{machine.proc}/pressure/{resource}" if group.is_root() else f"{group.folder}/{resource}.pressure"
+            text = read_file(path)
+            if text:
+                head = layout.sample_line(number, group.path, resource)
+                parts.append(head.encode(errors="surrogateescape") + b"\n" + text)
+    mark(layout.pressure_marker(number, is_end=True))
+    return Reading(moment, b"".join(parts))
+
+
+# ---------------------------------------------------------------- groups and tasks
+
+
+@dataclass(frozen=True)
+class Snapshot:
+    """Groups and tasks as they were found; `moment` is CLOCK_MONOTONIC in ns, before the first was read."""
+
+    moment: int
+    lines: list[str]
+    unaccounted: set[Group]
+
+    def text(self) -> bytes:
+        """The file."""
+        return "".join(f"{it}\n" for it in [layout.at_line(self.moment), *self.lines]).encode(errors="surrogateescape")
+
+
+def preference(group: Group) -> str:
+    """What its owner asks for; the first attribute that is there."""
+    for attribute, word in PREFERENCES.items():
+        try:
+            os.getxattr(group.folder, attribute)
+        except OSError:
+            continue
+        return word
+    return "none"
+
+
+def task_line(machine: Machine, number: bytes, group: Group) -> str | None:
+    """A thread of a group by /proc/TID, or None where it is gone. Its name may hold anything, so what follows is counted from
+    the last bracket: the state is the first word there, the processor the 37th (proc(5): fields 3 and 39)."""
+    folder = f"{machine.proc}/{number.decode()}"
+    text = read_file(f"{folder}/stat")
+    end = text.rfind(b")")
+    words = text[end + 1 :].split()
+    process = [it.split()[1] for it in read_file(f"{folder}/status").splitlines() if it.startswith(b"Tgid:")]
+    if end < 0 or len(words) < 37 or not process:
+        return None
+    name = os.fsdecode(text[text.find(b"(") + 1 : end])
+    return layout.task_line(int(number), int(process[0]), words[0].decode(), int(words[36]), group.path, name)
+
+
+def take_snapshot(machine: Machine, moment: int) -> Snapshot:
+    """Reads all groups and their threads."""
+    lines, unaccounted = [], set()
+    for group in groups(machine):
+        lines.append(layout.group_line(group.path, preference(group)))
+        kind = read_file(f"{group.folder}/cgroup.type").decode(errors="replace")
+        if kind:
+            lines.append(layout.type_line(group.path, kind))
+        if is_accounted(group) is False:
+            unaccounted.add(group)
+            lines.append(layout.unaccounted_line(group.path))
+        for number in read_file(f"{group.folder}/cgroup.threads").split():
+            line = task_line(machine, number, group)
+            if line:
+                lines.append(line)
+    return Snapshot(moment, lines, unaccounted)

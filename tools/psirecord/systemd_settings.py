@@ -1,0 +1,188 @@
+"""Stores what systemd-oomd decides by, where systemd runs, into the folder `systemd` of a recording, for tools/systemd-oomd.
+
+version     what `systemctl --version` says first
+units       what `systemctl show` says of all services, slices and scopes that there are (SHOWN)
+groups      a line for each control group: its path, and its owner, memory.oom.group and attributes (group_line)
+etc/.. run/.. usr/..   oomd.conf with its drop-in files, and each file of units that has a setting of systemd-oomd, with those of
+            the same name elsewhere: what stands in one folder is in force in place of what stands in another. Of units' files
+            all other lines are empty, since environments and arguments aren't recorded
+
+So the folder is one of files as `tools/systemd-oomd --settings` takes any, which says more. Nothing of this is traced: it is
+stored before the recording begins.
+"""
+from __future__ import annotations
+
+import os
+import re
+import subprocess
+from collections.abc import Callable, Iterator
+from dataclasses import dataclass
+
+from psirec.systemd import CONFIGURATIONS, FOLDER, GROUPS, SYSTEM_UNITS, UNITS, USER_UNITS, VERSION
+
+from .folder import DiskFull, append
+from .machine import Machine, read_file
+from .samples import Group, groups, number_in
+
+BOOTED = "run/systemd/system"
+# Properties of units by which it is known which group a unit is, and what systemd-oomd is to do there.
+SHOWN = (
+    "Id",
+    "ControlGroup",
+    "ManagedOOMSwap",
+    "ManagedOOMMemoryPressure",
+    "ManagedOOMMemoryPressureLimit",
+    "ManagedOOMMemoryPressureDurationUSec",
+    "ManagedOOMPreference",
+)
+SETTING = re.compile(rb"^\s*(ManagedOOM|OOMPolicy)", re.MULTILINE)
+# What is kept of a unit's file: its sections, such settings, and in which slice its group is.
+KEPT = re.compile(rb"\s*(\[|(ManagedOOM\w*|OOMPolicy|Slice)\s*=)")
+TRUE = (b"1", b"yes", b"y", b"true", b"t", b"on")
+PATIENCE_SECONDS = 10
+
+Tell = Callable[[str], None]
+
+
+@dataclass(frozen=True)
+class Place:
+    """Where the machine's files are, and what is run to ask systemd. The real machine has its files below nothing."""
+
+    root: str
+    command: str
+
+    def is_booted(self) -> bool:
+        """Whether systemd runs there (sd_booted(3))."""
+        return os.path.isdir(f"{self.root}/{BOOTED}")
+
+    def asked(self, *words: str) -> bytes:
+        """What `systemctl` says; nothing where it can't be run or doesn't answer."""
+        try:
+            done = subprocess.run([self.command, *words], stdin=subprocess.DEVNULL, stdout=subprocess.PIPE,
+                                  stderr=subprocess.DEVNULL, timeout=PATIENCE_SECONDS)  # fmt: skip
+        except (OSError, subprocess.SubprocessError):
+            return b""
+        return done.stdout
+
+
+def place_of(machine: Machine) -> Place:
+    """Of a folder of plain files in place of a machine, all stands in that folder."""
+    root = os.path.dirname(machine.proc).rstrip("/")
+    return Place(root, f"{root}/systemctl" if root else "systemctl")
+
+
+# ---------------------------------------------------------------- groups
+
+
+def is_true(folder: str, attribute: str) -> bool:
+    """Whether an attribute of a group's folder is there and says yes, as systemd reads truths."""
+    try:
+        return os.getxattr(folder, attribute).strip(b"\0 \n").lower() in TRUE
+    except OSError:
+        return False
+
+
+def owner(folder: str) -> int:
+    """The number of the user that owns a group; 0 where the group is gone."""
+    try:
+        return os.stat(folder).st_uid
+    except OSError:
+        return 0
+
+
+def group_line(group: Group) -> str:
+    """A group with all that systemd-oomd looks at there and that no trace has."""
+    is_whole = number_in(f"{group.folder}/memory.oom.group") == 1
+    avoid, omit = (is_true(group.folder, f"user.oomd_{it}") for it in ("avoid", "omit"))
+    return f"{group.path} uid={owner(group.folder)} oom_group={is_whole:d} avoid={avoid:d} omit={omit:d}\n"
+
+
+# ---------------------------------------------------------------- files
+
+
+def files_below(root: str, folder: str) -> Iterator[str]:
+    """Units' files and their drop-in files, by their names from the root: both stand at most one folder deep."""
+    try:
+        names = sorted(os.listdir(f"{root}/{folder}"))
+    except OSError:
+        return
+    for name in names:
+        if name.endswith(".d") and os.path.isdir(f"{root}/{folder}/{name}"):
+            yield from (f"{folder}/{name}/{it}" for it in sorted(os.listdir(f"{root}/{folder}/{name}")) if it.endswith(".conf"))
+        elif re.search(r"\.(service|slice|scope)$", name):
+            yield f"{folder}/{name}"
+
+
+def configurations(root: str) -> Iterator[str]:
+    """oomd.conf and its drop-in files."""
+    for folder in CONFIGURATIONS:
+        if os.path.exists(f"{root}/{folder}/oomd.conf"):
+            yield f"{folder}/oomd.conf"
+        yield from (it for it in files_below(root, folder) if it.startswith(f"{folder}/oomd.conf.d/"))
+
+
+def unit_files(root: str, folders: tuple[str, ...]) -> Iterator[str]:
+    """Those that set something of systemd-oomd, and those that may stand in their place: drop-in files of the same name, and
+    units of the same name."""
+    found = {name: os.path.basename(name) for folder in folders for name in files_below(root, folder)}
+    setting = {last for name, last in found.items() if SETTING.search(read_file(f"{root}/{name}"))}
+    yield from (name for name, last in found.items() if last in setting)
+
+
+def settings_alone(text: bytes) -> bytes:
+    """A unit's file without its other lines, in whose place empty ones keep the numbers of those that stay. A line that ends in a
+    backslash goes on in the next, over comments."""
+    lines, is_kept, goes_on = [], False, False
+    for line in text.splitlines():
+        if line.lstrip()[:1] in (b"#", b";"):
+            lines.append(b"#")
+            continue
+        is_kept = is_kept if goes_on else bool(KEPT.match(line))
+        goes_on = line.endswith(b"\\")
+        lines.append(line if is_kept else b"")
+    return b"".join(it + b"\n" for it in lines)
+
+
+def is_other_name(root: str, name: str) -> bool:
+    """Whether it stands in `lib`, which is but another name of `usr/lib`."""
+    return name.startswith("lib/") and os.path.islink(f"{root}/lib")
+
+
+def write(path: str, data: bytes) -> None:
+    """A new file, with the folders above it."""
+    os.makedirs(os.path.dirname(path), exist_ok=True)
+    file = os.open(path, os.O_WRONLY | os.O_CREAT | os.O_EXCL, 0o666)
+    try:
+        append(file, data)
+    finally:
+        os.close(file)
+
+
+def contents(machine: Machine) -> Iterator[tuple[str, bytes]]:
+    """The files by their names, and what is in them."""
+    place = place_of(machine)
+    yield VERSION, place.asked("--version").partition(b"\n")[0] + b"\n"
+    properties = "--property=" + ",".join(SHOWN)
+    yield UNITS, place.asked("show", "--no-pager", "--type=service,slice,scope", properties, "*")
+    lines = "".join(group_line(it) for it in groups(machine))
+    yield GROUPS, lines.encode(errors="surrogateescape")
+    for name in configurations(place.root):
+        if not is_other_name(place.root, name):
+            yield name, read_file(f"{place.root}/{name}")
+    for name in (*unit_files(place.root, SYSTEM_UNITS), *unit_files(place.root, USER_UNITS)):
+        if not is_other_name(place.root, name):
+            yield name, settings_alone(read_file(f"{place.root}/{name}"))
+
+
+def store(machine: Machine, folder: str, tell: Tell) -> None:
+    """Stores all of it into a recording's folder; nothing where systemd doesn't run. What fails is told, and the recording goes
+    on: no trace depends on it."""
+    if not place_of(machine).is_booted():
+        return
+    try:
+        for name, data in contents(machine):
+            write(f"{folder}/{FOLDER}/{name}", data)
+            if name == UNITS and not data:
+                tell("systemctl says nothing of units: what systemd-oomd watches is known by files alone")
+    except (OSError, DiskFull) as error:
+        tell(f"the settings of systemd-oomd weren't stored whole: {error}")
