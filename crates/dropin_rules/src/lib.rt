@@ -9,12 +9,10 @@ mod argument;
 mod detector;
 mod fault;
 mod laws;
-mod note;
 mod parts;
 mod text;
 
 pub use fault::{DropCause, DropFault};
 pub use laws::law_text_is_read_again;
-pub use note::put_drop_fault;
 pub use parts::join;
 pub use text::write_rules;

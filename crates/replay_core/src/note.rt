@@ -6,11 +6,12 @@ ghost use Rattle.outside.specs.Outside.{PutsAll, HasCause};
 ghost use Rattle.run_spec.specs.Text.{import_cause_text};
 ghost use Rattle.run_spec.specs.Status.{import_refusal_text, name_text, status_text};
 
-use dropin_rules::{DropFault, put_drop_fault};
+use dropin_rules::DropFault;
 use import_spec::ImportCause;
 use itoa::Buffer;
 use outside::{Sink, WriteFailed, put_all, put_each};
-use ruleset_json::{RulesFault, put_fault};
+use rules_file::{put_drop_fault, put_fault};
+use ruleset_json::RulesFault;
 use run_spec::{Command, Status, Which};
 use trace_file::put_refusal;
 

@@ -18,14 +18,12 @@ mod form;
 mod json;
 mod laws;
 mod name;
-mod note;
 mod types;
 
 pub use fault::{Place, RulesCause, RulesFault};
 pub use file::{read, read_parts};
 pub use laws::{law_first_faults, law_lists_are_read};
 pub use name::{ActionName, DetectorName, Key};
-pub use note::{cause_name, put_fault, put_placed};
 pub use types::{
     Action, ActionList, After, DetectorGroup, DetectorSpec, GroupList, Part, Rule, RuleList, Rules,
     Size, SpecList,

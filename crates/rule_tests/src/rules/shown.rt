@@ -1,8 +1,7 @@
 //! What a rules file is read as, as one text: the rules, or the fault as it is told.
-use outside_fakes::MemSink;
 use path_match::Patterns;
 use psi_base::{Fault, Path, Text};
-use ruleset_json::{Action, After, DetectorSpec, Rules, RulesFault, put_fault, read};
+use ruleset_json::{Action, After, DetectorSpec, Place, Rules, RulesFault, read};
 use std::alloc::{AllocError, Global};
 use std::process::Abort;
 use std::test::Fail;
@@ -160,15 +159,23 @@ fn rules(alloc: Global, rules: &Rules) -> Result<String, Fail> {
     Ok(text)
 }
 
+// Where a fault stands, with a space before each word.
+fn place(alloc: Global, place: Place) -> Result<String, AllocError> {
+    match place {
+        Place::Whole => Ok(String::new(alloc)),
+        Place::Rule(rule) => format!(in alloc; " ruleset {rule}"),
+        Place::Group(rule, group) => format!(in alloc; " ruleset {rule} group {group}"),
+        Place::Detector(rule, group, item) => {
+            format!(in alloc; " ruleset {rule} group {group} item {item}")
+        }
+        Place::Action(rule, action) => format!(in alloc; " ruleset {rule} action {action}"),
+    }
+}
+
 // The text of a fault.
 fn fault(alloc: Global, fault: RulesFault) -> Result<String, Fail> {
-    let mut out = MemSink::new(alloc, 256, 256, Vec::new(alloc))?;
-    put_fault(&mut out, fault)?;
-    let mut text = String::new(alloc);
-    for byte in out.bytes.as_slice() {
-        text.push(char::from(*byte))?;
-    }
-    Ok(text)
+    let place = place(alloc, fault.place)?;
+    Ok(format!(in alloc; "rules{place}: {:?}", fault.what)?)
 }
 
 /// What the bytes are read as.

@@ -1,14 +1,16 @@
-//! The text of a fault.
-ghost use Rattle.outside.specs.Outside.{PutsAll, HasCause};
+//! The texts of the faults of a rules file and of a drop-in file.
 ghost use Rattle.std.specs.Prelude.{◌≡◌};
+ghost use Rattle.outside.specs.Outside.{HasCause, PutsAll};
 ghost use Rattle.ruleset_json.specs.FaultText.{fault_text, placed_text, rules_cause_name};
+ghost use Rattle.dropin_rules.specs.FaultText.{drop_cause_name, drop_fault_text};
 
-use crate::fault::{Place, RulesCause, RulesFault};
+use dropin_rules::{DropCause, DropFault};
 use itoa::Buffer;
 use outside::{Sink, WriteFailed, put_each};
+use ruleset_json::{Place, RulesCause, RulesFault};
 
-/// The name of a cause.
-pub fn cause_name(cause: RulesCause) -> &'static [u8]
+// The name of a cause.
+fn cause_name(cause: RulesCause) -> &'static [u8]
     ensures { result.now ≡ rules_cause_name cause }
 {
     match cause {
@@ -22,10 +24,10 @@ pub fn cause_name(cause: RulesCause) -> &'static [u8]
     }
 }
 
-/// Writes what is told of a fault in a file: the word for the file, the place by the numbers of its
-/// ruleset, its group and its item or its action, which is nothing for the whole file, then `: `
-/// and the name of the cause. Takes no memory.
-pub fn put_placed<K: Sink>(
+// Writes what is reported of a fault in a file: the word for the file, the place by the numbers of
+// its ruleset, its group and its item or its action, which is nothing for the whole file, then `: `
+// and the name of the cause.
+fn put_placed<K: Sink>(
     out: &mut K,
     file: &[u8],
     place: Place,
@@ -89,11 +91,31 @@ pub fn put_placed<K: Sink>(
     }
 }
 
-/// Writes what a fault of a rules file is told as: `rules`, its place and its cause. Takes no
+/// Writes what is reported of a fault of a rules file: `rules`, its place and its cause. Takes no
 /// memory.
 pub fn put_fault<K: Sink>(out: &mut K, fault: RulesFault) -> Result<(), WriteFailed>
     ensures bytes { PutsAll (K.has out.old) (K.has out.new) result (fault_text fault) }
     ensures cause { HasCause (K.faults out.old) (K.faults out.new) result }
 {
     put_placed(out, b"rules", fault.place, cause_name(fault.what))
+}
+
+// The name of a cause of a drop-in file.
+fn drop_cause_name(cause: DropCause) -> &'static [u8]
+    ensures { result.now ≡ drop_cause_name cause }
+{
+    match cause {
+        DropCause::Rules(cause) => cause_name(cause),
+        DropCause::NoParts => b"NoParts",
+        DropCause::UnknownRule => b"UnknownRule",
+    }
+}
+
+/// Writes what is reported of a fault of a drop-in file: `drop-in`, its place as in a rules file,
+/// and its cause. Takes no memory.
+pub fn put_drop_fault<K: Sink>(out: &mut K, fault: DropFault) -> Result<(), WriteFailed>
+    ensures bytes { PutsAll (K.has out.old) (K.has out.new) result (drop_fault_text fault) }
+    ensures cause { HasCause (K.faults out.old) (K.faults out.new) result }
+{
+    put_placed(out, b"drop-in", fault.place, drop_cause_name(fault.what))
 }
