@@ -1,5 +1,5 @@
 //! The parts of a drop-in file put into rules.
-ghost use Rattle.std.specs.Prelude.{◌≡◌, ◌≢◌, ◌≤◌, length, position, Ok, Err, MatchResult};
+ghost use Rattle.std.specs.Prelude.{◌≡◌, ◌≢◌, ◌<◌, ◌^◌, length, position, Ok, Err, MatchResult};
 ghost use Rattle.psi_base.specs.Gives.{Gives, lacks_memory};
 ghost use Rattle.dropin_rules.specs.Joined.{is_named, parts_joined, part_joined};
 
@@ -43,10 +43,10 @@ fn put_part(rules: &mut RuleList, number: u32, part: Part) -> Result<(), DropFau
 /// The rules with the parts of a drop-in file put into them, in order: each replaces the groups,
 /// the actions or both, as it gives them, of the first ruleset of its name. Refused, with both
 /// given up, at the first part that gives neither (`NoParts`) or whose name no ruleset has
-/// (`UnknownRule`). Takes no memory, so `NoMemory` never comes.
+/// (`UnknownRule`). Takes no memory, so `NoMemory` never comes. A part's number has 32 bits.
 #[tactic(auto, unfolding(crate::specs::Joined::parts_joined))]
 pub fn join(base: Rules, parts: Vec<Part>) -> Result<Rules, Fault<DropFault>>
-    requires { length parts.items ≤ 64 }
+    requires { length parts.items < 2 ^ 32 }
     ensures exact { Gives result (parts_joined base parts.items) }
     ensures memory { result ≢ Err lacks_memory }
 {
