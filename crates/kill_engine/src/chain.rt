@@ -9,22 +9,8 @@ ghost use Rattle.ruleset_json.specs.Ranges.{FitsAction, FitsActions};
 use detectors::Reading;
 use kill_spec::Kill;
 use psi_base::Ns;
-use ruleset_json::{Action, After};
-use victim_rank::{MatchTable, Past, victim};
-
-/// What an action says of the time after it.
-fn after_of(action: &Action) -> After
-    requires { FitsAction action.now }
-    ensures value { result ≡ victims.after_of action.now }
-    ensures short { result.delay_s ≤ 1000000 }
-{
-    match action {
-        Action::SizeOrGrowth { after, .. } => *after,
-        Action::SwapUsage { after, .. } => *after,
-        Action::Pressure { after, .. } => *after,
-        Action::PgScan { after, .. } => *after,
-    }
-}
+use ruleset_json::Action;
+use victim_rank::{MatchTable, Past, after_of, victim};
 
 /// The end (ns) of a rest of so many seconds. It may be later than any moment of 64 bits.
 fn end_of_rest(at: Ns, delay_s: u32) -> u128

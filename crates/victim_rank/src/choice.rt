@@ -11,7 +11,7 @@ use crate::foremost::foremost;
 use crate::growth::grown_most;
 use crate::measure::rank;
 use crate::past::Past;
-use crate::scope::{Scope, after};
+use crate::scope::{Scope, after_of};
 use crate::size::{count_above, count_in_rank, is_large, total_size};
 use crate::table::MatchTable;
 use detectors::Reading;
@@ -108,7 +108,7 @@ pub fn victim(
     let Some(chosen) = choose(&scope, reading, past) else {
         return None;
     };
-    if after(action).recursive {
+    if after_of(action).recursive {
         Some(descend(&scope, reading, past, chosen).slot)
     } else {
         Some(chosen.slot)

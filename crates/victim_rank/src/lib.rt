@@ -2,7 +2,7 @@
 //! before.
 //!
 //! [`Past`] keeps what later choices need of each reading, and [`victim`] chooses. Both take no
-//! memory once a past is made.
+//! memory once a past is made. [`after_of`] says what comes after a kill.
 #![tactic(auto)]
 
 mod choice;
@@ -16,4 +16,5 @@ mod table;
 
 pub use choice::victim;
 pub use past::Past;
+pub use scope::after_of;
 pub use table::MatchTable;

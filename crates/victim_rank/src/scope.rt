@@ -54,7 +54,7 @@ pub(crate) fn patterns(action: &Action) -> &Patterns
 }
 
 /// What an action says of the time after it.
-pub(crate) fn after(action: &Action) -> After
+pub fn after_of(action: &Action) -> After
     ensures { result ≡ after_of action.now }
 {
     match action {

@@ -19,8 +19,8 @@ pub returns-then-not-after-clause-rest : goal.returns-then-not-after-clause-rest
 returns-then-not-after-clause-rest c = λ history is_past.
     let act : Action = c.index-actions-act.result in
     let actions : List Action = c.args.actions.now in
-    let off : (after_of act).always_continue ≡ false = is_not _ (subst (λ after. not after.always_continue ≡ true) c.after_of-after.ensures.value c.if-not-after.true) in
-    let until : c.end_of_rest.result ≡ c.in-Some.kill.at + of_seconds (after_of act).delay_s = subst (λ after. c.end_of_rest.result ≡ c.in-Some.kill.at + of_seconds after.delay_s) c.after_of-after.ensures.value c.end_of_rest.ensures in
+    let off : (after_of act).always_continue ≡ false = is_not _ (subst (λ after. not after.always_continue ≡ true) c.after_of-after.ensures c.if-not-after.true) in
+    let until : c.end_of_rest.result ≡ c.in-Some.kill.at + of_seconds (after_of act).delay_s = subst (λ after. c.end_of_rest.result ≡ c.in-Some.kill.at + of_seconds after.delay_s) c.after_of-after.ensures c.end_of_rest.ensures in
     laws.rests c.args.reading.now.lives c.args.number actions c.args.reading.now.seen history c.actions.act act c.in-Some.kill c.end_of_rest.result (omega arith) c.index-actions-act.is (c.in-Some.ensures history is_past) off until
     ∙ ap (option_map (rest_of actions)) (c.actions.invariant.ending history is_past)
 
@@ -30,7 +30,7 @@ actions-preserved c =
     let actions : List Action = c.args.actions.now in
     let lives : List GroupLife = c.args.reading.now.lives in
     let now : Reading = c.args.reading.now.seen in
-    let on : (after_of act).always_continue ≡ true = not_false _ (subst (λ after. not after.always_continue ≡ false) c.after_of-after.ensures.value c.if-not-after.false) in
+    let on : (after_of act).always_continue ≡ true = not_false _ (subst (λ after. not after.always_continue ≡ false) c.after_of-after.ensures c.if-not-after.false) in
     record {
       found = λ history is_past.
           let rest : List Kill = laws.behind lives c.args.number actions now history (c.actions.act + 1) in
