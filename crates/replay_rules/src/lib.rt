@@ -16,4 +16,3 @@ pub use judge::Judge;
 pub use kill_spec::Kill;
 pub use laws::{law_evaluations, law_readings};
 pub use schedule::{is_due, tick_moment};
-pub use seen::is_live_at;

@@ -2,7 +2,6 @@
 ghost use Rattle.std.specs.Prelude.{◌≡◌, ◌<◌, ℕ, All, length, take};
 ghost use Rattle.pressure_spec.specs.Average.{IsRow};
 ghost use Rattle.pressure_spec.specs.Share.{irq_quantity};
-ghost use Rattle.psi_spec.specs.Groups.{is_live_at};
 ghost use Rattle.kill_spec.specs.Readings.{IsGroupReading};
 ghost use Rattle.tick_engine.specs.Engine.{averages_in};
 ghost use Rattle.group_tree.specs.Tree.{numbers_of};
@@ -12,20 +11,8 @@ use detectors::Reading;
 use kill_spec::GroupReading;
 use pressure_spec::QUANTITIES;
 use psi_base::{Ns, Slot, State};
-use psi_spec::GroupLife;
 use side_watch::SideWatch;
-use tick_engine::Engine;
-
-/// Whether a group is live at a moment (ns): it was made by then, and hasn't gone by then.
-pub fn is_live_at(life: &GroupLife, at: Ns) -> bool
-    ensures { result ≡ is_live_at life.now at }
-{
-    let is_gone = match life.gone {
-        Some(gone) => gone <= at,
-        None => false,
-    };
-    life.made <= at && !is_gone
-}
+use tick_engine::{Engine, is_live_at};
 
 /// The averages of a group over 10, 60 and 300 seconds, of each state but nonidle, in the order of
 /// the states.

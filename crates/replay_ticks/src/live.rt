@@ -13,8 +13,8 @@ use outside::{Sink, WriteFailed};
 use pressure_text::write_live;
 use psi_base::{Cpu, Ns, Path, Slot};
 use psi_spec::GroupLife;
-use replay_rules::is_live_at;
 use replay_workers::{Crew, Sample};
+use tick_engine::is_live_at;
 
 /// The slot of the group with a path that is live at a moment (ns), if there is one.
 pub(crate) fn watched_slot(lives: &[GroupLife], path: &Path, at: Ns) -> Option<Slot>

@@ -17,8 +17,8 @@ use pressure_spec::{Amounts, QUANTITIES};
 use pressure_text::{write_fired, write_irq, write_kill, write_report};
 use psi_base::{Ns, Path, Res, Slot, TriggerSpec};
 use psi_spec::GroupLife;
-use replay_rules::{Kill, is_live_at};
-use tick_engine::Engine;
+use replay_rules::Kill;
+use tick_engine::{Engine, is_live_at};
 
 /// The version of traces that tell of interrupts.
 const WITH_IRQ: u32 = 2;

@@ -1,10 +1,11 @@
 //! What is kept of one group.
 
-ghost use Rattle.std.specs.Prelude.{◌≡◌, ℕ, ◌≤◌, ◌<◌, length};
+ghost use Rattle.std.specs.Prelude.{◌≡◌, ℕ, ◌≤◌, ◌<◌, ◌&&◌, length, nat_le, not};
 ghost use Rattle.aggregate.specs.Table.{HaveSameSizes};
 ghost use Rattle.pressure_spec.specs.Samples.{row_at};
 ghost use Rattle.pressure_spec.specs.Share.{AreAmountsWithin, most_irq_total, plus};
 ghost use Rattle.pressure_spec.specs.Ticks.{IsNextTick};
+ghost use Rattle.psi_spec.specs.Groups.{is_gone_by, is_live_at};
 ghost use Rattle.psi_spec.specs.Trace.{last_moment};
 ghost use Rattle.psi_spec.specs.World.{most_groups};
 ghost use Rattle.tick_engine.specs.Step.{AreGroupsWithin, AreStepped, AreTotalsWithin, group_step, is_live_group, sampled, unsampled_group};
@@ -16,6 +17,25 @@ use fixed_average::Averages;
 use pressure_spec::Amounts;
 use psi_base::{Ns, Slot};
 use psi_spec::GroupLife;
+
+/// Whether what was made and went at these moments (ns) is live at another: it was made by then,
+/// and hasn't gone by then.
+fn is_live(made: Ns, gone: Option<Ns>, at: Ns) -> bool
+    ensures { result ≡ nat_le made at && not (is_gone_by gone at) }
+{
+    let is_gone = match gone {
+        Some(gone) => gone <= at,
+        None => false,
+    };
+    made <= at && !is_gone
+}
+
+/// Whether a group is live at a moment (ns): it was made by then, and hasn't gone by then.
+pub fn is_live_at(life: &GroupLife, at: Ns) -> bool
+    ensures { result ≡ is_live_at life.now at }
+{
+    is_live(life.made, life.gone, at)
+}
 
 /// A group: when it was made and went (ns), its totals and its averages.
 #[derive(Drop)]
@@ -44,11 +64,7 @@ impl Group {
     pub(crate) fn is_live(&self, at: Ns) -> bool
         ensures { result ≡ is_live_group self.now at }
     {
-        let is_gone = match self.gone {
-            Some(gone) => gone <= at,
-            None => false,
-        };
-        self.made <= at && !is_gone
+        is_live(self.made, self.gone, at)
     }
 
     /// Adds the shares of an interval (ns) to the totals, and has the averages take them at the

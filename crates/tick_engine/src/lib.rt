@@ -7,3 +7,4 @@ mod last;
 mod watch;
 
 pub use engine::{Engine, law_engine};
+pub use group::is_live_at;
