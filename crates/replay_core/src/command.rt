@@ -1,27 +1,22 @@
 //! The commands, each over its files.
-ghost use Rattle.std.specs.Prelude.{◌≡◌, ◌+◌, ◌≤◌, List, None, IfSome, IsUtf8};
+ghost use Rattle.std.specs.Prelude.{◌≡◌, ◌+◌, ◌≤◌, None, IfSome, IsUtf8};
 ghost use Rattle.outside.specs.Outside.{StaysOver};
-ghost use Rattle.psi_base.specs.declared.event.Event.{Event};
-ghost use Rattle.psi_spec.specs.World.{Limits};
-ghost use Rattle.run_spec.specs.Text.{check_text};
 ghost use Rattle.run_spec.specs.MostRead.{most_read};
 ghost use Rattle.run_spec.specs.Run.{Runs, run_counts};
 ghost use Rattle.run_spec.specs.Words.{IsCommand, IsWithin};
 ghost use Rattle.psi_words.specs.Reads.{HasTextNames};
-ghost use Rattle.trace_file.specs.Reads.{plain_trace};
-ghost use Rattle.trace_player.specs.Playing.{IsPlayed};
-ghost use Rattle.run_outcomes.specs.Writes.{IsStatusOf, WritesText};
+ghost use Rattle.run_outcomes.specs.Writes.{IsStatusOf};
 
 use crate::whatif::run_whatif;
 use gen_run::{write_generated, write_stress};
 use import_run::run_import;
-use outside::{Gate, Shelf, Sink, WriteFailed};
+use outside::{Gate, Shelf, Sink};
 use proc_plan::Planner;
 use psi_base::Ns;
 use replay_run::write_replay;
 use rules_file::{name_of, read_rules, run_rules};
 use run_spec::{Command, Options, Status, Which};
-use stall_run::{put_check, write_stalls};
+use stall_run::{write_checked, write_stalls};
 use std::alloc::Global;
 use std::thread::Threads;
 use task_table::Table;
@@ -72,20 +67,6 @@ fn run_stall<R: Threads + Sync, S: Shelf, K: Sink>(
     }
 }
 
-// Writes the line of an accepted trace.
-fn write_line<K: Sink>(table: &Table, out: &mut K) -> Status
-    ensures writes { (limits : Limits) (events : List Event) →
-        IsPlayed table.now.limits table.now.world limits events →
-        WritesText (check_text (plain_trace limits.cpus events))
-        (K.faults out.old) (K.faults out.new) (K.has out.old) (K.has out.new) result }
-    ensures below { StaysOver (K.below out.old) (K.below out.new) }
-{
-    match put_check(table, out) {
-        Ok(()) => Status::Done,
-        Err(WriteFailed) => Status::WriteFault,
-    }
-}
-
 // Runs `check` over a trace, with this length of a tick (ms).
 fn run_check<S: Shelf, K: Sink>(
     alloc: Global,
@@ -106,7 +87,7 @@ fn run_check<S: Shelf, K: Sink>(
 {
     let tick = Ns::from(tick_ms) * MILLISECOND;
     match play_trace::<S, Table>(alloc, name, shelf, tick) {
-        Ok((_, table)) => write_line(&table, out),
+        Ok((_, table)) => write_checked(&table, out),
         Err(fault) => fault_status(fault),
     }
 }

@@ -1,8 +1,9 @@
 //! What `stall` and `check` write of a trace that was played.
 #![tactic(auto)]
 
+mod check;
 mod lines;
 mod stalls;
 
-pub use lines::put_check;
+pub use check::write_checked;
 pub use stalls::write_stalls;

@@ -1,27 +1,21 @@
-//! What commands print of what was played.
+//! The lines of `stall`.
 
-ghost use Rattle.std.specs.Prelude.{◌≡◌, ℕ, ◌<◌, ◌≤◌, List, length};
+ghost use Rattle.std.specs.Prelude.{◌≡◌, ℕ, ◌<◌, ◌≤◌, length};
 ghost use Rattle.std.specs.List.{All};
 ghost use Rattle.outside.specs.Outside.{HasCause, PutsAll, StaysOver};
-ghost use Rattle.psi_base.specs.declared.event.Event.{Event};
 ghost use Rattle.plan_laws.specs.Plan.{IsPlan, last_change};
 ghost use Rattle.psi_spec.specs.Trace.{last_moment};
-ghost use Rattle.run_spec.specs.Text.{check_text};
 ghost use Rattle.psi_spec.specs.Grammar.{IsVersion, One, Two, version_of};
-ghost use Rattle.psi_spec.specs.World.{Limits};
 ghost use Rattle.proc_plan.specs.Plans.{plan_at};
 ghost use Rattle.stall_run.specs.Lines.{HasMadeAll, all_lines, plan_line, plan_lines};
 ghost use Rattle.replay_workers.specs.Crew.{clocks_at};
-ghost use Rattle.trace_file.specs.Reads.{plain_trace};
-ghost use Rattle.trace_player.specs.Playing.{IsPlayed};
 
 use outside::{Sink, WriteFailed};
-use pressure_text::{write_check, write_stall, write_stall_irq};
+use pressure_text::{write_stall, write_stall_irq};
 use proc_plan::{IrqClocks, PlainClocks, Plans, ProcClocks};
 use psi_base::{Cpu, Ns, Slot};
 use psi_spec::GroupLife;
 use replay_workers::own_times;
-use task_table::Table;
 
 // Writes the line of a group on a processor at the last moment (ns) of a trace that tells of no
 // interrupts.
@@ -171,16 +165,4 @@ pub(crate) fn put_lines<K: Sink>(
         put_processor(out, version, cpu, &mut clocks[place], groups, order, last)?;
     }
     Ok(())
-}
-
-/// Writes the line of an accepted trace.
-pub fn put_check<K: Sink>(table: &Table, out: &mut K) -> Result<(), WriteFailed>
-    ensures bytes { (limits : Limits) (events : List Event) →
-        IsPlayed table.now.limits table.now.world limits events →
-        PutsAll (K.has out.old) (K.has out.new) result
-        (check_text (plain_trace limits.cpus events)) }
-    ensures cause { HasCause (K.faults out.old) (K.faults out.new) result }
-    ensures below { StaysOver (K.below out.old) (K.below out.new) }
-{
-    write_check(out, u64::from(table.lines()), table.last())
 }

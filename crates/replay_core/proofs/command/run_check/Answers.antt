@@ -12,9 +12,9 @@ returns-in-Ok-clause-runs g c =
     let read = rw c.from-tick.ensures at c.in-Ok.ensures.content in
     let causes = c.in-Ok.ensures.cause in
     let trace = trace_with (version_of c.in-Ok.field-0-0) read.cpus read.events in
-    runs_written command c.args.name.now (g.S.Shelf.holds c.args.shelf.now) _ _ _ _ trace [] (check_text trace) c.write_line.result refl
+    runs_written command c.args.name.now (g.S.Shelf.holds c.args.shelf.now) _ _ _ _ trace [] (check_text trace) c.write_checked.result refl
     (takes_any command c.args.name.now (g.S.Shelf.holds c.args.shelf.now) (version_of c.in-Ok.field-0-0) read.cpus read.events (λ bytes. refl) refl refl read.counted read.told read.accepted read.read)
-    (none_given (g.S.Shelf.holds c.args.shelf.now)) c.in-Ok.ensures.missing refl (causes.faults_same (λ is. cc is)) (causes.absent_same (λ is. cc is)) (c.write_line.ensures.writes _ read.events read.played)
+    (none_given (g.S.Shelf.holds c.args.shelf.now)) c.in-Ok.ensures.missing refl (causes.faults_same (λ is. cc is)) (causes.absent_same (λ is. cc is)) (c.write_checked.ensures.writes _ read.events read.played)
 
 pub returns-in-Err-clause-runs : goal.returns-in-Err-clause-runs
 returns-in-Err-clause-runs g c =
