@@ -1,7 +1,7 @@
 -- The places of groups that pass a test, and how many children of a group there are.
 use Rattle.std.proofs.Common.{◌≡◌, ℕ, zero, suc, ◌+◌, ◌<◌, ◌≤◌, List, [], ◌∷◌, ◌++◌, length, get_or, length-append}
-use Rattle.std.proofs.Common.{⊎_elim, inl, inr, refl, sym, ap, subst, ◌∙◌, arith, eqb}
-use Rattle.std.specs.Prelude.{All, Bool, true, false, ◌||◌, filter, map, if◌then◌else◌, Option, None}
+use Rattle.std.proofs.Common.{⊎_elim, refl, sym, ap, ◌∙◌, arith, eqb}
+use Rattle.std.specs.Prelude.{All, Bool, true, false, filter, map, if◌then◌else◌, Option, None}
 use Rattle.std.specs.List.{AllByRecursion, IsDistinct, list_any}
 use Rattle.std.proofs.Math.ListN.{get_or-append}
 use Rattle.std.proofs.Math.Seq.{get_or-append_seam}
@@ -17,7 +17,7 @@ use Rattle.kill_spec.specs.declared.reading.GroupReading.{GroupReading}
 use Rattle.kill_spec.specs.Readings.{Ascend, IsGroupReading, path_of}
 use Rattle.kill_spec.specs.Victims.{names_slot}
 use Rattle.kill_spec.proofs.Foremost.{by_test}
-use Rattle.detectors.specs.Below.{AreAmong, AreBelow, AreHeld, HasPlaced, PlacesView, child_count}
+use Rattle.detectors.specs.Below.{AreAmong, AreHeld, HasPlaced, PlacesView, child_count}
 use Rattle.detectors.specs.Below.{group_at, groups_at, is_child, no_group}
 use Rattle.detectors.proofs.Order.{either, slots_differ, slots_in}
 

@@ -10,7 +10,7 @@ use Rattle.kill_spec.specs.Readings.{Ascend, IsGroupReading, path_of}
 use Rattle.kill_spec.specs.Victims.{names_slot}
 use Rattle.kill_spec.proofs.Foremost.{by_test}
 use Rattle.detectors.specs.Views.{ComesLast, IsReadingView, ReadingView}
-use Rattle.detectors.specs.Below.{AreHeld, ArePlaces, HasPlaced, PlacesView, child_count, group_at, groups_at, is_child}
+use Rattle.detectors.specs.Below.{AreHeld, ArePlaces, HasPlaced, PlacesView, child_count, group_at, is_child}
 use Rattle.detectors.proofs.Order.{at_most_slots, each_more}
 use Rattle.detectors.proofs.Children.{at_most_children, held_more, one_more}
 

@@ -1,5 +1,5 @@
 -- What a replay stands on: plans of an accepted trace, and an engine that has taken its ticks.
-use Rattle.std.specs.Prelude.{◌≡◌, ℕ, ◌<◌, ◌≤◌}
+use Rattle.std.specs.Prelude.{ℕ, ◌<◌, ◌≤◌}
 use Rattle.psi_spec.specs.Told.{triggers_of}
 use Rattle.psi_spec.specs.Trace.{IsAccepted, IsCpuCount, Trace, limits_of, longest_tick}
 use Rattle.pressure_spec.specs.Ticks.{ticks_of}

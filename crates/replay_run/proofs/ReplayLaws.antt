@@ -6,10 +6,10 @@ use Rattle.outside.proofs.Grows.{Appends-none, Appends-then, AppendsFront-then}
 use Rattle.outside.specs.Outside.{AppendsFront, PutsAll}
 use Rattle.psi_base.specs.declared.event.Event.{Event}
 use Rattle.psi_spec.specs.Grammar.{Version}
-use Rattle.psi_spec.specs.Trace.{IsAccepted, Trace, limits_of}
+use Rattle.psi_spec.specs.Trace.{Trace, limits_of}
 use Rattle.pressure_spec.specs.Ticks.{tick_moment}
 use Rattle.psi_spec.specs.World.{Limits}
-use Rattle.proc_plan.specs.Plans.{PlannerView, PlansView, StandForTaken}
+use Rattle.proc_plan.specs.Plans.{PlannerView, PlansView}
 use Rattle.run_spec.specs.Outputs.{pace_of}
 use Rattle.run_spec.specs.declared.command.Options.{Options}
 use Rattle.ruleset_json.specs.declared.types.Rule.{Rule}

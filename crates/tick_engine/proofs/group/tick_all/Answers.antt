@@ -1,7 +1,6 @@
-use Rattle.std.proofs.Common.{◌≡◌, ◌<◌, [], length, get_or, set, arith, ap, sym, subst, ◌∙◌, ◌⊎◌, ⊎_elim}
+use Rattle.std.proofs.Common.{◌≡◌, ◌<◌, length, get_or, set, arith, ap, sym, subst, ◌∙◌, ◌⊎◌, ⊎_elim}
 use Rattle.std.proofs.lemmas.List.{get_or-set_other, get_or-set_same, get_or_default}
 use Rattle.aggregate.specs.Table.{HaveSameSizes}
-use Rattle.pressure_spec.specs.Samples.{row_at}
 use Rattle.pressure_spec.specs.Ticks.{Tick}
 use Rattle.tick_engine.specs.Step.{AreTotalsWithin, engine_group, group_step, no_group}
 use Rattle.tick_engine.specs.Tables.{tick_at}

@@ -1,8 +1,8 @@
 use Rattle.std.proofs.Common.{rules, ◌≡◌, ◌<◌, ◌++◌, ◌∷◌, ◌∙◌, [], get_or, length, subst, sym, ap, arith}
-use Rattle.std.specs.Prelude.{◌==◌, None, not, true, vec_capacity}
+use Rattle.std.specs.Prelude.{not, true, vec_capacity}
 use Rattle.std.specs.Result.{is_ok}
 use Rattle.std.proofs.lemmas.Grind.{common_steps}
-use Rattle.psi_spec.specs.Stall.{number_of_slot, parents_of}
+use Rattle.psi_spec.specs.Stall.{number_of_slot}
 use Rattle.kill_spec.specs.Readings.{IsGroupReading}
 use Rattle.kill_spec.specs.Victims.{names_slot}
 use Rattle.detectors.specs.Below.{is_child}

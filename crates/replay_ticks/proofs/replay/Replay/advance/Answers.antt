@@ -1,4 +1,4 @@
-use Rattle.std.proofs.Common.{◌≡◌, ◌+◌, ◌<◌, length, arith, ap, sym, subst}
+use Rattle.std.proofs.Common.{◌+◌, ◌<◌, length, arith, ap, sym, subst}
 use Rattle.std.specs.Prelude.{IfSome}
 use Rattle.psi_base.specs.declared.event.Slot.{Slot}
 use Rattle.proc_plan.specs.Plans.{PlansView}
