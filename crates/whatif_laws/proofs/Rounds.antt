@@ -1,14 +1,13 @@
 -- What a round leaves prints the same up to the tick of the kill that it takes out.
-use Rattle.std.proofs.Common.{◌≡◌, ℕ, zero, suc, ◌+◌, ◌≤◌, ◌<◌, List, [], ◌++◌, refl, ap, ◌∙◌, sym, subst, arith, Bool, true, false, length, Some, nat_lt}
-use Rattle.std.specs.Prelude.{if◌then◌else◌, Option, Result, Ok, Err, slice_get}
+use Rattle.std.proofs.Common.{◌≡◌, ℕ, zero, suc, ◌+◌, ◌≤◌, ◌<◌, List, refl, ap, ◌∙◌, sym, subst, arith, Bool, true, false, length, Some, nat_lt}
+use Rattle.std.specs.Prelude.{if◌then◌else◌, Option, Ok, Err, slice_get}
 use Rattle.std.specs.List.{flat_map, range_with_len}
 use Rattle.std.proofs.lemmas.Bool.Decides.{nat_tests}
-use Rattle.psi_spec.specs.Trace.{IsAccepted, Trace}
-use Rattle.psi_spec.specs.World.{Limits, most_events}
-use Rattle.pressure_spec.specs.Ticks.{tick_moment}
+use Rattle.psi_spec.specs.Trace.{Trace}
+use Rattle.psi_spec.specs.World.{most_events}
 use Rattle.ruleset_json.specs.declared.types.Rule.{Rule}
 use Rattle.kill_spec.specs.declared.kill.Kill.{Kill}
-use Rattle.run_spec.specs.Replay.{Beside, Pace, tick_count, tick_text, ticks_text}
+use Rattle.run_spec.specs.Replay.{Pace, tick_count, tick_text, ticks_text}
 use Rattle.run_spec.specs.Whatif.{after_rounds, all_kills, bounded_trace, without_kill}
 use Rattle.run_spec.proofs.LastTrace.{one_round}
 use Rattle.whatif_spec.specs.Without.{trace_without}

@@ -1,7 +1,7 @@
 -- What stays of a trace without the tasks of a group: the events up to the moment, the groups, the
 -- triggers and the end.
 use Rattle.std.proofs.Common.{◌≡◌, ℕ, ◌+◌, ◌≤◌, ◌<◌, List, [], ◌∷◌, ◌++◌, refl, ap, ◌∙◌, sym, subst, arith, append_assoc, cond, Bool, true, false, Option, None, Some, length}
-use Rattle.std.specs.Prelude.{filter, if◌then◌else◌, nat_le, nat_lt, not}
+use Rattle.std.specs.Prelude.{if◌then◌else◌, nat_le, nat_lt, not}
 use Rattle.std.proofs.lemmas.Bool.Decides.{nat_tests}
 use Rattle.std.proofs.lemmas.List.{append-nil}
 use Rattle.psi_base.specs.declared.event.Act.{Act}
@@ -19,8 +19,7 @@ use Rattle.psi_spec.specs.Told.{told_from, trigger_by, triggers_of}
 use Rattle.psi_spec.specs.Trace.{EndsLast, IsAccepted}
 use Rattle.psi_spec.specs.World.{Limits, World, after, after_event, after_from, first_world, groups_after, is_active, is_running, running_on, task_of, up_to, events_at}
 use Rattle.psi_spec.proofs.Following.{after_from-append}
-use Rattle.plan_laws.proofs.PlanUpTo.{past_it}
-use Rattle.whatif_spec.specs.Without.{act_without, acts_if, behind, dead_after, exit_acts, exit_of, exits_from, if_alive, is_alive, is_pid_among, making_room, members, pid_part, rest_without, switch_without, without}
+use Rattle.whatif_spec.specs.Without.{act_without, acts_if, behind, dead_after, exit_acts, exit_of, exits_from, if_alive, is_alive, is_pid_among, making_room, pid_part, rest_without, switch_without, without}
 use Rattle.whatif_trace.proofs.Resting.{Begins, in_time}
 use Rattle.whatif_trace.proofs.Together.{Holds, IsCut, cut_at, cut_world, dead_of, end_at, exits_of, holds, rest_of, three_parts}
 use Rattle.whatif_trace.proofs.Whole.{rest_both}

@@ -1,5 +1,5 @@
 -- Up to the moment of a kill each tick prints the same without the tasks of its victim.
-use Rattle.std.proofs.Common.{◌≡◌, ℕ, zero, suc, ◌+◌, ◌*◌, ◌-◌, ◌/◌, ◌≤◌, ◌<◌, List, [], ◌∷◌, ◌++◌, refl, ap, ◌∙◌, sym, subst, arith, cond, Bool, true, false, length, map}
+use Rattle.std.proofs.Common.{◌≡◌, ℕ, zero, suc, ◌+◌, ◌-◌, ◌/◌, ◌≤◌, ◌<◌, List, [], ◌∷◌, refl, ap, ◌∙◌, arith, cond, true, false, length, map}
 use Rattle.std.specs.Prelude.{if◌then◌else◌, take}
 use Rattle.std.specs.List.{flat_map, range_with_len}
 use Rattle.std.proofs.Math.Nat.{mul-le-mul_right}
@@ -8,17 +8,16 @@ use Rattle.psi_spec.specs.declared.machine.GroupLife.{GroupLife}
 use Rattle.psi_spec.specs.Groups.{live_groups}
 use Rattle.psi_spec.specs.Stall.{irq_time, stall}
 use Rattle.psi_spec.specs.Told.{triggers_of}
-use Rattle.psi_spec.specs.Trace.{IsAccepted, Trace}
-use Rattle.psi_spec.specs.World.{Limits, after, up_to}
+use Rattle.psi_spec.specs.Trace.{Trace}
+use Rattle.psi_spec.specs.World.{after, up_to}
 use Rattle.pressure_spec.specs.Share.{irq_quantity}
-use Rattle.pressure_spec.specs.Ticks.{Tick, is_evaluation, is_report, tick_moment, tick_of, ticks_of, times_with}
+use Rattle.pressure_spec.specs.Ticks.{Tick, is_evaluation, tick_moment, tick_of, ticks_of, times_with}
 use Rattle.pressure_spec.specs.Samples.{fired_at, group_averages, totals_after}
 use Rattle.ruleset_json.specs.declared.types.Rule.{Rule}
-use Rattle.kill_spec.specs.declared.reading.GroupReading.{GroupReading}
 use Rattle.kill_spec.specs.Readings.{Reading}
 use Rattle.kill_spec.specs.Kills as deciding
 use Rattle.kill_spec.specs.Evaluations.{evaluations, group_seen, host_of, reading_at, readings_until}
-use Rattle.run_spec.specs.Replay.{Beside, Pace, files_text, fired_in, group_report, kill_lines, kills_in, live_groups_at, lives_of, reports, signal_lines, tick_count, tick_text}
+use Rattle.run_spec.specs.Replay.{Beside, Pace, files_text, fired_in, kills_in, lives_of, reports, tick_count, tick_text}
 use Rattle.whatif_spec.specs.Without.{without}
 use Rattle.whatif_laws.specs.Until.{SameUntilKill}
 use Rattle.whatif_laws.proofs.Same.{IsSame, is_same}

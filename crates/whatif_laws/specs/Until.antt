@@ -1,6 +1,6 @@
 -- What is printed up to the moment from which on the tasks of a group are taken out of a trace.
 use Rattle.std.specs.Prelude.{◌≡◌, ℕ, suc, ◌≤◌, List, length, Some, Ok, slice_get}
-use Rattle.psi_spec.specs.World.{Limits, after, most_events}
+use Rattle.psi_spec.specs.World.{Limits, most_events}
 use Rattle.psi_spec.specs.Trace.{IsAccepted, Trace}
 use Rattle.pressure_spec.specs.Ticks.{tick_moment}
 use Rattle.ruleset_json.specs.declared.types.Rule.{Rule}

@@ -1,8 +1,7 @@
-use Rattle.std.proofs.Common.{◌≡◌, ◌∙◌, sym, true, subst}
+use Rattle.std.proofs.Common.{◌≡◌, ◌∙◌, sym, true}
 use Rattle.std.specs.Ordering.{is_lt, nat_cmp}
 use Rattle.std.specs.Cmp.Lexicographic.{slice_cmp}
 use Rattle.psi_spec.specs.Groups.{path_at}
-use Rattle.detectors.specs.Views.{ComesLast}
 use Rattle.rule_tests.proofs.Ascending.{ascend_more, less}
 use Rattle.rule_tests.proofs.checks.comes_last.Goals as goal
 
