@@ -3,8 +3,9 @@ use Rattle.std.proofs.Common.{◌≡◌, ◌<◌, ◌≤◌, ◌+◌, ◌*◌, �
 use Rattle.std.specs.Prelude.{map, max, sum_by}
 use Rattle.std.proofs.lemmas.List.{take_all}
 use Rattle.std.proofs.lemmas.List.Sums.{sum_by_more}
-use Rattle.psi_spec.specs.Trace.{longest_tick}
-use Rattle.pressure_spec.specs.Share.{AreTimesWithin, irq_place, irq_quantity, pressure_places, shares, total_weight, weight}
+use Rattle.psi_spec.specs.Within.{longest_tick}
+use Rattle.pressure_spec.specs.Share.{irq_place, irq_quantity, pressure_places, shares, total_weight, weight}
+use Rattle.pressure_spec.specs.Within.{AreTimesWithin}
 use Rattle.psi_spec.specs.World.{longest_irq}
 use Rattle.pressure_spec.proofs.ShareLaws.{shares_all, state_place}
 

@@ -1,7 +1,7 @@
 -- What times grew by.
 use Rattle.std.specs.Prelude.{ℕ, ◌-◌, ◌≤◌, List}
 use Rattle.pressure_spec.specs.Share.{zip_with}
-use Rattle.pressure_spec.specs.Ticks.{time_of}
+use Rattle.pressure_spec.specs.NextTick.{time_of}
 
 -- what each time (ns) of a processor grew by
 abbrev pub growth : List ℕ → List ℕ → List ℕ

@@ -1,8 +1,8 @@
 //! The totals of a group.
 ghost use Rattle.std.specs.Prelude.{◌≡◌};
-ghost use Rattle.psi_spec.specs.Trace.{last_moment};
+ghost use Rattle.psi_spec.specs.Within.{last_moment};
 ghost use Rattle.pressure_spec.specs.Share as model;
-ghost use Rattle.pressure_spec.specs.Share.{AreAmountsWithin, most_irq_total};
+ghost use Rattle.pressure_spec.specs.Within.{AreAmountsWithin, most_irq_total};
 
 use pressure_spec::{Amounts, QUANTITIES};
 use std::marker::Model;

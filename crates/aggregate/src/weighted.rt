@@ -1,10 +1,11 @@
 //! The shares of an interval.
 ghost use Rattle.std.specs.Prelude.{◌≡◌, ◌≤◌, ◌<◌, ◌+◌, ◌*◌, ◌/◌, ℕ, All, length, map, slice_index};
-ghost use Rattle.psi_spec.specs.Trace.{longest_tick};
+ghost use Rattle.psi_spec.specs.Within.{longest_tick};
 ghost use Rattle.aggregate.specs.Since.{NoneFell, growth};
 ghost use Rattle.pressure_spec.specs.Samples.{growths};
 ghost use Rattle.pressure_spec.specs.Share as model;
-ghost use Rattle.pressure_spec.specs.Share.{AreTimesWithin, pressure_places};
+ghost use Rattle.pressure_spec.specs.Share.{pressure_places};
+ghost use Rattle.pressure_spec.specs.Within.{AreTimesWithin};
 ghost use Rattle.psi_spec.specs.World.{longest_irq};
 
 use pressure_spec::{Amounts, QUANTITIES, TIMES, Times};

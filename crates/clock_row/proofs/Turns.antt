@@ -9,7 +9,7 @@ use Rattle.std.proofs.lemmas.Bool.{eqb-true}
 use Rattle.std.proofs.lemmas.Option.{slice_get-get_or}
 use Rattle.atomic_table.specs.Seated.{TableId}
 use Rattle.psi_base.specs.declared.event.Slot.{Slot}
-use Rattle.psi_spec.specs.Groups.{AreOlder, leads_to}
+use Rattle.psi_spec.specs.LegalGroups.{AreOlder, leads_to}
 use Rattle.psi_spec.specs.Stall.{number_of_slot}
 use Rattle.psi_spec.proofs.GroupLaws.{by_step}
 use Rattle.psi_counts.specs.declared.changes.Change.{Change}

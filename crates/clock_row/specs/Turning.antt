@@ -4,7 +4,7 @@ use Rattle.std.specs.List.{All}
 use Rattle.atomic_table.specs.Seated.{TableId}
 use Rattle.psi_base.specs.declared.event.Slot.{Slot}
 use Rattle.plan_laws.specs.Plan.{IsPlan}
-use Rattle.psi_spec.specs.Groups.{leads_to}
+use Rattle.psi_spec.specs.LegalGroups.{leads_to}
 use Rattle.psi_spec.specs.Stall.{number_of_slot}
 use Rattle.clock_row.specs.Words.{AreClock, AreOnTheWay, GoesOn, words_at}
 use Rattle.clock_row.specs.Seats.{HasStored, IsSameSeat, IsWriter, RowSeat, writer_on}

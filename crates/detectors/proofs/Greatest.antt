@@ -7,12 +7,13 @@ use Rattle.psi_base.specs.declared.event.Res.{Res}
 use Rattle.psi_base.specs.declared.event.Res.TheVariants.{Io, Memory, Cpu}
 use Rattle.psi_base.specs.declared.event.Level.TheVariants.{FullStalled}
 use Rattle.psi_spec.specs.Stall.{state_number}
-use Rattle.pressure_spec.specs.Average.{IsRow}
+use Rattle.pressure_spec.specs.Within.{IsRow}
 use Rattle.pressure_spec.specs.Samples.{state_of}
 use Rattle.ruleset_json.specs.declared.types.DetectorSpec.{DetectorSpec}
 use Rattle.ruleset_json.specs.declared.types.DetectorSpec.TheVariants as detector
 use Rattle.kill_spec.specs.declared.reading.GroupReading.{GroupReading}
-use Rattle.kill_spec.specs.Readings.{IsGroupReading, full_average, ten_seconds}
+use Rattle.kill_spec.specs.Readings.{full_average, ten_seconds}
+use Rattle.kill_spec.specs.LegalReadings.{IsGroupReading}
 use Rattle.detectors.specs.Tables.{found, greatest_of, has}
 
 full_place : (resource : Res) → state_number (state_of resource FullStalled) < 6

@@ -17,7 +17,8 @@ use Rattle.std.proofs.lemmas.Map.Steps.{length-le_from_distinct_below}
 use Rattle.psi_spec.specs.declared.machine.GroupLife.{GroupLife}
 use Rattle.psi_spec.specs.Groups.{path_at}
 use Rattle.kill_spec.specs.declared.reading.GroupReading.{GroupReading}
-use Rattle.kill_spec.specs.Readings.{Ascend, ComesBefore, IsGroupReading, path_of}
+use Rattle.kill_spec.specs.Readings.{path_of}
+use Rattle.kill_spec.specs.LegalReadings.{Ascend, ComesBefore, IsGroupReading}
 
 -- no order has a value before itself
 turned : (order : Ordering) → order ≡ ordering_reverse order → order ≡ Less → ⊥

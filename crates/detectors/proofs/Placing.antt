@@ -6,7 +6,8 @@ use Rattle.std.proofs.lemmas.List.Elements.{filter-append}
 use Rattle.psi_spec.specs.declared.machine.GroupLife.{GroupLife}
 use Rattle.psi_spec.specs.Stall.{number_of_slot, parents_of}
 use Rattle.kill_spec.specs.declared.reading.GroupReading.{GroupReading}
-use Rattle.kill_spec.specs.Readings.{Ascend, IsGroupReading, path_of}
+use Rattle.kill_spec.specs.Readings.{path_of}
+use Rattle.kill_spec.specs.LegalReadings.{Ascend, IsGroupReading}
 use Rattle.kill_spec.specs.Victims.{names_slot}
 use Rattle.kill_spec.proofs.Foremost.{by_test}
 use Rattle.detectors.specs.Views.{ComesLast, IsReadingView, ReadingView}

@@ -6,7 +6,8 @@ use Rattle.psi_spec.specs.World.{most_groups}
 use Rattle.ruleset_json.specs.declared.types.DetectorSpec.{DetectorSpec}
 use Rattle.kill_spec.specs.declared.reading.GroupReading.{GroupReading}
 use Rattle.kill_spec.specs.declared.reading.HostReading.{HostReading}
-use Rattle.kill_spec.specs.Readings.{Ascend, IsReading, Reading, path_of}
+use Rattle.kill_spec.specs.Readings.{Reading, path_of}
+use Rattle.kill_spec.specs.LegalReadings.{Ascend, IsReading}
 
 -- ---- readings
 

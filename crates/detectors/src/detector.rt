@@ -3,7 +3,7 @@ ghost use Rattle.std.specs.Prelude.{◌≡◌, ◌≤◌, List, [], None, Some, 
 ghost use Rattle.psi_spec.specs.declared.machine.GroupLife.{GroupLife};
 ghost use Rattle.detectors.specs.Views.{IsAfter, slots_of};
 ghost use Rattle.detectors.specs.Tables.{IsTaken, answer_of, begun, scan_slots};
-ghost use Rattle.kill_spec.specs.Readings.{IsReading};
+ghost use Rattle.kill_spec.specs.LegalReadings.{IsReading};
 ghost use Rattle.detectors.specs.Stands.{Answers, DetectorTakes, StandsFor};
 
 use crate::conditions::{find_matches, greatest_of, has_condition, has_match, is_swap_short};

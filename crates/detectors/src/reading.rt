@@ -2,7 +2,8 @@
 ghost use Rattle.std.specs.Prelude.{◌≡◌, ◌<◌, ◌≤◌, [], IfOk, filter, length};
 ghost use Rattle.psi_spec.specs.Groups.{path_at};
 ghost use Rattle.psi_spec.specs.World.{most_groups};
-ghost use Rattle.kill_spec.specs.Readings.{IsGroupReading, IsHostReading, IsReading, no_host};
+ghost use Rattle.kill_spec.specs.Readings.{no_host};
+ghost use Rattle.kill_spec.specs.LegalReadings.{IsGroupReading, IsHostReading, IsReading};
 ghost use Rattle.detectors.specs.Below.{AreAmong, group_at, groups_at, is_child};
 ghost use Rattle.detectors.specs.Views.{ComesLast, reading_of, seen_at, with_group};
 

@@ -15,7 +15,8 @@ use Rattle.psi_base.proofs.PartLaws.{HasNone, parts_at-all, parts_at-line}
 use Rattle.psi_base.specs.declared.event.Res.{Res}
 use Rattle.psi_base.specs.declared.event.Res.TheVariants as res
 use Rattle.psi_spec.specs.Fields.{resource_word}
-use Rattle.path_match.specs.Match.{Pattern, ArePatterns, patterns_text}
+use Rattle.path_match.specs.Match.{Pattern, patterns_text}
+use Rattle.path_match.specs.Answers.{ArePatterns}
 use Rattle.path_match.proofs.JoinedParts.{none_of}
 use Rattle.path_match.proofs.SpelledLaws.{read_again}
 use Rattle.ruleset_json.specs.declared.fault.Place.{Place}

@@ -6,7 +6,8 @@ use Rattle.std.specs.Str.{IsUtf8}
 use Rattle.std.proofs.lemmas.Bool.{and_parts, and_from, cases_lt, le-leb, lt-ltb, ltb-true, ne_eqb}
 use Rattle.std.proofs.lemmas.Str.{IsUtf8-from_ascii}
 use Rattle.std.proofs.lemmas.Str.Ascii.{IsAscii-from_all}
-use Rattle.path_match.specs.Match.{Pattern, ArePatterns, is_pattern_byte, is_pattern_component, pattern_text, patterns_text}
+use Rattle.path_match.specs.Match.{Pattern, is_pattern_byte, is_pattern_component, pattern_text, patterns_text}
+use Rattle.path_match.specs.Answers.{ArePatterns}
 use Rattle.path_match.proofs.JoinedParts.{list_all-join, list_all-weaker}
 use Rattle.path_match.proofs.MatchLaws.{all_cons}
 use Rattle.path_match.proofs.PatternLaws.{formed_bytes}

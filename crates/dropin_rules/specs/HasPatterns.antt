@@ -1,6 +1,6 @@
 -- The patterns in rules are patterns.
 use Rattle.std.specs.Prelude.{List, All}
-use Rattle.path_match.specs.Match.{ArePatterns}
+use Rattle.path_match.specs.Answers.{ArePatterns}
 use Rattle.ruleset_json.specs.declared.types.Action.{Action}
 use Rattle.ruleset_json.specs.declared.types.Action.TheVariants as action
 use Rattle.ruleset_json.specs.declared.types.DetectorGroup.{DetectorGroup}

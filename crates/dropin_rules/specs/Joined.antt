@@ -1,6 +1,7 @@
 -- The rules that a rules file and a drop-in file over it make.
 use Rattle.std.specs.Prelude.{ℕ, ◌+◌, List, [], ◌∷◌, position, ◌&&◌, Bool, is_none, if◌then◌else◌, Option, None, Some, Result, Ok, Err}
 use Rattle.std.specs.Str.{bytes_eq}
+use Rattle.psi_base.specs.ResultSteps.{◌>>=◌}
 use Rattle.ruleset_json.specs.declared.fault.Place.TheVariants as place
 use Rattle.ruleset_json.specs.declared.fault.RulesFault.{RulesFault}
 use Rattle.ruleset_json.specs.declared.types.Part.{Part}
@@ -13,11 +14,6 @@ use Rattle.dropin_rules.specs.declared.fault.DropCause.TheVariants as cause
 use Rattle.dropin_rules.specs.declared.fault.DropFault.{DropFault}
 
 -- a step after another, unless that one found a fault
-infixl 10 ◌>>=◌
-abbrev pub ◌>>=◌ : {A B : Type 0} → Result A DropFault → (A → Result B DropFault) → Result B DropFault
-(Ok x) >>= f = f x
-(Err e) >>= f = Err e
-
 -- part number i of a drop-in file is refused for this cause
 abbrev pub refused_part : {A : Type 0} → ℕ → DropCause → Result A DropFault
 refused_part i what = Err (record { place = place.Rule i; what = what })

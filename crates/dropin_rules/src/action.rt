@@ -1,6 +1,6 @@
 //! Actions as plugin objects: for each a function with a line an argument.
 ghost use Rattle.std.specs.Prelude.{◌≡◌, IfOk};
-ghost use Rattle.path_match.specs.Match.{ArePatterns};
+ghost use Rattle.path_match.specs.Answers.{ArePatterns};
 ghost use Rattle.serde_json.specs.View.{view};
 ghost use Rattle.ruleset_json.specs.declared.types.Action.TheVariants as spec;
 ghost use Rattle.dropin_rules.specs.HasPatterns.{ActionHasPatterns};

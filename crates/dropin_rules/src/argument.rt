@@ -1,7 +1,8 @@
 //! The arguments of a plugin, each a text under its key.
 ghost use Rattle.std.specs.Prelude.{◌≡◌, codes, decimal, IfOk, OnOk, IsUtf8};
 ghost use Rattle.psi_spec.specs.Fields as fields;
-ghost use Rattle.path_match.specs.Match.{ArePatterns, patterns_text};
+ghost use Rattle.path_match.specs.Match.{patterns_text};
+ghost use Rattle.path_match.specs.Answers.{ArePatterns};
 ghost use Rattle.serde_json.specs.Data.{object, put as with_member, member, no_members, string};
 ghost use Rattle.serde_json.specs.View.{members_view, view};
 ghost use Rattle.ruleset_json.specs.Arguments.{truth_text};

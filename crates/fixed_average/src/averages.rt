@@ -1,10 +1,10 @@
 //! The averages of one group.
 ghost use Rattle.std.specs.Prelude.{◌≡◌, ◌≢◌, ◌≤◌, ◌<◌, ◌+◌, ◌^◌, ℕ, All, [], map, slice_index, slice_index_or};
-ghost use Rattle.psi_spec.specs.Trace.{last_moment};
+ghost use Rattle.psi_spec.specs.Within.{last_moment};
 ghost use Rattle.pressure_spec.specs.Share.{irq_quantity, zip_with};
 ghost use Rattle.psi_spec.specs.Stall.{state_number};
 ghost use Rattle.pressure_spec.specs.Average as model;
-ghost use Rattle.pressure_spec.specs.Average.{IsRow};
+ghost use Rattle.pressure_spec.specs.Within.{IsRow};
 ghost use Rattle.psi_base.specs.declared.event.State.TheVariants as state_of;
 
 use crate::fixed_point::{load, power};
@@ -38,7 +38,8 @@ pub struct Averages {
 }
 
 impl Model for Averages {
-    ghost use Rattle.pressure_spec.specs.Average.{AverageState, IsAverageState};
+    ghost use Rattle.pressure_spec.specs.Average.{AverageState};
+    ghost use Rattle.pressure_spec.specs.Within.{IsAverageState};
 
     ghost Value = { AverageState };
 

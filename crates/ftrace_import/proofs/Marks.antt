@@ -2,7 +2,8 @@
 use Rattle.std.proofs.Common.{◌≡◌, ◌≢◌, ℕ, ◌+◌, List, refl, ap, ◌∙◌, sym, arith, true, false, Option, None, Some, ◌==◌, length, drop, take, get_or}
 use Rattle.std.specs.Prelude.{codes, is_some, option_map, Ok}
 use Rattle.std.proofs.lemmas.Bool.Decides.{nat_tests}
-use Rattle.import_spec.specs.Places.{◌>>=◌, begins_with, first_place}
+use Rattle.psi_base.specs.OptionSteps.{◌>>=◌}
+use Rattle.import_spec.specs.Places.{begins_with, first_place}
 use Rattle.import_spec.specs.Marked.{Mark, Marked, begins_marked, if_formed, mark_of, marked_of, read_line, read_marked, sighting_of}
 use Rattle.ftrace_import.specs.declared.marked.ShortMark.{ShortMark}
 use Rattle.ftrace_import.specs.Bytes.{IsFirstMark, mark_parts, parted}

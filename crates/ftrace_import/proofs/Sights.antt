@@ -12,7 +12,8 @@ use Rattle.import_spec.specs.declared.seen.LineKind.{LineKind}
 use Rattle.import_spec.specs.declared.seen.LineKind.TheVariants as kind
 use Rattle.import_spec.specs.declared.seen.Seen.{Seen}
 use Rattle.import_spec.specs.declared.seen.Sighting.{Sighting}
-use Rattle.import_spec.specs.Places.{◌>>=◌, begins_with, behind_last, last_place}
+use Rattle.psi_base.specs.OptionSteps.{◌>>=◌}
+use Rattle.import_spec.specs.Places.{begins_with, behind_last, last_place}
 use Rattle.import_spec.specs.Tails.{cpu_in, field_in, how_in, if_small, is_space, short_number, pid_in, time_in}
 use Rattle.import_spec.specs.Marked.{Marked, if_formed, marked_of, migration_in, read_line, read_marked, seen_in, sighting_of, switch_in, wakeup_in}
 use Rattle.ftrace_import.specs.Stands.{IsSeen, Leaves}

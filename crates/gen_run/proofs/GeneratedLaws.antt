@@ -2,7 +2,7 @@
 use Rattle.std.proofs.Common.{◌≡◌, ◌⊎◌, inl, inr, ℕ, ◌<◌, ◌-◌, List, [], ◌∷◌, ◌++◌, refl, sym, ap, ◌∙◌, subst, arith, true≢false}
 use Rattle.std.proofs.Common.{append_assoc, Option, None, Bool, true, false, ◌==◌, if◌then◌else◌}
 use Rattle.std.specs.Prelude.{IsSome}
-use Rattle.psi_base.specs.Gives.{no_memory}
+use Rattle.psi_base.specs.Memory.{no_memory}
 use Rattle.outside.specs.Outside.{Files, Rose}
 use Rattle.psi_base.specs.declared.event.Event.{Event}
 use Rattle.psi_spec.specs.Fields.{IsAmong}
@@ -23,7 +23,7 @@ use Rattle.run_spec.specs.Generated.{generated}
 use Rattle.kill_spec.specs.Detectors.{of_seconds}
 use Rattle.run_spec.specs.Outputs.{IsOutput, drop_in_name, file_of, outcome_of, pace_of, rules_name, source_name, source_of, stress_options, tick_length, versions_of}
 use Rattle.run_spec.specs.Run.{IsThere, ReadsFiles, RunCounts, Runs, TakesTrace}
-use Rattle.run_spec.specs.Words.{IsShape, IsWithin}
+use Rattle.run_spec.specs.LegalCommand.{IsShape, IsWithin}
 use Rattle.replay_rules.specs.Planned.{IsPlanned}
 use Rattle.trace_gen.proofs.Accepting.{generated_is_trace}
 use Rattle.run_spec.specs.Replay.{Pace, group_report, last_line, root_group, stress_text, tick_count, with_rules}

@@ -1,6 +1,7 @@
 //! The commands over generated traces, which read no file.
 ghost use Rattle.std.specs.Prelude.{◌≡◌, ◌++◌, ◌∷◌, List, [], IfOk, None, OnOk};
-ghost use Rattle.outside.specs.Outside.{HasCause, PutsAll, StaysOver};
+ghost use Rattle.outside.specs.Outside.{HasCause, StaysOver};
+ghost use Rattle.outside.specs.Calls.{PutsAll};
 ghost use Rattle.psi_base.specs.declared.event.Event.{Event};
 ghost use Rattle.psi_spec.specs.Grammar.{Fits};
 ghost use Rattle.psi_spec.specs.Refusal.{cause_of};
@@ -11,7 +12,7 @@ ghost use Rattle.run_spec.specs.Generated.{gen_text, generated};
 ghost use Rattle.kill_spec.specs.Detectors.{of_seconds};
 ghost use Rattle.run_spec.specs.Outputs.{pace_of, stress_options};
 ghost use Rattle.run_spec.specs.Replay.{Pace, stress_text};
-ghost use Rattle.run_spec.specs.Words.{IsShape, IsWithin};
+ghost use Rattle.run_spec.specs.LegalCommand.{IsShape, IsWithin};
 ghost use Rattle.replay_ticks.specs.Replays.{IsReplay};
 ghost use Rattle.run_outcomes.specs.Writes.{WritesText};
 

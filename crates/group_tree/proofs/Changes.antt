@@ -11,7 +11,7 @@ use Rattle.psi_spec.specs.declared.machine.GroupLife.{GroupLife}
 use Rattle.psi_spec.specs.World.{root, is_live, is_root, slot_of, as_slot, parent_path, new_group, marked_removed, marked_switched}
 use Rattle.psi_spec.specs.Refusal.{is_slot}
 use Rattle.psi_spec.specs.Stall.{number_of_slot, parents_of}
-use Rattle.psi_spec.specs.Groups.{AreOlder, IsOneLive, AreGroups}
+use Rattle.psi_spec.specs.LegalGroups.{AreOlder, IsOneLive, AreGroups}
 use Rattle.psi_spec.proofs.GroupLaws.{first_of_two, found_behind, found_group, found_below, removed_not_found, same_bytes, and_false}
 use Rattle.psi_spec.proofs.GroupChanges.{got_behind, groups_first, groups_made, groups_removed, groups_switched, parents_behind}
 use Rattle.psi_spec.proofs.RefusalLaws.{first_true, second_true}

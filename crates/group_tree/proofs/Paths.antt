@@ -8,7 +8,8 @@ use Rattle.std.proofs.lemmas.List.{get_or-map, length-map}
 use Rattle.std.proofs.lemmas.List.Sorted.{IsPermutation-map}
 use Rattle.psi_base.specs.declared.event.Slot.{Slot}
 use Rattle.psi_spec.specs.declared.machine.GroupLife.{GroupLife}
-use Rattle.psi_spec.specs.Groups.{IsPathOrder, path_at}
+use Rattle.psi_spec.specs.Groups.{path_at}
+use Rattle.psi_spec.specs.LegalGroups.{IsPathOrder}
 use Rattle.group_tree.specs.Tree.{numbers_of, slot_at}
 
 -- numbers as slots are the numbers

@@ -11,7 +11,7 @@ use Rattle.psi_spec.specs.World.{is_live, is_root, slot_of, as_slot, most_groups
 use Rattle.psi_spec.specs.Refusal.{has_group, lacks_group, lacks_parent, has_child, is_slot}
 use Rattle.psi_spec.specs.Stall.{parents_of, is_under}
 use Rattle.psi_spec.specs.Groups.{live_groups}
-use Rattle.psi_spec.specs.Groups.{AreGroups}
+use Rattle.psi_spec.specs.LegalGroups.{AreGroups}
 
 -- ---- refusals
 

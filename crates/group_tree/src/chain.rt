@@ -1,7 +1,7 @@
 //! The groups above a group.
 ghost use Rattle.std.specs.Prelude.{◌≡◌, ◌<◌, length, slice_index_or, None, IfSome};
 ghost use Rattle.psi_spec.specs.Stall.{number_of_slot, parents_of};
-ghost use Rattle.psi_spec.specs.Groups.{AreGroups};
+ghost use Rattle.psi_spec.specs.LegalGroups.{AreGroups};
 ghost use Rattle.group_tree.specs.Tree.{chain_from};
 
 use psi_base::Slot;
@@ -30,7 +30,7 @@ pub struct Chain<'a> {
 impl<'a> Model for Chain<'a> {
     ghost use Rattle.std.specs.Prelude.{List, ◌<◌, length, IfSome};
     ghost use Rattle.psi_base.specs.declared.event.Slot.{Slot};
-    ghost use Rattle.psi_spec.specs.Groups.{AreOlder};
+    ghost use Rattle.psi_spec.specs.LegalGroups.{AreOlder};
     ghost use Rattle.psi_spec.specs.Stall.{parents_of};
     ghost use Rattle.group_tree.specs.Tree.{chain_from};
 

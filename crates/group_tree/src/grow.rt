@@ -3,7 +3,7 @@ ghost use Rattle.std.specs.Prelude.{◌≡◌, ◌+◌, ◌<◌, ◌≤◌, ◌+
 ghost use Rattle.std.specs.HashMap.{get_by_text};
 ghost use Rattle.psi_spec.specs.World.{slot_of, marked_removed, is_root, is_live, most_groups};
 ghost use Rattle.psi_spec.specs.Refusal.{is_slot};
-ghost use Rattle.psi_spec.specs.Groups.{AreGroups};
+ghost use Rattle.psi_spec.specs.LegalGroups.{AreGroups};
 ghost use Rattle.group_tree.specs.Tree.{IsTree};
 
 use psi_base::{NoMemory, Ns, Path, Slot};

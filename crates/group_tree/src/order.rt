@@ -3,7 +3,8 @@ ghost use Rattle.std.specs.Prelude.{◌≡◌, ◌≤◌, length, map, IfOk, IsP
 ghost use Rattle.std.specs.List.{range_with_len};
 ghost use Rattle.std.specs.Ordering.{nat_cmp};
 ghost use Rattle.std.specs.Cmp.Lexicographic.{slice_cmp};
-ghost use Rattle.psi_spec.specs.Groups.{IsPathOrder, live_groups, path_at};
+ghost use Rattle.psi_spec.specs.Groups.{live_groups, path_at};
+ghost use Rattle.psi_spec.specs.LegalGroups.{IsPathOrder};
 ghost use Rattle.psi_spec.specs.World.{most_groups};
 ghost use Rattle.group_tree.specs.Tree.{live_slots, numbers_of, paths_and_slots, slot_at};
 

@@ -3,7 +3,7 @@ ghost use Rattle.std.specs.Prelude.{◌≡◌, ◌<◌, ◌≤◌, ◌++◌, [],
 ghost use Rattle.psi_spec.specs.World.{root, slot_of, as_slot, parent_path, new_group, marked_removed, marked_switched, most_groups};
 ghost use Rattle.psi_spec.specs.Stall.{number_of_slot, parents_of, is_under};
 ghost use Rattle.psi_spec.specs.Refusal.{has_child};
-ghost use Rattle.psi_spec.specs.Groups.{AreGroups, IsPathOrder};
+ghost use Rattle.psi_spec.specs.LegalGroups.{AreGroups, IsPathOrder};
 ghost use Rattle.group_tree.specs.Tree.{add_cause, pressure_cause, remove_cause, IsGroupFault, chain_of, live_slots, numbers_of};
 
 use crate::above::path_above;

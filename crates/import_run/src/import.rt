@@ -1,12 +1,13 @@
 //! `import`: the trace that a text of the kernel's ftrace is.
 ghost use Rattle.std.specs.Prelude.{◌≡◌, ◌+◌, ◌≤◌, ◌++◌, ◌∷◌, IfOk, vec_capacity};
-ghost use Rattle.outside.specs.Outside.{HasCause, PutsAll, StaysOver};
+ghost use Rattle.outside.specs.Outside.{HasCause, StaysOver};
+ghost use Rattle.outside.specs.Calls.{PutsAll};
 ghost use Rattle.psi_spec.specs.Grammar.{header};
 ghost use Rattle.psi_spec.specs.Trace.{AllFit, lines_of, text_of};
 ghost use Rattle.import_spec.specs.Import.{import_trace};
 ghost use Rattle.run_spec.specs.MostRead.{most_read};
 ghost use Rattle.run_spec.specs.Run.{Runs, run_counts};
-ghost use Rattle.run_spec.specs.Words.{IsWithin};
+ghost use Rattle.run_spec.specs.LegalCommand.{IsWithin};
 ghost use Rattle.import_run.specs.Import.{IsStatusOfImport};
 ghost use Rattle.run_outcomes.specs.Writes.{WritesText};
 

@@ -10,7 +10,8 @@ use Rattle.import_spec.specs.declared.seen.LineKind.TheVariants as kind
 use Rattle.import_spec.specs.declared.seen.Seen.{Seen}
 use Rattle.import_spec.specs.declared.seen.Seen.TheVariants as seen
 use Rattle.import_spec.specs.declared.seen.Sighting.{Sighting}
-use Rattle.import_spec.specs.Places.{◌>>=◌, begins_with, behind_last, first_place, last_place}
+use Rattle.psi_base.specs.OptionSteps.{◌>>=◌}
+use Rattle.import_spec.specs.Places.{begins_with, behind_last, first_place, last_place}
 use Rattle.import_spec.specs.Tails.{cpu_in, field_in, how_in, pid_in, time_in}
 
 -- ---- marks

@@ -2,12 +2,7 @@
 -- stands from a place on.
 use Rattle.std.specs.Prelude.{ℕ, ◌+◌, List, [], ◌∷◌, length, drop, nat_eq, Bool, if◌then◌else◌, Option, None, Some, option_map}
 use Rattle.std.specs.List.{starts_with}
-
--- a step of reading after another, unless that one found nothing
-infixl 10 ◌>>=◌
-abbrev pub ◌>>=◌ : {A B : Type 0} → Option A → (A → Option B) → Option B
-None >>= f = None
-(Some x) >>= f = f x
+use Rattle.psi_base.specs.OptionSteps.{◌>>=◌}
 
 -- the first place from which on bytes pass a test
 unfoldable pub first_place : (List ℕ → Bool) → List ℕ → Option ℕ

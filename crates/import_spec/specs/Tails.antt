@@ -8,7 +8,8 @@ use Rattle.psi_base.specs.declared.event.Pid.{Pid}
 use Rattle.psi_base.specs.declared.event.Cpu.{Cpu}
 use Rattle.psi_base.specs.declared.event.How.{How}
 use Rattle.psi_base.specs.declared.event.How.TheVariants.{Preempt, Sleep, IoWait, Exit}
-use Rattle.import_spec.specs.Places.{◌>>=◌, begins_with, behind_last, last_place}
+use Rattle.psi_base.specs.OptionSteps.{◌>>=◌}
+use Rattle.import_spec.specs.Places.{begins_with, behind_last, last_place}
 
 -- ---- numbers
 

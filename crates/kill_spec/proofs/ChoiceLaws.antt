@@ -9,7 +9,8 @@ use Rattle.std.proofs.lemmas.Bool.{false≢true}
 use Rattle.std.proofs.lemmas.Bool.Decides.{nat_tests}
 use Rattle.psi_spec.specs.declared.machine.GroupLife.{GroupLife}
 use Rattle.kill_spec.specs.declared.reading.GroupReading.{GroupReading}
-use Rattle.kill_spec.specs.Readings.{Ascend, ComesBefore, path_of}
+use Rattle.kill_spec.specs.Readings.{path_of}
+use Rattle.kill_spec.specs.LegalReadings.{Ascend, ComesBefore}
 use Rattle.kill_spec.specs.Victims.{beats_by, has_path_before, is_greater_by, is_larger, is_less}
 use Rattle.kill_spec.specs.Victims.{memory_in_use, rank_of, unbeaten}
 use Rattle.kill_spec.specs.Choices.{BeatsBy, IsChoice, IsGreaterBy, IsUnbeaten, LargestIsChoice}

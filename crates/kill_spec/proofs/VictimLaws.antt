@@ -7,12 +7,13 @@ use Rattle.std.proofs.lemmas.Bool.Decides.{nat_tests}
 use Rattle.std.proofs.lemmas.List.Elements.{All-contains}
 use Rattle.psi_spec.specs.declared.machine.GroupLife.{GroupLife}
 use Rattle.psi_spec.specs.Stall.{parents_of}
-use Rattle.psi_spec.specs.Groups.{AreOlder}
+use Rattle.psi_spec.specs.LegalGroups.{AreOlder}
 use Rattle.path_match.specs.Match.{Pattern, is_match}
 use Rattle.ruleset_json.specs.declared.types.Action.{Action}
 use Rattle.ruleset_json.specs.declared.types.Action.TheVariants as action
 use Rattle.kill_spec.specs.declared.reading.GroupReading.{GroupReading}
-use Rattle.kill_spec.specs.Readings.{IsGroupReading, IsReading, Reading, path_of}
+use Rattle.kill_spec.specs.Readings.{Reading, path_of}
+use Rattle.kill_spec.specs.LegalReadings.{IsGroupReading, IsReading}
 use Rattle.kill_spec.specs.Detectors.{matches}
 use Rattle.kill_spec.specs.Victims.{◌or_else◌, after_of}
 use Rattle.kill_spec.specs.Laws.{DescentEnds, IsPopulatedIn, VictimsMatch}

@@ -2,7 +2,8 @@
 use Rattle.std.specs.Prelude.{◌≡◌, ◌↔◌, ◌⊎◌, ℕ, ◌<◌, List, [], map, Option, None, Some, Contains}
 use Rattle.psi_spec.specs.declared.machine.GroupLife.{GroupLife}
 use Rattle.kill_spec.specs.declared.reading.GroupReading.{GroupReading}
-use Rattle.kill_spec.specs.Readings.{Ascend, ComesBefore, path_of}
+use Rattle.kill_spec.specs.Readings.{path_of}
+use Rattle.kill_spec.specs.LegalReadings.{Ascend, ComesBefore}
 use Rattle.kill_spec.specs.Victims.{beats_by, largest, memory_in_use, rank_of, unbeaten}
 
 -- a group has a greater measure than another, or the same and a path that comes before the other's

@@ -4,9 +4,10 @@ use Rattle.psi_spec.specs.declared.machine.GroupLife.{GroupLife}
 use Rattle.path_match.specs.Match.{is_match}
 use Rattle.ruleset_json.specs.declared.types.Rule.{Rule}
 use Rattle.kill_spec.specs.declared.reading.GroupReading.{GroupReading}
-use Rattle.kill_spec.specs.Readings.{Reading, path_of, IsReading, AreReadings}
+use Rattle.kill_spec.specs.Readings.{Reading, path_of}
+use Rattle.kill_spec.specs.LegalReadings.{IsReading, AreReadings}
 use Rattle.psi_spec.specs.Stall.{parents_of}
-use Rattle.psi_spec.specs.Groups.{AreOlder}
+use Rattle.psi_spec.specs.LegalGroups.{AreOlder}
 use Rattle.ruleset_json.specs.declared.types.Action.{Action}
 use Rattle.kill_spec.specs.Detectors.{held_for, holds_for, ruleset_fires}
 use Rattle.kill_spec.specs.declared.kill.Kill.{Kill}

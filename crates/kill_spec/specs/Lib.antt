@@ -1,4 +1,5 @@
 pub mod Readings
+pub mod LegalReadings
 pub mod Detectors
 pub mod Victims
 pub mod Choices

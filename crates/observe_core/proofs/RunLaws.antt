@@ -2,11 +2,12 @@
 use Rattle.std.proofs.Common.{◌≡◌, ◌≢◌, ◌⊎◌, inl, inr, ℕ, ◌<◌, ◌≤◌, List, arith, refl, sym, ap, ◌∙◌, subst, Option, None, Some, Ok, Err}
 use Rattle.std.specs.Prelude.{IsErrOf, Result}
 use Rattle.std.specs.Io.KnownBytes.{Appends, Keeps}
-use Rattle.psi_base.specs.Gives.{no_memory}
+use Rattle.psi_base.specs.Memory.{no_memory}
 use Rattle.outside.specs.Outside.{Files, Lacks, Rose, told}
 use Rattle.psi_base.specs.declared.event.Refusal.{Refusal}
 use Rattle.psi_spec.specs.Grammar.{versions}
-use Rattle.psi_spec.specs.Trace.{Trace, last_moment, limits_of, trace_of}
+use Rattle.psi_spec.specs.Trace.{Trace, limits_of, trace_of}
+use Rattle.psi_spec.specs.Within.{last_moment}
 use Rattle.plan_laws.proofs.PlanStates.{legal_after}
 use Rattle.proc_plan.specs.Plans.{PlansView}
 use Rattle.run_spec.specs.Run.{RisesWhere, RunCounts}

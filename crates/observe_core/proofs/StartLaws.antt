@@ -3,7 +3,7 @@ use Rattle.std.proofs.Common.{◌≡◌, ℕ, ◌<◌, List, [], length, refl, s
 use Rattle.std.specs.Prelude.{slice_index_or}
 use Rattle.std.specs.List.{All}
 use Rattle.atomic_table.specs.Seated.{TableId}
-use Rattle.psi_spec.specs.Grammar.{version_of}
+use Rattle.psi_spec.specs.Header.{version_of}
 use Rattle.psi_spec.specs.Trace.{Trace}
 use Rattle.run_spec.specs.declared.command.Options.{Options}
 use Rattle.run_spec.specs.Outputs.{pace_of, watch_of}

@@ -2,7 +2,7 @@
 use Rattle.std.specs.Prelude.{◌≡◌, ℕ, ◌<◌, ◌≤◌, List, Option}
 use Rattle.std.specs.Io.KnownBytes.{Appends, Keeps}
 use Rattle.outside.specs.Outside.{AppendsFront, Rose}
-use Rattle.psi_spec.specs.Grammar.{IsVersion, version_of}
+use Rattle.psi_spec.specs.Header.{IsVersion, version_of}
 use Rattle.psi_spec.specs.Trace.{Trace}
 use Rattle.proc_plan.specs.Plans.{PlansView}
 use Rattle.trace_file.specs.declared.trace.TraceFault.{TraceFault}

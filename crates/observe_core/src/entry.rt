@@ -1,7 +1,7 @@
 //! The top call.
 ghost use Rattle.std.specs.Prelude.{◌≡◌, ◌⊎◌, ◌≢◌, ◌↔◌, ◌+◌, ◌≤◌, ◌<◌, ℕ, List, Some, None, Ok, Err, map, string_bytes};
 ghost use Rattle.std.specs.Io.KnownBytes.{Appends, Keeps};
-ghost use Rattle.psi_base.specs.Gives.{no_memory};
+ghost use Rattle.psi_base.specs.Memory.{no_memory};
 ghost use Rattle.outside.specs.Outside.{AppendsFront, Rose, told};
 ghost use Rattle.psi_base.specs.declared.event.Refusal.{Refusal};
 ghost use Rattle.psi_spec.specs.Trace.{Trace, trace_of};

@@ -1,7 +1,8 @@
 //! The lines that are printed.
 ghost use Rattle.std.specs.Prelude.{◌≤◌, length};
 ghost use Rattle.std.specs.List.{flat_map};
-ghost use Rattle.outside.specs.Outside.{HasCause, PutsAll, StaysOver};
+ghost use Rattle.outside.specs.Outside.{HasCause, StaysOver};
+ghost use Rattle.outside.specs.Calls.{PutsAll};
 ghost use Rattle.observe_core.specs.Printed.{end_line, entry_line, printed, state_line, states_text};
 
 use observer_log::{BoardState, Entry};

@@ -1,6 +1,7 @@
 //! What tells of a status.
 ghost use Rattle.std.specs.Prelude.{◌≡◌};
-ghost use Rattle.outside.specs.Outside.{HasCause, PutsAll};
+ghost use Rattle.outside.specs.Outside.{HasCause};
+ghost use Rattle.outside.specs.Calls.{PutsAll};
 ghost use Rattle.observe_spec.specs.Status.{observe_status_text, trace_text};
 ghost use Rattle.observe_core.specs.Asked.{asked_in};
 

@@ -1,9 +1,9 @@
 //! A trace that was taken apart is replayed, and observed beside the replay.
 ghost use Rattle.std.specs.Prelude.{◌≡◌, [], Some, IfOk, length};
-ghost use Rattle.psi_spec.specs.Grammar.{version_of};
+ghost use Rattle.psi_spec.specs.Header.{version_of};
 ghost use Rattle.psi_spec.specs.Trace.{Trace};
 ghost use Rattle.run_spec.specs.Outputs.{pace_of};
-ghost use Rattle.run_spec.specs.Words.{IsWithin};
+ghost use Rattle.run_spec.specs.LegalCommand.{IsWithin};
 ghost use Rattle.replay_rules.specs.Planned.{IsPlanned};
 ghost use Rattle.replay_ticks.specs.Replays.{IsReplay};
 ghost use Rattle.replay_workers.specs.Crew.{AreInRows};

@@ -1,10 +1,12 @@
 //! What is asked for is observed, and written.
 ghost use Rattle.std.specs.Prelude.{◌≡◌, ◌+◌, ◌*◌, ◌/◌, ◌≤◌, ◌<◌, [], length};
-ghost use Rattle.outside.specs.Outside.{HasCause, PutsAll};
-ghost use Rattle.psi_spec.specs.Trace.{Trace, last_moment};
+ghost use Rattle.outside.specs.Outside.{HasCause};
+ghost use Rattle.outside.specs.Calls.{PutsAll};
+ghost use Rattle.psi_spec.specs.Trace.{Trace};
+ghost use Rattle.psi_spec.specs.Within.{last_moment};
 ghost use Rattle.run_spec.specs.MostRead.{most_of_trace};
 ghost use Rattle.run_spec.specs.Run.{run_counts};
-ghost use Rattle.run_spec.specs.Words.{IsWithin};
+ghost use Rattle.run_spec.specs.LegalCommand.{IsWithin};
 ghost use Rattle.observe_spec.specs.Run.{Observes};
 ghost use Rattle.observe_core.specs.Asked.{request_in};
 ghost use Rattle.observe_core.specs.Printed.{printed};

@@ -1,7 +1,7 @@
 -- Laws of a run: it takes a trace as `replay` does, and tells of a missing one.
 use Rattle.std.proofs.Common.{◌≡◌, ◌⊎◌, inl, inr, ℕ, Bool, true, false, true≢false, List, [], ◌∷◌, refl, sym, ◌∙◌, Option, None, Some}
 use Rattle.std.specs.Prelude.{codes, ◌==◌, ◌&&◌, not}
-use Rattle.psi_base.specs.Gives.{no_memory}
+use Rattle.psi_base.specs.Memory.{no_memory}
 use Rattle.outside.specs.Outside.{Files, Lacks}
 use Rattle.run_spec.specs.declared.command.Command.TheVariants.{Replay}
 use Rattle.run_spec.specs.Words.{command_of, is_name, options_of, replay_of}

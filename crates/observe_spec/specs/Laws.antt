@@ -3,7 +3,7 @@ use Rattle.std.specs.Prelude.{◌≡◌, ℕ, ◌<◌, ◌≤◌, List, [], ◌�
 use Rattle.psi_spec.specs.Changes.{changes_of}
 use Rattle.psi_spec.specs.Trace.{Trace, trace_of}
 use Rattle.run_spec.specs.Replay.{Pace}
-use Rattle.psi_base.specs.Gives.{no_memory}
+use Rattle.psi_base.specs.Memory.{no_memory}
 use Rattle.outside.specs.Outside.{Files, Lacks}
 use Rattle.run_spec.specs.declared.command.Command.TheVariants.{Replay}
 use Rattle.run_spec.specs.Outputs.{or_refused_trace, taken_of}

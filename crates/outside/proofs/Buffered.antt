@@ -4,7 +4,8 @@ use Rattle.std.specs.Prelude.{Option, None, Some, Result, Ok, Err, OnOk}
 use Rattle.std.specs.Io.KnownBytes.{Appends, Keeps, append_known}
 use Rattle.std.proofs.lemmas.List.{take-take}
 use Rattle.std.proofs.Math.Seq.{take-append_seam, take-append-add, take-length}
-use Rattle.outside.specs.Outside.{AppendsFront, PutsAll, known_count}
+use Rattle.outside.specs.Outside.{AppendsFront, known_count}
+use Rattle.outside.specs.Calls.{PutsAll}
 
 -- of bytes that grew by a front of a text, the first grew by a front of it too, as far as they
 -- reach

@@ -8,7 +8,8 @@ use Rattle.std.proofs.lemmas.Grind.{flat_map-append}
 use Rattle.std.specs.List.{flat_map}
 use Rattle.std.proofs.Math.Seq.{take-append_seam}
 use Rattle.std.proofs.lemmas.List.{take-append-drop, drop_more}
-use Rattle.outside.specs.Outside.{AppendsFront, PutsAll}
+use Rattle.outside.specs.Outside.{AppendsFront}
+use Rattle.outside.specs.Calls.{PutsAll}
 
 -- nothing was sent
 pub Appends-none : (old : Option (List ℕ)) → Appends old old []

@@ -1,7 +1,6 @@
 -- What the calls of a shelf and a sink answer, and what they do to what these hold.
-use Rattle.std.specs.Prelude.{◌≡◌, ◌⊎◌, ℕ, ◌+◌, ◌-◌, ◌^◌, ◌≤◌, ◌<◌, min, List, [], ◌∷◌, ◌++◌, length, take, drop, Option, None, Some, Result, Ok, Err, OnOk, OnErr, MatchResult, ⊤, if◌then◌else◌}
+use Rattle.std.specs.Prelude.{◌≡◌, ◌⊎◌, ℕ, ◌+◌, ◌-◌, ◌^◌, ◌≤◌, ◌<◌, List, [], ◌∷◌, ◌++◌, length, take, drop, Option, None, Some, Result, Ok, Err, OnOk, OnErr, ⊤, if◌then◌else◌}
 use Rattle.std.specs.Str.{bytes_eq}
-use Rattle.std.specs.Io.KnownBytes.{Appends}
 
 -- names with their bytes; of two pairs with one name the first counts
 abbrev pub Files : Type 0
@@ -15,16 +14,6 @@ bytes_of (file ∷ files) name = if bytes_eq file.0 name then Some file.1 else b
 -- a count of 64 bits rose: it is greater than before, or stands at its last value
 abbrev pub Rose : ℕ → ℕ → Type 0
 Rose before now = (before < now) ⊎ (now ≡ 2 ^ 64 - 1)
-
--- one more than a count of 64 bits, which stops at its last value
-abbrev pub one_more : ℕ → ℕ
-one_more count = min (count + 1) (2 ^ 64 - 1)
-
--- a count doesn't fall: it is one more where this happened, and else as it was
-pub record CountsWhere (Happened : Type 0) (before now : ℕ) : Type 0 where
-  pub later : before ≤ now
-  pub counted : Happened → now ≡ one_more before
-  pub same : ¬ Happened → now ≡ before
 
 -- a count doesn't fall: it rose where the result is a failure, and else is as it was
 pub record HasCause {T E : Type 0} (before now : ℕ) (result : Result T E) : Type 0 where
@@ -78,12 +67,6 @@ abbrev pub AppendsFront : Option (List ℕ) → Option (List ℕ) → List ℕ �
 AppendsFront None new bytes = ⊤
 AppendsFront (Some had) None bytes = ⊥
 AppendsFront (Some had) (Some has) bytes = has ≡ had ++ take (length has - length had) bytes
-
--- known bytes grew by all the bytes, or at a failure by a front of them
-abbrev pub PutsAll :
-    {T E : Type 0} → Option (List ℕ) → Option (List ℕ) → Result T E → List ℕ → Type 0
-PutsAll old new result bytes =
-    MatchResult result (λ _. Appends old new bytes) (λ _. AppendsFront old new bytes)
 
 -- how many bytes are known
 abbrev pub known_count : Option (List ℕ) → ℕ

@@ -1,7 +1,8 @@
 -- What the clauses of shelves and sinks in memory tell of what each shelf and sink owes.
 use Rattle.std.proofs.Common.{◌≡◌, ℕ, ◌-◌, ◌≤◌, min, List, length, refl, arith, ◌⊎◌, inl, inr}
 use Rattle.std.specs.Prelude.{Result, Ok, Err, Option, None, Some, IfOk, IsErrOf}
-use Rattle.outside.specs.Outside.{CountsWhere, Files, HasCauses, ReadsBytes, Rose, bytes_of, counts_of, one_more}
+use Rattle.outside.specs.Outside.{Files, HasCauses, ReadsBytes, Rose, bytes_of, counts_of}
+use Rattle.outside.specs.Calls.{CountsWhere, one_more}
 use Rattle.outside_fakes.specs.Memory.{GivesOf}
 use Rattle.outside.specs.declared.shelf.ShelfFault.{ShelfFault}
 use Rattle.outside.specs.declared.shelf.ShelfFault.TheVariants.{NoFile, Failed}

@@ -3,7 +3,8 @@
 ghost use Rattle.std.specs.Prelude.{◌≡◌, ◌+◌, ◌-◌, ◌<◌, ◌≤◌, Some, length, min, IfOk, IsErr, vec_capacity, vec_len, IsErrOf, ◌↔◌, []};
 ghost use Rattle.std.specs.Io.KnownBytes.{WriteAppends};
 ghost use Rattle.outside_fakes.specs.Memory.{GivesOf};
-ghost use Rattle.outside.specs.Outside.{CountsWhere, given_by};
+ghost use Rattle.outside.specs.Outside.{given_by};
+ghost use Rattle.outside.specs.Calls.{CountsWhere};
 
 use crate::memory::{finds_no_room, give, take_part};
 use outside::{Shelf, ShelfFault, Sink, Tally, WriteFailed};

@@ -9,7 +9,8 @@ use Rattle.std.proofs.lemmas.List.{append-nil}
 use Rattle.std.proofs.lemmas.Slice.Eq.{bytes_eq-Decides}
 use Rattle.psi_base.specs.Path.{parts_at}
 use Rattle.psi_base.proofs.PartLaws.{HasFirst, first_part}
-use Rattle.path_match.specs.Match.{components, behind_slash, MatchesComponent, Matches, MatchesSome, some_end, begins, is_component_match, are_matches, is_match}
+use Rattle.path_match.specs.Match.{components, behind_slash, some_end, begins, is_component_match, are_matches, is_match}
+use Rattle.path_match.specs.Answers.{MatchesComponent, Matches, MatchesSome}
 use Rattle.path_match.specs.Laws.{TestTells, RootAlone, StarMatchesAny}
 
 -- ---- one component

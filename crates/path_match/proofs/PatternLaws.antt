@@ -7,7 +7,8 @@ use Rattle.std.proofs.lemmas.List.{length-map}
 use Rattle.psi_base.specs.Path.{parts_at}
 use Rattle.psi_base.proofs.PartLaws.{HasFirst, first_part}
 use Rattle.path_match.specs.declared.fault.PatternFault.TheVariants.{BadPattern, TooMany}
-use Rattle.path_match.specs.Match.{Pattern, components, is_pattern, is_pattern_byte, is_pattern_component, pattern_text, patterns_of, ArePatterns}
+use Rattle.path_match.specs.Match.{Pattern, components, is_pattern, is_pattern_byte, is_pattern_component, pattern_text, patterns_of}
+use Rattle.path_match.specs.Answers.{ArePatterns}
 use Rattle.path_match.specs.Laws.{SpellsPattern, SlashIsFree}
 use Rattle.path_match.proofs.JoinedParts.{joined_by-parts, list_all-map, list_all-weaker, none_of, parts-joined_by}
 use Rattle.path_match.proofs.MatchLaws.{components-root}

@@ -6,7 +6,8 @@ use Rattle.std.proofs.lemmas.Bool.{and_parts, and_from, or_left, le-leb}
 use Rattle.std.proofs.lemmas.List.{length-map}
 use Rattle.psi_base.specs.Path.{parts_at}
 use Rattle.path_match.specs.declared.fault.PatternFault.TheVariants.{BadPattern, TooMany}
-use Rattle.path_match.specs.Match.{Pattern, components, is_pattern, is_pattern_byte, is_pattern_component, pattern_text, patterns_text, patterns_of, ArePatterns}
+use Rattle.path_match.specs.Match.{Pattern, components, is_pattern, is_pattern_byte, is_pattern_component, pattern_text, patterns_text, patterns_of}
+use Rattle.path_match.specs.Answers.{ArePatterns}
 use Rattle.path_match.specs.Laws.{SpellsPattern, SpellsEach, ReadsPatterns, ReadAgain}
 use Rattle.path_match.proofs.JoinedParts.{joined_by-parts, list_all-join, list_all-map, list_all-weaker, parts-joined_by}
 use Rattle.path_match.proofs.MatchLaws.{all_cons}

@@ -2,7 +2,8 @@
 use Rattle.std.specs.Prelude.{◌≡◌, ◌↔◌, ◌≢◌, ◌⊎◌, ℕ, List, [], ◌∷◌, length, true, All, codes, Ok}
 use Rattle.std.specs.List.{join_with_byte, zip}
 use Rattle.psi_base.specs.Path.{is_path}
-use Rattle.path_match.specs.Match.{ArePatterns, Matches, MatchesComponent, MatchesSome, Pattern, components, is_match, pattern_text, patterns_of, patterns_text}
+use Rattle.path_match.specs.Match.{Pattern, components, is_match, pattern_text, patterns_of, patterns_text}
+use Rattle.path_match.specs.Answers.{ArePatterns, Matches, MatchesComponent, MatchesSome}
 
 -- ---- matching
 

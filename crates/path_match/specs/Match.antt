@@ -1,6 +1,6 @@
 -- Patterns of paths, as a rules file has them: components in which stars may stand.
-use Rattle.std.specs.Prelude.{◌≡◌, ℕ, ◌≤◌, List, [], ◌∷◌, ◌++◌, length, map, nat_lt, nat_le, ◌==◌, ◌&&◌, ◌||◌, not, Bool, true, false, All, Any, MatchBool, if◌then◌else◌, codes, Result, Ok, Err}
-use Rattle.std.specs.List.{join_with_byte, list_all, list_any, zip}
+use Rattle.std.specs.Prelude.{ℕ, List, [], ◌∷◌, length, map, nat_lt, nat_le, ◌==◌, ◌&&◌, ◌||◌, not, Bool, true, false, if◌then◌else◌, codes, Result, Ok, Err}
+use Rattle.std.specs.List.{join_with_byte, list_all, list_any}
 use Rattle.std.specs.Str.{bytes_eq}
 use Rattle.psi_base.specs.Path.{parts_at, is_path_byte}
 use Rattle.path_match.specs.declared.fault.PatternFault.{PatternFault}
@@ -39,37 +39,14 @@ patterns_of text =
     if list_all is_pattern (parts_at 44 text) then (if nat_le (length (parts_at 44 text)) 16
     then Ok (map components (parts_at 44 text)) else Err TooMany) else Err BadPattern
 
--- a component of a pattern matches one of a path: a star any run of bytes, the empty one too, and
--- any other byte itself
-abbrev pub MatchesComponent : List ℕ → List ℕ → Type 0
-MatchesComponent [] bytes = bytes ≡ []
-MatchesComponent (c ∷ pattern) bytes = MatchBool (c == 42)
-    ((run rest : List ℕ) × (bytes ≡ run ++ rest) × MatchesComponent pattern rest)
-    ((rest : List ℕ) × (bytes ≡ c ∷ rest) × MatchesComponent pattern rest)
-
--- a pattern matches a path with equally many components, each matched
-pub record Matches (pattern : Pattern) (path : List ℕ) : Type 0 where
-  pub equally_many : length pattern ≡ length (components path)
-  pub each : All (λ pair. MatchesComponent pair.0 pair.1) (zip pattern (components path))
-
--- some pattern matches
-abbrev pub MatchesSome : List Pattern → List ℕ → Type 0
-MatchesSome patterns path = Any (λ pattern. Matches pattern path) patterns
-
--- one to 16 patterns of such components
-pub record ArePatterns (patterns : List Pattern) : Type 0 where
-  pub some : 1 ≤ length patterns
-  pub few : length patterns ≤ 16
-  pub formed : list_all (λ pattern. list_all is_pattern_component pattern) patterns ≡ true
-
--- ---- the same as tests
+-- ---- a pattern against a path
 
 -- some end of the bytes, the whole and the empty one among them, passes
 abbrev pub some_end : (List ℕ → Bool) → List ℕ → Bool
 some_end test [] = test []
 some_end test (byte ∷ bytes) = test (byte ∷ bytes) || some_end test bytes
 
--- the bytes begin with this one, and those behind it pass
+-- the bytes begin with this one, and those after it pass
 abbrev pub begins : ℕ → (List ℕ → Bool) → List ℕ → Bool
 begins c test [] = false
 begins c test (byte ∷ bytes) = c == byte && test bytes

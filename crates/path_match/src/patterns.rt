@@ -1,7 +1,8 @@
 //! Lists of patterns.
 ghost use Rattle.std.specs.Prelude.{◌≡◌, ◌↔◌, ◌++◌, Err, IsTrue, IsOk, IfOk, OnErr, OnOk, map};
 ghost use Rattle.psi_base.specs.Path.{parts_at};
-ghost use Rattle.path_match.specs.Match.{ArePatterns, MatchesSome, components, is_match, patterns_of, patterns_text};
+ghost use Rattle.path_match.specs.Match.{components, is_match, patterns_of, patterns_text};
+ghost use Rattle.path_match.specs.Answers.{ArePatterns, MatchesSome};
 ghost use Rattle.psi_base.specs.Gives.{Gives, lacks_memory};
 
 use crate::component::matches_pattern;

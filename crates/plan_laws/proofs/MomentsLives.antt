@@ -18,7 +18,8 @@ use Rattle.psi_spec.specs.declared.machine.GroupLife.{GroupLife}
 use Rattle.psi_spec.specs.World.{World, Limits, root, is_live, new_group, marked_removed, marked_switched, groups_after, after, after_event, after_from, first_world, up_to}
 use Rattle.psi_spec.specs.Refusal.{AreLegal}
 use Rattle.psi_spec.specs.Stall.{number_of_slot}
-use Rattle.psi_spec.specs.Groups.{is_gone_by, is_live_at, is_live_in}
+use Rattle.psi_spec.specs.Groups.{is_gone_by, is_live_at}
+use Rattle.psi_spec.specs.LegalGroups.{is_live_in}
 use Rattle.psi_spec.proofs.Following.{after_from-append}
 use Rattle.psi_spec.proofs.RefusalLaws.{first_true}
 use Rattle.psi_spec.proofs.SwitchLaws.{all_left, switched_leaves}

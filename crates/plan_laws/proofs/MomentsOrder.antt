@@ -24,7 +24,8 @@ use Rattle.psi_base.specs.Missing.{is_some_and}
 use Rattle.psi_spec.specs.declared.machine.GroupLife.{GroupLife}
 use Rattle.psi_spec.specs.World.{Limits, root, is_live, slot_from, slot_of, after, first_world, up_to}
 use Rattle.psi_spec.specs.Refusal.{AreLegal}
-use Rattle.psi_spec.specs.Groups.{IsPathOrder, in_order, is_live_at, is_live_in, live_from, path_at}
+use Rattle.psi_spec.specs.Groups.{in_order, is_live_at, live_from, path_at}
+use Rattle.psi_spec.specs.LegalGroups.{IsPathOrder, is_live_in}
 use Rattle.psi_spec.proofs.GroupLaws.{bytes_itself, found_below, found_group, same_bytes}
 use Rattle.psi_spec.proofs.RefusalLaws.{first_true, second_true}
 use Rattle.psi_counts.specs.Legal.{IsLegalWorld}

@@ -14,7 +14,8 @@ use Rattle.psi_base.specs.declared.event.Cause.TheVariants as cause
 use Rattle.psi_spec.specs.declared.machine.GroupLife.{GroupLife}
 use Rattle.psi_spec.specs.World.{World, Limits, root, is_live, is_trigger, new_group, marked_removed, marked_switched, groups_after, slot_of, after, after_event, first_world}
 use Rattle.psi_spec.specs.Refusal.{cause_of, applies, cause_order, is_window, AreLegal}
-use Rattle.psi_spec.specs.Told.{trigger_by, triggers_of, IsTriggerWithin}
+use Rattle.psi_spec.specs.Told.{trigger_by, triggers_of}
+use Rattle.psi_spec.specs.Within.{IsTriggerWithin}
 use Rattle.psi_spec.proofs.GroupLaws.{found_below, found_group}
 use Rattle.psi_spec.proofs.RefusalLaws.{first_true, passed}
 use Rattle.plan_laws.specs.Moments.{IsThere, TriggersAreWithin, TriggersAreInOrder, TriggersUpTo, TriggersAreOnGroups}

@@ -14,7 +14,7 @@ use Rattle.psi_spec.specs.World.{World, Limits, after, after_event, after_from, 
 use Rattle.psi_spec.specs.Refusal.{cause_of, AreLegal}
 use Rattle.psi_spec.specs.Stall.{holds, holds_of, is_in, parents_of, tasks_in}
 use Rattle.psi_counts.specs.Counts.{IsRunningTold, tells}
-use Rattle.psi_spec.specs.Groups.{new_parents}
+use Rattle.psi_spec.specs.LegalGroups.{new_parents}
 use Rattle.psi_counts.specs.Touch.{AreAtMost, Follows, account_of, on_with, is_current_in, is_current_stalled, no_counts}
 use Rattle.psi_counts.specs.Legal.{IsLegalWorld, added, changes_from, taken}
 use Rattle.plan_laws.specs.Plan.{FitsPlan, plan_of, holds_after, on_from, less, Leaves, LeavesFew, PlanTellsStates}

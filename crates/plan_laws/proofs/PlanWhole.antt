@@ -7,8 +7,8 @@ use Rattle.psi_base.specs.declared.event.Event.{Event}
 use Rattle.psi_counts.specs.declared.changes.Change.{Change}
 use Rattle.psi_spec.specs.World.{World, Limits, after, after_event, first_world}
 use Rattle.psi_spec.specs.Refusal.{AreLegal}
-use Rattle.psi_spec.specs.Groups.{AreOlder, HaveParents}
-use Rattle.psi_spec.specs.Trace.{last_moment}
+use Rattle.psi_spec.specs.LegalGroups.{AreOlder, HaveParents}
+use Rattle.psi_spec.specs.Within.{last_moment}
 use Rattle.psi_counts.specs.Touch.{HasSlotsBelow, IsOfOne}
 use Rattle.psi_counts.specs.Legal.{added, changes_from, taken}
 use Rattle.plan_laws.specs.Plan.{EmptyIsPlan, FitsPlan, IrqsFit, LeavesFew, no_plan, last_change, PlanIsWhole}

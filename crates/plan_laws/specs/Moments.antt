@@ -10,8 +10,10 @@ use Rattle.psi_spec.specs.declared.machine.GroupLife.{GroupLife}
 use Rattle.psi_spec.specs.World.{Limits, root, first_world, after, up_to, most_cpus, longest_irq}
 use Rattle.psi_spec.specs.Refusal.{AreLegal}
 use Rattle.psi_spec.specs.Stall.{parents_of, stall, irq_time}
-use Rattle.psi_spec.specs.Groups.{IsPathOrder, is_live_at, is_live_in, live_groups, path_at}
-use Rattle.psi_spec.specs.Told.{AreTriggersWithin, triggers_of}
+use Rattle.psi_spec.specs.Groups.{is_live_at, live_groups, path_at}
+use Rattle.psi_spec.specs.LegalGroups.{IsPathOrder, is_live_in}
+use Rattle.psi_spec.specs.Told.{triggers_of}
+use Rattle.psi_spec.specs.Within.{AreTriggersWithin}
 
 -- ---- stall time
 

@@ -9,8 +9,8 @@ use Rattle.psi_counts.specs.declared.changes.Counts.{Counts}
 use Rattle.psi_counts.specs.declared.changes.Change.{Change}
 use Rattle.psi_spec.specs.World.{World, Limits, first_world, after, up_to, most_cpus, most_tasks, most_events}
 use Rattle.psi_spec.specs.Refusal.{AreLegal}
-use Rattle.psi_spec.specs.Trace.{last_moment}
-use Rattle.psi_spec.specs.Groups.{AreOlder, HaveParents}
+use Rattle.psi_spec.specs.Within.{last_moment}
+use Rattle.psi_spec.specs.LegalGroups.{AreOlder, HaveParents}
 use Rattle.psi_spec.specs.Stall.{is_under, parents_of, holds, stall, moment_of, states, irq_time}
 use Rattle.psi_counts.specs.Counts.{tells, mask_holds}
 use Rattle.psi_counts.specs.Clock.{ClockView, ClockFollows, IsInTime, IsWholeClock, zero_clock, opened, opened_time}

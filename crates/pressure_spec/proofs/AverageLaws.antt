@@ -7,7 +7,8 @@ use Rattle.std.proofs.Math.Nat.{mul-le-mul_left, mul-div_cancel_left}
 use Rattle.std.proofs.Common.{lit<, ◌⊎◌, ⊎_elim}
 use Rattle.std.proofs.Math.Nat.{div-mul-le_self}
 use Rattle.std.proofs.lemmas.List.{get_or_default}
-use Rattle.pressure_spec.specs.Average.{load, product, power_within, power_from, power, period, factors, AverageState, IsRow, IsAverageState, sample_of, samples_of, percent_of, average_after, row_after, missed, sampled_time, updated, average_step, averages_from, new_averages}
+use Rattle.pressure_spec.specs.Average.{load, product, power_within, power_from, power, period, factors, AverageState, sample_of, samples_of, percent_of, average_after, row_after, missed, sampled_time, updated, average_step, averages_from, new_averages}
+use Rattle.pressure_spec.specs.Within.{IsRow, IsAverageState}
 use Rattle.pressure_spec.specs.Laws.{average_of, sampled_of, HasTotals, NeverFalls, PowerHalves, LoadApproaches, AtMostHundred, RisesWhenStalled, FallsWhenFree, CarriesTheRest, SamplesWithinTotal}
 use Rattle.pressure_spec.specs.Samples.{last_totals}
 use Rattle.pressure_spec.proofs.ShareLaws.{length-zip_with, get_or-zip_with}

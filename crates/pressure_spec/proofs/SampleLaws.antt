@@ -9,9 +9,11 @@ use Rattle.std.specs.List.Sorted.{IsNonDecreasingBy}
 use Rattle.psi_base.specs.declared.event.TriggerSpec.{TriggerSpec}
 use Rattle.psi_spec.specs.declared.machine.GroupLife.{GroupLife}
 use Rattle.psi_spec.specs.Groups.{is_live_at}
-use Rattle.pressure_spec.specs.Ticks.{Tick, no_row, no_tick, last_tick, IsNextTick, AreNextTicks}
+use Rattle.pressure_spec.specs.Ticks.{Tick, no_row}
+use Rattle.pressure_spec.specs.NextTick.{no_tick, last_tick, IsNextTick, AreNextTicks}
 use Rattle.pressure_spec.specs.Share.{at_state, no_totals, plus, pressure_places, shares}
-use Rattle.pressure_spec.specs.Average.{AverageState, IsAverageState, average_step, averages_after}
+use Rattle.pressure_spec.specs.Average.{AverageState, average_step, averages_after}
+use Rattle.pressure_spec.specs.Within.{IsAverageState}
 use Rattle.pressure_spec.specs.Laws.{average_of, HasTotals, samples_from, TotalIsSum, TotalsNeverFall, GroupsAtMostHundred, FiredApart}
 use Rattle.pressure_spec.specs.Samples.{last_totals, life_of, row_at, growths, with_shares, history_from, history_of, totals_after, group_averages, watched_state, first_value, seen_by, trigger_over, has_fired}
 use Rattle.pressure_spec.specs.Signal.{TriggerState, new_trigger, trigger_step, trigger_after, fires}

@@ -6,8 +6,9 @@ use Rattle.std.proofs.Math.Nat.{div-le_of_le-mul, le-div_iff_mul-le, mul-le-mul_
 use Rattle.std.proofs.lemmas.List.Sums.{sum_by-cons, sum_by-append}
 use Rattle.std.proofs.lemmas.List.{length-map, get_or-map}
 use Rattle.std.proofs.lemmas.List.FromFn.{fill_by_all, get_or-map-range_with_len}
-use Rattle.psi_spec.specs.Trace.{longest_tick}
-use Rattle.pressure_spec.specs.Share.{AreTimesWithin, zip_with, irq_place, irq_quantity, pressure_places, weight, total_weight, time_sum, weighted_time, share_of, shares}
+use Rattle.psi_spec.specs.Within.{longest_tick}
+use Rattle.pressure_spec.specs.Share.{zip_with, irq_place, irq_quantity, pressure_places, weight, total_weight, weighted_time, share_of, shares}
+use Rattle.pressure_spec.specs.Within.{AreTimesWithin, time_sum}
 use Rattle.pressure_spec.specs.Laws.{ShareIsMean, ShareSumFits, ShareWithinSum, SharesWithin, IdleHasNone, TotalsGrow, totals_of}
 use Rattle.psi_spec.specs.World.{longest_irq}
 

@@ -7,9 +7,11 @@ use Rattle.std.proofs.lemmas.List.Elements.{All-cons, All-nil}
 use Rattle.std.proofs.lemmas.List.Sums.{sum_by-cons}
 use Rattle.psi_spec.specs.declared.machine.GroupLife.{GroupLife}
 use Rattle.psi_spec.specs.Groups.{is_live_at}
-use Rattle.psi_spec.specs.Trace.{last_moment}
-use Rattle.pressure_spec.specs.Ticks.{Tick, AreNextTicks, IsNextTick, last_tick, no_row, no_tick, time_in, time_of, times_with}
-use Rattle.pressure_spec.specs.Share.{AreAmountsWithin, AreTimesWithin, irq_place, irq_quantity, no_totals, plus, shares, time_sum, zip_with}
+use Rattle.psi_spec.specs.Within.{last_moment}
+use Rattle.pressure_spec.specs.Ticks.{Tick, no_row, times_with}
+use Rattle.pressure_spec.specs.NextTick.{AreNextTicks, IsNextTick, last_tick, no_tick, time_in, time_of}
+use Rattle.pressure_spec.specs.Share.{irq_place, irq_quantity, no_totals, plus, shares, zip_with}
+use Rattle.pressure_spec.specs.Within.{AreAmountsWithin, AreTimesWithin, time_sum}
 use Rattle.psi_spec.specs.World.{longest_irq}
 use Rattle.pressure_spec.specs.Samples.{last_totals, growths, history_from, life_of, row_at, totals_after, with_shares}
 use Rattle.pressure_spec.specs.Laws.{IrqTotalBound, NextSharesWithin, TotalsWithin}

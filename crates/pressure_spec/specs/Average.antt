@@ -1,7 +1,7 @@
 -- The averages over 10, 60 and 300 seconds: the kernel's calc_load, fixed_power_int,
 -- update_averages and calc_avgs. They are fixed-point numbers with 11 fraction bits: 2048 is 1, and
 -- 204800 is 100 percent.
-use Rattle.std.specs.Prelude.{◌≡◌, ℕ, zero, suc, ◌+◌, ◌-◌, ◌*◌, ◌/◌, ◌%◌, ◌<◌, ◌≤◌, min, List, [], ◌∷◌, length, map, fold, nat_le, nat_lt, ◌==◌, if◌then◌else◌, All}
+use Rattle.std.specs.Prelude.{ℕ, zero, suc, ◌+◌, ◌-◌, ◌*◌, ◌/◌, ◌%◌, min, List, [], ◌∷◌, map, fold, nat_le, nat_lt, ◌==◌, if◌then◌else◌}
 use Rattle.pressure_spec.specs.Share.{zip_with, pressure_places}
 
 -- the time (ns) from one update of the averages to the next: two seconds
@@ -109,19 +109,3 @@ averages_from old ticks = fold (λ state tick. average_step state tick.0 tick.1)
 -- the averages of a group made at a moment, after ticks
 abbrev pub averages_after : ℕ → List (ℕ × List ℕ) → AverageState
 averages_after at ticks = averages_from (new_averages at) ticks
-
--- ---- what is true of averages
-
--- three averages of at most 100 percent
-pub record IsRow (row : List ℕ) : Type 0 where
-  pub three : length row ≡ 3
-  pub most : All (λ average. average ≤ 204800) row
-
--- The next update is due after the last one and at most a period after it, there are a sample and a
--- row of three averages for each pressure quantity, and no average is above 100 percent.
-pub record IsAverageState (s : AverageState) : Type 0 where
-  pub later : s.last < s.next
-  pub soon : s.next ≤ s.last + period
-  pub sampled : length s.sampled ≡ length pressure_places
-  pub rows : length s.averages ≡ length pressure_places
-  pub each : All (λ row. IsRow row) s.averages

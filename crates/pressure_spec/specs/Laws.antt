@@ -7,11 +7,14 @@ use Rattle.psi_base.specs.declared.event.TriggerSpec.{TriggerSpec}
 use Rattle.psi_spec.specs.declared.machine.GroupLife.{GroupLife}
 use Rattle.psi_spec.specs.World.{longest_irq}
 use Rattle.psi_spec.specs.Groups.{is_live_at}
-use Rattle.pressure_spec.specs.Ticks.{AreNextTicks, IsNextTick, Tick, last_tick, no_row, no_tick}
-use Rattle.pressure_spec.specs.Share.{AreAmountsWithin, AreTimesWithin, irq_place, irq_quantity, most_irq_total, plus, pressure_places, share_of, shares, time_sum, total_weight, weighted_time}
-use Rattle.pressure_spec.specs.Average.{AverageState, IsAverageState, average_step, averages_after, load, period, power_from, product, sampled_time}
+use Rattle.pressure_spec.specs.Ticks.{Tick, no_row}
+use Rattle.pressure_spec.specs.NextTick.{AreNextTicks, IsNextTick, last_tick, no_tick}
+use Rattle.pressure_spec.specs.Share.{irq_place, irq_quantity, plus, pressure_places, share_of, shares, total_weight, weighted_time}
+use Rattle.pressure_spec.specs.Within.{AreAmountsWithin, AreTimesWithin, most_irq_total, time_sum}
+use Rattle.pressure_spec.specs.Average.{AverageState, average_step, averages_after, load, period, power_from, product, sampled_time}
+use Rattle.pressure_spec.specs.Within.{IsAverageState}
 use Rattle.pressure_spec.specs.Samples.{group_averages, growths, has_fired, last_totals, life_of, row_at, totals_after}
-use Rattle.psi_spec.specs.Trace.{longest_tick}
+use Rattle.psi_spec.specs.Within.{longest_tick}
 use Rattle.pressure_spec.specs.Signal.{TriggerState, fires, is_free, new_trigger, trigger_after, trigger_step}
 
 -- ---- shares

@@ -1,7 +1,10 @@
 pub mod Share
 pub mod Average
+pub mod Within
 pub mod Signal
 pub mod Ticks
+pub mod NextTick
 pub mod Samples
 pub mod File
+pub mod Printed
 pub mod Laws

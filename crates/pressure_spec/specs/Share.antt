@@ -1,6 +1,6 @@
 -- How long a group was in each state in an interval, and how long interrupts took from it, over all
 -- processors: the kernel's collect_percpu_times.
-use Rattle.std.specs.Prelude.{ℕ, ◌+◌, ◌*◌, ◌/◌, ◌<◌, ◌≤◌, max, List, [], ◌∷◌, map, sum_by, slice_index}
+use Rattle.std.specs.Prelude.{ℕ, ◌+◌, ◌*◌, ◌/◌, max, List, [], ◌∷◌, map, sum_by, slice_index}
 use Rattle.psi_base.specs.declared.event.State.{State}
 use Rattle.psi_base.specs.declared.event.State.TheVariants.{Nonidle}
 use Rattle.psi_spec.specs.Stall.{state_number}
@@ -59,26 +59,3 @@ plus xs ys = zip_with (λ x y. x + y) xs ys
 -- the totals (ns) of a group that has no sample yet
 abbrev pub no_totals : List ℕ
 no_totals = map (λ place. 0) pressure_places
-
--- the times (ns) at a place of all processors together
-abbrev pub time_sum : List (List ℕ) → ℕ → ℕ
-time_sum rows place = sum_by (λ times. slice_index times place) rows
-
--- ---- bounds
-
--- No interrupt total (ns) is above this: it is at most the interrupt times of the processors
--- together, which are at most 64, each of them at most the last moment that a trace may reach.
-abbrev pub most_irq_total : ℕ
-most_irq_total = 4000000000000000000
-
--- times (ns) on a processor: none in a state is above the first bound, and what interrupts took
--- isn't above the second
-pub record AreTimesWithin (most most_irq : ℕ) (times : List ℕ) : Type 0 where
-  pub states : (place : ℕ) → place < irq_place → slice_index times place ≤ most
-  pub irq : slice_index times irq_place ≤ most_irq
-
--- shares or totals (ns): none of a state is above the first bound, and that of interrupt time isn't
--- above the second
-pub record AreAmountsWithin (most most_irq : ℕ) (amounts : List ℕ) : Type 0 where
-  pub states : (quantity : ℕ) → quantity < irq_quantity → slice_index amounts quantity ≤ most
-  pub irq : slice_index amounts irq_quantity ≤ most_irq

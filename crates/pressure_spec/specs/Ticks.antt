@@ -1,14 +1,12 @@
 -- The moments at which pressure is sampled, and the tables of times that a trace gives at them. All
 -- groups are sampled on one grid of moments, which is this profile's; the kernel samples each group
 -- by a timer of its own.
-use Rattle.std.specs.Prelude.{ℕ, ◌+◌, ◌++◌, ◌-◌, ◌*◌, ◌/◌, ◌<◌, ◌≤◌, List, [], ◌∷◌, length, map, replicate, slice_index, slice_index_or, nat_lt, ◌==◌, ◌&&◌, ◌||◌, Bool}
+use Rattle.std.specs.Prelude.{ℕ, ◌+◌, ◌++◌, ◌-◌, ◌*◌, ◌/◌, List, [], ◌∷◌, length, map, replicate, nat_lt, ◌==◌, ◌&&◌, ◌||◌, Bool}
 use Rattle.std.specs.List.{range_with_len}
 use Rattle.psi_base.specs.declared.event.Event.{Event}
 use Rattle.psi_base.specs.declared.event.State.{State}
-use Rattle.psi_spec.specs.World.{after, up_to, longest_irq}
+use Rattle.psi_spec.specs.World.{after, up_to}
 use Rattle.psi_spec.specs.Stall.{irq_time, stall, states}
-use Rattle.psi_spec.specs.Trace.{last_moment, longest_tick}
-use Rattle.pressure_spec.specs.Share.{irq_place}
 
 -- ---- ticks
 
@@ -67,46 +65,8 @@ tick_of cpus events length i = record { at = tick_moment length i; table = table
 unfoldable pub ticks_of : ℕ → List Event → ℕ → ℕ → List Tick
 ticks_of cpus events length count = map (tick_of cpus events length) (range_with_len 1 count)
 
--- ---- one tick after another
+-- ---- before the first tick
 
 -- before the first tick no time has passed on any of so many processors
 abbrev pub no_row : ℕ → List (List ℕ)
 no_row cpus = replicate cpus (times_with (λ state. 0) 0)
-
--- before the first tick: the moment 0, and no time has passed in any of so many groups on so many
--- processors
-abbrev pub no_tick : ℕ → ℕ → Tick
-no_tick cpus slots = record { at = 0; table = replicate slots (no_row cpus) }
-
--- the last of ticks, and the one before them where there is none
-abbrev pub last_tick : Tick → List Tick → Tick
-last_tick before [] = before
-last_tick before (tick ∷ ticks) = last_tick tick ticks
-
--- the time (ns) of a processor at a place of a group's row, and 0 where it has no such place
-abbrev pub time_of : List (List ℕ) → ℕ → ℕ → ℕ
-time_of row cpu place = slice_index (slice_index_or row cpu []) place
-
--- the time (ns) at a place of a table, and 0 where it has no such place
-abbrev pub time_in : List (List (List ℕ)) → ℕ → ℕ → ℕ → ℕ
-time_in table slot cpu place = time_of (slice_index_or table slot []) cpu place
-
--- A tick comes next after another: it is later, by at most the longest tick, and within the last
--- moment. No time fell since then. None in a state grew by more than the time in between. Interrupt
--- time may have grown by a second more, since a trace tells of it when it has passed; and all of it
--- passed before the tick.
-pub record IsNextTick (last tick : Tick) : Type 0 where
-  pub later : last.at < tick.at
-  pub soon : tick.at ≤ last.at + longest_tick
-  pub early : tick.at ≤ last_moment
-  pub kept : (slot cpu place : ℕ) → time_in last.table slot cpu place ≤ time_in tick.table slot cpu place
-  pub grown : (slot cpu place : ℕ) → place < irq_place
-      → time_in tick.table slot cpu place ≤ time_in last.table slot cpu place + (tick.at - last.at)
-  pub irq_grown : (slot cpu : ℕ) → time_in tick.table slot cpu irq_place
-      ≤ time_in last.table slot cpu irq_place + (tick.at - last.at) + longest_irq
-  pub irq_early : (slot cpu : ℕ) → time_in tick.table slot cpu irq_place ≤ tick.at
-
--- ticks come one after another, the first of them after the one before them
-abbrev pub AreNextTicks : Tick → List Tick → Type 0
-AreNextTicks before [] = Unit {0}
-AreNextTicks before (tick ∷ ticks) = IsNextTick before tick × AreNextTicks tick ticks

@@ -2,7 +2,7 @@
 use Rattle.std.specs.Prelude.{◌≡◌, ℕ, ◌+◌, ◌<◌, ◌≤◌, List, length, slice_index}
 use Rattle.pressure_spec.specs.Share.{irq_place}
 use Rattle.psi_spec.specs.World.{longest_irq}
-use Rattle.pressure_spec.specs.Ticks.{time_in, time_of}
+use Rattle.pressure_spec.specs.NextTick.{time_in, time_of}
 use Rattle.aggregate.specs.Table.{HasSizes}
 use Rattle.tick_engine.specs.Engine.{EngineView}
 use Rattle.tick_engine.specs.Tables.{tick_at}

@@ -4,7 +4,8 @@ use Rattle.std.specs.Prelude.{codes, decimal, slice_index, Option, Result, Ok, E
 use Rattle.std.specs.List.{flat_map}
 use Rattle.std.specs.Io.KnownBytes.{Appends}
 use Rattle.std.proofs.lemmas.List.{append-nil}
-use Rattle.outside.specs.Outside.{AppendsFront, PutsAll}
+use Rattle.outside.specs.Outside.{AppendsFront}
+use Rattle.outside.specs.Calls.{PutsAll}
 use Rattle.outside.proofs.Grows.{Appends-none, Appends-then, AppendsFront-then}
 use Rattle.psi_base.specs.declared.event.Level.{Level}
 use Rattle.psi_spec.specs.Fields.{level_word}

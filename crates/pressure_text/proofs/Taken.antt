@@ -17,8 +17,10 @@ use Rattle.std.proofs.lemmas.List.{take-append-drop}
 use Rattle.std.proofs.lemmas.Slice.Eq.{strip_prefix_is}
 use Rattle.psi_base.specs.Number.{number_of}
 use Rattle.psi_base.proofs.NumberLaws.{numerals, number_of-decimal, decimal-number_of}
-use Rattle.pressure_spec.specs.File.{hundredths_text, two_digits}
-use Rattle.pressure_text.specs.FileRead.{◌>>=◌, average_at, behind, number_at, past, two_at}
+use Rattle.pressure_spec.specs.File.{two_digits}
+use Rattle.pressure_spec.specs.Printed.{hundredths_text}
+use Rattle.psi_base.specs.OptionSteps.{◌>>=◌}
+use Rattle.pressure_text.specs.FileRead.{average_at, behind, number_at, past, two_at}
 
 -- ---- steps
 

@@ -10,10 +10,12 @@ use Rattle.psi_base.specs.declared.event.Level.{Level}
 use Rattle.psi_base.specs.declared.event.Level.TheVariants.{SomeStalled, FullStalled}
 use Rattle.psi_spec.specs.Fields.{level_word}
 use Rattle.psi_spec.specs.Stall.{state_number}
-use Rattle.pressure_spec.specs.Average.{IsRow}
-use Rattle.pressure_spec.specs.File.{CanTell, file_line, file_text, full_line, hundredths}
-use Rattle.pressure_spec.specs.File.{hundredths_text, in_hundredths, is_cpu, percent_text}
-use Rattle.pressure_spec.specs.File.{told_line}
+use Rattle.pressure_spec.specs.Within.{IsRow}
+use Rattle.pressure_spec.specs.File.{file_line, file_text, full_line, hundredths}
+use Rattle.pressure_spec.specs.Printed.{CanTell}
+use Rattle.pressure_spec.specs.File.{is_cpu, percent_text}
+use Rattle.pressure_spec.specs.Printed.{hundredths_text, in_hundredths}
+use Rattle.pressure_spec.specs.Printed.{told_line}
 use Rattle.pressure_spec.specs.Samples.{state_of}
 use Rattle.pressure_text.specs.declared.read.PressureFile.{PressureFile}
 use Rattle.pressure_text.specs.declared.read.PressureLine.{PressureLine}

@@ -6,15 +6,10 @@ use Rattle.std.specs.List.{prefix_len, take_while}
 use Rattle.psi_base.specs.Number.{number_of}
 use Rattle.psi_base.specs.declared.event.Level.{Level}
 use Rattle.psi_base.specs.declared.event.Level.TheVariants.{SomeStalled, FullStalled}
+use Rattle.psi_base.specs.OptionSteps.{◌>>=◌}
 use Rattle.psi_spec.specs.Fields.{level_word}
 use Rattle.pressure_text.specs.declared.read.PressureLine.{PressureLine}
 use Rattle.pressure_text.specs.declared.read.PressureFile.{PressureFile}
-
--- a step of reading after another, where that one found its piece
-infixl 10 ◌>>=◌
-abbrev pub ◌>>=◌ : {A B : Type 0} → Option A → (A → Option B) → Option B
-None >>= f = None
-(Some x) >>= f = f x
 
 -- what stands behind a text at the front
 unfoldable pub behind : List ℕ → List ℕ → Option (List ℕ)

@@ -5,8 +5,9 @@ use Rattle.psi_base.specs.declared.event.Res.{Res}
 use Rattle.psi_base.specs.declared.event.Level.{Level}
 use Rattle.psi_base.specs.declared.event.Level.TheVariants.{SomeStalled, FullStalled}
 use Rattle.psi_spec.specs.Stall.{state_number}
-use Rattle.pressure_spec.specs.Average.{IsRow}
-use Rattle.pressure_spec.specs.File.{CanTell, file_text, in_hundredths, irq_text, is_cpu, told_line}
+use Rattle.pressure_spec.specs.Within.{IsRow}
+use Rattle.pressure_spec.specs.File.{file_text, irq_text, is_cpu}
+use Rattle.pressure_spec.specs.Printed.{CanTell, in_hundredths, told_line}
 use Rattle.pressure_spec.specs.Samples.{state_of}
 use Rattle.pressure_text.specs.declared.read.PressureLine.{PressureLine}
 use Rattle.pressure_text.specs.declared.read.PressureFile.{PressureFile}

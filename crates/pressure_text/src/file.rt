@@ -1,6 +1,7 @@
 //! Pressure files, and reports of them.
 ghost use Rattle.std.specs.Prelude.{[], slice_index_or};
-ghost use Rattle.outside.specs.Outside.{HasCause, PutsAll, StaysOver};
+ghost use Rattle.outside.specs.Outside.{HasCause, StaysOver};
+ghost use Rattle.outside.specs.Calls.{PutsAll};
 ghost use Rattle.pressure_spec.specs.File.{file_line, file_text, full_line, state_line};
 ghost use Rattle.pressure_spec.specs.Share.{irq_quantity};
 ghost use Rattle.run_spec.specs.Lines.{head_line, irq_report, report_head, report_text};

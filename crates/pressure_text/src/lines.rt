@@ -1,6 +1,7 @@
 //! The lines that stand alone.
 ghost use Rattle.std.specs.Prelude.{◌-◌, ◌<◌, ◌^◌};
-ghost use Rattle.outside.specs.Outside.{HasCause, PutsAll, StaysOver};
+ghost use Rattle.outside.specs.Outside.{HasCause, StaysOver};
+ghost use Rattle.outside.specs.Calls.{PutsAll};
 ghost use Rattle.psi_spec.specs.Fields as fields;
 ghost use Rattle.run_spec.specs.Lines.{check_line, end_line, event_line, kill_line};
 ghost use Rattle.run_spec.specs.Lines.{live_line, stall_line};

@@ -1,7 +1,8 @@
 //! A text in pieces, each sent as it is made.
 ghost use Rattle.std.specs.Prelude.{◌≡◌, ◌++◌, codes};
 ghost use Rattle.std.specs.List.{flat_map};
-ghost use Rattle.outside.specs.Outside.{HasCause, PutsAll, StaysOver};
+ghost use Rattle.outside.specs.Outside.{HasCause, StaysOver};
+ghost use Rattle.outside.specs.Calls.{PutsAll};
 ghost use Rattle.pressure_spec.specs.File.{hundredths, percent_text, two_digits};
 ghost use Rattle.pressure_text.specs.Pieces.{piece_bytes, spaced_number};
 

@@ -9,7 +9,7 @@ use Rattle.psi_spec.specs.declared.machine.GroupLife.{GroupLife}
 use Rattle.psi_spec.specs.World.{World, Limits, after, first_world}
 use Rattle.psi_counts.specs.Legal.{changes_from}
 use Rattle.plan_laws.specs.Plan.{IsPlan, PlanView, no_plan, plan_of}
-use Rattle.psi_spec.specs.Groups.{AreGroups}
+use Rattle.psi_spec.specs.LegalGroups.{AreGroups}
 use Rattle.psi_spec.specs.Stall.{parents_of}
 use Rattle.psi_spec.specs.Trace.{IsCpuCount}
 use Rattle.plan_laws.proofs.PlanLaws.{changes_are_numbered}

@@ -7,7 +7,7 @@ use Rattle.psi_base.specs.declared.event.Slot.{Slot}
 use Rattle.psi_counts.specs.declared.changes.Change.{Change}
 use Rattle.psi_counts.specs.Touch.{irq_in, is_current_in}
 use Rattle.psi_spec.specs.Stall.{is_under, number_of_slot}
-use Rattle.psi_spec.specs.Groups.{AreOlder, leads_to}
+use Rattle.psi_spec.specs.LegalGroups.{AreOlder, leads_to}
 use Rattle.psi_spec.proofs.GroupLaws.{by_step}
 use Rattle.plan_laws.specs.Plan.{IsPlan, PlanView, on_after}
 use Rattle.plan_laws.proofs.PlanIrqs.{no_planned_irq, planned_irq_by_change, planned_irq_fits}

@@ -8,7 +8,7 @@ use Rattle.std.proofs.lemmas.List.{get_or-map}
 use Rattle.psi_base.specs.declared.event.Slot.{Slot}
 use Rattle.psi_counts.specs.declared.changes.Change.{Change}
 use Rattle.psi_counts.specs.declared.changes.Counts.{Counts}
-use Rattle.psi_spec.specs.Groups.{AreOlder, HaveParents, leads_to}
+use Rattle.psi_spec.specs.LegalGroups.{AreOlder, HaveParents, leads_to}
 use Rattle.psi_spec.specs.Stall.{is_under, number_of_slot}
 use Rattle.plan_laws.specs.Plan.{AreInOrder, PlanView, changes_up_to, current_after, is_account_of, is_part_in, last_change}
 use Rattle.psi_counts.specs.Touch.{HasNoCounts, IsOfOne, is_current_in}

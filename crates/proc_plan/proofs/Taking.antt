@@ -30,7 +30,8 @@ use Rattle.proc_plan.specs.declared.side.Side.{Side}
 use Rattle.group_tree.specs.Tree.{IsGroupFault}
 use Rattle.proc_plan.specs.Plans.{HasTaken, PlannerTakes, PlannerView, changes_at}
 use Rattle.proc_plan.specs.Room.{ChangesView, HasRoom, HasRoomFor, HasRoomWithin}
-use Rattle.psi_spec.specs.Told.{listed, told_from, trigger_by}
+use Rattle.psi_spec.specs.Told.{told_from, trigger_by}
+use Rattle.psi_spec.specs.Within.{listed}
 use Rattle.proc_plan.specs.Sides.{sides_by}
 
 -- what a slice of all items wrote is what is there

@@ -14,9 +14,10 @@ use Rattle.psi_counts.specs.declared.changes.Change.{Change}
 use Rattle.psi_spec.specs.declared.machine.GroupLife.{GroupLife}
 use Rattle.psi_spec.specs.World.{Limits, after, first_world, most_events}
 use Rattle.psi_spec.specs.Refusal.{AreLegal, cause_of}
-use Rattle.psi_spec.specs.Groups.{AreGroups, leads_to}
+use Rattle.psi_spec.specs.LegalGroups.{AreGroups, leads_to}
 use Rattle.psi_spec.specs.Stall.{number_of_slot, parents_of}
-use Rattle.psi_spec.specs.Trace.{AllFit, IsAccepted, IsCpuCount, last_moment}
+use Rattle.psi_spec.specs.Trace.{AllFit, IsAccepted, IsCpuCount}
+use Rattle.psi_spec.specs.Within.{last_moment}
 use Rattle.psi_counts.specs.Legal.{changes_from}
 use Rattle.plan_laws.specs.Plan.{IsAside, IsPlan, PlanView, change_at, current_after, no_plan, plan_of}
 use Rattle.psi_spec.specs.Changes.{changes_of}

@@ -1,7 +1,7 @@
 //! For how long interrupts took from the groups on one processor.
 
 ghost use Rattle.std.specs.Prelude.{◌≡◌, ◌+◌, ◌<◌, ◌^◌, ℕ, length, if◌then◌else◌, IfSome};
-ghost use Rattle.psi_spec.specs.Groups.{AreOlder};
+ghost use Rattle.psi_spec.specs.LegalGroups.{AreOlder};
 ghost use Rattle.slot_clocks.specs.Clocks.{parent_numbers};
 ghost use Rattle.proc_plan.specs.Clocks.{AllGrow, irq_at, irq_taken};
 

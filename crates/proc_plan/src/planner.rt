@@ -4,7 +4,8 @@ ghost use Rattle.std.specs.Prelude.{◌≡◌, ◌≤◌, ℕ, [], false, length
 ghost use Rattle.std.specs.List.{All};
 ghost use Rattle.psi_spec.specs.Grammar.{Fits};
 ghost use Rattle.psi_spec.specs.Stall.{parents_of};
-ghost use Rattle.psi_spec.specs.Trace.{IsCpuCount, last_moment};
+ghost use Rattle.psi_spec.specs.Trace.{IsCpuCount};
+ghost use Rattle.psi_spec.specs.Within.{last_moment};
 ghost use Rattle.psi_spec.specs.World.{most_events};
 ghost use Rattle.plan_laws.specs.Plan.{IsPlan};
 ghost use Rattle.slot_clocks.specs.Clocks.{parent_numbers};

@@ -2,8 +2,9 @@
 
 ghost use Rattle.std.specs.Prelude.{◌≡◌, ◌<◌, ◌≤◌, length, IfErr, IfOk, OnOk};
 ghost use Rattle.plan_laws.specs.Plan.{IsPlan};
-ghost use Rattle.psi_spec.specs.Groups.{AreGroups};
-ghost use Rattle.psi_spec.specs.Trace.{AllFit, IsAccepted, IsCpuCount, last_moment};
+ghost use Rattle.psi_spec.specs.LegalGroups.{AreGroups};
+ghost use Rattle.psi_spec.specs.Trace.{AllFit, IsAccepted, IsCpuCount};
+ghost use Rattle.psi_spec.specs.Within.{last_moment};
 ghost use Rattle.psi_spec.specs.Stall.{parents_of};
 ghost use Rattle.proc_plan.specs.Plans.{ArePlans, AreSmall, HasTakenAll, IsFaultAt, IsRefusal, IsRefusedAll, StandFor, limits_by, plan_at, plans_view};
 

@@ -3,7 +3,7 @@
 ghost use Rattle.std.specs.Prelude.{◌≡◌, ◌++◌, ◌+◌, ◌<◌, ◌≤◌, ℕ, [], ◌∷◌, length, IfSome, IsSome, None, OnOk, vec_capacity, vec_len};
 ghost use Rattle.psi_counts.specs.Legal.{with_change};
 ghost use Rattle.psi_spec.specs.Names.{names};
-ghost use Rattle.psi_spec.specs.Told.{listed};
+ghost use Rattle.psi_spec.specs.Within.{listed};
 ghost use Rattle.psi_spec.specs.World.{is_pressure, most_groups, running_on};
 ghost use Rattle.psi_counts.specs.Touch.{AllTouched, HasSlotsBelow, IsBeside, IsOfOne, change_told, account_change, shown, told_first, told_of};
 ghost use Rattle.proc_plan.specs.Plans.{AreSmall};

@@ -3,7 +3,8 @@
 ghost use Rattle.std.specs.Prelude.{◌≡◌, ◌++◌, IfSome};
 ghost use Rattle.psi_spec.specs.Grammar.{ActFits};
 ghost use Rattle.psi_spec.specs.Changes.{before};
-ghost use Rattle.psi_spec.specs.Told.{listed, slot_named, trigger_by};
+ghost use Rattle.psi_spec.specs.Told.{slot_named, trigger_by};
+ghost use Rattle.psi_spec.specs.Within.{listed};
 ghost use Rattle.proc_plan.specs.Sides.{IsSmall, group_of, passage, sample_by, sides_by};
 
 use crate::side::{Side, SideAct};

@@ -2,11 +2,7 @@
 use Rattle.std.specs.Prelude.{◌≡◌, Result, Ok, Err, ⊤}
 use Rattle.psi_base.specs.declared.event.Fault.{Fault}
 use Rattle.psi_base.specs.declared.event.Fault.TheVariants.{Refused, NoMemory}
-use Rattle.psi_base.specs.declared.text.NoMemory as token
-
--- want of memory, of which there is one value
-abbrev pub no_memory : token.NoMemory
-no_memory = record { refused = tt }
+use Rattle.psi_base.specs.Memory.{no_memory}
 
 -- the fault where memory ran out
 abbrev pub lacks_memory : {E : Type 0} → Fault E

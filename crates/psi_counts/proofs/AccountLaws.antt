@@ -10,7 +10,7 @@ use Rattle.psi_spec.specs.declared.machine.GroupLife.{GroupLife}
 use Rattle.psi_spec.specs.Refusal.{cause_of}
 use Rattle.psi_spec.specs.Stall.{irq_told}
 use Rattle.psi_spec.specs.Changes.{before, touched}
-use Rattle.psi_spec.specs.Groups.{AreGroups}
+use Rattle.psi_spec.specs.LegalGroups.{AreGroups}
 use Rattle.psi_spec.proofs.AccountLaws.{made_on, removed_on, switched_on}
 use Rattle.psi_spec.proofs.RefusalLaws.{none_stands}
 use Rattle.psi_counts.specs.declared.changes.Change.{Change}

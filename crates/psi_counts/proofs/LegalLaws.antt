@@ -23,7 +23,7 @@ use Rattle.psi_spec.specs.Stall.{is_under, is_in, parents_of, number_of_slot, ta
 use Rattle.psi_counts.specs.Counts.{counts_among, how_many}
 use Rattle.psi_counts.specs.Touch.{changed, left_if, AreWithin, Follows, change_of, change_on, no_counts, on_chain, part, task_after}
 use Rattle.psi_spec.specs.Changes.{touched, before}
-use Rattle.psi_spec.specs.Groups.{new_parents}
+use Rattle.psi_spec.specs.LegalGroups.{new_parents}
 use Rattle.psi_counts.specs.Legal.{IsLegalWorld, added, both_counts, changes_from, taken, with_change, CountsAreSums, LegalFirst, LegalKept, SameTasksLater, CountsAreFew}
 use Rattle.psi_counts.proofs.CountLaws.{one}
 use Rattle.psi_spec.proofs.TaskLaws.{found, no_entries}

@@ -6,7 +6,7 @@ use Rattle.psi_spec.specs.World.{World, Limits, first_world, after_event, after,
 use Rattle.psi_spec.specs.Refusal.{cause_of, AreLegal}
 use Rattle.psi_spec.specs.Stall.{parents_of, tasks_in}
 use Rattle.psi_counts.specs.Counts.{counts_among}
-use Rattle.psi_spec.specs.Groups.{AreGroups}
+use Rattle.psi_spec.specs.LegalGroups.{AreGroups}
 use Rattle.psi_counts.specs.Touch.{AreAtMost, AreWithin, Follows, RunsOnce, change_of, no_counts, on_chain}
 use Rattle.psi_counts.specs.declared.changes.Change.{Change}
 use Rattle.psi_counts.specs.declared.changes.Counts.{Counts}

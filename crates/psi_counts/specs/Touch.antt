@@ -20,7 +20,7 @@ use Rattle.psi_spec.specs.World.{World, Limits, Tasks, no_tasks, task_of, task_p
 use Rattle.psi_spec.specs.Refusal.{cause_of}
 use Rattle.psi_spec.specs.Stall.{irq_told, is_under, runs, tasks_in}
 use Rattle.psi_spec.specs.Changes.{before, is_at, touched}
-use Rattle.psi_spec.specs.Groups.{AreGroups}
+use Rattle.psi_spec.specs.LegalGroups.{AreGroups}
 use Rattle.psi_spec.specs.Told.{slot_named}
 use Rattle.psi_counts.specs.Counts.{how_many, counts_among, IsRunningTold}
 

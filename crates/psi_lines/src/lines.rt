@@ -1,6 +1,6 @@
 //! Lines of a name's bytes, however the shelf cuts them.
 ghost use Rattle.std.specs.Prelude.{◌≡◌, ◌≢◌, ◌+◌, ◌-◌, ◌*◌, ◌<◌, ◌≤◌, ◌^◌, ◌↔◌, [], ◌++◌, ℕ, List, length, drop, IfOk, OnErr, IsErrOf, IsTrue, MatchOption, slice_index, Ok, Some, None, false};
-ghost use Rattle.psi_base.specs.Gives.{no_memory};
+ghost use Rattle.psi_base.specs.Memory.{no_memory};
 ghost use Rattle.outside.specs.Outside.{told, Lacks, counts_of};
 ghost use Rattle.psi_lines.specs.Lines.{HasNoNewline, Reader, left};
 ghost use Rattle.psi_lines.specs.Next.{CausesFault, EndsAt, FindsLine, IsMissing, IsNumbered, IsReadFault, IsShortLine, NextOf, ReadsOn, TellsLine, furthest, number_after};

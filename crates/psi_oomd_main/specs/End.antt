@@ -1,7 +1,7 @@
 -- How the program ends.
 use Rattle.std.specs.Prelude.{◌≡◌, ◌⊎◌, ℕ, List, Option, None, Some}
 use Rattle.std.specs.Io.KnownBytes.{Appends}
-use Rattle.psi_base.specs.Gives.{no_memory}
+use Rattle.psi_base.specs.Memory.{no_memory}
 use Rattle.outside.specs.Outside.{AppendsFront, Files, Rose}
 use Rattle.run_spec.specs.declared.command.Command.{Command}
 use Rattle.run_spec.specs.Run.{RunCounts, Runs}

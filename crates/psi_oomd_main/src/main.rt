@@ -3,7 +3,7 @@
 
 ghost use Rattle.std.specs.Prelude.{◌≡◌, IfOk, None, OnErr, map, string_bytes};
 ghost use Rattle.std.specs.Process.{exit_status};
-ghost use Rattle.psi_base.specs.Gives.{no_memory};
+ghost use Rattle.psi_base.specs.Memory.{no_memory};
 ghost use Rattle.run_spec.specs.Run.{run_counts};
 ghost use Rattle.run_spec.specs.declared.status.Status.{Status};
 ghost use Rattle.run_spec.specs.Words.{command_of};

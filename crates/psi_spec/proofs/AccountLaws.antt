@@ -8,7 +8,7 @@ use Rattle.std.proofs.lemmas.Option.{slice_get-get_or, slice_get-map}
 use Rattle.std.proofs.lemmas.Slice.Eq.{bytes_eq-Decides}
 use Rattle.psi_spec.specs.declared.machine.GroupLife.{GroupLife}
 use Rattle.psi_spec.specs.World.{root, is_live, is_on, is_on_life, slot_of, marked_removed, marked_switched}
-use Rattle.psi_spec.specs.Groups.{IsOneLive}
+use Rattle.psi_spec.specs.LegalGroups.{IsOneLive}
 use Rattle.psi_spec.proofs.GroupLaws.{found_below, found_group}
 use Rattle.psi_spec.proofs.RefusalLaws.{first_true, second_true}
 

@@ -14,7 +14,8 @@ use Rattle.psi_spec.specs.declared.machine.GroupLife.{GroupLife}
 use Rattle.psi_spec.specs.World.{World, Limits, root, is_live, is_root, slot_of, parent_path, as_slot, new_group, marked_removed, marked_switched, groups_after}
 use Rattle.psi_spec.specs.Refusal.{cause_of, applies, cause_order, has_child, has_member}
 use Rattle.psi_spec.specs.Stall.{number_of_slot, parents_of, is_under}
-use Rattle.psi_spec.specs.Groups.{AreOlder, HaveParents, path_at, AreAbove, IsOneLive, AreGroups, leads_to, new_parents}
+use Rattle.psi_spec.specs.Groups.{path_at}
+use Rattle.psi_spec.specs.LegalGroups.{AreOlder, HaveParents, AreAbove, IsOneLive, AreGroups, leads_to, new_parents}
 use Rattle.psi_spec.specs.Laws.{AreGroupsFirst, AreGroupsKept, ParentsKept, RootIsAbove}
 use Rattle.psi_spec.proofs.RefusalLaws.{is_none, passed}
 use Rattle.psi_spec.proofs.SwitchLaws.{one_live_switched, parents_switched, paths_switched, root_unswitched}

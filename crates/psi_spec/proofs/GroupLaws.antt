@@ -10,7 +10,8 @@ use Rattle.std.proofs.lemmas.Slice.Eq.{bytes_eq-Decides}
 use Rattle.psi_spec.specs.declared.machine.GroupLife.{GroupLife}
 use Rattle.psi_spec.specs.World.{is_live, slot_from, slot_of, marked_removed}
 use Rattle.psi_spec.specs.Stall.{number_of_slot, parents_of, climbs, is_under}
-use Rattle.psi_spec.specs.Groups.{AreOlder, path_at, IsOneLive, leads_to}
+use Rattle.psi_spec.specs.Groups.{path_at}
+use Rattle.psi_spec.specs.LegalGroups.{AreOlder, IsOneLive, leads_to}
 use Rattle.psi_spec.specs.Laws.{ClimbsKept, UnderByStep, AncestorsAreOlder}
 use Rattle.psi_spec.proofs.RefusalLaws.{second_true}
 

@@ -8,7 +8,7 @@ use Rattle.std.proofs.lemmas.Slice.Eq.{bytes_eq-Decides}
 use Rattle.psi_spec.specs.declared.machine.GroupLife.{GroupLife}
 use Rattle.psi_spec.specs.World.{root, is_live, is_root, slot_from, slot_of, marked_switched}
 use Rattle.psi_spec.specs.Stall.{number_of_slot, parents_of}
-use Rattle.psi_spec.specs.Groups.{IsOneLive}
+use Rattle.psi_spec.specs.LegalGroups.{IsOneLive}
 
 -- what doesn't tell whether a group is on stays
 pub switched_leaves : {A : Type 0} (f : GroupLife → A) → ((group : GroupLife) (on : Bool) → f (record group { on = on }) ≡ f group) → (path : List ℕ) (on : Bool) (group : GroupLife) → f (marked_switched path on group) ≡ f group

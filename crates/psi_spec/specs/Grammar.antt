@@ -1,6 +1,6 @@
 -- The lines of a trace, as this profile has them: which bytes spell a header and an event, which
 -- event a line has, and for what a line is refused that spells none.
-use Rattle.std.specs.Prelude.{◌≡◌, ◌⊎◌, ℕ, ◌+◌, ◌<◌, ◌^◌, ◌==◌, if◌then◌else◌, List, [], ◌∷◌, ◌++◌, map, codes, decimal, Option, None, Some, Result, Ok, Err}
+use Rattle.std.specs.Prelude.{ℕ, ◌+◌, ◌<◌, ◌^◌, List, [], ◌∷◌, ◌++◌, map, codes, decimal, Option, None, Some, Result, Ok, Err}
 use Rattle.std.specs.List.{flat_map, range_with_len}
 use Rattle.psi_base.specs.Number.{number_of}
 use Rattle.psi_base.specs.Path.{parts_at}
@@ -9,6 +9,7 @@ use Rattle.psi_base.specs.declared.event.Act.TheVariants as act
 use Rattle.psi_base.specs.declared.event.Event.{Event}
 use Rattle.psi_base.specs.declared.event.Cause.{Cause}
 use Rattle.psi_base.specs.declared.event.Cause.TheVariants as cause
+use Rattle.psi_base.specs.ResultSteps.{◌>>=◌}
 use Rattle.psi_spec.specs.Fields.{Kind, Value, InRange, word, IsAmong, value_of, named}
 use Rattle.psi_spec.specs.Fields as kind
 
@@ -31,14 +32,6 @@ versions = One ∷ Two ∷ []
 abbrev pub version_number : Version → ℕ
 version_number One = 1
 version_number Two = 2
-
--- a number is that of a version
-abbrev pub IsVersion : ℕ → Type 0
-IsVersion number = (number ≡ 1) ⊎ (number ≡ 2)
-
--- the version with a number, and the first for a number of none
-abbrev pub version_of : ℕ → Version
-version_of number = if number == 2 then Two else One
 
 -- what a header tells: the version, and how many processors there are
 pub record Header : Type 0 where
@@ -191,12 +184,6 @@ IsKnown verbs event = IsAmong (phrase_of event.act).verb verbs
 
 -- ---- reading
 
--- a step of reading after another, unless that one found a fault
-infixl 10 ◌>>=◌
-abbrev pub ◌>>=◌ : {A B : Type 0} → Result A Cause → (A → Result B Cause) → Result B Cause
-(Ok x) >>= f = f x
-(Err e) >>= f = Err e
-
 -- a value that was found, and the words behind it, or the bad field with this number
 abbrev pub or_bad : {A : Type 0} → ℕ → Option A → List (List ℕ) → Result (A × List (List ℕ)) Cause
 or_bad i None words = Err (cause.BadField i)
@@ -249,10 +236,6 @@ event_at verbs (time ∷ words) = event_in verbs (number_of time) words
 -- the event that a line spells by these verbs, or the first cause against it
 unfoldable pub event_of : List Verb → List ℕ → Result Event Cause
 event_of verbs line = event_at verbs (parts_at 32 line)
-
--- what a header tells that has the number of a version
-abbrev pub header_with : ℕ → ℕ → Header
-header_with number cpus = record { version = version_of number; cpus = cpus }
 
 -- the line of a header
 abbrev pub header_line : Header → List ℕ

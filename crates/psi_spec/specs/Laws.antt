@@ -8,7 +8,7 @@ use Rattle.psi_spec.specs.Fields.{IsAmong}
 use Rattle.psi_spec.specs.Grammar.{Verb, Version}
 use Rattle.psi_spec.specs.World.{World, Limits, root, first_world, after_event, after}
 use Rattle.psi_spec.specs.Refusal.{AreLegal, cause_of}
-use Rattle.psi_spec.specs.Groups.{AreGroups, AreOlder, leads_to, new_parents}
+use Rattle.psi_spec.specs.LegalGroups.{AreGroups, AreOlder, leads_to, new_parents}
 use Rattle.psi_spec.specs.Stall.{holds, irq_from, irq_time, is_under, parents_of, stall}
 use Rattle.psi_spec.specs.Trace.{Accepts, AllFit, AreKnown, IsAccepted, IsCpuCount, Trace, first_line, first_rest, limits_of, line_event, refused, rest_cause, text_of, trace_of}
 

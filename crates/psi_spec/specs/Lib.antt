@@ -1,12 +1,15 @@
 pub mod Fields
 pub mod Grammar
+pub mod Header
 pub mod Names
 pub mod World
 pub mod Refusal
 pub mod Groups
+pub mod LegalGroups
 pub mod Stall
 pub mod Changes
 pub mod Trace
+pub mod Within
 pub mod Told
 pub mod LineLaws
 pub mod Laws

@@ -1,6 +1,5 @@
 -- What events tell of the world as they come, and the triggers that they set.
-use Rattle.std.specs.Prelude.{◌≡◌, ℕ, ◌<◌, ◌≤◌, List, [], ◌∷◌, ◌++◌, length, unwrap_or, Option, None, Some, true}
-use Rattle.std.specs.List.{All}
+use Rattle.std.specs.Prelude.{ℕ, List, [], ◌∷◌, ◌++◌, unwrap_or}
 use Rattle.psi_base.specs.declared.event.Slot.{Slot}
 use Rattle.psi_base.specs.declared.event.Act.{Act}
 use Rattle.psi_base.specs.declared.event.Act.TheVariants as act
@@ -8,7 +7,6 @@ use Rattle.psi_base.specs.declared.event.Event.{Event}
 use Rattle.psi_base.specs.declared.event.TriggerSpec.{TriggerSpec}
 use Rattle.psi_spec.specs.declared.machine.GroupLife.{GroupLife}
 use Rattle.psi_spec.specs.World.{World, after_event, first_world, slot_of}
-use Rattle.psi_spec.specs.Refusal.{is_window}
 
 -- what each event tells in the world before it, all together and in the order of the events, from a
 -- world on
@@ -19,11 +17,6 @@ told_from tells w (event ∷ events) = tells w event ++ told_from tells (after_e
 -- the slot of the live group with a path, and the root's where there is none
 abbrev pub slot_named : List GroupLife → List ℕ → Slot
 slot_named groups path = record { 0 = unwrap_or (slot_of groups path) 0 }
-
--- what there is, as a list of one or none
-abbrev pub listed : {A : Type 0} → Option A → List A
-listed None = []
-listed (Some x) = x ∷ []
 
 -- ---- triggers
 
@@ -36,15 +29,3 @@ trigger_by at groups _ = []
 -- the triggers of events in their order
 abbrev pub triggers_of : List Event → List TriggerSpec
 triggers_of events = told_from (λ w event. trigger_by event.at w.groups event.act) first_world events
-
--- a trigger is one that a trace may set: no later than the latest moment (ns), on a slot that there
--- is, and with a threshold and a window (us) in their ranges
-pub record IsTriggerWithin (latest slots : ℕ) (trigger : TriggerSpec) : Type 0 where
-  pub early : trigger.at ≤ latest
-  pub slot : trigger.slot.0 < slots
-  pub window : is_window trigger.threshold_us trigger.window_us ≡ true
-
--- what holds of the triggers of each trace: they are few, and each is one that a trace may set
-pub record AreTriggersWithin (latest slots : ℕ) (triggers : List TriggerSpec) : Type 0 where
-  pub few : length triggers ≤ 256
-  pub each : All (λ trigger. IsTriggerWithin latest slots trigger) triggers

@@ -21,14 +21,6 @@ pub record Trace : Type 0 where
 abbrev pub IsCpuCount : ℕ → Type 0
 IsCpuCount cpus = (1 ≤ cpus) × (cpus ≤ most_cpus)
 
--- the last moment (ns) that a trace may reach: a million of the longest ticks; no total is longer
-abbrev pub last_moment : ℕ
-last_moment = 60000000000000000
-
--- the longest tick (ns), a minute; no time of an interval is longer
-abbrev pub longest_tick : ℕ
-longest_tick = 60000000000
-
 -- what a trace of so many processors can name at a tick length (ns): moments up to a million ticks
 abbrev pub limits_of : ℕ → ℕ → Limits
 limits_of tick cpus = record { cpus = cpus; latest = 1000000 * tick }

@@ -6,7 +6,8 @@ use Rattle.std.proofs.lemmas.Slice.Eq.{bytes_eq-Decides}
 use Rattle.std.proofs.Math.Seq.{take-append_seam}
 use Rattle.std.proofs.lemmas.Fmt.{decimal_digit, decimal_injective}
 use Rattle.psi_spec.specs.Fields.{IsAmong}
-use Rattle.psi_spec.specs.Grammar.{Header, IsVersion, One, Two, Version, header, header_line, header_of, header_with, version_number, version_of, versions}
+use Rattle.psi_spec.specs.Grammar.{Header, One, Two, Version, header, header_line, header_of, version_number, versions}
+use Rattle.psi_spec.specs.Header.{IsVersion, header_with, version_of}
 use Rattle.trace_laws.proofs.GrammarWords.{decimal_short}
 use Rattle.trace_laws.proofs.GrammarHeaders.{headers_spelled}
 use Rattle.psi_trace.specs.Heads.{before_cpus}

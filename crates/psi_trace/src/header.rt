@@ -1,7 +1,8 @@
 //! The header of a trace.
 ghost use Rattle.std.specs.Prelude.{◌≡◌, ◌≢◌, ℕ, ◌≤◌, ◌++◌, None, Some, IfSome, MatchOption, MatchResult, option_map};
 ghost use Rattle.psi_base.specs.declared.event.Cause.TheVariants as cause;
-ghost use Rattle.psi_spec.specs.Grammar.{IsVersion, header, header_of, header_with, versions};
+ghost use Rattle.psi_spec.specs.Grammar.{header, header_of, versions};
+ghost use Rattle.psi_spec.specs.Header.{IsVersion, header_with};
 ghost use Rattle.psi_trace.specs.Heads.{before_cpus};
 
 use psi_base::{Cause, read_number};

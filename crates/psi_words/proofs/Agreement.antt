@@ -6,7 +6,8 @@ use Rattle.std.specs.Prelude.{⊤, codes, is_some}
 use Rattle.std.specs.Str.{bytes_eq}
 use Rattle.std.specs.List.{list_all, list_any, before_first}
 use Rattle.clap.specs.Lexer.{long_of, name_and_value}
-use Rattle.run_spec.specs.Words.{◌>>=◌, Word, assigned, opened, unknown, is_among, is_dashed}
+use Rattle.psi_base.specs.OptionSteps.{◌>>=◌}
+use Rattle.run_spec.specs.Words.{Word, assigned, opened, unknown, is_among, is_dashed}
 use Rattle.run_spec.specs.Words.{is_equals, option_of, word_of, Given, nothing, value_given}
 use Rattle.run_spec.specs.Words.{with_option, with_positional, at_word, at_value, behind, by_word, said}
 use Rattle.psi_words.specs.Clap.{positional_id}

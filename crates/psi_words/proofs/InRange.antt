@@ -2,7 +2,9 @@
 use Rattle.std.proofs.Common.{Option, Result, Ok, Err, IfOk}
 use Rattle.psi_base.specs.declared.event.Fault.{Fault}
 use Rattle.run_spec.specs.declared.command.Command.{Command}
-use Rattle.run_spec.specs.Words.{◌>>=◌, Given, IsCommand}
+use Rattle.psi_base.specs.OptionSteps.{◌>>=◌}
+use Rattle.run_spec.specs.Words.{Given}
+use Rattle.run_spec.specs.LegalCommand.{IsCommand}
 use Rattle.run_spec.proofs.RangeLaws.{GivesCommands, bind_some}
 use Rattle.psi_words.specs.Reads.{ReadsWord}
 

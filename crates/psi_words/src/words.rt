@@ -1,7 +1,8 @@
 //! The command that words spell.
 ghost use Rattle.std.specs.Prelude.{IfOk, map, string_bytes, ◌∷◌};
 ghost use Rattle.psi_words.specs.Reads.{HasTextNames, ReadsWord};
-ghost use Rattle.run_spec.specs.Words.{command_of, IsCommand};
+ghost use Rattle.run_spec.specs.Words.{command_of};
+ghost use Rattle.run_spec.specs.LegalCommand.{IsCommand};
 
 use crate::tables::{
     read_check, read_gen, read_import, read_replay, read_rules, read_stall, read_stress,

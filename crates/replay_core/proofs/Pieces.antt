@@ -2,7 +2,8 @@
 use Rattle.std.proofs.Common.{List, ℕ, [], sym}
 use Rattle.std.specs.Prelude.{Option, Result, Ok, Err}
 use Rattle.std.proofs.lemmas.List.{append-nil}
-use Rattle.outside.specs.Outside.{AppendsFront, PutsAll}
+use Rattle.outside.specs.Outside.{AppendsFront}
+use Rattle.outside.specs.Calls.{PutsAll}
 use Rattle.outside.proofs.Grows.{AppendsFront-of}
 
 -- what was put, in whole or in part, is a front of it

@@ -2,7 +2,7 @@
 use Rattle.std.proofs.Common.{◌≡◌, ◌≢◌, ◌⊎◌, inl, inr, ℕ, List, ◌++◌, refl, sym, ap, subst, Option, None, Some, true, true≢false}
 use Rattle.std.specs.Prelude.{Result, Ok, Err, codes, is_some, option_map}
 use Rattle.std.specs.Io.KnownBytes.{Appends, Keeps}
-use Rattle.psi_base.specs.Gives.{no_memory}
+use Rattle.psi_base.specs.Memory.{no_memory}
 use Rattle.outside.specs.Outside.{Files, Rose, told}
 use Rattle.psi_spec.specs.Trace.{Trace, trace_of}
 use Rattle.run_spec.specs.declared.command.Command.{Command}

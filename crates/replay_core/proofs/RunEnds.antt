@@ -3,7 +3,7 @@ use Rattle.std.proofs.Common.{◌≡◌, ◌≢◌, ◌⊎◌, inl, inr, ℕ, �
 use Rattle.std.specs.Prelude.{MatchOption, Result, Ok, Err, is_some, option_map}
 use Rattle.std.specs.Io.KnownBytes.{Appends, Keeps, append_known}
 use Rattle.std.proofs.lemmas.List.{append-nil, length-append, nil_from_length}
-use Rattle.psi_base.specs.Gives.{no_memory}
+use Rattle.psi_base.specs.Memory.{no_memory}
 use Rattle.outside.specs.Outside.{Files, Lacks, Rose, bytes_of, known_count, told}
 use Rattle.psi_base.specs.declared.event.Refusal.{Refusal}
 use Rattle.psi_base.specs.declared.event.Event.{Event}

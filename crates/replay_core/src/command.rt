@@ -3,7 +3,7 @@ ghost use Rattle.std.specs.Prelude.{◌≡◌, ◌+◌, ◌≤◌, None, IfSome,
 ghost use Rattle.outside.specs.Outside.{StaysOver};
 ghost use Rattle.run_spec.specs.MostRead.{most_read};
 ghost use Rattle.run_spec.specs.Run.{Runs, run_counts};
-ghost use Rattle.run_spec.specs.Words.{IsCommand, IsWithin};
+ghost use Rattle.run_spec.specs.LegalCommand.{IsCommand, IsWithin};
 ghost use Rattle.psi_words.specs.Reads.{HasTextNames};
 ghost use Rattle.run_outcomes.specs.Writes.{IsStatusOf};
 

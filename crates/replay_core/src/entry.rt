@@ -1,7 +1,7 @@
 //! The top call.
 ghost use Rattle.std.specs.Prelude.{◌≡◌, ◌⊎◌, ◌≢◌, ◌+◌, ◌≤◌, ◌++◌, ℕ, List, Option, Some, None, Ok, Err, codes, map, string_bytes};
 ghost use Rattle.std.specs.Io.KnownBytes.{Appends, Keeps};
-ghost use Rattle.psi_base.specs.Gives.{no_memory};
+ghost use Rattle.psi_base.specs.Memory.{no_memory};
 ghost use Rattle.outside.specs.Outside.{AppendsFront, Rose, told};
 ghost use Rattle.psi_base.specs.declared.event.Event.{Event};
 ghost use Rattle.psi_spec.specs.Trace.{Trace, text_of, trace_of};
@@ -22,7 +22,8 @@ ghost use Rattle.ruleset_json.specs.Rules.{rules_of};
 ghost use Rattle.ruleset_json.specs.declared.fault.RulesFault.{RulesFault};
 ghost use Rattle.ruleset_json.specs.declared.types.Rule.{Rule};
 ghost use Rattle.run_spec.specs.Status.{status_text};
-ghost use Rattle.run_spec.specs.Words.{IsCommand, command_of};
+ghost use Rattle.run_spec.specs.Words.{command_of};
+ghost use Rattle.run_spec.specs.LegalCommand.{IsCommand};
 
 use crate::command::run_command;
 use crate::note::put_status;

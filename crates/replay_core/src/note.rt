@@ -2,7 +2,8 @@
 ghost use Rattle.std.specs.Prelude.{◌≡◌, ◌++◌, codes, option_map};
 ghost use Rattle.dropin_rules.specs.FaultText.{drop_fault_text};
 ghost use Rattle.ruleset_json.specs.FaultText.{fault_text};
-ghost use Rattle.outside.specs.Outside.{PutsAll, HasCause};
+ghost use Rattle.outside.specs.Outside.{HasCause};
+ghost use Rattle.outside.specs.Calls.{PutsAll};
 ghost use Rattle.run_spec.specs.Text.{import_cause_text};
 ghost use Rattle.run_spec.specs.Status.{import_refusal_text, name_text, status_text};
 

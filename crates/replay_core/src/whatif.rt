@@ -1,7 +1,7 @@
 //! `whatif`: the output of what is left of a trace without the victims of its kills.
 ghost use Rattle.std.specs.Prelude.{◌≡◌, ◌+◌, ◌≤◌, IfSome, IsSome, IsUtf8};
 ghost use Rattle.outside.specs.Outside.{StaysOver};
-ghost use Rattle.psi_spec.specs.Grammar.{IsVersion};
+ghost use Rattle.psi_spec.specs.Header.{IsVersion};
 ghost use Rattle.ruleset_json.specs.RuleRanges.{FitsRules};
 ghost use Rattle.run_spec.specs.Outputs.{pace_of};
 ghost use Rattle.run_spec.specs.MostRead.{most_read};

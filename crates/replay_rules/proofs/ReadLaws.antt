@@ -11,7 +11,8 @@ use Rattle.psi_base.specs.declared.event.Event.{Event}
 use Rattle.psi_base.specs.declared.event.Preference.{Preference}
 use Rattle.psi_base.specs.declared.event.Slot.{Slot}
 use Rattle.psi_spec.specs.declared.machine.GroupLife.{GroupLife}
-use Rattle.psi_spec.specs.Groups.{IsPathOrder, live_groups}
+use Rattle.psi_spec.specs.Groups.{live_groups}
+use Rattle.psi_spec.specs.LegalGroups.{IsPathOrder}
 use Rattle.psi_spec.specs.Trace.{Trace, limits_of}
 use Rattle.psi_spec.specs.World.{after, up_to}
 use Rattle.plan_laws.specs.Moments.{is_live_slot, with_path}

@@ -24,14 +24,15 @@ use Rattle.psi_spec.specs.Trace.{AllFit, IsAccepted, Trace, limits_of}
 use Rattle.psi_spec.specs.World.{Limits, World, after, after_event, first_world, is_live, up_to}
 use Rattle.plan_laws.specs.Moments.{AreFirstOf}
 use Rattle.plan_laws.proofs.MomentsLives.{groups_keep_slots}
-use Rattle.pressure_spec.specs.Average.{IsRow}
+use Rattle.pressure_spec.specs.Within.{IsRow}
 use Rattle.pressure_spec.specs.Samples.{group_averages}
 use Rattle.pressure_spec.specs.Share.{irq_quantity}
 use Rattle.pressure_spec.specs.Ticks.{is_evaluation, tick_moment, ticks_of}
 use Rattle.pressure_spec.proofs.SampleLaws.{group_averages_are}
 use Rattle.kill_spec.specs.declared.reading.GroupReading.{GroupReading}
-use Rattle.kill_spec.specs.Readings.{Ascend, AreReadings, IsGroupReading, IsHostReading}
-use Rattle.kill_spec.specs.Readings.{IsLater, IsReading, Reading, no_host, path_of}
+use Rattle.kill_spec.specs.LegalReadings.{Ascend, AreReadings, IsGroupReading, IsHostReading}
+use Rattle.kill_spec.specs.Readings.{Reading, no_host, path_of}
+use Rattle.kill_spec.specs.LegalReadings.{IsLater, IsReading}
 use Rattle.kill_spec.specs.Evaluations.{MemorySample, averages_at, evaluations, group_seen}
 use Rattle.kill_spec.specs.Evaluations.{host_of, host_told, last_or, memory_of, memory_told}
 use Rattle.kill_spec.specs.Evaluations.{no_memory_sample, reading_at, readings_until}

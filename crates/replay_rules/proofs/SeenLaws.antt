@@ -15,11 +15,13 @@ use Rattle.psi_base.specs.declared.event.Slot.{Slot}
 use Rattle.psi_spec.specs.declared.machine.GroupLife.{GroupLife}
 use Rattle.psi_spec.specs.World.{Limits, after, first_world, root, up_to}
 use Rattle.psi_spec.specs.Refusal.{AreLegal}
-use Rattle.psi_spec.specs.Groups.{IsPathOrder, in_order, is_live_at, live_from, live_groups}
+use Rattle.psi_spec.specs.Groups.{in_order, is_live_at, live_from, live_groups}
+use Rattle.psi_spec.specs.LegalGroups.{IsPathOrder}
 use Rattle.psi_spec.specs.Groups.{path_at}
 use Rattle.plan_laws.specs.Moments.{is_live_slot, with_path}
 use Rattle.plan_laws.proofs.MomentsOrder.{order_tells_live}
-use Rattle.kill_spec.specs.Readings.{Ascend, path_of}
+use Rattle.kill_spec.specs.Readings.{path_of}
+use Rattle.kill_spec.specs.LegalReadings.{Ascend}
 use Rattle.tick_engine.specs.Engine.{EngineView}
 use Rattle.side_watch.specs.Watch.{SideView}
 use Rattle.group_tree.specs.Tree.{numbers_of}

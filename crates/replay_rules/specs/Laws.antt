@@ -3,7 +3,7 @@ use Rattle.std.specs.Prelude.{◌≡◌, ℕ, ◌+◌, ◌<◌, List, [], ◌∷
 use Rattle.psi_spec.specs.Trace.{IsAccepted, Trace, limits_of}
 use Rattle.pressure_spec.specs.Ticks.{is_evaluation}
 use Rattle.ruleset_json.specs.declared.types.Rule.{Rule}
-use Rattle.kill_spec.specs.Readings.{AreReadings}
+use Rattle.kill_spec.specs.LegalReadings.{AreReadings}
 use Rattle.kill_spec.specs.Kills.{kills}
 use Rattle.run_spec.specs.Replay.{Pace, kills_in, lives_of}
 use Rattle.replay_rules.specs.Judged.{read_at, readings_of}

@@ -1,7 +1,8 @@
 -- What a replay stands on: plans of an accepted trace, and an engine that has taken its ticks.
 use Rattle.std.specs.Prelude.{ℕ, ◌<◌, ◌≤◌}
 use Rattle.psi_spec.specs.Told.{triggers_of}
-use Rattle.psi_spec.specs.Trace.{IsAccepted, IsCpuCount, Trace, limits_of, longest_tick}
+use Rattle.psi_spec.specs.Trace.{IsAccepted, IsCpuCount, Trace, limits_of}
+use Rattle.psi_spec.specs.Within.{longest_tick}
 use Rattle.pressure_spec.specs.Ticks.{ticks_of}
 use Rattle.run_spec.specs.Replay.{Pace, lives_of}
 use Rattle.proc_plan.specs.Plans.{PlansView, StandFor}

@@ -5,7 +5,8 @@ use Rattle.psi_spec.specs.Groups.{path_at}
 use Rattle.pressure_spec.specs.Share.{irq_quantity, pressure_places}
 use Rattle.plan_laws.specs.Moments.{is_live_slot}
 use Rattle.kill_spec.specs.declared.reading.GroupReading.{GroupReading}
-use Rattle.kill_spec.specs.Readings.{Ascend, Reading}
+use Rattle.kill_spec.specs.Readings.{Reading}
+use Rattle.kill_spec.specs.LegalReadings.{Ascend}
 use Rattle.tick_engine.specs.Engine.{EngineView, averages_in}
 use Rattle.detectors.specs.Views.{ReadingView, reading_of, seen_at}
 use Rattle.side_watch.specs.Watch.{SideView, has_tasks, side_cell_at}

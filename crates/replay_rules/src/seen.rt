@@ -1,8 +1,8 @@
 //! What is read at an evaluation.
 ghost use Rattle.std.specs.Prelude.{◌≡◌, ◌<◌, ℕ, All, length, take};
-ghost use Rattle.pressure_spec.specs.Average.{IsRow};
+ghost use Rattle.pressure_spec.specs.Within.{IsRow};
 ghost use Rattle.pressure_spec.specs.Share.{irq_quantity};
-ghost use Rattle.kill_spec.specs.Readings.{IsGroupReading};
+ghost use Rattle.kill_spec.specs.LegalReadings.{IsGroupReading};
 ghost use Rattle.tick_engine.specs.Engine.{averages_in};
 ghost use Rattle.group_tree.specs.Tree.{numbers_of};
 ghost use Rattle.replay_rules.specs.Seen.{HasRows, LiveAscend, group_by, read_by};

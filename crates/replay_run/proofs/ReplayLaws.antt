@@ -3,7 +3,8 @@ use Rattle.std.proofs.Common.{◌≡◌, ℕ, ◌+◌, ◌-◌, ◌<◌, List, [
 use Rattle.std.specs.Prelude.{Option, None, Some, Result, Ok, Err}
 use Rattle.std.specs.Io.KnownBytes.{Appends, Keeps}
 use Rattle.outside.proofs.Grows.{Appends-none, Appends-then, AppendsFront-then}
-use Rattle.outside.specs.Outside.{AppendsFront, PutsAll}
+use Rattle.outside.specs.Outside.{AppendsFront}
+use Rattle.outside.specs.Calls.{PutsAll}
 use Rattle.psi_base.specs.declared.event.Event.{Event}
 use Rattle.psi_spec.specs.Grammar.{Version}
 use Rattle.psi_spec.specs.Trace.{Trace, limits_of}

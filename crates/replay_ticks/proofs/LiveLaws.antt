@@ -8,7 +8,8 @@ use Rattle.psi_base.specs.declared.event.Slot.{Slot}
 use Rattle.psi_spec.specs.Changes.{RiseWithin, changes_of, count_at, times_after}
 use Rattle.psi_spec.specs.declared.machine.GroupLife.{GroupLife}
 use Rattle.psi_spec.specs.Stall.{number_of_slot}
-use Rattle.psi_spec.specs.Trace.{Trace, last_moment, limits_of}
+use Rattle.psi_spec.specs.Trace.{Trace, limits_of}
+use Rattle.psi_spec.specs.Within.{last_moment}
 use Rattle.psi_counts.specs.declared.changes.Change.{Change}
 use Rattle.psi_counts.specs.Clock.{ClockView, IsInTime, opened}
 use Rattle.plan_laws.specs.Plan.{AreInOrder, IsClock, IsPlan, PlanView, changes_up_to, last_change, plan_of}

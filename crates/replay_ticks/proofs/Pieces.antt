@@ -3,7 +3,8 @@ use Rattle.std.proofs.Common.{◌≡◌, ℕ, List, [], ◌++◌, ap}
 use Rattle.std.specs.Prelude.{Option, Result, Ok, Err}
 use Rattle.std.specs.Io.KnownBytes.{Appends}
 use Rattle.std.proofs.lemmas.List.{append-nil}
-use Rattle.outside.specs.Outside.{AppendsFront, PutsAll}
+use Rattle.outside.specs.Outside.{AppendsFront}
+use Rattle.outside.specs.Calls.{PutsAll}
 use Rattle.outside.proofs.Grows.{Appends-none, Appends-then, AppendsFront-then}
 
 -- a front of the first text is one of both

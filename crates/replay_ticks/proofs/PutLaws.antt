@@ -7,12 +7,14 @@ use Rattle.std.proofs.lemmas.List.{get_or-map, length-map}
 use Rattle.std.proofs.lemmas.List.Elements.{All-filter}
 use Rattle.std.proofs.lemmas.List.FromFn.{get_or-range_with_len, length-range_with_len}
 use Rattle.std.proofs.lemmas.List.Sorted.{All-permutation}
-use Rattle.outside.specs.Outside.{AppendsFront, PutsAll}
+use Rattle.outside.specs.Outside.{AppendsFront}
+use Rattle.outside.specs.Calls.{PutsAll}
 use Rattle.psi_base.specs.declared.event.Slot.{Slot}
 use Rattle.psi_base.specs.declared.event.TriggerSpec.{TriggerSpec}
 use Rattle.psi_spec.specs.declared.machine.GroupLife.{GroupLife}
-use Rattle.psi_spec.specs.Grammar.{Version, version_of}
-use Rattle.psi_spec.specs.Groups.{IsPathOrder}
+use Rattle.psi_spec.specs.Grammar.{Version}
+use Rattle.psi_spec.specs.Header.{version_of}
+use Rattle.psi_spec.specs.LegalGroups.{IsPathOrder}
 use Rattle.psi_spec.specs.Told.{triggers_of}
 use Rattle.psi_spec.specs.Trace.{Trace, limits_of}
 use Rattle.pressure_spec.specs.Average.{AverageState}

@@ -3,9 +3,11 @@ use Rattle.std.proofs.Common.{◌≡◌, ℕ, ◌*◌, ◌≤◌, ◌<◌, List,
 use Rattle.std.specs.Prelude.{All, IfSome, Option, None, Some}
 use Rattle.psi_base.specs.declared.event.TriggerSpec.{TriggerSpec}
 use Rattle.psi_spec.specs.declared.machine.GroupLife.{GroupLife}
-use Rattle.psi_spec.specs.Groups.{IsPathOrder}
-use Rattle.psi_spec.specs.Told.{AreTriggersWithin, IsTriggerWithin, triggers_of}
-use Rattle.psi_spec.specs.Trace.{Trace, last_moment, limits_of, longest_tick}
+use Rattle.psi_spec.specs.LegalGroups.{IsPathOrder}
+use Rattle.psi_spec.specs.Told.{triggers_of}
+use Rattle.psi_spec.specs.Within.{AreTriggersWithin, IsTriggerWithin}
+use Rattle.psi_spec.specs.Trace.{Trace, limits_of}
+use Rattle.psi_spec.specs.Within.{last_moment, longest_tick}
 use Rattle.psi_spec.specs.World.{after}
 use Rattle.plan_laws.specs.Moments.{IsLife}
 use Rattle.plan_laws.proofs.PlanStates.{legal_after}

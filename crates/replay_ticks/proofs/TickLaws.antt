@@ -6,10 +6,12 @@ use Rattle.std.proofs.Math.Nat.{mul-le-mul_left}
 use Rattle.std.proofs.lemmas.List.FromFn.{length-range_with_len}
 use Rattle.std.proofs.lemmas.List.Sums.{length-filter, count_by-le-length}
 use Rattle.psi_spec.specs.Told.{triggers_of}
-use Rattle.psi_spec.specs.Trace.{Trace, last_moment, limits_of}
+use Rattle.psi_spec.specs.Trace.{Trace, limits_of}
+use Rattle.psi_spec.specs.Within.{last_moment}
 use Rattle.plan_laws.proofs.MomentsTriggers.{triggers_are_within}
 use Rattle.pressure_spec.specs.Samples.{fired_at, fires_by_number}
-use Rattle.pressure_spec.specs.Ticks.{IsNextTick, table_until, tick_moment, tick_of, ticks_of}
+use Rattle.pressure_spec.specs.Ticks.{table_until, tick_moment, tick_of, ticks_of}
+use Rattle.pressure_spec.specs.NextTick.{IsNextTick}
 use Rattle.run_spec.specs.Replay.{Pace, fired_in, kills_in, lives_of, signals_until, tick_count, tick_text, with_rules}
 use Rattle.run_laws.proofs.OneMore.{kills_more, signals_more, ticks_more}
 use Rattle.run_laws.proofs.Following.{ticks_follow}
@@ -23,7 +25,7 @@ use Rattle.std.specs.Io.KnownBytes.{Appends}
 use Rattle.outside.specs.Outside.{AppendsFront}
 use Rattle.outside.proofs.Grows.{Appends-then}
 use Rattle.psi_base.specs.declared.event.Slot.{Slot}
-use Rattle.psi_spec.specs.Groups.{IsPathOrder}
+use Rattle.psi_spec.specs.LegalGroups.{IsPathOrder}
 use Rattle.replay_ticks.specs.declared.replay.TickFault.{TickFault}
 use Rattle.ruleset_json.specs.declared.types.Rule.{Rule}
 use Rattle.kill_spec.specs.declared.kill.Kill.{Kill}

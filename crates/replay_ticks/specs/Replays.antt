@@ -4,8 +4,8 @@ use Rattle.std.specs.List.{All, flat_map, range_with_len}
 use Rattle.std.specs.Io.KnownBytes.{Appends, Keeps}
 use Rattle.outside.specs.Outside.{AppendsFront}
 use Rattle.psi_base.specs.declared.event.Slot.{Slot}
-use Rattle.psi_spec.specs.Grammar.{version_of}
-use Rattle.psi_spec.specs.Groups.{IsPathOrder}
+use Rattle.psi_spec.specs.Header.{version_of}
+use Rattle.psi_spec.specs.LegalGroups.{IsPathOrder}
 use Rattle.psi_spec.specs.Stall.{number_of_slot}
 use Rattle.psi_spec.specs.Trace.{Trace}
 use Rattle.psi_counts.specs.Clock.{IsInTime, opened}

@@ -1,7 +1,8 @@
 //! A trace that is replayed tick by tick.
 ghost use Rattle.std.specs.Prelude.{◌≡◌, ◌+◌, ◌<◌, ℕ, List, length, IfSome};
 ghost use Rattle.psi_base.specs.declared.event.Slot.{Slot};
-ghost use Rattle.outside.specs.Outside.{HasCause, PutsAll, StaysOver};
+ghost use Rattle.outside.specs.Outside.{HasCause, StaysOver};
+ghost use Rattle.outside.specs.Calls.{PutsAll};
 ghost use Rattle.psi_spec.specs.Trace.{Trace};
 ghost use Rattle.pressure_spec.specs.Ticks.{tick_moment};
 ghost use Rattle.run_spec.specs.Replay.{Pace, kills_in, last_line, tick_count, tick_text, with_rules};

@@ -1,9 +1,10 @@
 //! The lines of a tick.
 ghost use Rattle.std.specs.Prelude.{◌≡◌, ◌<◌, length, ◌==◌};
 ghost use Rattle.std.specs.List.{All};
-ghost use Rattle.outside.specs.Outside.{HasCause, PutsAll, StaysOver};
+ghost use Rattle.outside.specs.Outside.{HasCause, StaysOver};
+ghost use Rattle.outside.specs.Calls.{PutsAll};
 ghost use Rattle.psi_base.specs.declared.event.TriggerSpec.{TriggerSpec};
-ghost use Rattle.psi_spec.specs.Grammar.{version_of};
+ghost use Rattle.psi_spec.specs.Header.{version_of};
 ghost use Rattle.run_spec.specs.Replay.{files_text, irq_files, resource_files, signal_lines};
 ghost use Rattle.run_laws.specs.Reports.{slot_report, slot_reports};
 ghost use Rattle.tick_engine.specs.Engine.{averages_in, totals_in};

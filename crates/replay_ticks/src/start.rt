@@ -1,9 +1,9 @@
 //! A trace before its first tick.
 ghost use Rattle.std.specs.Prelude.{◌≡◌, ◌<◌, ◌≤◌, IfOk};
-ghost use Rattle.psi_spec.specs.Grammar.{IsVersion, version_of};
+ghost use Rattle.psi_spec.specs.Header.{IsVersion, version_of};
 ghost use Rattle.psi_spec.specs.Trace.{Trace};
 ghost use Rattle.run_spec.specs.Outputs.{pace_of, watch_of};
-ghost use Rattle.run_spec.specs.Words.{IsWithin};
+ghost use Rattle.run_spec.specs.LegalCommand.{IsWithin};
 ghost use Rattle.ruleset_json.specs.RuleRanges.{FitsRules};
 ghost use Rattle.replay_rules.specs.Judged.{given_rules};
 ghost use Rattle.replay_rules.specs.Planned.{IsPlanned};

@@ -1,7 +1,7 @@
 //! The processors of one worker.
 ghost use Rattle.std.specs.Prelude.{◌<◌, ◌≤◌};
 ghost use Rattle.std.specs.List.{All};
-ghost use Rattle.psi_spec.specs.Trace.{last_moment};
+ghost use Rattle.psi_spec.specs.Within.{last_moment};
 ghost use Rattle.replay_workers.specs.Crew.{last_of};
 ghost use Rattle.replay_workers.specs.Lanes.{HaveAllGone, HaveGone, MayAllGo};
 

@@ -2,7 +2,7 @@
 ghost use Rattle.std.specs.Prelude.{◌≡◌, ◌<◌, ◌≤◌, ℕ, length, IfOk};
 ghost use Rattle.std.specs.List.{All};
 ghost use Rattle.std.specs.Thread.{IsSync};
-ghost use Rattle.psi_spec.specs.Trace.{last_moment};
+ghost use Rattle.psi_spec.specs.Within.{last_moment};
 ghost use Rattle.replay_workers.specs.Crew.{last_of};
 ghost use Rattle.replay_workers.specs.Lanes.{HaveAllGone, MayAllGo, lane_of};
 ghost use Rattle.replay_workers.specs.Watches.{AreNewWatchers, AreSettled, AreWatching, HasMet, HaveCleared, HaveMet, HaveSampled, HaveSlot, HaveWatched, IsInRow, IsLaneThere, IsNewWatcher, IsWatcherThere, MayAllSample};

@@ -1,7 +1,7 @@
 //! The clocks of processors before any change and up to one, and the times that they tell.
 ghost use Rattle.std.specs.Prelude.{◌≡◌, ◌<◌, ◌≤◌, ℕ, length, IfOk};
 ghost use Rattle.plan_laws.specs.Plan.{IsPlan, last_change};
-ghost use Rattle.psi_spec.specs.Trace.{last_moment};
+ghost use Rattle.psi_spec.specs.Within.{last_moment};
 ghost use Rattle.proc_plan.specs.Plans.{plan_at};
 ghost use Rattle.replay_workers.specs.Crew.{AreOnPlans, clocks_at, planned_with_irq};
 

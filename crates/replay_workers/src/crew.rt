@@ -1,7 +1,7 @@
 //! The clocks of all processors of a trace, which go over ticks in the threads of workers.
 ghost use Rattle.std.specs.Prelude.{◌≡◌, ◌<◌, ◌≤◌, ℕ, ◌∷◌, [], drop, length, slice_get, IfOk, IfSome, None, Ok, Some, is_some, true};
 ghost use Rattle.plan_laws.specs.Plan.{IsClock};
-ghost use Rattle.psi_spec.specs.Trace.{last_moment};
+ghost use Rattle.psi_spec.specs.Within.{last_moment};
 ghost use Rattle.clock_row.specs.Steps.{count_shown, new_reader};
 ghost use Rattle.aggregate.specs.Table.{HasSizes};
 ghost use Rattle.proc_plan.specs.Plans.{plan_at};

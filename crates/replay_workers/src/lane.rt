@@ -1,7 +1,7 @@
 //! One processor, which goes tick by tick and keeps the times at each.
 ghost use Rattle.std.specs.Prelude.{◌≡◌, ◌*◌, ◌<◌, ◌≤◌, length, IfOk, Ok, Some, is_some};
 ghost use Rattle.plan_laws.specs.Plan.{IsClock, IsPlan};
-ghost use Rattle.psi_spec.specs.Trace.{last_moment};
+ghost use Rattle.psi_spec.specs.Within.{last_moment};
 ghost use Rattle.proc_plan.specs.Plans.{plan_at};
 ghost use Rattle.clock_row.specs.Steps.{count_shown, new_reader};
 ghost use Rattle.replay_workers.specs.Crew.{last_of};

@@ -1,7 +1,7 @@
 //! The clocks of one processor, in a row only where they are to be watched.
 ghost use Rattle.std.specs.Prelude.{◌≡◌, ◌+◌, ◌*◌, ◌<◌, ◌≤◌, length, IfOk, is_some};
 ghost use Rattle.plan_laws.specs.Plan.{IsClock, IsPlan, changes_up_to, last_change};
-ghost use Rattle.psi_spec.specs.Trace.{last_moment};
+ghost use Rattle.psi_spec.specs.Within.{last_moment};
 ghost use Rattle.replay_workers.specs.Crew.{last_of};
 ghost use Rattle.replay_workers.specs.Lanes.{KeepsTick, KeepsTicks, clocks_in, row_of_clocks};
 

@@ -6,7 +6,8 @@ use Rattle.std.specs.declared.cmp.Ordering.{Ordering}
 use Rattle.std.specs.declared.cmp.Ordering.TheVariants.{Less, Equal, Greater}
 use Rattle.psi_spec.specs.declared.machine.GroupLife.{GroupLife}
 use Rattle.kill_spec.specs.declared.reading.GroupReading.{GroupReading}
-use Rattle.kill_spec.specs.Readings.{Ascend, ComesBefore, path_of}
+use Rattle.kill_spec.specs.Readings.{path_of}
+use Rattle.kill_spec.specs.LegalReadings.{Ascend, ComesBefore}
 
 pub less : (order : Ordering) → is_lt order ≡ true → order ≡ Less
 less Less is = refl

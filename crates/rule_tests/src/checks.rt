@@ -1,8 +1,8 @@
 //! What a test must see before it calls a reading or asks for a victim.
 
 ghost use Rattle.std.specs.Prelude.{◌≡◌, ◌<◌, ◌≤◌, All, length, true};
-ghost use Rattle.pressure_spec.specs.Average.{IsRow};
-ghost use Rattle.kill_spec.specs.Readings.{IsGroupReading, IsHostReading};
+ghost use Rattle.pressure_spec.specs.Within.{IsRow};
+ghost use Rattle.kill_spec.specs.LegalReadings.{IsGroupReading, IsHostReading};
 ghost use Rattle.ruleset_json.specs.Ranges.{FitsAction, IsSize, IsStallable};
 ghost use Rattle.detectors.specs.Views.{ComesLast};
 

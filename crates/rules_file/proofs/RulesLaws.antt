@@ -8,11 +8,11 @@ use Rattle.ruleset_json.specs.declared.fault.RulesCause.TheVariants as cause
 use Rattle.ruleset_json.specs.declared.fault.RulesFault.{RulesFault}
 use Rattle.ruleset_json.specs.declared.types.Part.{Part}
 use Rattle.ruleset_json.specs.declared.types.Rules.{Rules}
-use Rattle.ruleset_json.specs.Arguments.{◌>>=◌, refused_for}
+use Rattle.psi_base.specs.ResultSteps.{◌>>=◌}
+use Rattle.ruleset_json.specs.Arguments.{refused_for}
 use Rattle.ruleset_json.specs.Rules.{each, rule_at, rules_of, rulesets_of}
 use Rattle.ruleset_json.specs.Parts.{part_at, parts_of}
 use Rattle.dropin_rules.specs.Joined.{dropped_in, parts_joined, parts_read}
-use Rattle.dropin_rules.specs.Joined as drop
 
 -- a file that is too long
 long : (bytes : List ℕ) → 1048576 < length bytes → rulesets_of bytes ≡ refused_for place.Whole cause.TooLong
@@ -46,4 +46,4 @@ parts_of_front bytes = ap (λ items. items >>= (λ ds. each part_at 0 ds)) (list
 -- and the same rules where these are put over others
 pub over_of_front : (base : Rules) (bytes : List ℕ) → dropped_in base (take 1048577 bytes) ≡ dropped_in base bytes
 unfolding dropped_in
-over_of_front base bytes = ap (λ (parts : Result (List Part) RulesFault). drop.◌>>=◌ (parts_read parts) (parts_joined base)) (parts_of_front bytes)
+over_of_front base bytes = ap (λ (parts : Result (List Part) RulesFault). parts_read parts >>= parts_joined base) (parts_of_front bytes)

@@ -1,7 +1,7 @@
 -- What reading files of rules, and writing rules, come to as a run.
 use Rattle.std.proofs.Common.{◌≡◌, ℕ, List, [], ◌++◌, refl, sym, ap, ◌∙◌, subst, Option, None, Some, Ok, Err, true≢false}
 use Rattle.std.specs.Prelude.{MatchResult, Result, codes, is_some, option_map}
-use Rattle.psi_base.specs.Gives.{no_memory}
+use Rattle.psi_base.specs.Memory.{no_memory}
 use Rattle.outside.specs.Outside.{Files, Lacks, ShelfCounts, counts_of, told}
 use Rattle.ruleset_json.specs.declared.fault.RulesFault.{RulesFault}
 use Rattle.ruleset_json.specs.declared.types.Rule.{Rule}

@@ -1,6 +1,7 @@
 //! The texts of the faults of a rules file and of a drop-in file.
 ghost use Rattle.std.specs.Prelude.{◌≡◌};
-ghost use Rattle.outside.specs.Outside.{HasCause, PutsAll};
+ghost use Rattle.outside.specs.Outside.{HasCause};
+ghost use Rattle.outside.specs.Calls.{PutsAll};
 ghost use Rattle.ruleset_json.specs.FaultText.{fault_text, placed_text, rules_cause_name};
 ghost use Rattle.dropin_rules.specs.FaultText.{drop_cause_name, drop_fault_text};
 

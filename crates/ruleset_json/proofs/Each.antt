@@ -8,7 +8,7 @@ use Rattle.psi_base.specs.declared.event.Fault.TheVariants.{Refused, NoMemory}
 use Rattle.serde_json.specs.Data.{Data}
 use Rattle.serde_json.specs.View.{view}
 use Rattle.serde_json.specs.declared.value.Value.{Value}
-use Rattle.ruleset_json.specs.Arguments.{◌>>=◌}
+use Rattle.psi_base.specs.ResultSteps.{◌>>=◌}
 use Rattle.ruleset_json.specs.Rules.{each}
 use Rattle.ruleset_json.specs.declared.fault.RulesFault.{RulesFault}
 

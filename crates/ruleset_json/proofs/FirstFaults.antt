@@ -6,7 +6,7 @@ use Rattle.std.specs.List.{slice_get}
 use Rattle.std.specs.Result.{IsOk}
 use Rattle.serde_json.specs.Data.{Data}
 use Rattle.ruleset_json.specs.declared.fault.RulesFault.{RulesFault}
-use Rattle.ruleset_json.specs.Arguments.{◌>>=◌}
+use Rattle.psi_base.specs.ResultSteps.{◌>>=◌}
 use Rattle.ruleset_json.specs.Rules.{each}
 use Rattle.ruleset_json.specs.Laws.{AreRead, IsFirstFault, ReadsEach, RefusesFirst}
 

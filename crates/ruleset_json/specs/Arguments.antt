@@ -2,6 +2,7 @@
 -- isn't there.
 use Rattle.std.specs.Prelude.{ℕ, List, [], ◌∷◌, Bool, true, false, codes, decimal, Option, None, Some, option_and_then, Result, Ok, Err}
 use Rattle.psi_base.specs.declared.event.Res.{Res}
+use Rattle.psi_base.specs.ResultSteps.{◌>>=◌}
 use Rattle.path_match.specs.Match.{patterns_of}
 use Rattle.path_match.specs.declared.fault.PatternFault.{PatternFault}
 use Rattle.path_match.specs.declared.fault.PatternFault.TheVariants as pattern
@@ -17,12 +18,6 @@ use Rattle.ruleset_json.specs.Names.{key_word}
 use Rattle.ruleset_json.specs.Forms.{number_up_to, ratio_of, size_of, truth_of, resource_of}
 
 -- ---- the first fault on the walk
-
--- a step of reading after another, unless that one found a fault
-infixl 10 ◌>>=◌
-abbrev pub ◌>>=◌ : {A B : Type 0} → Result A RulesFault → (A → Result B RulesFault) → Result B RulesFault
-(Ok x) >>= f = f x
-(Err e) >>= f = Err e
 
 -- nothing is read, for this cause at this place
 abbrev pub refused_for : {A : Type 0} → Place → RulesCause → Result A RulesFault

@@ -7,15 +7,10 @@ use Rattle.psi_base.specs.Number.{digits_of, number_of}
 use Rattle.psi_base.specs.Path.{parts_at}
 use Rattle.psi_base.specs.declared.event.Res.{Res}
 use Rattle.psi_base.specs.declared.event.Res.TheVariants as res
+use Rattle.psi_base.specs.OptionSteps.{◌>>=◌}
 use Rattle.psi_spec.specs.Fields.{named, resource_word}
 use Rattle.ruleset_json.specs.declared.types.Size.{Size}
 use Rattle.ruleset_json.specs.declared.types.Size.TheVariants as size
-
--- a step of reading after another, unless that one found nothing
-infixl 10 ◌>>=◌
-abbrev pub ◌>>=◌ : {A B : Type 0} → Option A → (A → Option B) → Option B
-None >>= f = None
-(Some x) >>= f = f x
 
 -- a number of at most so much
 abbrev pub at_most : ℕ → Option ℕ → Option ℕ

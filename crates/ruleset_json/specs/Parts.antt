@@ -6,7 +6,7 @@ use Rattle.serde_json.specs.Find.{get}
 use Rattle.ruleset_json.specs.declared.fault.Place.TheVariants as place
 use Rattle.ruleset_json.specs.declared.fault.RulesFault.{RulesFault}
 use Rattle.ruleset_json.specs.declared.types.Part.{Part}
-use Rattle.ruleset_json.specs.Arguments.{◌>>=◌}
+use Rattle.psi_base.specs.ResultSteps.{◌>>=◌}
 use Rattle.ruleset_json.specs.Rules.{object_at, member_at, text_at, each, delay_at, groups_at, actions_at, rulesets_of}
 
 -- what is read where something stands, and nothing where nothing does

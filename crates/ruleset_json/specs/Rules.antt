@@ -17,7 +17,8 @@ use Rattle.ruleset_json.specs.declared.types.DetectorGroup.{DetectorGroup}
 use Rattle.ruleset_json.specs.declared.types.Action.{Action}
 use Rattle.ruleset_json.specs.declared.types.Rule.{Rule}
 use Rattle.ruleset_json.specs.declared.types.Rules.{Rules}
-use Rattle.ruleset_json.specs.Arguments.{◌>>=◌, refused_for, or_fault, number, optional, argument_at, made_of_arguments}
+use Rattle.psi_base.specs.ResultSteps.{◌>>=◌}
+use Rattle.ruleset_json.specs.Arguments.{refused_for, or_fault, number, optional, argument_at, made_of_arguments}
 use Rattle.ruleset_json.specs.Names.{detector_named, action_named}
 use Rattle.ruleset_json.specs.Plugins.{Plugin, detector_of, action_of, after_arguments, longest}
 

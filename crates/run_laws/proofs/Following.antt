@@ -9,9 +9,10 @@ use Rattle.psi_base.specs.declared.event.State.TheVariants.{IoSome, IoFull, MemS
 use Rattle.psi_spec.specs.Refusal.{AreLegal}
 use Rattle.psi_spec.specs.Stall.{irq_time, stall}
 use Rattle.psi_spec.specs.World.{Limits, after, first_world, most_cpus, up_to, longest_irq}
-use Rattle.psi_spec.specs.Trace.{last_moment, longest_tick}
+use Rattle.psi_spec.specs.Within.{last_moment, longest_tick}
 use Rattle.pressure_spec.specs.Share.{irq_place}
-use Rattle.pressure_spec.specs.Ticks.{IsNextTick, Tick, last_tick, no_row, row_until, table_until, tick_moment, tick_of, ticks_of, time_in, times_until, times_with}
+use Rattle.pressure_spec.specs.Ticks.{Tick, no_row, row_until, table_until, tick_moment, tick_of, ticks_of, times_until, times_with}
+use Rattle.pressure_spec.specs.NextTick.{IsNextTick, last_tick, time_in}
 use Rattle.plan_laws.proofs.MomentsIrq.{irq_grows, irq_is_within}
 use Rattle.plan_laws.proofs.MomentsStall.{stall_grows, stall_is_within}
 use Rattle.run_laws.specs.Ticking.{TicksFollow, before_ticks}

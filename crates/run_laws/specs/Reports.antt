@@ -3,7 +3,8 @@ use Rattle.std.specs.Prelude.{◌≡◌, ℕ, List, [], if◌then◌else◌}
 use Rattle.std.specs.List.{flat_map}
 use Rattle.psi_spec.specs.declared.machine.GroupLife.{GroupLife}
 use Rattle.psi_spec.specs.Grammar.{Version}
-use Rattle.psi_spec.specs.Groups.{IsPathOrder, is_live_at, path_at}
+use Rattle.psi_spec.specs.Groups.{is_live_at, path_at}
+use Rattle.psi_spec.specs.LegalGroups.{IsPathOrder}
 use Rattle.psi_spec.specs.Refusal.{AreLegal}
 use Rattle.psi_spec.specs.Trace.{Trace}
 use Rattle.psi_spec.specs.World.{Limits, first_world}

@@ -2,9 +2,11 @@
 use Rattle.std.specs.Prelude.{◌≡◌, ℕ, ◌+◌, ◌<◌, ◌≤◌, List, [], ◌∷◌, ◌++◌, length}
 use Rattle.psi_base.specs.declared.event.Event.{Event}
 use Rattle.psi_spec.specs.Refusal.{AreLegal}
-use Rattle.psi_spec.specs.Trace.{Trace, last_moment, longest_tick}
+use Rattle.psi_spec.specs.Trace.{Trace}
+use Rattle.psi_spec.specs.Within.{last_moment, longest_tick}
 use Rattle.psi_spec.specs.World.{Limits, after, first_world, most_cpus}
-use Rattle.pressure_spec.specs.Ticks.{IsNextTick, Tick, last_tick, no_tick, tick_moment, tick_of, ticks_of}
+use Rattle.pressure_spec.specs.Ticks.{Tick, tick_moment, tick_of, ticks_of}
+use Rattle.pressure_spec.specs.NextTick.{IsNextTick, last_tick, no_tick}
 use Rattle.run_spec.specs.Replay.{Beside, Pace, fired_in, kills_in, kills_until, signals_until, tick_text, ticks_text}
 use Rattle.ruleset_json.specs.declared.types.Rule.{Rule}
 

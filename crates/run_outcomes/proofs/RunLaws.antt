@@ -2,7 +2,7 @@
 use Rattle.std.proofs.Common.{◌≡◌, ℕ, List, [], arith, refl, sym, ap, ◌∙◌, subst, inl, inr, Option, None, Some, Ok, Err}
 use Rattle.std.specs.Prelude.{IsErrOf, IsSome}
 use Rattle.std.specs.Io.KnownBytes.{Keeps}
-use Rattle.psi_base.specs.Gives.{no_memory}
+use Rattle.psi_base.specs.Memory.{no_memory}
 use Rattle.outside.specs.Outside.{Files, Lacks, Rose, told}
 use Rattle.psi_base.specs.declared.event.Event.{Event}
 use Rattle.psi_spec.specs.Fields.{IsAmong}

@@ -1,7 +1,8 @@
 -- What reading and writing come to as the status of a run.
 use Rattle.std.specs.Prelude.{◌≡◌, ◌≤◌, ℕ, List, Option, Result, Ok, Err}
 use Rattle.std.specs.Io.KnownBytes.{Appends, Keeps}
-use Rattle.outside.specs.Outside.{AppendsFront, PutsAll, Rose}
+use Rattle.outside.specs.Outside.{AppendsFront, Rose}
+use Rattle.outside.specs.Calls.{PutsAll}
 use Rattle.psi_base.specs.declared.event.Event.{Event}
 use Rattle.psi_base.specs.declared.event.Fault.{Fault}
 use Rattle.psi_base.specs.declared.event.Fault.TheVariants as of_rounds
@@ -12,7 +13,7 @@ use Rattle.ruleset_json.specs.declared.types.Rule.{Rule}
 use Rattle.run_spec.specs.Outputs.{of_ms}
 use Rattle.run_spec.specs.Replay.{IsReplayText, Pace}
 use Rattle.run_spec.specs.Whatif.{last_trace}
-use Rattle.run_spec.specs.Words.{IsWithin}
+use Rattle.run_spec.specs.LegalCommand.{IsWithin}
 use Rattle.run_spec.specs.declared.command.Options.{Options}
 use Rattle.run_spec.specs.declared.status.Status.{Status}
 use Rattle.run_spec.specs.declared.status.Status.TheVariants as status

@@ -1,7 +1,7 @@
 -- What is left to a run where a file of its command is told to be missing.
 use Rattle.std.proofs.Common.{◌≡◌, ◌⊎◌, inl, inr, ℕ, List, refl, sym, ap, ◌∙◌, Option, true≢false, Some}
 use Rattle.std.specs.Prelude.{IsSome, is_some}
-use Rattle.psi_base.specs.Gives.{no_memory}
+use Rattle.psi_base.specs.Memory.{no_memory}
 use Rattle.outside.specs.Outside.{Files, Lacks}
 use Rattle.ruleset_json.specs.declared.fault.RulesFault.{RulesFault}
 use Rattle.dropin_rules.specs.declared.fault.DropFault.{DropFault}

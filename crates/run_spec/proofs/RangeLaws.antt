@@ -12,11 +12,13 @@ use Rattle.run_spec.specs.declared.command.Options.{Options}
 use Rattle.run_spec.specs.declared.command.Shape.{Shape}
 use Rattle.run_spec.specs.declared.command.Command.TheVariants.{Stall, Check, Replay, Gen, Stress, Import, Rules, Whatif}
 use Rattle.std.proofs.Common.{lit≤}
-use Rattle.run_spec.specs.Words.{◌>>=◌, Given, at_word, said, value_given, is_name, number_within, number_or}
+use Rattle.psi_base.specs.OptionSteps.{◌>>=◌}
+use Rattle.run_spec.specs.Words.{Given, at_word, said, value_given, is_name, number_within, number_or}
 use Rattle.run_spec.specs.Words.{needed, trace_given, rules_given, drop_in_given, live_given, tick_given, workers_given}
 use Rattle.run_spec.specs.Words.{options_of, shape_of, stall_of, check_of, replay_of, gen_of}
-use Rattle.run_spec.specs.Words.{stress_of, import_command_of, rules_command_of, whatif_of, IsOptionName, CommandForm, forms, command_of, IsWithin, AreOptions, IsShape}
-use Rattle.run_spec.specs.Words.{IsCommand}
+use Rattle.run_spec.specs.Words.{stress_of, import_command_of, rules_command_of, whatif_of, CommandForm, forms, command_of}
+use Rattle.run_spec.specs.LegalCommand.{IsOptionName, IsWithin, AreOptions, IsShape}
+use Rattle.run_spec.specs.LegalCommand.{IsCommand}
 use Rattle.run_spec.specs.Laws.{SpelledInRange}
 
 -- a step that found something had something before it

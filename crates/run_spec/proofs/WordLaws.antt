@@ -7,7 +7,8 @@ use Rattle.std.specs.Prelude.{codes, is_some, ⊤}
 use Rattle.std.specs.List.{list_any, position_or_len, before_first, after_first}
 use Rattle.std.specs.Str.{bytes_eq}
 use Rattle.std.proofs.lemmas.Slice.Eq.{bytes_eq-Decides}
-use Rattle.run_spec.specs.Words.{◌>>=◌, Word, assigned, opened, end, plain, unknown, is_dashed}
+use Rattle.psi_base.specs.OptionSteps.{◌>>=◌}
+use Rattle.run_spec.specs.Words.{Word, assigned, opened, end, plain, unknown, is_dashed}
 use Rattle.run_spec.specs.Words.{is_among, is_equals, option_of, word_of, Given, value_given}
 use Rattle.run_spec.specs.Words.{with_option, with_positional, Stand, at_word, at_value, behind, by_word, said}
 use Rattle.run_spec.specs.Laws.{assigned_word}

@@ -6,7 +6,8 @@ use Rattle.std.specs.Prelude.{find, codes, is_some, nat_eq}
 use Rattle.std.specs.List.{list_any, before_first, starts_with}
 use Rattle.std.specs.Str.{bytes_eq}
 use Rattle.run_spec.specs.declared.command.Command.{Command}
-use Rattle.run_spec.specs.Words.{◌>>=◌, Word, assigned, opened, end, plain, unknown, is_dashed}
+use Rattle.psi_base.specs.OptionSteps.{◌>>=◌}
+use Rattle.run_spec.specs.Words.{Word, assigned, opened, end, plain, unknown, is_dashed}
 use Rattle.run_spec.specs.Words.{is_among, is_equals, option_of, word_of, Given}
 use Rattle.run_spec.specs.Words.{with_option, with_positional, at_word, at_value, behind, by_word, said}
 use Rattle.run_spec.specs.Words.{options_of, shape_of, stall_of, check_of, replay_of, gen_of}

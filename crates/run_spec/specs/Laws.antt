@@ -7,14 +7,15 @@ use Rattle.psi_spec.specs.World.{most_events}
 use Rattle.psi_spec.specs.Trace.{Trace}
 use Rattle.ruleset_json.specs.declared.types.Rule.{Rule}
 use Rattle.run_spec.specs.Replay.{Pace}
-use Rattle.psi_base.specs.Gives.{no_memory}
+use Rattle.psi_base.specs.Memory.{no_memory}
 use Rattle.outside.specs.Outside.{Files, Lacks}
 use Rattle.run_spec.specs.declared.status.Status.{Status}
 use Rattle.run_spec.specs.declared.status.Which.TheVariants.{DropInFile, RulesFile}
 use Rattle.ruleset_json.specs.declared.fault.RulesFault.{RulesFault}
 use Rattle.dropin_rules.specs.declared.fault.DropFault.{DropFault}
 use Rattle.run_spec.specs.Outputs.{drop_in_name, rules_name, source_name}
-use Rattle.run_spec.specs.Words.{IsCommand, command_of, is_among, is_dashed, is_equals}
+use Rattle.run_spec.specs.Words.{command_of, is_among, is_dashed, is_equals}
+use Rattle.run_spec.specs.LegalCommand.{IsCommand}
 use Rattle.run_spec.specs.Whatif.{after_rounds, all_kills, last_trace, most_rounds, without_kill}
 use Rattle.run_spec.specs.Run.{Ends, IsNoFile}
 use Rattle.run_spec.specs.declared.status.Status.TheVariants as status

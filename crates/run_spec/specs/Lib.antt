@@ -1,6 +1,7 @@
 pub mod Lines
 pub mod Text
 pub mod Words
+pub mod LegalCommand
 pub mod Generated
 pub mod Live
 pub mod Replay

@@ -1,23 +1,18 @@
 -- The command that words spell: they say options and a positional, read from left to right, and
 -- then each command has one table.
-use Rattle.std.specs.Prelude.{◌≡◌, ◌≢◌, ℕ, ◌-◌, ◌^◌, ◌≤◌, ◌<◌, List, [], ◌∷◌, length, drop}
+use Rattle.std.specs.Prelude.{ℕ, ◌-◌, ◌^◌, List, [], ◌∷◌, length, drop}
 use Rattle.std.specs.Prelude.{find, nat_eq, nat_lt, nat_le, ◌==◌, ◌&&◌, not, Bool}
-use Rattle.std.specs.Prelude.{true, false, if◌then◌else◌, codes, Option, None, Some, IfSome, IsSome}
+use Rattle.std.specs.Prelude.{false, if◌then◌else◌, codes, Option, None, Some}
 use Rattle.std.specs.Prelude.{option_map, is_some}
 use Rattle.std.specs.List.{list_any, before_first, after_first, starts_with}
 use Rattle.std.specs.Str.{bytes_eq}
 use Rattle.psi_base.specs.Number.{number_of}
 use Rattle.psi_base.specs.Path.{is_path}
+use Rattle.psi_base.specs.OptionSteps.{◌>>=◌}
 use Rattle.run_spec.specs.declared.command.Command.{Command}
 use Rattle.run_spec.specs.declared.command.Command.TheVariants.{Stall, Check, Replay, Gen, Stress, Import, Rules, Whatif}
 use Rattle.run_spec.specs.declared.command.Options.{Options}
 use Rattle.run_spec.specs.declared.command.Shape.{Shape}
-
--- a step of reading after another, unless that one found nothing
-infixl 10 ◌>>=◌
-abbrev pub ◌>>=◌ : {A B : Type 0} → Option A → (A → Option B) → Option B
-None >>= f = None
-(Some x) >>= f = f x
 
 -- ---- one word
 
@@ -334,43 +329,3 @@ command_of [] = None
 command_of (first ∷ words) = do
   form ← find (λ form. bytes_eq first form.word) forms
   spelled form words
-
--- ---- what holds of every command that words spell
-
--- a number is from the least to the most
-abbrev pub IsWithin : ℕ → ℕ → ℕ → Type 0
-IsWithin least most number = (least ≤ number) × (number ≤ most)
-
--- the name of a file that an option gives is one, and not that of standard input
-abbrev pub IsOptionName : Option (List ℕ) → Type 0
-IsOptionName named = IfSome named (λ name. (name ≢ []) × (name ≢ codes "-"))
-
--- what the options of `replay` and `whatif` say is in range
-pub record AreOptions (options : Options) : Type 0 where
-  pub rules : IsOptionName options.rules
-  pub drop_in : IsOptionName options.drop_in
-  pub over : options.rules ≡ None → options.drop_in ≡ None
-  pub tick_ms : IsWithin 1 60000 options.tick_ms
-  pub interval_s : IsWithin 1 3600 options.interval_s
-  pub report_s : options.report_s ≤ 3600
-  pub workers : IsWithin 1 64 options.workers
-  pub live : IfSome options.live (λ path. is_path path ≡ true)
-  pub live_count : IsWithin 1 16 options.live_count
-
--- what is generated is in range
-pub record IsShape (shape : Shape) : Type 0 where
-  pub seed : shape.seed < 2 ^ 64
-  pub cpus : IsWithin 1 64 shape.cpus
-  pub groups : shape.groups ≤ 1000
-  pub events : shape.events ≤ 3900000
-
--- all that a command says is in range, and no name of a file is empty
-abbrev pub IsCommand : Command → Type 0
-IsCommand (Stall trace) = trace ≢ []
-IsCommand (Check trace tick_ms) = (trace ≢ []) × IsWithin 1 60000 tick_ms
-IsCommand (Replay trace options) = (trace ≢ []) × AreOptions options
-IsCommand (Gen shape) = IsShape shape
-IsCommand (Stress shape workers) = IsShape shape × IsWithin 1 64 workers
-IsCommand (Import file cpus) = (file ≢ []) × IsWithin 1 64 cpus
-IsCommand (Rules file drop_in) = (file ≢ []) × IsOptionName drop_in
-IsCommand (Whatif trace options) = (trace ≢ []) × AreOptions options × IsSome options.rules × (options.live ≡ None)

@@ -15,7 +15,7 @@ use Rattle.psi_spec.specs.declared.machine.GroupLife.{GroupLife}
 use Rattle.psi_spec.specs.World.{World, Limits, Tasks, after, first_world, no_tasks, task_of, tasks_after, running_on, task_part}
 use Rattle.psi_spec.specs.Refusal.{AreLegal}
 use Rattle.psi_spec.specs.Stall.{is_under, number_of_slot, parents_of}
-use Rattle.psi_spec.specs.Groups.{leads_to}
+use Rattle.psi_spec.specs.LegalGroups.{leads_to}
 use Rattle.psi_spec.specs.Told.{slot_named}
 use Rattle.psi_spec.proofs.GroupLaws.{climbs_kept}
 use Rattle.psi_spec.proofs.TaskLaws.{found, no_entries}

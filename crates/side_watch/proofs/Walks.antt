@@ -6,7 +6,7 @@ use Rattle.std.proofs.lemmas.List.{get_or-set_same, get_or-set_other, get_or_def
 use Rattle.std.proofs.lemmas.List.Elements.{All-set}
 use Rattle.psi_base.specs.declared.event.Slot.{Slot}
 use Rattle.psi_spec.specs.Stall.{is_under, number_of_slot}
-use Rattle.psi_spec.specs.Groups.{AreOlder, leads_to}
+use Rattle.psi_spec.specs.LegalGroups.{AreOlder, leads_to}
 use Rattle.psi_spec.proofs.GroupLaws.{by_step}
 use Rattle.slot_clocks.specs.Clocks.{parent_numbers}
 use Rattle.proc_plan.proofs.Upward.{at_itself, not_below, parent_number}

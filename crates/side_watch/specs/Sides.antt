@@ -4,7 +4,7 @@ use Rattle.std.specs.Prelude.{nat_le, slice_index_or, ◌==◌, Bool, true, fals
 use Rattle.std.specs.Prelude.{Option, Some, ℤ, pos, negsuc}
 use Rattle.psi_base.specs.declared.event.Preference.{Preference}
 use Rattle.psi_base.specs.declared.event.Preference.TheVariants.{Plain}
-use Rattle.psi_spec.specs.Groups.{leads_to}
+use Rattle.psi_spec.specs.LegalGroups.{leads_to}
 use Rattle.kill_spec.specs.declared.reading.HostReading.{HostReading}
 use Rattle.kill_spec.specs.Evaluations.{MemorySample}
 use Rattle.proc_plan.specs.declared.side.Side.{Side}

@@ -9,12 +9,13 @@ use Rattle.psi_spec.specs.declared.machine.GroupLife.{GroupLife}
 use Rattle.psi_spec.specs.declared.machine.Task.{Task}
 use Rattle.psi_spec.specs.World.{World, Limits, after, first_world, up_to}
 use Rattle.psi_spec.specs.Refusal.{AreLegal}
-use Rattle.psi_spec.specs.Groups.{AreOlder}
+use Rattle.psi_spec.specs.LegalGroups.{AreOlder}
 use Rattle.psi_spec.specs.Stall.{parents_of, is_under}
 use Rattle.psi_counts.specs.Counts.{how_many}
 use Rattle.slot_clocks.specs.Clocks.{parent_numbers}
 use Rattle.kill_spec.specs.declared.reading.HostReading.{HostReading}
-use Rattle.kill_spec.specs.Readings.{IsHostReading, no_host}
+use Rattle.kill_spec.specs.Readings.{no_host}
+use Rattle.kill_spec.specs.LegalReadings.{IsHostReading}
 use Rattle.kill_spec.specs.Evaluations.{memory_of, preference_of, host_of, is_populated}
 use Rattle.proc_plan.specs.declared.side.Side.{Side}
 use Rattle.proc_plan.specs.Sides.{sides_of}

@@ -1,9 +1,9 @@
 //! Sides, one after the other.
 
 ghost use Rattle.std.specs.Prelude.{◌≡◌, ◌+◌, length};
-ghost use Rattle.psi_spec.specs.Groups.{AreOlder};
+ghost use Rattle.psi_spec.specs.LegalGroups.{AreOlder};
 ghost use Rattle.slot_clocks.specs.Clocks.{parent_numbers};
-ghost use Rattle.kill_spec.specs.Readings.{IsHostReading};
+ghost use Rattle.kill_spec.specs.LegalReadings.{IsHostReading};
 ghost use Rattle.proc_plan.specs.Plans.{AreSmall};
 ghost use Rattle.proc_plan.specs.Sides.{IsSmall};
 ghost use Rattle.side_watch.specs.Sides.{Took, EachCounts, EachIs, EachTook, due_from};

@@ -1,10 +1,10 @@
 //! What a trace tells of its groups up to a moment.
 
 ghost use Rattle.std.specs.Prelude.{◌≡◌, IfOk};
-ghost use Rattle.psi_spec.specs.Groups.{AreGroups};
+ghost use Rattle.psi_spec.specs.LegalGroups.{AreGroups};
 ghost use Rattle.psi_spec.specs.Stall.{parents_of};
 ghost use Rattle.slot_clocks.specs.Clocks.{parent_numbers};
-ghost use Rattle.kill_spec.specs.Readings.{IsHostReading};
+ghost use Rattle.kill_spec.specs.LegalReadings.{IsHostReading};
 ghost use Rattle.proc_plan.specs.Plans.{AreSmall};
 ghost use Rattle.side_watch.specs.Watch.{Advances, Begins, IsSmallMemory};
 ghost use Rattle.side_watch.specs.Watch.{first_watch, has_tasks, side_cell_at};

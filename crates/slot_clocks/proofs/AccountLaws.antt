@@ -7,9 +7,9 @@ use Rattle.psi_counts.specs.declared.changes.Change.{Change}
 use Rattle.psi_counts.specs.Clock.{ClockFollows, ClockView}
 use Rattle.psi_counts.specs.Counts.{mask_holds}
 use Rattle.psi_counts.specs.Touch.{Follows, HasSlotsBelow, on_with, on_chain}
-use Rattle.psi_spec.specs.Groups.{AreOlder}
+use Rattle.psi_spec.specs.LegalGroups.{AreOlder}
 use Rattle.psi_spec.specs.Stall.{state_number}
-use Rattle.psi_spec.specs.Trace.{last_moment}
+use Rattle.psi_spec.specs.Within.{last_moment}
 use Rattle.slot_clocks.specs.declared.cell.Cell.{Cell}
 use Rattle.slot_clocks.specs.Clocks.{AreUpTo, CanFollow, IsUpTo, MaskTells, StaysByMask, cell_in, parent_numbers}
 use Rattle.slot_clocks.specs.Walk.{AreOnWith, CanClimb, IsApart, IsOnWith, IsTurned, chains_of}

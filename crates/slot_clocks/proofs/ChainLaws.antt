@@ -4,7 +4,7 @@ use Rattle.std.specs.Prelude.{slice_index_or, ◌==◌, ◌||◌, if◌then◌el
 use Rattle.std.proofs.lemmas.Bool.Decides.{nat_tests}
 use Rattle.psi_base.specs.declared.event.Slot.{Slot}
 use Rattle.psi_spec.specs.Stall.{is_under, number_of_slot}
-use Rattle.psi_spec.specs.Groups.{AreOlder, leads_to}
+use Rattle.psi_spec.specs.LegalGroups.{AreOlder, leads_to}
 use Rattle.psi_spec.proofs.GroupLaws.{ancestors_older, by_step}
 use Rattle.slot_clocks.specs.Walk.{height, passed, reaches}
 

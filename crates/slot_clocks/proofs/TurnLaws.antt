@@ -9,7 +9,7 @@ use Rattle.psi_counts.specs.declared.changes.Change.{Change}
 use Rattle.psi_counts.specs.Counts.{tells}
 use Rattle.psi_counts.specs.Touch.{Follows, is_current_in, is_current_stalled, no_counts, on_chain}
 use Rattle.psi_counts.proofs.ClockLaws.{clock_stays}
-use Rattle.psi_spec.specs.Groups.{AreOlder}
+use Rattle.psi_spec.specs.LegalGroups.{AreOlder}
 use Rattle.slot_clocks.specs.declared.cell.Cell.{Cell}
 use Rattle.slot_clocks.specs.Clocks.{IsUpTo, MaskTells}
 use Rattle.slot_clocks.specs.declared.chains.Chains.{Chains}

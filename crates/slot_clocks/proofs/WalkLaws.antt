@@ -8,7 +8,7 @@ use Rattle.psi_base.specs.declared.event.State.{State}
 use Rattle.psi_counts.specs.declared.changes.Change.{Change}
 use Rattle.psi_counts.specs.Clock.{ClockFollows}
 use Rattle.psi_counts.specs.Counts.{mask_holds, tells}
-use Rattle.psi_spec.specs.Groups.{AreOlder}
+use Rattle.psi_spec.specs.LegalGroups.{AreOlder}
 use Rattle.psi_spec.specs.Stall.{number_of_slot}
 use Rattle.psi_counts.specs.Touch.{Follows, is_current_in, is_current_stalled, no_counts, on_chain}
 use Rattle.slot_clocks.specs.declared.cell.Cell.{Cell}

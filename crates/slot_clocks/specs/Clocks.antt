@@ -6,7 +6,7 @@ use Rattle.psi_counts.specs.declared.changes.Counts.{Counts}
 use Rattle.psi_counts.specs.declared.changes.Change.{Change}
 use Rattle.psi_counts.specs.Counts.{mask_holds, tells}
 use Rattle.psi_counts.specs.Clock.{ClockFollows, ClockView, IsWholeClock, opened_time, zero_clock}
-use Rattle.psi_spec.specs.Trace.{last_moment}
+use Rattle.psi_spec.specs.Within.{last_moment}
 use Rattle.psi_spec.specs.Stall.{number_of_slot}
 use Rattle.psi_counts.specs.Touch.{Follows, on_with, is_current_in, is_current_stalled, no_counts, on_chain}
 use Rattle.slot_clocks.specs.declared.cell.Cell.{Cell}

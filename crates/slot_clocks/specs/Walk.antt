@@ -5,9 +5,9 @@ use Rattle.psi_base.specs.declared.event.Slot.{Slot}
 use Rattle.psi_counts.specs.declared.changes.Counts.{Counts}
 use Rattle.psi_counts.specs.declared.changes.Change.{Change}
 use Rattle.psi_counts.specs.Clock.{ClockFollows}
-use Rattle.psi_spec.specs.Groups.{AreOlder}
+use Rattle.psi_spec.specs.LegalGroups.{AreOlder}
 use Rattle.psi_spec.specs.Stall.{is_under}
-use Rattle.psi_spec.specs.Trace.{last_moment}
+use Rattle.psi_spec.specs.Within.{last_moment}
 use Rattle.psi_counts.specs.Touch.{Follows, on_with, is_current_stalled, no_counts, on_chain}
 use Rattle.slot_clocks.specs.declared.cell.Cell.{Cell}
 use Rattle.slot_clocks.specs.declared.chains.Chains.{Chains}

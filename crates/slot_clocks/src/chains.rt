@@ -4,7 +4,7 @@ ghost use Rattle.std.specs.Prelude.{◌≡◌, ◌&&◌, ◌⊎◌, ◌+◌, ◌
 ghost use Rattle.psi_base.specs.declared.event.State.{State};
 ghost use Rattle.psi_counts.specs.Clock.{ClockFollows};
 ghost use Rattle.psi_counts.specs.Counts.{mask_holds, tells};
-ghost use Rattle.psi_spec.specs.Trace.{last_moment};
+ghost use Rattle.psi_spec.specs.Within.{last_moment};
 ghost use Rattle.psi_counts.specs.Touch.{Follows, no_counts};
 ghost use Rattle.slot_clocks.specs.Clocks.{CanFollow, IsUpTo, StaysByMask, parent_numbers};
 ghost use Rattle.slot_clocks.specs.Walk.{AreOnWith, AreParts, AreTogether, AreTurned, CanClimb, MayStart, all_passed, chains_of, height, passed, top};

@@ -2,8 +2,8 @@
 
 ghost use Rattle.std.specs.Prelude.{◌≡◌, ℕ, ◌<◌, ◌≤◌, length, None, IfOk, IfSome};
 ghost use Rattle.psi_counts.specs.Clock.{IsInTime};
-ghost use Rattle.psi_spec.specs.Groups.{AreOlder};
-ghost use Rattle.psi_spec.specs.Trace.{last_moment};
+ghost use Rattle.psi_spec.specs.LegalGroups.{AreOlder};
+ghost use Rattle.psi_spec.specs.Within.{last_moment};
 ghost use Rattle.psi_counts.specs.Touch.{HasSlotsBelow};
 ghost use Rattle.slot_clocks.specs.Clocks.{AllCanFollow, AllClocksFollow, AllFollow, AllOnWith, AllStayByMask, AreTold, AreWhole, cell_at, first_clocks, parent_numbers};
 

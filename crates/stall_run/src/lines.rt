@@ -2,10 +2,12 @@
 
 ghost use Rattle.std.specs.Prelude.{◌≡◌, ℕ, ◌<◌, ◌≤◌, length};
 ghost use Rattle.std.specs.List.{All};
-ghost use Rattle.outside.specs.Outside.{HasCause, PutsAll, StaysOver};
+ghost use Rattle.outside.specs.Outside.{HasCause, StaysOver};
+ghost use Rattle.outside.specs.Calls.{PutsAll};
 ghost use Rattle.plan_laws.specs.Plan.{IsPlan, last_change};
-ghost use Rattle.psi_spec.specs.Trace.{last_moment};
-ghost use Rattle.psi_spec.specs.Grammar.{IsVersion, One, Two, version_of};
+ghost use Rattle.psi_spec.specs.Within.{last_moment};
+ghost use Rattle.psi_spec.specs.Grammar.{One, Two};
+ghost use Rattle.psi_spec.specs.Header.{IsVersion, version_of};
 ghost use Rattle.proc_plan.specs.Plans.{plan_at};
 ghost use Rattle.stall_run.specs.Lines.{HasMadeAll, all_lines, plan_line, plan_lines};
 ghost use Rattle.replay_workers.specs.Crew.{clocks_at};

@@ -4,7 +4,7 @@ ghost use Rattle.std.specs.Prelude.{◌≡◌, ℕ, ◌<◌, ◌≤◌, List, le
 ghost use Rattle.psi_base.specs.declared.event.Event.{Event};
 ghost use Rattle.outside.specs.Outside.{StaysOver};
 ghost use Rattle.run_spec.specs.Text.{stall_text};
-ghost use Rattle.psi_spec.specs.Grammar.{IsVersion, version_of};
+ghost use Rattle.psi_spec.specs.Header.{IsVersion, version_of};
 ghost use Rattle.trace_file.specs.Reads.{trace_with};
 ghost use Rattle.psi_spec.specs.World.{Limits};
 ghost use Rattle.proc_plan.specs.Plans.{HasTaken, HasTrace, plan_at};

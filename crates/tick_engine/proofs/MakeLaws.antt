@@ -5,10 +5,11 @@ use Rattle.std.proofs.lemmas.List.{get_or-map, length-append, length-map}
 use Rattle.std.proofs.lemmas.List.Elements.{All-map}
 use Rattle.psi_base.specs.declared.event.TriggerSpec.{TriggerSpec}
 use Rattle.psi_spec.specs.declared.machine.GroupLife.{GroupLife}
-use Rattle.psi_spec.specs.Told.{AreTriggersWithin, IsTriggerWithin}
-use Rattle.psi_spec.specs.Trace.{last_moment}
+use Rattle.psi_spec.specs.Within.{AreTriggersWithin, IsTriggerWithin}
+use Rattle.psi_spec.specs.Within.{last_moment}
 use Rattle.psi_spec.specs.World.{root}
-use Rattle.pressure_spec.specs.Share.{irq_place, time_sum}
+use Rattle.pressure_spec.specs.Share.{irq_place}
+use Rattle.pressure_spec.specs.Within.{time_sum}
 use Rattle.pressure_spec.specs.Samples.{group_averages, row_at, totals_after}
 use Rattle.pressure_spec.proofs.WithinLaws.{none_within}
 use Rattle.aggregate.specs.Table.{new_table}

@@ -10,7 +10,8 @@ use Rattle.psi_base.specs.declared.event.TriggerSpec.{TriggerSpec}
 use Rattle.psi_base.specs.Missing.{is_some_and}
 use Rattle.psi_spec.specs.declared.machine.GroupLife.{GroupLife}
 use Rattle.psi_spec.specs.Groups.{is_live_at}
-use Rattle.pressure_spec.specs.Ticks.{Tick, AreNextTicks, IsNextTick, last_tick, no_row, no_tick}
+use Rattle.pressure_spec.specs.Ticks.{Tick, no_row}
+use Rattle.pressure_spec.specs.NextTick.{AreNextTicks, IsNextTick, last_tick, no_tick}
 use Rattle.pressure_spec.specs.Share.{at_state, no_totals, plus, shares}
 use Rattle.pressure_spec.specs.Samples.{last_totals, fired_at, growths, has_fired, history_of, life_of, row_at, totals_after, trigger_over, watched_state}
 use Rattle.pressure_spec.specs.Signal.{TriggerState, fires, new_trigger, trigger_step}
@@ -19,8 +20,8 @@ use Rattle.tick_engine.specs.declared.group.Group.{Group}
 use Rattle.tick_engine.specs.declared.watch.TriggerWatch.{TriggerWatch}
 use Rattle.tick_engine.specs.Step.{AreGroupsWithin, AreStepped, begun_signals, begun_trigger, engine_group, fired_among, group_step, is_live_group, no_watch, sampled, stepped, watch_begun, watch_in, watch_signals, watch_stepped, watched_total}
 use Rattle.aggregate.specs.Table.{HasSizes}
-use Rattle.psi_spec.specs.Told.{IsTriggerWithin}
-use Rattle.psi_spec.specs.Trace.{last_moment}
+use Rattle.psi_spec.specs.Within.{IsTriggerWithin}
+use Rattle.psi_spec.specs.Within.{last_moment}
 use Rattle.tick_engine.specs.Engine.{AreWatchesWithin, EngineView, IsEngine, StandsFor, group_after, has_begun, watch_after}
 
 -- ---- groups

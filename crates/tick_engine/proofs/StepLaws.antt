@@ -5,9 +5,11 @@ use Rattle.std.specs.List.{range_with_len}
 use Rattle.std.proofs.lemmas.List.{ext_get_or, get_or-set_other, get_or-set_same, get_or_default, length-set, map-id}
 use Rattle.std.proofs.lemmas.List.Elements.{filter-append}
 use Rattle.std.proofs.lemmas.List.FromFn.{map-range_with_len_more}
-use Rattle.psi_spec.specs.Trace.{last_moment, longest_tick}
-use Rattle.pressure_spec.specs.Ticks.{Tick, IsNextTick, time_of}
-use Rattle.pressure_spec.specs.Share.{AreAmountsWithin, AreTimesWithin, irq_place, most_irq_total, plus, shares}
+use Rattle.psi_spec.specs.Within.{last_moment, longest_tick}
+use Rattle.pressure_spec.specs.Ticks.{Tick}
+use Rattle.pressure_spec.specs.NextTick.{IsNextTick, time_of}
+use Rattle.pressure_spec.specs.Share.{irq_place, plus, shares}
+use Rattle.pressure_spec.specs.Within.{AreAmountsWithin, AreTimesWithin, most_irq_total}
 use Rattle.psi_spec.specs.World.{longest_irq}
 use Rattle.pressure_spec.specs.Samples.{growths, row_at}
 use Rattle.pressure_spec.proofs.WithinLaws.{growths_next, irq_sum_most, totals_kept, totals_sampled}

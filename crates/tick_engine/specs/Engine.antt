@@ -3,11 +3,12 @@ use Rattle.std.specs.Prelude.{◌≡◌, ℕ, ◌<◌, ◌≤◌, List, [], ◌�
 use Rattle.std.specs.List.{list_any}
 use Rattle.psi_base.specs.declared.event.TriggerSpec.{TriggerSpec}
 use Rattle.psi_spec.specs.declared.machine.GroupLife.{GroupLife}
-use Rattle.psi_spec.specs.Told.{IsTriggerWithin}
-use Rattle.psi_spec.specs.Trace.{last_moment}
+use Rattle.psi_spec.specs.Within.{IsTriggerWithin}
+use Rattle.psi_spec.specs.Within.{last_moment}
 use Rattle.psi_spec.specs.World.{most_groups}
 use Rattle.pressure_spec.specs.Average.{AverageState}
-use Rattle.pressure_spec.specs.Ticks.{Tick, AreNextTicks, last_tick, no_tick}
+use Rattle.pressure_spec.specs.Ticks.{Tick}
+use Rattle.pressure_spec.specs.NextTick.{AreNextTicks, last_tick, no_tick}
 use Rattle.pressure_spec.specs.Samples.{fired_at, group_averages, history_of, life_of, totals_after, trigger_over}
 use Rattle.aggregate.specs.Table.{HasSizes}
 use Rattle.tick_engine.specs.declared.group.Group.{Group}

@@ -7,7 +7,8 @@ use Rattle.psi_base.specs.declared.event.TriggerSpec.{TriggerSpec}
 use Rattle.psi_spec.specs.declared.machine.GroupLife.{GroupLife}
 use Rattle.psi_spec.specs.Groups.{is_gone_by}
 use Rattle.pressure_spec.specs.Ticks.{Tick}
-use Rattle.pressure_spec.specs.Share.{AreAmountsWithin, at_state, irq_place, irq_quantity, no_totals, plus, shares, time_sum}
+use Rattle.pressure_spec.specs.Share.{at_state, irq_place, irq_quantity, no_totals, plus, shares}
+use Rattle.pressure_spec.specs.Within.{AreAmountsWithin, time_sum}
 use Rattle.pressure_spec.specs.Average.{average_step, new_averages}
 use Rattle.pressure_spec.specs.Signal.{TriggerState, fires, new_trigger, trigger_step}
 use Rattle.pressure_spec.specs.Samples.{growths, row_at, watched_state}

@@ -2,9 +2,9 @@
 
 ghost use Rattle.std.specs.Prelude.{◌≡◌, ◌≤◌, ◌<◌, [], All, IfOk, length, map};
 ghost use Rattle.aggregate.specs.Table.{HasSizes};
-ghost use Rattle.pressure_spec.specs.Ticks.{IsNextTick};
-ghost use Rattle.psi_spec.specs.Told.{AreTriggersWithin};
-ghost use Rattle.psi_spec.specs.Trace.{last_moment};
+ghost use Rattle.pressure_spec.specs.NextTick.{IsNextTick};
+ghost use Rattle.psi_spec.specs.Within.{AreTriggersWithin};
+ghost use Rattle.psi_spec.specs.Within.{last_moment};
 ghost use Rattle.psi_spec.specs.World.{most_groups};
 ghost use Rattle.tick_engine.specs.Engine.{averages_in, totals_in, IsLifeWithin, StandsFor, EngineTakes};
 ghost use Rattle.tick_engine.specs.Engine.{TellsAverages, TellsFired, TellsLast, TellsTotals};

@@ -3,10 +3,11 @@
 ghost use Rattle.std.specs.Prelude.{◌≡◌, ℕ, ◌≤◌, ◌<◌, ◌&&◌, length, nat_le, not};
 ghost use Rattle.aggregate.specs.Table.{HaveSameSizes};
 ghost use Rattle.pressure_spec.specs.Samples.{row_at};
-ghost use Rattle.pressure_spec.specs.Share.{AreAmountsWithin, most_irq_total, plus};
-ghost use Rattle.pressure_spec.specs.Ticks.{IsNextTick};
+ghost use Rattle.pressure_spec.specs.Share.{plus};
+ghost use Rattle.pressure_spec.specs.Within.{AreAmountsWithin, most_irq_total};
+ghost use Rattle.pressure_spec.specs.NextTick.{IsNextTick};
 ghost use Rattle.psi_spec.specs.Groups.{is_gone_by, is_live_at};
-ghost use Rattle.psi_spec.specs.Trace.{last_moment};
+ghost use Rattle.psi_spec.specs.Within.{last_moment};
 ghost use Rattle.psi_spec.specs.World.{most_groups};
 ghost use Rattle.tick_engine.specs.Step.{AreGroupsWithin, AreStepped, AreTotalsWithin, group_step, is_live_group, sampled, unsampled_group};
 ghost use Rattle.tick_engine.specs.Tables.{tick_at};

@@ -3,8 +3,8 @@
 ghost use Rattle.std.specs.Prelude.{◌≡◌, ◌≤◌, ◌<◌, ◌+◌, ◌++◌, ◌∷◌, [], All, if◌then◌else◌, length, map, true, vec_capacity, vec_len};
 ghost use Rattle.pressure_spec.specs.Signal.{new_trigger};
 ghost use Rattle.psi_spec.specs.Refusal.{is_window};
-ghost use Rattle.psi_spec.specs.Told.{IsTriggerWithin};
-ghost use Rattle.psi_spec.specs.Trace.{last_moment};
+ghost use Rattle.psi_spec.specs.Within.{IsTriggerWithin};
+ghost use Rattle.psi_spec.specs.Within.{last_moment};
 ghost use Rattle.tick_engine.specs.Engine.{AreWatchesWithin};
 ghost use Rattle.tick_engine.specs.Step.{AreStatesWithin, fired_among, new_watch, watch_begun, watch_signals, watch_stepped, watched_total};
 

@@ -10,7 +10,8 @@ use Rattle.psi_lines.specs.Next.{NextOf}
 use Rattle.psi_lines.specs.declared.lines.LineFault.{LineFault}
 use Rattle.psi_lines.specs.declared.lines.LineFault.TheVariants as lines
 use Rattle.psi_spec.specs.World.{first_world}
-use Rattle.psi_spec.specs.Grammar.{Header, Version, header_of, header_with}
+use Rattle.psi_spec.specs.Grammar.{Header, Version, header_of}
+use Rattle.psi_spec.specs.Header.{header_with}
 use Rattle.psi_spec.specs.Trace.{Trace, accepts_with, first_line, first_rest, headed, limits_of, refused, trace_of, with_events}
 use Rattle.trace_laws.proofs.Splitting.{Cut, cut}
 use Rattle.trace_laws.proofs.Accepting.{trace_of-line, trace_of-rest}

@@ -17,7 +17,8 @@ use Rattle.psi_trace.specs.Front.{HasInFront}
 use Rattle.trace_laws.proofs.GrammarReads.{known_still, reads_spelled, spelled_in_line}
 use Rattle.psi_spec.specs.World.{World, Limits, after, after_event, first_world}
 use Rattle.psi_spec.specs.Refusal.{cause_of}
-use Rattle.psi_spec.specs.Grammar.{Fits, IsKnown, IsVersion, Verb, Version, event_of, header_with, spelling, verbs_of, versions}
+use Rattle.psi_spec.specs.Grammar.{Fits, IsKnown, Verb, Version, event_of, spelling, verbs_of, versions}
+use Rattle.psi_spec.specs.Header.{IsVersion, header_with}
 use Rattle.psi_spec.specs.Trace.{AllFit, AreKnown, IsCpuCount, accepts_with, line_event, rest_cause, then_legal, at_end, or_refused, followed, refused, with_events, trace_of, limits_of}
 use Rattle.trace_laws.proofs.Splitting.{Cut, cut}
 use Rattle.trace_laws.proofs.Reading.{Events, rest_from-line, rest_from-rest, nothing_left, followed-followed}

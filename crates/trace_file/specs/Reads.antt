@@ -10,7 +10,8 @@ use Rattle.psi_base.specs.declared.event.Fault.{Fault}
 use Rattle.psi_base.specs.declared.event.Fault.TheVariants as fault
 use Rattle.psi_spec.specs.World.{World, Limits, after, first_world, most_events}
 use Rattle.psi_spec.specs.Refusal.{AreLegal}
-use Rattle.psi_spec.specs.Grammar.{IsVersion, One, Verb, Version, header_with, verbs_of, version_of, versions}
+use Rattle.psi_spec.specs.Grammar.{One, Verb, Version, verbs_of, versions}
+use Rattle.psi_spec.specs.Header.{IsVersion, header_with, version_of}
 use Rattle.psi_spec.specs.Trace.{AllFit, AreKnown, IsAccepted, IsCpuCount, Trace, accepts_with, events_from, followed, limits_of, line_event, refused, trace_of, with_events}
 use Rattle.psi_lines.specs.Lines.{Reader}
 use Rattle.psi_lines.specs.Next.{furthest}

@@ -1,6 +1,7 @@
 //! What is said of a refused line of a trace.
 ghost use Rattle.std.specs.Prelude.{◌≡◌};
-ghost use Rattle.outside.specs.Outside.{HasCause, PutsAll};
+ghost use Rattle.outside.specs.Outside.{HasCause};
+ghost use Rattle.outside.specs.Calls.{PutsAll};
 ghost use Rattle.run_spec.specs.Status.{refusal_text};
 ghost use Rattle.run_spec.specs.Text.{cause_name, field_number};
 

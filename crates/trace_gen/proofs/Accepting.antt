@@ -6,7 +6,7 @@ use Rattle.std.proofs.lemmas.List.FromFn.{length-map-range_with_len}
 use Rattle.psi_spec.specs.World.{after, first_world}
 use Rattle.run_spec.specs.declared.command.Shape.{Shape}
 use Rattle.run_spec.specs.Generated.{at_start, drawn_events, first_events, generated, made_group, made_task, task_count}
-use Rattle.run_spec.specs.Words.{IsShape}
+use Rattle.run_spec.specs.LegalCommand.{IsShape}
 use Rattle.trace_gen.specs.Generating.{GeneratedCount, GeneratedIsTrace, limits_in}
 use Rattle.trace_gen.proofs.Following.{Go, ends_behind, events_count, events_end, events_go, go_on}
 use Rattle.trace_gen.proofs.FirstEvents.{founded}

@@ -14,7 +14,7 @@ use Rattle.psi_spec.specs.World.{World, after, after_event, first_world, task_pa
 use Rattle.psi_spec.proofs.Following.{after_from-append}
 use Rattle.run_spec.specs.declared.command.Shape.{Shape}
 use Rattle.run_spec.specs.Generated.{drawn_events, first_events, next_drawn, next_event}
-use Rattle.run_spec.specs.Words.{IsShape}
+use Rattle.run_spec.specs.LegalCommand.{IsShape}
 use Rattle.task_table.specs.Causes.{IsFault, takes_memory}
 use Rattle.task_table.specs.Stands.{HasPlayed, TableView}
 use Rattle.trace_gen.specs.Generating.{limits_in}

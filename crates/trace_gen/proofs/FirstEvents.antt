@@ -24,7 +24,7 @@ use Rattle.psi_spec.proofs.GroupLaws.{bytes_itself, found_behind, first_of_two}
 use Rattle.psi_spec.proofs.TaskLaws.{get_put}
 use Rattle.run_spec.specs.declared.command.Shape.{Shape}
 use Rattle.run_spec.specs.Generated.{at_start, first_events, home_of, made_group, made_task, numbered_path, task_count}
-use Rattle.run_spec.specs.Words.{IsShape}
+use Rattle.run_spec.specs.LegalCommand.{IsShape}
 use Rattle.task_table.proofs.CauseLaws.{first_of_act}
 use Rattle.task_table.specs.Stands.{TableView}
 use Rattle.trace_gen.specs.Generating.{IsGenerating, limits_in, made_groups}

@@ -12,7 +12,7 @@ use Rattle.psi_spec.specs.World.{Limits, World, after_event, after_from}
 use Rattle.trace_laws.proofs.GrammarReads.{found_first}
 use Rattle.run_spec.specs.declared.command.Shape.{Shape}
 use Rattle.run_spec.specs.Generated.{drawn, drawn_events, next_drawn, next_event, next_state}
-use Rattle.run_spec.specs.Words.{IsShape}
+use Rattle.run_spec.specs.LegalCommand.{IsShape}
 use Rattle.task_table.specs.Causes.{takes_memory}
 use Rattle.task_table.proofs.CauseLaws.{first_of_act}
 use Rattle.trace_gen.specs.Generating.{IsGenerating, limits_in}

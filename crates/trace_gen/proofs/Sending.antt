@@ -4,14 +4,15 @@ use Rattle.std.specs.Prelude.{Result, Ok, Err}
 use Rattle.std.specs.Io.KnownBytes.{Appends, Keeps}
 use Rattle.std.proofs.lemmas.List.{append-nil}
 use Rattle.psi_base.specs.declared.event.Event.{Event}
-use Rattle.outside.specs.Outside.{AppendsFront, PutsAll}
+use Rattle.outside.specs.Outside.{AppendsFront}
+use Rattle.outside.specs.Calls.{PutsAll}
 use Rattle.outside.proofs.Grows.{Appends-none, Appends-then, AppendsFront-last, AppendsFront-then}
 use Rattle.trace_laws.proofs.GrammarReads.{spelled_in_line}
 use Rattle.psi_spec.specs.Grammar.{Fits, spelling}
 use Rattle.psi_spec.specs.Trace.{AllFit, lines_of}
 use Rattle.run_spec.specs.declared.command.Shape.{Shape}
 use Rattle.run_spec.specs.Generated.{generated}
-use Rattle.run_spec.specs.Words.{IsShape}
+use Rattle.run_spec.specs.LegalCommand.{IsShape}
 use Rattle.trace_gen.proofs.Accepting.{generated_go}
 
 -- what was sent first, and then all of the rest or a front of it

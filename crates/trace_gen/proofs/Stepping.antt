@@ -23,7 +23,7 @@ use Rattle.psi_spec.proofs.RefusalLaws.{first_true}
 use Rattle.psi_spec.proofs.TaskLaws.{get_put}
 use Rattle.run_spec.specs.declared.command.Shape.{Shape}
 use Rattle.run_spec.specs.Generated.{Drawn, chosen, drawn, next_drawn, next_if, next_of, next_state, running_act, stall_turn, started, task_count, way_of, woken}
-use Rattle.run_spec.specs.Words.{IsShape}
+use Rattle.run_spec.specs.LegalCommand.{IsShape}
 use Rattle.task_table.specs.Causes.{act_cause, takes_memory}
 use Rattle.task_table.proofs.Runners.{runs_there}
 use Rattle.trace_gen.specs.Generating.{AreLive}

@@ -10,7 +10,7 @@ use Rattle.psi_spec.specs.World.{Limits, Tasks, World, task_of}
 use Rattle.run_spec.specs.declared.command.Shape.{Shape}
 use Rattle.run_spec.specs.Generated.{at_start, gen_text, generated, made_group, task_count}
 use Rattle.kill_spec.specs.Detectors.{of_seconds}
-use Rattle.run_spec.specs.Words.{IsShape}
+use Rattle.run_spec.specs.LegalCommand.{IsShape}
 
 -- how many events make the groups and tasks
 abbrev pub first_count : Shape → ℕ

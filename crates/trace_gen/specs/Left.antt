@@ -5,7 +5,7 @@ use Rattle.psi_base.specs.declared.event.Event.{Event}
 use Rattle.psi_spec.specs.World.{World}
 use Rattle.run_spec.specs.declared.command.Shape.{Shape}
 use Rattle.run_spec.specs.Generated.{Drawn, drawn_events}
-use Rattle.run_spec.specs.Words.{IsShape}
+use Rattle.run_spec.specs.LegalCommand.{IsShape}
 use Rattle.task_table.specs.Stands.{TableView}
 use Rattle.trace_gen.specs.Generating.{IsGenerating, limits_in}
 

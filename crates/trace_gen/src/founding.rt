@@ -5,7 +5,7 @@ ghost use Rattle.psi_spec.specs.Refusal.{cause_of};
 ghost use Rattle.psi_spec.specs.World.{after};
 ghost use Rattle.run_spec.specs.Generated.{at_start, first_events, home_of, made_group, made_task};
 ghost use Rattle.run_spec.specs.Generated.{numbered_path, task_count};
-ghost use Rattle.run_spec.specs.Words.{IsShape};
+ghost use Rattle.run_spec.specs.LegalCommand.{IsShape};
 ghost use Rattle.trace_gen.specs.Generating.{limits_in, made_groups};
 
 use psi_base::{Act, Cpu, Event, Fault, NoMemory, Path, Pid};

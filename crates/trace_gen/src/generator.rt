@@ -2,7 +2,7 @@
 ghost use Rattle.std.specs.Prelude.{◌≡◌, ◌<◌, ◌≤◌, ◌^◌, IfOk, MatchOption, [], ◌∷◌};
 ghost use Rattle.run_spec.specs.Generated.{drawn_events, generated, next_drawn, next_event, next_of, running_act};
 ghost use Rattle.run_spec.specs.Generated.{drawn, next_state, stall_turn, started, way_of, woken};
-ghost use Rattle.run_spec.specs.Words.{IsShape};
+ghost use Rattle.run_spec.specs.LegalCommand.{IsShape};
 ghost use Rattle.trace_gen.specs.Left.{IsGenerator, drawn_act};
 
 use crate::draws::Draws;

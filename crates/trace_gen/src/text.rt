@@ -1,10 +1,11 @@
 //! The text of a generated trace.
 ghost use Rattle.std.specs.Prelude.{◌≡◌, ◌≤◌, ◌++◌, ◌∷◌, [], vec_capacity};
-ghost use Rattle.outside.specs.Outside.{HasCause, PutsAll, StaysOver};
+ghost use Rattle.outside.specs.Outside.{HasCause, StaysOver};
+ghost use Rattle.outside.specs.Calls.{PutsAll};
 ghost use Rattle.psi_spec.specs.Grammar.{Fits, header, spelling};
 ghost use Rattle.psi_spec.specs.Trace.{AllFit, lines_of};
 ghost use Rattle.run_spec.specs.Generated.{gen_text};
-ghost use Rattle.run_spec.specs.Words.{IsShape};
+ghost use Rattle.run_spec.specs.LegalCommand.{IsShape};
 ghost use Rattle.trace_gen.specs.Writing.{WritesWhole, shape_by};
 
 use crate::generator::Generator;

@@ -11,7 +11,8 @@ use Rattle.psi_base.specs.declared.event.Cause.{Cause}
 use Rattle.psi_base.specs.declared.event.Cause.TheVariants as cause
 use Rattle.psi_spec.specs.Fields.{IsAmong, Kind, Value, InRange, word, value_of}
 use Rattle.psi_spec.specs.Fields as kind
-use Rattle.psi_spec.specs.Grammar.{Maker, Verb, form_of, verb_word, kinds_of, ◌>>=◌, or_bad, field, made_from, act_from, verb_of, act_in, act_at, event_in, event_at, event_of}
+use Rattle.psi_base.specs.ResultSteps.{◌>>=◌}
+use Rattle.psi_spec.specs.Grammar.{Maker, Verb, form_of, verb_word, kinds_of, or_bad, field, made_from, act_from, verb_of, act_in, act_at, event_in, event_at, event_of}
 use Rattle.psi_spec.specs.LineLaws.{Spells, IsGood, IsBad, IsFirstBad, HasTime, HasVerb, HasBadField, IsCause, FindsCauses}
 use Rattle.trace_laws.proofs.GrammarFields.{value_spells, value_again}
 use Rattle.trace_laws.proofs.GrammarReads.{field_ok, verb_again, verb_spells}

@@ -10,7 +10,8 @@ use Rattle.psi_base.specs.declared.event.Act.TheVariants as act
 use Rattle.psi_base.specs.declared.event.Event.{Event}
 use Rattle.psi_base.specs.declared.event.Cause.{Cause}
 use Rattle.psi_spec.specs.Fields.{Kind, Value, InRange, IsAmong, named, word, value_of}
-use Rattle.psi_spec.specs.Grammar.{joined, act_words, spelling, ActFits, AreInRange, Fits, Maker, Values, Verb, phrase_of, field_words, Group, form_of, verb_word, kinds_of, One, Two, Version, first_verbs, verbs_of, IsKnown, ◌>>=◌, or_bad, field, made_from, act_from, verb_of, act_in, act_at, event_in, event_at, event_of}
+use Rattle.psi_base.specs.ResultSteps.{◌>>=◌}
+use Rattle.psi_spec.specs.Grammar.{joined, act_words, spelling, ActFits, AreInRange, Fits, Maker, Values, Verb, phrase_of, field_words, Group, form_of, verb_word, kinds_of, One, Two, Version, first_verbs, verbs_of, IsKnown, or_bad, field, made_from, act_from, verb_of, act_in, act_at, event_in, event_at, event_of}
 use Rattle.psi_spec.specs.LineLaws.{ReadsSpelled, SpelledInLine}
 use Rattle.trace_laws.proofs.GrammarFields.{named_again, named_among, named_spells, value_spells, value_again}
 use Rattle.trace_laws.proofs.GrammarParts.{joined-parts, parts-joined, AreWords, IsPrinted, joined-no_newline, behind, length-joined}

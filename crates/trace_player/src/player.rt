@@ -3,7 +3,8 @@ ghost use Rattle.std.specs.Prelude.{◌≡◌, ◌≤◌, List, [], IfOk};
 ghost use Rattle.psi_base.specs.declared.event.Event.{Event};
 ghost use Rattle.psi_spec.specs.Grammar.{Fits};
 ghost use Rattle.psi_spec.specs.World.{Limits, after};
-ghost use Rattle.psi_spec.specs.Trace.{IsCpuCount, last_moment};
+ghost use Rattle.psi_spec.specs.Trace.{IsCpuCount};
+ghost use Rattle.psi_spec.specs.Within.{last_moment};
 ghost use Rattle.trace_player.specs.Playing.{PlayerTakes};
 
 use psi_base::{Cause, Event, Fault, NoMemory, Ns};

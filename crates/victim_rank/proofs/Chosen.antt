@@ -12,7 +12,8 @@ use Rattle.ruleset_json.specs.declared.types.Size.{Size}
 use Rattle.ruleset_json.specs.declared.types.Action.{Action}
 use Rattle.ruleset_json.specs.declared.types.Action.TheVariants as action
 use Rattle.kill_spec.specs.declared.reading.GroupReading.{GroupReading}
-use Rattle.kill_spec.specs.Readings.{Ascend, Reading, group_in, grown_from, path_of, rise}
+use Rattle.kill_spec.specs.Readings.{Reading, group_in, grown_from, path_of, rise}
+use Rattle.kill_spec.specs.LegalReadings.{Ascend}
 use Rattle.kill_spec.specs.Victims.{after_of, beats_by, candidates, children, choice, count_above}
 use Rattle.kill_spec.specs.Victims.{action_patterns, descended, largest_few, past_of, rank_of, unbeaten}
 use Rattle.kill_spec.specs.Victims.{victim}

@@ -6,7 +6,8 @@ use Rattle.std.proofs.lemmas.List.{get_or-map, length-take-le, length-replicate,
 use Rattle.std.proofs.lemmas.List.{take_all}
 use Rattle.psi_spec.specs.declared.machine.GroupLife.{GroupLife}
 use Rattle.kill_spec.specs.declared.reading.GroupReading.{GroupReading}
-use Rattle.kill_spec.specs.Readings.{IsReading, Reading, group_in}
+use Rattle.kill_spec.specs.Readings.{Reading, group_in}
+use Rattle.kill_spec.specs.LegalReadings.{IsReading}
 use Rattle.kill_spec.specs.Victims.{sizes_in}
 use Rattle.victim_rank.specs.declared.past.Sizes.{Sizes}
 use Rattle.victim_rank.specs.Pasts.{IsPastOf, Kept, PastTakes, sizes_of}

@@ -7,7 +7,8 @@ use Rattle.psi_spec.specs.declared.machine.GroupLife.{GroupLife}
 use Rattle.path_match.specs.Match.{is_match}
 use Rattle.ruleset_json.specs.declared.types.Action.{Action}
 use Rattle.kill_spec.specs.declared.reading.GroupReading.{GroupReading}
-use Rattle.kill_spec.specs.Readings.{Ascend, Reading, path_of}
+use Rattle.kill_spec.specs.Readings.{Reading, path_of}
+use Rattle.kill_spec.specs.LegalReadings.{Ascend}
 use Rattle.kill_spec.specs.Victims.{action_patterns, beats_by, memory_in_use, rank_of, unbeaten}
 use Rattle.kill_spec.proofs.Foremost.{Each, by_test, foremost, pairs_filter}
 use Rattle.kill_spec.proofs.ChoiceLaws.{IsBefore, beats_order, each_unit, in_order, leads_by}

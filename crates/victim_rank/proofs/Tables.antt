@@ -11,7 +11,8 @@ use Rattle.std.proofs.lemmas.Bool.Decides.{nat_tests}
 use Rattle.std.proofs.lemmas.List.{get_or-set_same, get_or-set_other, length-set, take-take}
 use Rattle.psi_spec.specs.declared.machine.GroupLife.{GroupLife}
 use Rattle.kill_spec.specs.declared.reading.GroupReading.{GroupReading}
-use Rattle.kill_spec.specs.Readings.{Ascend, Reading, IsGroupReading, IsReading, group_in, path_of}
+use Rattle.kill_spec.specs.Readings.{Reading, group_in, path_of}
+use Rattle.kill_spec.specs.LegalReadings.{Ascend, IsGroupReading, IsReading}
 use Rattle.kill_spec.specs.Victims.{is_less, size_at}
 use Rattle.kill_spec.proofs.Foremost.{Each, Pairs, by_test, each_all, each_map}
 use Rattle.kill_spec.proofs.ChoiceLaws.{IsBefore, in_order}

@@ -1,7 +1,8 @@
 //! The group that none beats by an action's measure.
 ghost use Rattle.std.specs.Prelude.{◌≡◌, ◌&&◌, ◌<◌, MatchOption, false, filter, length, map, true, if◌then◌else◌};
 ghost use Rattle.ruleset_json.specs.Ranges.{FitsAction};
-ghost use Rattle.kill_spec.specs.Readings.{Ascend, IsGroupReading, IsHostReading, path_of};
+ghost use Rattle.kill_spec.specs.Readings.{path_of};
+ghost use Rattle.kill_spec.specs.LegalReadings.{Ascend, IsGroupReading, IsHostReading};
 ghost use Rattle.kill_spec.specs.Victims.{beats_by, unbeaten};
 ghost use Rattle.victim_rank.specs.Scopes.{IsUse, among, is_eligible, is_in_view, measure_of};
 ghost use Rattle.victim_rank.specs.Walks.{leads_measured};

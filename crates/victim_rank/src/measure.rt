@@ -1,9 +1,9 @@
 //! How an action compares groups.
 ghost use Rattle.std.specs.Prelude.{◌≡◌, ◌<◌, ◌≤◌, ◌^◌, All, MatchOption, false, length, true};
-ghost use Rattle.pressure_spec.specs.Average.{IsRow};
+ghost use Rattle.pressure_spec.specs.Within.{IsRow};
 ghost use Rattle.pressure_spec.specs.Share.{irq_quantity};
 ghost use Rattle.ruleset_json.specs.Ranges.{FitsAction, IsSize};
-ghost use Rattle.kill_spec.specs.Readings.{IsGroupReading, IsHostReading};
+ghost use Rattle.kill_spec.specs.LegalReadings.{IsGroupReading, IsHostReading};
 ghost use Rattle.kill_spec.specs.Victims.{is_at_least, pressure_measure, rank_of};
 ghost use Rattle.victim_rank.specs.Scopes.{is_eligible, measure_of};
 

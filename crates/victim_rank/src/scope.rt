@@ -4,7 +4,7 @@ ghost use Rattle.kill_spec.specs.Victims.{action_patterns, after_of};
 ghost use Rattle.detectors.specs.Below.{AreAmong, groups_at};
 ghost use Rattle.detectors.specs.Tables.{match_table};
 ghost use Rattle.psi_spec.specs.World.{most_groups};
-ghost use Rattle.kill_spec.specs.Readings.{IsReading};
+ghost use Rattle.kill_spec.specs.LegalReadings.{IsReading};
 ghost use Rattle.victim_rank.specs.Scopes.{is_in_view};
 
 use detectors::Reading;

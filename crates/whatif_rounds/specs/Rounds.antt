@@ -3,12 +3,12 @@ use Rattle.std.specs.Prelude.{◌≡◌, ℕ, List, ◌≤◌, None, Some, Ok, E
 use Rattle.psi_base.specs.declared.event.Event.{Event}
 use Rattle.psi_base.specs.declared.event.Fault.{Fault}
 use Rattle.psi_base.specs.declared.event.Fault.TheVariants as fault
-use Rattle.psi_spec.specs.Grammar.{version_of}
+use Rattle.psi_spec.specs.Header.{version_of}
 use Rattle.psi_spec.specs.Trace.{IsAccepted, IsCpuCount, Trace, limits_of}
 use Rattle.ruleset_json.specs.declared.types.Rule.{Rule}
 use Rattle.run_spec.specs.Outputs.{of_ms, pace_of}
 use Rattle.run_spec.specs.Whatif.{all_kills, last_trace}
-use Rattle.run_spec.specs.Words.{IsWithin}
+use Rattle.run_spec.specs.LegalCommand.{IsWithin}
 use Rattle.run_spec.specs.declared.command.Options.{Options}
 use Rattle.proc_plan.specs.Plans.{PlansView}
 use Rattle.replay_rules.specs.Planned.{IsPlanned}

@@ -1,7 +1,7 @@
 //! Kills taken out of a trace, round by round.
 ghost use Rattle.std.specs.Prelude.{◌≡◌, IfOk, MatchResult, Ok};
 ghost use Rattle.psi_base.specs.Gives.{FaultOf};
-ghost use Rattle.psi_spec.specs.Grammar.{IsVersion};
+ghost use Rattle.psi_spec.specs.Header.{IsVersion};
 ghost use Rattle.psi_spec.specs.Trace.{IsAccepted, IsCpuCount, limits_of};
 ghost use Rattle.ruleset_json.specs.RuleRanges.{FitsRules};
 ghost use Rattle.run_spec.specs.Outputs.{of_ms};

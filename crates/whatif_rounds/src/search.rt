@@ -1,7 +1,7 @@
 //! A replay that looks for a kill and writes nothing.
 ghost use Rattle.std.specs.Prelude.{◌≡◌, List, IfOk, slice_get};
 ghost use Rattle.kill_spec.specs.declared.kill.Kill.{Kill};
-ghost use Rattle.psi_spec.specs.Grammar.{IsVersion, version_of};
+ghost use Rattle.psi_spec.specs.Header.{IsVersion, version_of};
 ghost use Rattle.psi_spec.specs.Trace.{Trace};
 ghost use Rattle.ruleset_json.specs.RuleRanges.{FitsRules};
 ghost use Rattle.ruleset_json.specs.declared.types.Rule.{Rule};

@@ -1,6 +1,6 @@
 -- What is true of each trigger.
 use Rattle.std.specs.Prelude.{ℕ, ◌≤◌, Option, IfSome}
-use Rattle.psi_spec.specs.Trace.{last_moment}
+use Rattle.psi_spec.specs.Within.{last_moment}
 
 -- The window (ns) is from half a second to ten. Neither the growth before it nor the last signal is
 -- above the last moment.

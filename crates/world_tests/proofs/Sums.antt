@@ -10,7 +10,7 @@ use Rattle.psi_base.specs.declared.event.Slot.{Slot}
 use Rattle.psi_base.specs.declared.event.State.{State}
 use Rattle.psi_base.specs.declared.event.State.TheVariants.{IoSome, IoFull, MemSome, MemFull, CpuSome, CpuFull, Nonidle}
 use Rattle.psi_counts.specs.declared.changes.Counts.{Counts}
-use Rattle.psi_spec.specs.Groups.{AreOlder}
+use Rattle.psi_spec.specs.LegalGroups.{AreOlder}
 use Rattle.psi_spec.specs.World.{most_groups}
 use Rattle.psi_spec.specs.Stall.{is_under, number_of_slot}
 use Rattle.psi_counts.specs.Counts.{mask_holds, tells}

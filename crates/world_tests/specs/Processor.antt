@@ -3,7 +3,7 @@ use Rattle.std.specs.Prelude.{◌≡◌, ℕ, ◌≤◌, ◌<◌, List, length, 
 use Rattle.std.specs.List.{All, sum_by}
 use Rattle.psi_base.specs.declared.event.Slot.{Slot}
 use Rattle.psi_counts.specs.declared.changes.Counts.{Counts}
-use Rattle.psi_spec.specs.Groups.{AreOlder}
+use Rattle.psi_spec.specs.LegalGroups.{AreOlder}
 use Rattle.psi_spec.specs.World.{most_groups}
 use Rattle.psi_counts.specs.Touch.{AreAtMost, on_chain}
 use Rattle.slot_clocks.specs.Clocks.{AreTold, ClocksView, cell_at}

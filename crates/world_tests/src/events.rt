@@ -1,7 +1,8 @@
 //! Events from lines.
 
 ghost use Rattle.std.specs.Prelude.{◌≡◌, ◌≤◌, length, IfOk};
-ghost use Rattle.psi_spec.specs.Trace.{AllFit, IsCpuCount, last_moment};
+ghost use Rattle.psi_spec.specs.Trace.{AllFit, IsCpuCount};
+ghost use Rattle.psi_spec.specs.Within.{last_moment};
 
 use proc_plan::Plans;
 use psi_base::{Cause, Event, Fault, Ns};

@@ -2,7 +2,7 @@
 
 ghost use Rattle.std.specs.Prelude.{length, IsTrue};
 ghost use Rattle.std.proofs.Props.{props};
-ghost use Rattle.psi_spec.specs.Groups.{AreOlder};
+ghost use Rattle.psi_spec.specs.LegalGroups.{AreOlder};
 ghost use Rattle.slot_clocks.specs.Clocks.{parent_numbers};
 ghost use Rattle.world_tests.specs.Processor.{IsProcessor, IsSlot, IsTask};
 

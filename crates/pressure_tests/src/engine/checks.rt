@@ -1,8 +1,8 @@
 //! What a test must see before it calls the engine.
 
 ghost use Rattle.std.specs.Prelude.{◌≡◌, ℕ, [], All, length, slice_index_or, true};
-ghost use Rattle.psi_spec.specs.Told.{IsTriggerWithin};
-ghost use Rattle.psi_spec.specs.Trace.{last_moment};
+ghost use Rattle.psi_spec.specs.Within.{IsTriggerWithin};
+ghost use Rattle.psi_spec.specs.Within.{last_moment};
 ghost use Rattle.tick_engine.specs.Engine.{IsLifeWithin};
 ghost use Rattle.pressure_tests.specs.Machine.{GrewWithin, RowGrewWithin, TableGrewWithin};
 

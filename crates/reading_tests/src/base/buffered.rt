@@ -1,6 +1,7 @@
 //! A buffered sink, over sinks that take little or fail.
 ghost use Rattle.std.specs.Prelude.{◌≡◌, ◌++◌, ◌<◌, decimal, []};
-ghost use Rattle.outside.specs.Outside.{HasCause, PutsAll};
+ghost use Rattle.outside.specs.Outside.{HasCause};
+ghost use Rattle.outside.specs.Calls.{PutsAll};
 
 use outside::{BufferedSink, Pending, Sink, WriteFailed, put_all, put_number};
 use outside_fakes::MemSink;

@@ -1,5 +1,5 @@
 //! Event lines: which are read and written again, and which are refused for what.
-ghost use Rattle.psi_spec.specs.Grammar.{IsVersion};
+ghost use Rattle.psi_spec.specs.Header.{IsVersion};
 
 use psi_base::{Cause, Fault};
 use psi_trace::{read_event, write_event};

@@ -1,6 +1,7 @@
 use Rattle.std.proofs.Common.{◌+◌, ◌≤◌, get_or, arith}
-use Rattle.psi_spec.specs.Trace.{last_moment}
-use Rattle.pressure_spec.specs.Share.{most_irq_total, plus}
+use Rattle.psi_spec.specs.Within.{last_moment}
+use Rattle.pressure_spec.specs.Share.{plus}
+use Rattle.pressure_spec.specs.Within.{most_irq_total}
 use Rattle.pressure_spec.proofs.ShareLaws.{zip_with_all, get_or-zip_with}
 use Rattle.pressure_spec.proofs.WithinLaws.{amount_most}
 use Rattle.aggregate.proofs.totals.add_each.Goals as goal

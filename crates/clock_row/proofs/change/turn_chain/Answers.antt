@@ -2,7 +2,7 @@ use Rattle.std.proofs.Common.{◌≡◌, ◌<◌, ◌+◌, ◌∙◌, ap, arith,
 use Rattle.std.specs.Prelude.{IfSome, Option}
 use Rattle.psi_base.specs.declared.event.Slot.{Slot}
 use Rattle.plan_laws.specs.Plan.{PlanView}
-use Rattle.psi_spec.specs.Groups.{AreOlder, leads_to}
+use Rattle.psi_spec.specs.LegalGroups.{AreOlder, leads_to}
 use Rattle.psi_spec.specs.Stall.{number_of_slot}
 use Rattle.clock_row.specs.Seats.{writer_on}
 use Rattle.clock_row.specs.Turning.{IsDone}

@@ -1,6 +1,6 @@
 use Rattle.std.proofs.Common.{◌≡◌, ℕ, ◌+◌, ◌<◌, ◌⊎◌, length, true}
 use Rattle.std.specs.Prelude.{IfSome}
-use Rattle.psi_spec.specs.Groups.{leads_to}
+use Rattle.psi_spec.specs.LegalGroups.{leads_to}
 use Rattle.psi_spec.specs.Stall.{number_of_slot}
 use Rattle.slot_clocks.specs.Walk.{height}
 use Rattle.clock_row.specs.Seats.{writer_on}

@@ -1,5 +1,6 @@
 use Rattle.std.proofs.Common.{◌≡◌, ℕ, ◌<◌, ◌≤◌, [], length, get_or}
-use Rattle.pressure_spec.specs.Average.{IsRow, row_after}
+use Rattle.pressure_spec.specs.Average.{row_after}
+use Rattle.pressure_spec.specs.Within.{IsRow}
 use Rattle.fixed_average.proofs.averages.update_rows.Given as goal
 
 abbrev pub invariant-each : goal.invariant-each

@@ -1,6 +1,6 @@
 use Rattle.std.proofs.Common.{◌≡◌, ℕ, ◌+◌, ◌≤◌, ◌<◌, length}
 use Rattle.std.specs.Prelude.{◌&&◌, if◌then◌else◌}
-use Rattle.psi_spec.specs.Groups.{leads_to}
+use Rattle.psi_spec.specs.LegalGroups.{leads_to}
 use Rattle.psi_spec.specs.Stall.{number_of_slot}
 use Rattle.slot_clocks.specs.Clocks.{cell_at, parent_numbers}
 use Rattle.slot_clocks.specs.Walk.{height}

@@ -1,6 +1,6 @@
 use Rattle.std.proofs.Common.{arith, ap, ◌∙◌, sym, ◌++◌}
 use Rattle.std.specs.Prelude.{option_map}
-use Rattle.psi_spec.specs.Grammar.{header_with}
+use Rattle.psi_spec.specs.Header.{header_with}
 use Rattle.psi_trace.specs.declared.header.Header.{Header}
 use Rattle.psi_trace.specs.Heads.{before_cpus}
 use Rattle.psi_trace.proofs.Headers.{header-before, header_of-none, header_of-other, header_of-some, header_of-wrong}

@@ -1,4 +1,5 @@
-use Rattle.psi_spec.specs.Grammar.{verbs_of, version_of}
+use Rattle.psi_spec.specs.Grammar.{verbs_of}
+use Rattle.psi_spec.specs.Header.{version_of}
 use Rattle.psi_trace.proofs.Spelled as spelled
 use Rattle.psi_trace.proofs.read.read_event.Goals as goal
 

@@ -1,5 +1,5 @@
 use Rattle.std.proofs.Common.{refl, []}
-use Rattle.psi_spec.specs.Grammar.{version_of}
+use Rattle.psi_spec.specs.Header.{version_of}
 use Rattle.run_spec.specs.Text.{check_text}
 use Rattle.run_spec.specs.declared.command.Command.TheVariants.{Check}
 use Rattle.trace_file.specs.Reads.{trace_with}

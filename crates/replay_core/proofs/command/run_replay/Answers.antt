@@ -3,7 +3,7 @@ use Rattle.psi_spec.specs.Trace.{limits_of}
 use Rattle.run_spec.specs.Outputs.{of_ms}
 use Rattle.run_spec.specs.declared.command.Command.TheVariants.{Replay}
 use Rattle.replay_rules.specs.Judged.{given_rules}
-use Rattle.psi_spec.specs.Grammar.{version_of}
+use Rattle.psi_spec.specs.Header.{version_of}
 use Rattle.trace_file.specs.Reads.{trace_with}
 use Rattle.run_outcomes.specs.Writes.{IsToReplay}
 use Rattle.run_outcomes.proofs.RunLaws.{runs_written, takes_any}

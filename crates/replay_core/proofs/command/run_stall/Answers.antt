@@ -1,7 +1,7 @@
 use Rattle.std.proofs.Common.{refl, []}
 use Rattle.run_spec.specs.Text.{stall_text}
 use Rattle.run_spec.specs.declared.command.Command.TheVariants.{Stall}
-use Rattle.psi_spec.specs.Grammar.{version_of}
+use Rattle.psi_spec.specs.Header.{version_of}
 use Rattle.trace_file.specs.Reads.{trace_with}
 use Rattle.run_outcomes.proofs.RunLaws.{none_given, runs_refused, runs_written, takes_any}
 use Rattle.replay_core.proofs.command.run_stall.Goals as goal

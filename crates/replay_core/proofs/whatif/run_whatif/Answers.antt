@@ -1,5 +1,5 @@
 use Rattle.std.proofs.Common.{Some, refl, sym, ap, ◌∙◌, subst}
-use Rattle.psi_spec.specs.Grammar.{version_of}
+use Rattle.psi_spec.specs.Header.{version_of}
 use Rattle.psi_spec.specs.Trace.{limits_of}
 use Rattle.run_spec.specs.Outputs.{of_ms, pace_of}
 use Rattle.run_spec.specs.declared.command.Command.TheVariants.{Whatif}

@@ -2,7 +2,8 @@ use Rattle.std.proofs.Common.{◌≡◌, ◌+◌, List, take, get_or, map, sym, 
 use Rattle.psi_base.specs.declared.event.Slot.{Slot}
 use Rattle.psi_spec.specs.declared.machine.GroupLife.{GroupLife}
 use Rattle.psi_spec.specs.Groups.{is_live_at}
-use Rattle.kill_spec.specs.Readings.{Ascend, path_of}
+use Rattle.kill_spec.specs.Readings.{path_of}
+use Rattle.kill_spec.specs.LegalReadings.{Ascend}
 use Rattle.detectors.specs.Views.{ComesLast, ReadingView, reading_of}
 use Rattle.group_tree.specs.Tree.{numbers_of}
 use Rattle.replay_rules.specs.Seen.{reading_by}

@@ -1,5 +1,5 @@
 use Rattle.std.proofs.Common.{refl}
-use Rattle.psi_spec.specs.Grammar.{version_of}
+use Rattle.psi_spec.specs.Header.{version_of}
 use Rattle.replay_rules.specs.Judged.{given_rules}
 use Rattle.trace_file.specs.Reads.{trace_with}
 use Rattle.replay_run.proofs.ReplayLaws.{some_text}

@@ -1,6 +1,6 @@
 use Rattle.std.proofs.Common.{ap, sym, subst, ◌∙◌}
 use Rattle.pressure_spec.specs.Ticks.{tick_moment}
-use Rattle.outside.specs.Outside.{PutsAll}
+use Rattle.outside.specs.Calls.{PutsAll}
 use Rattle.replay_ticks.proofs.PutLaws.{order_made, reports_put, text_due}
 use Rattle.replay_ticks.proofs.replay.put_due.Goals as goal
 

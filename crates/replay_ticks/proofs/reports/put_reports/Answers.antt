@@ -1,7 +1,7 @@
 use Rattle.std.proofs.Common.{ℕ, List, arith, subst, sym, ◌∙◌}
 use Rattle.std.specs.Io.KnownBytes.{Appends}
 use Rattle.outside.proofs.Grows.{Appends-then, AppendsFront-then, PutsAll-failed}
-use Rattle.psi_spec.specs.Grammar.{version_of}
+use Rattle.psi_spec.specs.Header.{version_of}
 use Rattle.run_laws.specs.Reports.{slot_report, slot_reports}
 use Rattle.tick_engine.specs.Engine.{averages_in, totals_in}
 use Rattle.group_tree.specs.Tree.{numbers_of}

@@ -2,7 +2,7 @@ use Rattle.std.proofs.Common.{take}
 use Rattle.std.specs.Prelude.{Ok}
 use Rattle.std.specs.Io.KnownBytes.{Appends}
 use Rattle.outside.specs.Outside.{HasCause, StaysOver}
-use Rattle.psi_spec.specs.Grammar.{version_of}
+use Rattle.psi_spec.specs.Header.{version_of}
 use Rattle.run_laws.specs.Reports.{slot_reports}
 use Rattle.tick_engine.specs.Engine.{averages_in, totals_in}
 use Rattle.group_tree.specs.Tree.{numbers_of}

@@ -1,5 +1,5 @@
 use Rattle.std.proofs.Common.{arith, ◌≡◌, [], ◌*◌, ◌/◌, length, refl, ap, ◌∙◌}
-use Rattle.psi_spec.specs.Groups.{IsPathOrder}
+use Rattle.psi_spec.specs.LegalGroups.{IsPathOrder}
 use Rattle.aggregate.specs.Table.{new_table}
 use Rattle.tick_engine.specs.Engine.{StandsFor}
 use Rattle.run_spec.specs.Replay.{tick_count}

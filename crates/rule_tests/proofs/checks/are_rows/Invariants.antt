@@ -1,5 +1,5 @@
 use Rattle.std.proofs.Common.{List, ℕ, ◌<◌, get_or}
-use Rattle.pressure_spec.specs.Average.{IsRow}
+use Rattle.pressure_spec.specs.Within.{IsRow}
 use Rattle.rule_tests.proofs.checks.are_rows.Given as goal
 
 abbrev pub invariant-rows : goal.invariant-rows

@@ -1,6 +1,6 @@
 use Rattle.std.proofs.Common.{◌≡◌, ℕ, ◌+◌, ◌-◌, ◌<◌, length, drop}
 use Rattle.slot_clocks.specs.Clocks.{parent_numbers}
-use Rattle.kill_spec.specs.Readings.{IsHostReading}
+use Rattle.kill_spec.specs.LegalReadings.{IsHostReading}
 use Rattle.side_watch.specs.Sides.{cell_by, due_by, host_by, side_cell_in}
 use Rattle.side_watch.specs.Watch.{AreSmallCells}
 use Rattle.side_watch.proofs.steps.take_due.Given as goal

@@ -1,7 +1,7 @@
 use Rattle.std.proofs.Common.{[], ◌∷◌, ◌++◌, get_or, subst, sym, ap, ◌≡◌, ◌≤◌, ◌∙◌}
 use Rattle.std.proofs.lemmas.List.{get_or-map}
 use Rattle.psi_spec.specs.declared.machine.GroupLife.{GroupLife}
-use Rattle.outside.specs.Outside.{PutsAll}
+use Rattle.outside.specs.Calls.{PutsAll}
 use Rattle.psi_spec.specs.Groups.{path_at}
 use Rattle.plan_laws.specs.Plan.{last_change, planned, planned_irq}
 use Rattle.run_spec.specs.Lines.{stall_line}

@@ -2,7 +2,7 @@ use Rattle.std.proofs.Common.{ℕ, List, ◌+◌, refl, arith, ap, length, subst
 use Rattle.std.specs.List.{flat_map, range_with_len}
 use Rattle.std.specs.Io.KnownBytes.{Appends}
 use Rattle.std.proofs.lemmas.List.{get_or_default, get_or-set_other, length-set}
-use Rattle.psi_spec.specs.Grammar.{version_of}
+use Rattle.psi_spec.specs.Header.{version_of}
 use Rattle.outside.proofs.Grows.{Appends-then, AppendsFront-then, PutsAll-failed}
 use Rattle.outside.specs.Outside.{AppendsFront}
 use Rattle.plan_laws.specs.Plan.{IsPlan, no_plan}

@@ -2,7 +2,7 @@ use Rattle.std.proofs.Common.{◌≡◌, take}
 use Rattle.std.specs.Prelude.{Ok}
 use Rattle.std.specs.List.{flat_map}
 use Rattle.std.specs.Io.KnownBytes.{Appends}
-use Rattle.psi_spec.specs.Grammar.{version_of}
+use Rattle.psi_spec.specs.Header.{version_of}
 use Rattle.outside.specs.Outside.{HasCause, StaysOver}
 use Rattle.stall_run.specs.Lines.{plan_line}
 use Rattle.stall_run.proofs.lines.put_processor.Given as goal

@@ -2,7 +2,7 @@ use Rattle.std.proofs.Common.{◌≡◌, arith, subst, sym, ap, ◌∙◌, lengt
 use Rattle.std.specs.Io.KnownBytes.{Appends}
 use Rattle.std.proofs.Math.Seq.{take-append_seam}
 use Rattle.outside.specs.Outside.{AppendsFront}
-use Rattle.psi_spec.specs.Grammar.{version_of}
+use Rattle.psi_spec.specs.Header.{version_of}
 use Rattle.group_tree.specs.Tree.{live_slots}
 use Rattle.proc_plan.specs.Plans.{plan_at}
 use Rattle.stall_run.specs.Lines.{HasMadeAll}

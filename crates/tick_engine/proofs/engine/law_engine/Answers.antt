@@ -1,5 +1,5 @@
 use Rattle.std.proofs.Common.{length, ◌∙◌}
-use Rattle.pressure_spec.specs.Ticks.{no_tick}
+use Rattle.pressure_spec.specs.NextTick.{no_tick}
 use Rattle.pressure_spec.proofs.SampleLaws.{last_tick-push}
 use Rattle.tick_engine.proofs.engine.law_engine.Goals as goal
 

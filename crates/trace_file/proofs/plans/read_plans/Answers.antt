@@ -1,5 +1,5 @@
 use Rattle.std.proofs.Common.{refl}
-use Rattle.psi_spec.specs.Grammar.{version_of}
+use Rattle.psi_spec.specs.Header.{version_of}
 use Rattle.trace_file.specs.Reads.{trace_with}
 use Rattle.trace_file.proofs.plans.read_plans.Goals as goal
 

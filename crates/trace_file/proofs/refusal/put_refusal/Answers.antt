@@ -1,5 +1,5 @@
 use Rattle.std.proofs.Common.{sym, subst}
-use Rattle.outside.specs.Outside.{PutsAll}
+use Rattle.outside.specs.Calls.{PutsAll}
 use Rattle.trace_file.proofs.RefusalTexts.{refusal_none, refusal_some}
 use Rattle.trace_file.proofs.refusal.put_refusal.Goals as goal
 

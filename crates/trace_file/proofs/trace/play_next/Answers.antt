@@ -2,7 +2,8 @@ use Rattle.std.proofs.Common.{ap, subst}
 use Rattle.std.specs.Prelude.{Ok, Err}
 use Rattle.outside.specs.Outside.{told}
 use Rattle.psi_lines.specs.Lines.{Reader, left}
-use Rattle.psi_spec.specs.Grammar.{spelling, version_of}
+use Rattle.psi_spec.specs.Grammar.{spelling}
+use Rattle.psi_spec.specs.Header.{version_of}
 use Rattle.psi_trace.specs.Front.{HasInFront}
 use Rattle.trace_player.specs.Playing.{PlayerTakes}
 use Rattle.trace_file.specs.Reads.{Legally, verbs_in}

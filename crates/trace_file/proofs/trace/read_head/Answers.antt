@@ -1,4 +1,5 @@
-use Rattle.psi_spec.specs.Grammar.{header_with, versions}
+use Rattle.psi_spec.specs.Grammar.{versions}
+use Rattle.psi_spec.specs.Header.{header_with}
 use Rattle.trace_file.proofs.HeadLaws as laws
 use Rattle.trace_file.proofs.trace.read_head.Goals as goal
 

@@ -3,7 +3,7 @@ use Rattle.std.specs.Prelude.{not, true, vec_capacity}
 use Rattle.std.specs.Result.{is_ok}
 use Rattle.std.proofs.lemmas.Grind.{common_steps}
 use Rattle.psi_spec.specs.Stall.{number_of_slot}
-use Rattle.kill_spec.specs.Readings.{IsGroupReading}
+use Rattle.kill_spec.specs.LegalReadings.{IsGroupReading}
 use Rattle.kill_spec.specs.Victims.{names_slot}
 use Rattle.detectors.specs.Below.{is_child}
 use Rattle.detectors.specs.Views.{ReadingView, reading_of, seen_at}

@@ -1,6 +1,6 @@
 use Rattle.std.proofs.Common.{◌++◌, ◌∷◌, [], subst, sym, ◌∙◌}
 use Rattle.psi_spec.specs.World.{new_group}
-use Rattle.psi_spec.specs.Groups.{AreGroups}
+use Rattle.psi_spec.specs.LegalGroups.{AreGroups}
 use Rattle.group_tree.proofs.Changes.{may_add}
 use Rattle.group_tree.proofs.tree.Tree.add.Goals as goal
 

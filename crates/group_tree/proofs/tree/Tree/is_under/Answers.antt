@@ -1,7 +1,7 @@
 use Rattle.std.proofs.Common.{None, ap, sym, ◌∙◌, subst}
 use Rattle.std.specs.Prelude.{slice_index_or}
 use Rattle.psi_spec.specs.Stall.{number_of_slot, parents_of}
-use Rattle.psi_spec.specs.Groups.{AreGroups, leads_to}
+use Rattle.psi_spec.specs.LegalGroups.{AreGroups, leads_to}
 use Rattle.group_tree.proofs.Chains.{climb_on, climb_end}
 use Rattle.group_tree.proofs.tree.Tree.is_under.Goals as goal
 

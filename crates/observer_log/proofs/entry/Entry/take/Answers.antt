@@ -1,5 +1,5 @@
 use Rattle.std.proofs.Common.{◌≤◌, arith, rules, sym, subst}
-use Rattle.psi_spec.specs.Trace.{last_moment}
+use Rattle.psi_spec.specs.Within.{last_moment}
 use Rattle.plan_laws.specs.Plan.{last_change}
 use Rattle.plan_laws.proofs.PlanClocks.{clock_is_in_time}
 use Rattle.observer_log.proofs.entry.Entry.take.Goals as goal

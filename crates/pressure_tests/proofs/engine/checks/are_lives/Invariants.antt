@@ -1,6 +1,6 @@
 use Rattle.std.proofs.Common.{ℕ, ◌<◌, get_or}
 use Rattle.psi_spec.specs.declared.machine.GroupLife.{GroupLife}
-use Rattle.psi_spec.specs.Trace.{last_moment}
+use Rattle.psi_spec.specs.Within.{last_moment}
 use Rattle.tick_engine.specs.Engine.{IsLifeWithin}
 use Rattle.pressure_tests.proofs.engine.checks.are_lives.Given as goal
 

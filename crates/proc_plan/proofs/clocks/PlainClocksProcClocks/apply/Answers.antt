@@ -3,7 +3,7 @@ use Rattle.std.proofs.Common.{arith, rules, subst, sym, ap, ◌∙◌, ◌++◌,
 use Rattle.std.specs.Prelude.{IfSome}
 use Rattle.psi_base.specs.declared.event.Slot.{Slot}
 use Rattle.psi_counts.specs.Touch.{HasSlotsBelow}
-use Rattle.psi_spec.specs.Groups.{AreOlder}
+use Rattle.psi_spec.specs.LegalGroups.{AreOlder}
 use Rattle.plan_laws.proofs.PlanSteps.{current_by_change}
 use Rattle.proc_plan.specs.Clocks.{irq_at}
 use Rattle.proc_plan.proofs.ClockSteps.{AreMade, as_many_parents, can_follow, current_below, next_clocks, told}

@@ -2,7 +2,7 @@ use Rattle.std.proofs.Common.{◌≡◌, ◌<◌, ℕ, Option, List, [], ◌++�
 use Rattle.std.proofs.lemmas.List.{length-map}
 use Rattle.std.proofs.Math.ListN.{get_or-map}
 use Rattle.std.specs.Prelude.{slice_index_or}
-use Rattle.psi_spec.specs.Told.{listed}
+use Rattle.psi_spec.specs.Within.{listed}
 use Rattle.psi_counts.specs.Legal.{with_change}
 use Rattle.psi_counts.specs.Touch.{change_told, shown}
 use Rattle.psi_counts.specs.declared.changes.Change.{Change}

@@ -1,10 +1,11 @@
 use Rattle.std.proofs.Common.{◌≡◌, ◌+◌, ◌<◌, length, map, sym, ap, subst, ◌∙◌}
 use Rattle.std.specs.Prelude.{All}
 use Rattle.psi_base.specs.declared.event.Slot.{Slot}
-use Rattle.psi_spec.specs.Groups.{IsPathOrder, path_at}
+use Rattle.psi_spec.specs.Groups.{path_at}
+use Rattle.psi_spec.specs.LegalGroups.{IsPathOrder}
 use Rattle.psi_spec.specs.Trace.{limits_of}
 use Rattle.pressure_spec.specs.Ticks.{tick_moment}
-use Rattle.kill_spec.specs.Readings.{Ascend}
+use Rattle.kill_spec.specs.LegalReadings.{Ascend}
 use Rattle.detectors.specs.Views.{IsAfter, ReadingView}
 use Rattle.side_watch.specs.Watch.{Advances}
 use Rattle.group_tree.specs.Tree.{numbers_of}

@@ -1,5 +1,6 @@
 use Rattle.std.proofs.Common.{◌+◌, arith, refl, sym, subst}
-use Rattle.outside.specs.Outside.{AppendsFront, PutsAll}
+use Rattle.outside.specs.Outside.{AppendsFront}
+use Rattle.outside.specs.Calls.{PutsAll}
 use Rattle.outside.proofs.Grows.{PutsAll-failed}
 use Rattle.run_spec.specs.Replay.{tick_text, with_rules}
 use Rattle.replay_ticks.specs.Replays.{IsReplay}

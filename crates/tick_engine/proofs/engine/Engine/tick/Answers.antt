@@ -1,7 +1,7 @@
 use Rattle.std.proofs.Common.{◌≡◌, ◌<◌, ◌≤◌, ◌++◌, ℕ, List, [], refl, length, take, drop, sym, ap, subst, ◌∙◌, arith, ◌⊎◌, ⊎_elim}
 use Rattle.std.specs.Prelude.{map}
 use Rattle.std.proofs.lemmas.List.{get_or_past, length-map, take_at}
-use Rattle.pressure_spec.specs.Ticks.{IsNextTick}
+use Rattle.pressure_spec.specs.NextTick.{IsNextTick}
 use Rattle.aggregate.specs.Table.{HasSizes}
 use Rattle.aggregate.proofs.TableLaws.{sizes_same}
 use Rattle.pressure_spec.specs.Samples.{row_at}

@@ -1,0 +1,53 @@
+-- What holds of the readings of each replay.
+use Rattle.std.specs.Prelude.{◌≡◌, ℕ, ◌^◌, ◌≤◌, ◌<◌, List, [], ◌∷◌, length, map, All}
+use Rattle.std.specs.Ordering.{nat_cmp}
+use Rattle.std.specs.declared.cmp.Ordering.TheVariants.{Less}
+use Rattle.std.specs.Cmp.Lexicographic.{slice_cmp}
+use Rattle.psi_spec.specs.declared.machine.GroupLife.{GroupLife}
+use Rattle.pressure_spec.specs.Within.{IsRow}
+use Rattle.pressure_spec.specs.Share.{irq_quantity}
+use Rattle.kill_spec.specs.declared.reading.GroupReading.{GroupReading}
+use Rattle.kill_spec.specs.declared.reading.HostReading.{HostReading}
+use Rattle.kill_spec.specs.Readings.{Reading, path_of}
+
+-- a group that was read is one of so many, its bytes and counts are at most 2^60, and it has three
+-- averages of at most 100 percent for each quantity before interrupt time
+pub record IsGroupReading (slots : ℕ) (group : GroupReading) : Type 0 where
+  pub slot : group.slot.0 < slots
+  pub current : group.current ≤ 2 ^ 60
+  pub swap : group.swap ≤ 2 ^ 60
+  pub scan : group.scan ≤ 2 ^ 60
+  pub rows : length group.averages ≡ irq_quantity
+  pub each : All IsRow group.averages
+
+-- a sample of the host is in its ranges: bytes are at most 2^60
+pub record IsHostReading (host : HostReading) : Type 0 where
+  pub mem_total : host.mem_total ≤ 2 ^ 60
+  pub swap_total : host.swap_total ≤ 2 ^ 60
+  pub swap_free : host.swap_free ≤ 2 ^ 60
+
+-- one path comes before another in byte order
+abbrev pub ComesBefore : List ℕ → List ℕ → Type 0
+ComesBefore first second = slice_cmp nat_cmp first second ≡ Less
+
+-- paths ascend in byte order, so no path stands twice
+abbrev pub Ascend : List (List ℕ) → Type 0
+Ascend [] = Unit {0}
+Ascend (first ∷ []) = Unit {0}
+Ascend (first ∷ second ∷ paths) = ComesBefore first second × Ascend (second ∷ paths)
+
+-- a reading of groups: each is one of them and in its ranges, and their paths ascend
+pub record IsReading (lives : List GroupLife) (reading : Reading) : Type 0 where
+  pub host : IsHostReading reading.host
+  pub each : All (IsGroupReading (length lives)) reading.groups
+  pub order : Ascend (map (path_of lives) reading.groups)
+
+-- a reading comes next after others: it is later than the newest of them
+abbrev pub IsLater : Reading → List Reading → Type 0
+IsLater now [] = Unit {0}
+IsLater now (before ∷ past) = before.at < now.at
+
+-- readings of groups, the newest first, each later than those before it
+abbrev pub AreReadings : List GroupLife → List Reading → Type 0
+AreReadings lives [] = Unit {0}
+AreReadings lives (now ∷ past) = IsReading lives now × IsLater now past × AreReadings lives past

@@ -1,0 +1,28 @@
+-- What a line of a pressure file prints, from hundredths of a percent.
+use Rattle.std.specs.Prelude.{◌≡◌, ℕ, ◌+◌, ◌*◌, ◌/◌, ◌%◌, ◌^◌, ◌≤◌, ◌<◌, All, length, List, ◌++◌, slice_index, codes, decimal}
+use Rattle.psi_base.specs.declared.event.Level.{Level}
+use Rattle.psi_spec.specs.Fields.{level_word}
+use Rattle.pressure_spec.specs.File.{two_digits, hundredths}
+
+-- an average (2048 is 1 percent) in whole hundredths of a percent
+abbrev pub in_hundredths : ℕ → ℕ
+in_hundredths average = average / 2048 * 100 + hundredths average
+
+-- hundredths of a percent as text: the whole percent, a point and two digits
+abbrev pub hundredths_text : ℕ → List ℕ
+hundredths_text n = decimal (n / 100) ++ codes "." ++ two_digits (n % 100)
+
+-- the line of averages over 10, 60 and 300 seconds in hundredths of a percent, and a total
+-- in us
+abbrev pub told_line : Level → List ℕ → ℕ → List ℕ
+told_line level averages total =
+    level_word level ++ codes " avg10=" ++ hundredths_text (slice_index averages 0)
+    ++ codes " avg60=" ++ hundredths_text (slice_index averages 1)
+    ++ codes " avg300=" ++ hundredths_text (slice_index averages 2)
+    ++ codes " total=" ++ decimal total ++ codes "\n"
+
+-- a line can tell these: three averages, each from 0.00 to 100.00 percent, and a total of 64 bits
+pub record CanTell (averages : List ℕ) (total : ℕ) : Type 0 where
+  pub three : length averages ≡ 3
+  pub most : All (λ average. average ≤ 10000) averages
+  pub fits : total < 2 ^ 64
