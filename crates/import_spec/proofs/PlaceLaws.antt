@@ -1,5 +1,5 @@
 -- First and last places are found exactly where they are.
-use Rattle.std.proofs.Common.{◌≡◌, ℕ, ◌+◌, ◌≤◌, ◌<◌, List, [], ◌∷◌, length, drop, refl, ap, ◌∙◌, sym, subst, Bool, true, false, arith, add-one, cond, Option, None, Some}
+use Rattle.std.proofs.Common.{◌≡◌, ℕ, ◌+◌, List, [], ◌∷◌, length, refl, ap, Bool, true, false, arith, add-one, cond, Option, None, Some}
 use Rattle.std.specs.Prelude.{zero, suc, option_map, MatchOption}
 use Rattle.import_spec.specs.Places.{first_place, last_place, or_here}
 use Rattle.import_spec.specs.Laws.{IsFirstPlace, IsLastPlace, NonePasses, FindsFirst, FindsLast, FindsNone}

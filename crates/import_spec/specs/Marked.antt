@@ -1,8 +1,5 @@
 -- Which lines of a text of ftrace are marked, and what each of these tells.
 use Rattle.std.specs.Prelude.{ℕ, ◌+◌, List, [], ◌∷◌, take, drop, length, find, Bool, if◌then◌else◌, codes, Option, None, Some, is_some, Result, Ok, Err}
-use Rattle.psi_base.specs.declared.event.Pid.{Pid}
-use Rattle.psi_base.specs.declared.event.Cpu.{Cpu}
-use Rattle.psi_base.specs.declared.event.How.{How}
 use Rattle.import_spec.specs.declared.cause.ImportCause.{ImportCause}
 use Rattle.import_spec.specs.declared.cause.ImportCause.TheVariants as cause
 use Rattle.import_spec.specs.declared.seen.LineKind.{LineKind}

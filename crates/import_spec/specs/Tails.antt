@@ -5,7 +5,6 @@ use Rattle.std.specs.List.{after_first, before_first, prefix_len}
 use Rattle.std.specs.Char.{is_ascii_digit}
 use Rattle.psi_base.specs.Number.{digits_of}
 use Rattle.psi_base.specs.declared.event.Pid.{Pid}
-use Rattle.psi_base.specs.declared.event.Cpu.{Cpu}
 use Rattle.psi_base.specs.declared.event.How.{How}
 use Rattle.psi_base.specs.declared.event.How.TheVariants.{Preempt, Sleep, IoWait, Exit}
 use Rattle.psi_base.specs.OptionSteps.{◌>>=◌}

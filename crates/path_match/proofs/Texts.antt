@@ -1,11 +1,9 @@
 -- The text of patterns, one after another.
 use Rattle.std.proofs.Common.{◌≡◌, ◌≤◌, ℕ, arith, length, take, List, [], ◌∷◌, ◌++◌, Bool, true, false, refl, sym, ap, ◌∙◌, append_assoc}
 use Rattle.std.specs.Prelude.{codes, if◌then◌else◌, map}
-use Rattle.std.specs.List.{join_with_byte}
 use Rattle.std.specs.Str.{bytes_eq}
 use Rattle.std.proofs.lemmas.List.{append-nil, length-take, take-append-le}
 use Rattle.std.proofs.lemmas.Slice.Eq.{bytes_eq-Decides}
-use Rattle.psi_base.specs.Path.{parts_at}
 use Rattle.path_match.specs.Match.{components, behind_slash, pattern_text, patterns_text}
 use Rattle.path_match.proofs.PatternLaws.{spells_parts}
 

@@ -1,6 +1,6 @@
 -- The pressure of groups over any list of ticks: what each tick adds to a group's totals, its
 -- averages, and the signals of triggers.
-use Rattle.std.specs.Prelude.{ℕ, ◌-◌, List, [], ◌∷◌, ◌++◌, length, map, filter, slice_get, slice_index_or, nat_le, nat_lt, ◌&&◌, Bool, false, Option, None, Some, if◌then◌else◌}
+use Rattle.std.specs.Prelude.{ℕ, ◌-◌, List, [], ◌∷◌, ◌++◌, length, map, filter, slice_get, slice_index_or, nat_le, nat_lt, ◌&&◌, Bool, if◌then◌else◌}
 use Rattle.std.specs.List.{range_with_len}
 pub use Rattle.psi_base.specs.States.{state_of}
 use Rattle.psi_base.specs.declared.event.State.{State}

@@ -1,6 +1,5 @@
 -- A quick act tells of changes alone: no trigger, and no side where no task exits by it.
-use Rattle.std.proofs.Common.{◌≡◌, ℕ, List, [], refl, ap, Bool, true, false, Option, None, Some, ◌==◌}
-use Rattle.std.specs.Prelude.{if◌then◌else◌, ◌++◌}
+use Rattle.std.proofs.Common.{◌≡◌, ℕ, List, [], refl, ap, true, false, Option, None, Some}
 use Rattle.psi_base.specs.declared.event.How.{How}
 use Rattle.psi_base.specs.declared.event.How.TheVariants.{Preempt, Sleep, IoWait, Exit, Idle}
 use Rattle.psi_spec.specs.declared.machine.GroupLife.{GroupLife}
@@ -13,8 +12,7 @@ use Rattle.psi_counts.specs.Touch.{changed, left_if}
 use Rattle.task_table.specs.declared.task_act.TaskAct.{TaskAct}
 use Rattle.task_table.specs.declared.task_act.TaskAct.TheVariants as quick
 use Rattle.task_table.specs.Acts.{act_by, event_by, exits}
-use Rattle.proc_plan.specs.declared.side.Side.{Side}
-use Rattle.proc_plan.specs.Sides.{came, group_of, passage, sides_by, went}
+use Rattle.proc_plan.specs.Sides.{group_of, passage, sides_by}
 
 pub no_trigger : (at : ℕ) (groups : List GroupLife) (a : TaskAct) → [] ≡ trigger_by at groups (act_by a)
 no_trigger at groups (quick.Wake pid cpu) = refl

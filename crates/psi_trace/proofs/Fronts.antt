@@ -14,8 +14,8 @@ use Rattle.psi_base.specs.declared.event.Event.{Event}
 use Rattle.psi_base.specs.declared.event.How.{How}
 use Rattle.psi_base.specs.declared.event.Pid.{Pid}
 use Rattle.psi_base.proofs.NumberLaws.{numerals}
-use Rattle.psi_spec.specs.Fields.{InRange, IsPid, how_word, next_word, word}
-use Rattle.psi_spec.specs.Grammar.{AreInRange, IsKnown, act_words, first_verbs, form_of, joined, kinds_of, spelling, phrase_of, verb_word, field_words}
+use Rattle.psi_spec.specs.Fields.{IsPid, how_word, next_word, word}
+use Rattle.psi_spec.specs.Grammar.{joined, spelling}
 use Rattle.psi_spec.specs.Grammar as verb
 use Rattle.trace_laws.proofs.GrammarReads.{found_first, spelled_in_line}
 use Rattle.psi_trace.specs.Front.{AreDigits, AreFour, BeginsWithEvent, HasInFront, IsDigit}

@@ -1,12 +1,12 @@
 -- A header line, cut behind `cpus=`.
 use Rattle.std.proofs.Common.{◌≡◌, ◌≢◌, ℕ, ◌^◌, ◌<◌, ◌≤◌, List, [], ◌∷◌, ◌++◌, length, take, drop, refl, sym, ap, ◌∙◌, arith, true, false, get_or, take-append-drop, inl, inr, ⊎_elim}
-use Rattle.std.specs.Prelude.{Option, None, Some, IfSome, IfNone, decimal, codes}
+use Rattle.std.specs.Prelude.{Option, None, Some, decimal, codes}
 use Rattle.std.specs.Str.{bytes_eq}
 use Rattle.std.proofs.lemmas.Slice.Eq.{bytes_eq-Decides}
 use Rattle.std.proofs.Math.Seq.{take-append_seam}
 use Rattle.std.proofs.lemmas.Fmt.{decimal_digit, decimal_injective}
 use Rattle.psi_spec.specs.Fields.{IsAmong}
-use Rattle.psi_spec.specs.Grammar.{Header, One, Two, Version, header, header_line, header_of, version_number, versions}
+use Rattle.psi_spec.specs.Grammar.{Header, One, Two, Version, header, header_of, version_number, versions}
 use Rattle.psi_spec.specs.Header.{IsVersion, header_with, version_of}
 use Rattle.trace_laws.proofs.GrammarWords.{decimal_short}
 use Rattle.trace_laws.proofs.GrammarHeaders.{headers_spelled}

@@ -1,6 +1,6 @@
 -- What digits behind a point spell.
 use Rattle.std.proofs.Common.{◌≡◌, ℕ, ◌<◌, ◌≤◌, List, [], ◌∷◌, ◌++◌, Bool, Some, None, true, false, length, refl, sym, ap, ◌∙◌, arith}
-use Rattle.std.specs.Prelude.{◌&&◌, nat_le, nat_lt, codes, take, Option, if◌then◌else◌}
+use Rattle.std.specs.Prelude.{◌&&◌, nat_le, nat_lt, codes, take, if◌then◌else◌}
 use Rattle.psi_base.specs.Number.{digits_after, digits_of}
 
 -- three digits

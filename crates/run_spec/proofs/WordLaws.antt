@@ -1,5 +1,5 @@
 -- How words may be spelled otherwise, with the same command.
-use Rattle.std.proofs.Common.{◌≡◌, ◌≢◌, ℕ, ◌∷◌, ◌++◌, ◌||◌, ◌∙◌, List, [], Bool, true, false, not}
+use Rattle.std.proofs.Common.{◌≡◌, ◌≢◌, ℕ, ◌∷◌, ◌++◌, ◌||◌, ◌∙◌, List, [], Bool, true, false}
 use Rattle.std.proofs.Common.{Option, Some, None, length, refl, sym, ap, subst, true≢false}
 use Rattle.std.proofs.Common.{arith, if◌then◌else◌}
 use Rattle.std.proofs.Math.Seq.{take-append_seam, take-length, drop-append-add}

@@ -9,7 +9,7 @@ use Rattle.run_spec.specs.declared.command.Command.{Command}
 use Rattle.psi_base.specs.OptionSteps.{◌>>=◌}
 use Rattle.run_spec.specs.Words.{Word, assigned, opened, end, plain, unknown, is_dashed}
 use Rattle.run_spec.specs.Words.{is_among, is_equals, option_of, word_of, Given}
-use Rattle.run_spec.specs.Words.{with_option, with_positional, at_word, at_value, behind, by_word, said}
+use Rattle.run_spec.specs.Words.{with_option, with_positional, at_word, at_value, by_word, said}
 use Rattle.run_spec.specs.Words.{options_of, shape_of, stall_of, check_of, replay_of, gen_of}
 use Rattle.run_spec.specs.Words.{stress_of, import_command_of, rules_command_of, whatif_of, CommandForm, forms, command_of}
 use Rattle.run_spec.specs.Laws.{assigned_word}

@@ -1,18 +1,17 @@
 -- A trace without the tasks of a group that is killed: its events up to the kill, the exits of the
 -- tasks, and the rest without them.
-use Rattle.std.specs.Prelude.{ℕ, ◌+◌, List, [], ◌∷◌, ◌++◌, drop, length, map, filter, nat_lt, ◌==◌, not, Bool, true, false, if◌then◌else◌, Option, None, Some}
+use Rattle.std.specs.Prelude.{ℕ, ◌+◌, List, [], ◌∷◌, ◌++◌, drop, length, map, filter, nat_lt, ◌==◌, not, Bool, false, if◌then◌else◌, Option, None, Some}
 use Rattle.std.specs.List.{list_any}
 use Rattle.std.specs.FinMap as tasks_by
 use Rattle.psi_base.specs.declared.event.Pid.{Pid}
 use Rattle.psi_base.specs.declared.event.Cpu.{Cpu}
 use Rattle.psi_base.specs.declared.event.How.{How}
-use Rattle.psi_base.specs.declared.event.How.TheVariants.{Preempt, Sleep, IoWait, Exit, Idle}
+use Rattle.psi_base.specs.declared.event.How.TheVariants.{Preempt, Exit, Idle}
 use Rattle.psi_base.specs.declared.event.Act.{Act}
 use Rattle.psi_base.specs.declared.event.Act.TheVariants as act
 use Rattle.psi_base.specs.declared.event.Event.{Event}
-use Rattle.psi_spec.specs.declared.machine.Mode.{Mode}
 use Rattle.psi_spec.specs.declared.machine.Task.{Task}
-use Rattle.psi_spec.specs.World.{World, Tasks, after, after_event, after_from, events_at, is_active, is_running, running_on, task_of, up_to}
+use Rattle.psi_spec.specs.World.{World, after, after_event, after_from, events_at, is_active, is_running, running_on, task_of, up_to}
 use Rattle.psi_spec.specs.Stall.{is_under, parents_of}
 use Rattle.psi_spec.specs.Trace.{Trace}
 

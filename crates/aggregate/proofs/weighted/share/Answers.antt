@@ -1,5 +1,5 @@
 use Rattle.std.proofs.Common.{◌<◌, [], length, arith}
-use Rattle.std.proofs.lemmas.List.{get_or_default, take_all}
+use Rattle.std.proofs.lemmas.List.{get_or_default}
 use Rattle.aggregate.proofs.Weights.{divided, summed_more}
 use Rattle.aggregate.proofs.weighted.share.Goals as goal
 

@@ -1,4 +1,4 @@
-use Rattle.std.proofs.Common.{◌-◌, ◌/◌, arith, ap, sym, ◌∙◌}
+use Rattle.std.proofs.Common.{◌-◌, ◌/◌, arith, ap, sym}
 use Rattle.pressure_spec.proofs.ShareLaws.{get_or-zip_with}
 use Rattle.aggregate.proofs.weighted.weight_since.Goals as goal
 

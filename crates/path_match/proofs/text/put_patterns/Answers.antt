@@ -1,7 +1,7 @@
-use Rattle.std.proofs.Common.{◌≡◌, ◌++◌, length, take, subst, sym, rules}
+use Rattle.std.proofs.Common.{◌≡◌, ◌++◌, rules}
 use Rattle.std.proofs.Math.Seq.{take-append_seam}
 use Rattle.psi_base.specs.Path.{parts_at}
-use Rattle.path_match.proofs.Texts.{front_more, text_began}
+use Rattle.path_match.proofs.Texts.{text_began}
 use Rattle.path_match.proofs.text.put_patterns.Goals as goal
 
 pub parts-init : goal.parts-init

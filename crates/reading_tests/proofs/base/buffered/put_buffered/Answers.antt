@@ -1,4 +1,4 @@
-use Rattle.std.proofs.Common.{◌++◌, decimal, arith, rules}
+use Rattle.std.proofs.Common.{arith, rules}
 use Rattle.outside.proofs.Grows.{Appends-then, AppendsFront-last}
 use Rattle.outside.proofs.Buffered.{put_failed, puts_flushed}
 use Rattle.reading_tests.proofs.base.buffered.put_buffered.Goals as goal

@@ -1,7 +1,6 @@
-use Rattle.std.proofs.Common.{◌≡◌, List, refl, get_or, length, rules, sym, ap, slice_set, subst, ◌∙◌, arith, ◌<◌}
+use Rattle.std.proofs.Common.{◌≡◌, refl, get_or, length, rules, ap, slice_set, ◌∙◌, arith, ◌<◌}
 use Rattle.std.proofs.lemmas.List.{length-set}
 use Rattle.std.proofs.lemmas.List.Elements.{All-set}
-use Rattle.ruleset_json.specs.declared.types.Rule.{Rule}
 use Rattle.ruleset_json.specs.Replaced.{replaced}
 use Rattle.ruleset_json.specs.RuleRanges.{FitsRule}
 use Rattle.ruleset_json.proofs.Replacing.{replaces, stands}

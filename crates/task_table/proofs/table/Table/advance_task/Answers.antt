@@ -1,4 +1,4 @@
-use Rattle.std.proofs.Common.{rules, ℕ, ◌≡◌, ap, ◌∙◌, ◌++◌, length, take, drop}
+use Rattle.std.proofs.Common.{rules, ◌≡◌, ap, ◌∙◌, ◌++◌, length, take, drop}
 use Rattle.std.proofs.Math.Seq.{take-append_seam}
 use Rattle.task_table.specs.Acts.{event_by}
 use Rattle.task_table.proofs.CauseLaws as causes

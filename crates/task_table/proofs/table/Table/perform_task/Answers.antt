@@ -1,5 +1,5 @@
 use Rattle.std.proofs.Common.{subst}
-use Rattle.task_table.specs.Acts.{act_by, event_by}
+use Rattle.task_table.specs.Acts.{event_by}
 use Rattle.task_table.specs.Stands.{IsIndex, TableView}
 use Rattle.task_table.proofs.QuickLaws.{leaves_rest}
 use Rattle.task_table.proofs.Touching.{IsTold, told_played}
