@@ -28,13 +28,15 @@ class Rounding:
         for number, rest in self.rests.items():
             for bit in bits_of(columns[number]):
                 self.behind[bit] += rest
+        # By number: by how many parts of a ns the sums of the joint state are behind, all together.
+        self.lags = {number: sum(self.behind[bit] for bit in bits_of(columns[number])) for number in self.times}
 
     def round(self) -> None:
         """Gives what is left over, which is so many whole ns, to joint states whose times aren't whole: so that the squares of what
         sums are behind are least."""
         short = set(self.rests)
         for _ in range(sum(self.rests.values()) // self.divisor):
-            number = min(sorted(short), key=lambda it: self.growth(self.columns[it], 0))
+            number = min(sorted(short), key=self.growth)
             short.remove(number)
             self.give(number, 1)
         if self.is_far():
@@ -46,29 +48,34 @@ class Rounding:
         """Whether some sum is behind, or before, by more than may be left to the next window."""
         return any(abs(left) > MOST_LEFT * self.divisor for left in self.behind.values())
 
-    def growth(self, more: int, less: int) -> int:
-        """By how much the squares grow where these sums get a ns more, and those a ns less."""
-        one, behind = self.divisor, self.behind
-        return sum(one * (one - 2 * behind[bit]) for bit in bits_of(more)) + sum(one * (one + 2 * behind[bit]) for bit in bits_of(less))
+    def growth(self, number: int) -> int:
+        """By how much the squares grow, in divisors, where this joint state gets a ns more."""
+        return self.divisor * self.columns[number].bit_count() - 2 * self.lags[number]
 
     def give(self, number: int, length: int) -> None:
         """Gives a joint state so many ns."""
         self.times[number] += length
-        for bit in bits_of(self.columns[number]):
-            self.behind[bit] -= length * self.divisor
+        given, sums = length * self.divisor, self.columns[number]
+        for bit in bits_of(sums):
+            self.behind[bit] -= given
+        for other in self.lags:
+            self.lags[other] -= given * (sums & self.columns[other]).bit_count()
 
     def improve(self, givers: Iterable[int], takers: Iterable[int]) -> None:
-        """Lets joint states give a ns to others, as long as the squares fall by it."""
-        pairs = [(giver, taker) for giver in sorted(givers) for taker in sorted(takers) if giver != taker]
+        """Lets joint states give a ns to others, as long as the squares fall by it. They grow by each sum that one of the two has
+        alone, and by what the giver's sums are further behind than the taker's."""
+        lags, sums, takers = self.lags, self.columns, sorted(takers)
+        pairs = [
+            (self.divisor * (sums[giver] ^ sums[taker]).bit_count(), giver, taker)
+            for giver in sorted(givers) for taker in takers if giver != taker
+        ]  # fmt: skip
         for _ in range(MOST_STEPS if pairs else 0):
-            sums = self.columns
-            found = [(self.growth(sums[taker] & ~sums[giver], sums[giver] & ~sums[taker]), giver, taker) for giver, taker in pairs]
-            growth, giver, taker = min(found)
+            growth, giver, taker = min((alone + 2 * (lags[giver] - lags[taker]), giver, taker) for alone, giver, taker in pairs)
             if growth >= 0:
                 return
             self.give(giver, -1)
             self.give(taker, 1)
-            pairs = [it for it in pairs if self.times[it[0]]]
+            pairs = [it for it in pairs if self.times[it[1]]]
 
 
 def whole_times(shares: list[Share], divisor: int, columns: list[int], sum_of: Callable[[int], Sum], left: Left) -> dict[int, int]:
