@@ -43,7 +43,7 @@ from .wakeups import Counting, Wakeups
 
 FAULTY, UNREADABLE, LOST, DIFFERENT = 1, 2, 3, 4
 LEVELS = ("some", "full")
-# A recording of so many bytes is folded in a process of its own.
+# A recording of so many bytes is surveyed in several processes, and folded in one of its own.
 LARGE = 16 << 20
 MOST_TRIGGERS = 256
 # A lead-in, ns.
@@ -161,7 +161,7 @@ def reading_of(options: Options) -> Reading:
         raise Faulty("--cpus is for texts: a recording tells its processors")
     if options.folding is None:
         return Reading(read_recording(options.source, options.is_forced), [], set())
-    survey = Survey(options.source)
+    survey = Survey(options.source, is_large(options))
     source = read_recording(options.source, options.is_forced, survey.read)
     return Reading(source, survey.slices(source.whole_from), survey.silent)
 
@@ -247,10 +247,11 @@ def write(options: Options, parts: Iterable[bytes]) -> None:
         raise Unreadable(f"{options.output or 'standard output'}: {fault.strerror}") from None
 
 
-def size_of(path: str) -> int:
-    """How many bytes a file has, or the files of a folder."""
+def is_large(options: Options) -> bool:
+    """Whether what is to be converted is so large that several processes share in it: by the bytes of the file, or of the folder."""
+    path = options.source
     names = [os.path.join(path, name) for name in os.listdir(path)] if os.path.isdir(path) else [path]
-    return sum(os.path.getsize(name) for name in names if os.path.isfile(name))
+    return sum(os.path.getsize(name) for name in names if os.path.isfile(name)) >= LARGE
 
 
 class Made(NamedTuple):
@@ -270,8 +271,8 @@ def converted_of(options: Options, reading: Reading, wanted: Wanted) -> Made:
         put_in_unwritten(source, wanted.window)
         converted = convert(source, wanted)
         return Made(converted, [("\n".join(converted.lines) + "\n").encode("ascii")], [])
-    is_large = size_of(options.source) >= LARGE
-    made = convert_folded(source, wakeups.slices(reading.slices), reading.silent, wanted, options.folding, is_large)
+    slices = wakeups.slices(reading.slices)
+    made = convert_folded(source, slices, reading.silent, wanted, options.folding, is_large(options))
     source.notes.append(wakeups.text())
     return Made(made.converted, made.spool.parts(), folding_lines(options.folding, made.outcome))
 

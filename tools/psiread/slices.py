@@ -5,10 +5,14 @@ the last of each processor and the first of each kind; what was lost; and which 
 """
 from __future__ import annotations
 
+import contextlib
+import multiprocessing
+import os
 import struct
 import zlib
 from bisect import bisect_left
 from collections.abc import Iterator
+from multiprocessing.connection import Connection
 from operator import itemgetter
 
 from psirec.layout import FORMATS, MARK, Probe, raw_name
@@ -163,12 +167,46 @@ class Surveyed:
         self.seen.add(number)
 
 
-class Survey:
-    """Reads the folder of a recording twice: first for what is rare, and then in slices. `silent` are the tasks that run and never
-    leave."""
+def survey_share(readers: list[Reader], line: Connection) -> None:
+    """Surveys some of the processors, in a process of its own: what it finds goes along a line, or why something can't be read."""
+    with contextlib.suppress(KeyboardInterrupt, BrokenPipeError):
+        try:
+            line.send([Surveyed(reader) for reader in readers])
+        except Unreadable as fault:
+            line.send(fault)
 
-    def __init__(self, folder: str) -> None:
-        self.folder, self.silent = folder, set[int]()
+
+def surveyed_at_once(readers: list[Reader]) -> list[Surveyed]:
+    """Surveys all processors, as many at once as this machine has."""
+    context, count = multiprocessing.get_context("fork"), min(len(readers), len(os.sched_getaffinity(0)))
+    lines: list[Connection] = []
+    for start in range(count):
+        here, there = context.Pipe(duplex=False)
+        context.Process(target=survey_share, args=(readers[start::count], there), daemon=True).start()
+        there.close()
+        lines.append(here)
+    shares = [share_from(line) for line in lines]
+    return [shares[place % count][place // count] for place in range(len(readers))]
+
+
+def share_from(line: Connection) -> list[Surveyed]:
+    """What comes along a line."""
+    try:
+        found = line.recv()
+    except EOFError:
+        raise Unreadable("a process that reads pages has ended: was there no memory?") from None
+    if isinstance(found, Unreadable):
+        raise found
+    share: list[Surveyed] = found
+    return share
+
+
+class Survey:
+    """Reads the folder of a recording twice: first for what is rare, where that is large in several processes, and then in slices.
+    `silent` are the tasks that run and never leave."""
+
+    def __init__(self, folder: str, is_large: bool) -> None:
+        self.folder, self.is_large, self.silent = folder, is_large, set[int]()
         self.records, self.processors, self.is_ring = Records(folder), 0, False
 
     def readers(self) -> list[Reader]:
@@ -181,8 +219,9 @@ class Survey:
         self.processors, self.is_ring = source.processors, meta.is_ring()
         overrun = {} if self.is_ring else meta.lost("overrun")
         coming, leaving = set[int](), set[int]()
-        for reader in self.readers():
-            found = Surveyed(reader)
+        readers = self.readers()
+        surveyed = surveyed_at_once(readers) if self.is_large else map(Surveyed, readers)
+        for reader, found in zip(readers, surveyed):
             coming |= found.coming
             leaving |= found.leaving
             source.gaps += found.gaps
