@@ -15,7 +15,7 @@ from program import TOP
 from psiconvert import command, folded
 from psiread import slices
 from psirecord import folder
-from recorded import accepted, recording, tool
+from recorded import accepted, change, recording, tool
 
 EXAMPLES = os.path.join(TOP, "examples")
 
@@ -38,6 +38,20 @@ def check_slices(program: str) -> None:
         must_print_alike(f"{name} in slices", whole.output, found)
         lines = [[line for line in it.splitlines() if " wakeups " in line] for it in (plain.said, whole.said, said)]
         must(len(lines[0]) == 1 and lines[0] == lines[1] == lines[2], f"what is said of wakeups of {name}: {lines}")
+
+
+def check_pages_that_are_none(_: str) -> None:
+    """Whether what is no page is told of its processor, where one process surveys them all and where several do."""
+    with recording("exec-2") as folder:
+        change(folder, "cpu1.raw", lambda pages: pages[:8192] + b"\xff" * 4096 + pages[8192:])
+        before = psitrace.LARGE
+        try:
+            for psitrace.LARGE in (before, 0):
+                status, found, said = here([folder, "--fold=1"])
+                must_be("the status, and what is written", (status, found), (2, b""))
+                must(said.startswith("psitrace: cpu1.raw: the page at byte 8192 tells of"), said)
+        finally:
+            psitrace.LARGE = before
 
 
 def here(words: list[str]) -> tuple[int, bytes, str]:

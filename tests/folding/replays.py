@@ -1,12 +1,14 @@
 """Checks that a folded trace gives what the trace gives: of stored recordings, the examples, the kernel's cases and generated traces."""
 from __future__ import annotations
 
+import contextlib
 import json
 import os
 import random
 import re
 import sys
 import tempfile
+from collections.abc import Iterator
 from importlib.machinery import SourceFileLoader
 from importlib.util import module_from_spec, spec_from_loader
 
@@ -15,30 +17,76 @@ from must import must, must_be
 from program import TOP
 from psifold.fold import Fold
 from psifold.victims import victims_in
-from recorded import accepted, recording, tool
+from recorded import STORED, accepted, recording, text, tool
 from traces import MS, RUNAWAY, Maker
 
 # How many traces are generated; whoever runs the test may say another number.
 TRACES, WHATIFS = 300, 30
 SECOND = 1000 * MS
 EXAMPLES = os.path.join(TOP, "examples")
-SOUND = ("mix-2", "cg-2", "exec-2", "wakeups")
+FOLDERS, TEXTS = ".tar.xz", ".ftrace.gz"
+# Recordings of which events were lost: the longest stretch without loss is folded.
+LOSSY = ("mixlost", "lost-2cpu")
 TRIGGERS = ("--trigger=/ io some 100000 1000000", "--trigger=/ memory full 50000 500000", "--trigger=/ cpu some 200000 2000000")
-RULES = ("--rules", "examples/runaway.json", "--interval-s=1")
+GROUPS = "*,*/*,*/*/*"
+
+
+def ruleset(resource: str, action: str, args: dict[str, str]) -> dict[str, object]:
+    """Whatever group stalls for the resource at all, the action is taken."""
+    stalls = {"name": "pressure_above", "args": {"cgroup": "/," + GROUPS, "resource": resource, "threshold": "0", "duration": "1"}}
+    taken = {"name": action, "args": {"cgroup": GROUPS, **args}}
+    return {"name": resource, "post_action_delay": "3", "detectors": [["stalls", stalls]], "actions": [taken]}
+
+
+RULESETS = (
+    ruleset("io", "kill_by_pressure", {"resource": "io"}),
+    ruleset("memory", "kill_by_memory_size_or_growth", {}),
+    ruleset("memory", "kill_by_pg_scan", {}),
+)
+
+
+@contextlib.contextmanager
+def watching() -> Iterator[tuple[str, ...]]:
+    """The words for rules that kill where something stalls."""
+    with tempfile.NamedTemporaryFile("w", suffix=".json") as file:
+        json.dump({"rulesets": RULESETS}, file)
+        file.flush()
+        yield "--rules", file.name, "--interval-s=1"
+
+
+def names_of(suffix: str) -> list[str]:
+    """The stored recordings of a kind."""
+    return sorted(name[: -len(suffix)] for name in os.listdir(STORED) if name.endswith(suffix))
+
+
+def both_of(name: str) -> tuple[bytes, bytes]:
+    """The trace of a stored recording, and the folded one, with triggers."""
+    status = 3 if name in LOSSY else 0
+    words = (*TRIGGERS, *(["--force"] if status else []))
+    if name in names_of(FOLDERS):
+        with recording(name) as folder:
+            plain, made = tool("psitrace", folder, *words), tool("psitrace", folder, "--fold=1", *words)
+    else:
+        plain, made = (tool("psitrace", "-", *words, *more, given=text(name)) for more in ((), ("--fold=1",)))
+    must_be(f"the statuses of {name}, of which was said {made.said}", (plain.status, made.status), (status, status))
+    return plain.output, made.output
 
 
 def check_recordings(program: str) -> None:
-    """Whether psitrace folds a recording as fold does its trace, and both give what the trace gives: with triggers and with rules."""
-    for name in SOUND:
-        with recording(name) as folder:
-            plain, made = tool("psitrace", folder, *TRIGGERS), tool("psitrace", folder, "--fold=1", *TRIGGERS)
-        must_be(f"the statuses of {name}", (plain.status, made.status), (0, 0))
-        again = tool("fold", "-", "--window=1", given=plain.output)
-        must_be(f"{name}, by both tools", again.output, made.output)
-        accepted(program, made.output)
-        trace, other = plain.output.decode(), made.output.decode()
-        must(len(other) * 4 < len(trace), f"{name} is shorter: {len(trace)} bytes to {len(other)}")
-        must_replay_alike(name, program, trace, other, SECOND, RULES)
+    """Whether psitrace folds each stored recording as fold does its trace, and both give what the trace gives: with triggers and with
+    rules."""
+    signals = kills = 0
+    for name in names_of(FOLDERS) + names_of(TEXTS):
+        plain, made = both_of(name)
+        must_be(f"{name}, by both tools", tool("fold", "-", "--window=1", given=plain).output, made)
+        accepted(program, made)
+        must(len(made) * 4 < len(plain), f"{name} is shorter: {len(plain)} bytes to {len(made)}")
+        trace, other = plain.decode(), made.decode()
+        with watching() as words:
+            must_replay_alike(name, program, trace, other, SECOND, words)
+            found = printed(program, other, "replay", "--tick-ms=1000", *words)
+        signals, kills = signals + (b"event " in found), kills + (b"kill " in found)
+    must(signals > 2 and kills > 2, f"there are signals ({signals}) and kills ({kills}) of some")
 
 
 def check_examples_and_kernel_cases(program: str) -> None:
@@ -60,13 +108,15 @@ def is_near_whole(fold: Fold) -> bool:
 
 
 def check_generated_traces(program: str) -> None:
-    """Whether so many generated traces give what they gave. Where rounding left nothing the times up to the end are the same, too."""
+    """Whether so many generated traces give what they gave, with rules. Where rounding left nothing the times up to the end are the
+    same, too."""
     for number in range(TRACES):
         version = 1 + number % 2
         maker = Wide(number, version) if number % 25 == 0 else Maker(number, version)
         trace, window = maker.trace(), window_of(maker, number)
         other, fold = folded(trace, window)
-        must_replay_alike(f"generated trace {number}", program, trace, other, window)
+        with watching() as words:
+            must_replay_alike(f"generated trace {number}", program, trace, other, window, words)
         must(is_near_whole(fold) or printed(program, trace, "stall") == printed(program, other, "stall"), f"{number}: stall differs")
 
 
