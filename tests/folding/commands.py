@@ -44,14 +44,14 @@ def check_pages_that_are_none(_: str) -> None:
     """Whether what is no page is told of its processor, where one process surveys them all and where several do."""
     with recording("exec-2") as folder:
         change(folder, "cpu1.raw", lambda pages: pages[:8192] + b"\xff" * 4096 + pages[8192:])
-        before = psitrace.LARGE
+        before = command.LARGE
         try:
-            for psitrace.LARGE in (before, 0):
+            for command.LARGE in (before, 0):
                 status, found, said = here([folder, "--fold=1"])
                 must_be("the status, and what is written", (status, found), (2, b""))
                 must(said.startswith("psitrace: cpu1.raw: the page at byte 8192 tells of"), said)
         finally:
-            psitrace.LARGE = before
+            command.LARGE = before
 
 
 def here(words: list[str]) -> tuple[int, bytes, str]:

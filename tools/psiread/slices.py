@@ -14,6 +14,7 @@ from bisect import bisect_left
 from collections.abc import Iterator
 from multiprocessing.connection import Connection
 from operator import itemgetter
+from threading import Thread
 
 from psirec.layout import FORMATS, MARK, Probe, raw_name
 
@@ -167,25 +168,37 @@ class Surveyed:
         self.seen.add(number)
 
 
-def survey_share(readers: list[Reader], line: Connection) -> None:
-    """Surveys some of the processors, in a process of its own: what it finds goes along a line, or why something can't be read."""
+def survey_share(readers: list[Reader], own: Connection, others: list[Connection]) -> None:
+    """Surveys some of the processors, in a process of its own, as long as the line is held at the other end: what it finds goes along
+    that, or why something can't be read."""
+    for line in others:
+        line.close()
+    Thread(target=end_with, args=(own,), daemon=True).start()
     with contextlib.suppress(KeyboardInterrupt, BrokenPipeError):
         try:
-            line.send([Surveyed(reader) for reader in readers])
+            own.send([Surveyed(reader) for reader in readers])
         except Unreadable as fault:
-            line.send(fault)
+            own.send(fault)
+
+
+def end_with(line: Connection) -> None:
+    """Ends this process once nobody holds the other end of the line, along which nothing comes."""
+    with contextlib.suppress(EOFError, OSError):
+        line.recv()
+    os._exit(1)
 
 
 def surveyed_at_once(readers: list[Reader]) -> list[Surveyed]:
     """Surveys all processors, as many at once as this machine has."""
     context, count = multiprocessing.get_context("fork"), min(len(readers), len(os.sched_getaffinity(0)))
-    lines: list[Connection] = []
-    for start in range(count):
-        here, there = context.Pipe(duplex=False)
-        context.Process(target=survey_share, args=(readers[start::count], there), daemon=True).start()
+    pairs = [context.Pipe() for _ in range(count)]
+    every = [end for pair in pairs for end in pair]
+    for start, (_, there) in enumerate(pairs):
+        others = [end for end in every if end is not there]
+        context.Process(target=survey_share, args=(readers[start::count], there, others), daemon=True).start()
+    for _, there in pairs:
         there.close()
-        lines.append(here)
-    shares = [share_from(line) for line in lines]
+    shares = [share_from(here) for here, _ in pairs]
     return [shares[place % count][place // count] for place in range(len(readers))]
 
 
