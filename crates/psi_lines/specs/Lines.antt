@@ -1,5 +1,6 @@
 -- Lines of a file's bytes.
 use Rattle.std.specs.Prelude.{◌≡◌, ◌≢◌, ℕ, ◌≤◌, ◌<◌, List, ◌∷◌, ◌++◌, length, drop, slice_index}
+use Rattle.psi_base.specs.Path.{parts_at}
 
 -- a reader: the name, the number of the next line, the bytes that were read and not handed out, and
 -- the place behind them
@@ -16,6 +17,10 @@ left reader bytes = reader.held ++ drop reader.at bytes
 -- no newline among the first n bytes
 abbrev pub HasNoNewline : List ℕ → ℕ → Type 0
 HasNoNewline bytes n = (k : ℕ) → k < n → slice_index bytes k ≢ 10
+
+-- how many lines bytes have, with what stands behind the last newline, which isn't a whole one
+abbrev pub line_count : List ℕ → ℕ
+line_count bytes = length (parts_at 10 bytes)
 
 -- the bytes begin with a line of at most 512 bytes and its newline
 pub record BeginsWithLine (bytes line after : List ℕ) : Type 0 where

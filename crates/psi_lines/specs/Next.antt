@@ -8,14 +8,15 @@ use Rattle.psi_lines.specs.declared.lines.Line.{Line}
 use Rattle.psi_lines.specs.declared.lines.LineFault.{LineFault}
 use Rattle.psi_lines.specs.declared.lines.LineFault.TheVariants.{TooLong, Cut, NoFile, ReadFault, NoMemory}
 
--- what is answered where the bytes of the file are known
+-- what is answered where the bytes of the file are known; a read fails only where no whole line is
+-- held
 abbrev pub NextOf : List ℕ → Reader → Reader → Result (Option Line) LineFault → Type 0
 NextOf bytes old new (Ok (Some line)) = BeginsWithLine (left old bytes) line.bytes (left new bytes) × (line.number ≡ old.number)
 NextOf bytes old new (Ok None) = (left old bytes ≡ []) × (left new bytes ≡ [])
 NextOf bytes old new (Err (TooLong number)) = IsTooLong (left old bytes) × (number ≡ old.number) × (left new bytes ≡ left old bytes)
 NextOf bytes old new (Err (Cut number)) = IsCut (left old bytes) × (number ≡ old.number) × (left new bytes ≡ left old bytes)
 NextOf bytes old new (Err NoFile) = left new bytes ≡ left old bytes
-NextOf bytes old new (Err ReadFault) = left new bytes ≡ left old bytes
+NextOf bytes old new (Err ReadFault) = (left new bytes ≡ left old bytes) × HasNoNewline new.held (length new.held)
 NextOf bytes old new (Err (NoMemory _)) = left new bytes ≡ left old bytes
 
 -- the number of the next line: one more behind a line
@@ -75,7 +76,7 @@ FindsLine number held (Ok None) = held ≡ []
 FindsLine number held (Err (TooLong n)) = (n ≡ number) × (513 ≤ length held) × HasNoNewline held 513
 FindsLine number held (Err (Cut n)) = (n ≡ number) × (0 < length held) × (length held ≤ 512) × HasNoNewline held (length held)
 FindsLine number held (Err NoFile) = ⊤
-FindsLine number held (Err ReadFault) = ⊤
+FindsLine number held (Err ReadFault) = HasNoNewline held (length held)
 FindsLine number held (Err (NoMemory _)) = ⊥
 
 -- What is held tells of the next line with no read: a newline is among it, or more bytes than a

@@ -178,7 +178,8 @@ impl Lines {
     ///
     /// `TooLong` exactly where 513 bytes stand without a newline, `Cut` exactly where the input
     /// ends inside a line of at most 512 bytes. `NoFile` and `ReadFault` only where the shelf
-    /// counted an absent name or a fault in this call.
+    /// counted an absent name or a fault in this call, and `ReadFault` only where no whole line is
+    /// held.
     pub fn next<S: Shelf>(&mut self, shelf: &mut S) -> Result<Option<Line>, LineFault>
         requires { self.old.number < 2 ^ 32 }
         ensures kept { S.holds shelf.new ≡ S.holds shelf.old }
@@ -298,6 +299,7 @@ impl Lines {
             × IfOk result (λ b. IsTrue b ↔ (left self.old bytes ≡ [])) }
         ensures on { ReadsOn self.old.held self.old.at self.new.held self.new.at }
         ensures faults { IsReadFault result }
+        ensures unread { IsErrOf result LineFault.ReadFault → self.new.held ≡ [] }
         ensures cause { CausesFault (counts_of (S.faults shelf.old) (S.absent shelf.old))
             (counts_of (S.faults shelf.new) (S.absent shelf.new)) result }
         ensures given { S.given shelf.new + self.old.at ≡ S.given shelf.old + self.new.at }

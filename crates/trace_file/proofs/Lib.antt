@@ -2,3 +2,4 @@ pub mod HeadLaws
 pub mod LineLaws
 pub mod PlayLaws
 pub mod RefusalTexts
+pub mod StopLaws

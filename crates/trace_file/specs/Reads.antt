@@ -1,5 +1,5 @@
 -- What reading a trace gives, where its bytes are told.
-use Rattle.std.specs.Prelude.{◌≡◌, ◌≢◌, ℕ, ◌+◌, ◌<◌, ◌≤◌, List, [], ◌∷◌, ◌++◌, length, Option, None, Some, Result, Ok, Err, IsErrOf, OnOk, ⊤, true, false}
+use Rattle.std.specs.Prelude.{◌≡◌, ◌≢◌, ℕ, ◌+◌, ◌<◌, ◌≤◌, ◌-◌, List, [], ◌∷◌, ◌++◌, length, take, Option, None, Some, Result, Ok, Err, IsErrOf, OnOk, ⊤, true, false}
 use Rattle.outside.specs.Outside.{HasCauses, ShelfCounts}
 use Rattle.psi_base.specs.Path.{parts_at}
 use Rattle.psi_base.specs.declared.event.Event.{Event}
@@ -13,7 +13,7 @@ use Rattle.psi_spec.specs.Refusal.{AreLegal}
 use Rattle.psi_spec.specs.Grammar.{One, Verb, Version, verbs_of, versions}
 use Rattle.psi_spec.specs.Header.{IsVersion, header_with, version_of}
 use Rattle.psi_spec.specs.Trace.{AllFit, AreKnown, IsAccepted, IsCpuCount, Trace, accepts_with, events_from, followed, limits_of, line_event, refused, trace_of, with_events}
-use Rattle.psi_lines.specs.Lines.{Reader}
+use Rattle.psi_lines.specs.Lines.{HasNoNewline, Reader, left, line_count}
 use Rattle.psi_lines.specs.Next.{furthest}
 use Rattle.psi_lines.specs.declared.lines.LineFault.{LineFault}
 use Rattle.psi_lines.specs.declared.lines.LineFault.TheVariants as lines
@@ -194,6 +194,40 @@ pub record ReadsLine {A : Type 0} (known : Option (List ℕ)) (old new : Reader)
   pub cause : CausesTraceFault counts counts_now result
   pub counted : given_now + old.at ≡ given + new.at
   pub place : new.at ≤ furthest old.number
+
+-- What reading the next line does to how many lines are left. Where a read failed, no line was
+-- taken, and no whole one is held; and a refused line is the next one.
+pub record KeepsLines {A : Type 0} (known : Option (List ℕ)) (old new : Reader) (result : Result A TraceFault) : Type 0 where
+  pub lines : (bytes : List ℕ) → known ≡ Some bytes → new.number + line_count (left new bytes) ≡ old.number + line_count (left old bytes)
+  pub failed : IsErrOf result ReadFault → (new.number ≡ old.number)
+      × ((bytes : List ℕ) → known ≡ Some bytes → HasNoNewline new.held (length new.held))
+  pub refused : (refusal : Refusal) → IsErrOf result (Refused refusal) → refusal.line ≡ old.number
+
+-- A read failed at the line with the reader's number, of which the newline isn't held: a line that
+-- is refused is none before it.
+pub record FailsAt {A : Type 0} (bytes : List ℕ) (old new : Reader) (read : Result A Refusal) : Type 0 where
+  pub lines : new.number + line_count (left new bytes) ≡ old.number + line_count (left old bytes)
+  pub none : HasNoNewline new.held (length new.held)
+  pub later : (refusal : Refusal) → read ≡ Err refusal → new.number ≤ refusal.line
+
+-- Reading lines stops at the first that is refused: no further is read than what is held behind the
+-- lines before it, and no read fails behind it.
+pub record StopsReading {A B : Type 0} (known : Option (List ℕ)) (old new : Reader) (given given_now : ℕ)
+    (read : List ℕ → Result B Refusal) (result : Result A TraceFault) : Type 0 where
+  pub counted : given_now + old.at ≡ given + new.at
+  pub refused : (refusal : Refusal) → IsErrOf result (Refused refusal) → new.at ≤ furthest refusal.line
+  pub failed : IsErrOf result ReadFault → (bytes : List ℕ) → known ≡ Some bytes → FailsAt bytes old new (read bytes)
+
+-- Reading a trace stops at the first line that is refused: no more is read than what is held behind
+-- the lines before it, and a read fails only where that line isn't whole in what was read.
+abbrev pub StopsAtRefusal : {A : Type 0} → ℕ → Option (List ℕ) → ℕ → ℕ → Result A TraceFault → Type 0
+StopsAtRefusal tick known given given_now (Ok x) = ⊤
+StopsAtRefusal tick known given given_now (Err (Refused refusal)) = given_now ≤ given + furthest refusal.line
+StopsAtRefusal tick known given given_now (Err NoFile) = ⊤
+StopsAtRefusal tick known given given_now (Err ReadFault) =
+    (bytes : List ℕ) (refusal : Refusal) → known ≡ Some bytes → trace_of (accepts_with versions tick) bytes ≡ Err refusal
+    → line_count (take (given_now - given) bytes) ≤ refusal.line
+StopsAtRefusal tick known given given_now (Err (NoMemory _)) = ⊤
 
 -- nothing is said of any bytes
 abbrev pub TellsNothing : {A : Type 0} → Result A TraceFault → Type 0

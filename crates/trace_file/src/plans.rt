@@ -2,7 +2,7 @@
 ghost use Rattle.std.specs.Prelude.{◌≡◌, ◌+◌, ◌≤◌, None, IsErrOf, MatchResult};
 ghost use Rattle.outside.specs.Outside.{Lacks, counts_of, told};
 ghost use Rattle.run_spec.specs.MostRead.{most_of_trace};
-ghost use Rattle.trace_file.specs.Reads.{CausesTraceFault, PlansRead, TellsNothing, TraceRefused};
+ghost use Rattle.trace_file.specs.Reads.{CausesTraceFault, PlansRead, StopsAtRefusal, TellsNothing, TraceRefused};
 
 use crate::trace::{TraceFault, play_trace};
 use outside::Shelf;
@@ -29,6 +29,8 @@ pub fn read_plans<S: Shelf>(
     ensures cause { CausesTraceFault (counts_of (S.faults shelf.old) (S.absent shelf.old))
         (counts_of (S.faults shelf.new) (S.absent shelf.new)) result }
     ensures given { S.given shelf.new ≤ S.given shelf.old + most_of_trace }
+    ensures stops { StopsAtRefusal tick (told (S.holds shelf.old) name.now)
+        (S.given shelf.old) (S.given shelf.new) result }
 {
     let (version, planner) = match play_trace::<S, Planner>(alloc, name, shelf, tick) {
         Ok(played) => played,

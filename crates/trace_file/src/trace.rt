@@ -7,8 +7,9 @@ ghost use Rattle.psi_lines.specs.Next.{furthest};
 ghost use Rattle.psi_spec.specs.Grammar.{Fits};
 ghost use Rattle.psi_spec.specs.Header.{IsVersion};
 ghost use Rattle.psi_spec.specs.Trace.{limits_of, refused};
+ghost use Rattle.psi_spec.specs.World.{first_world};
 ghost use Rattle.run_spec.specs.MostRead.{most_of_trace};
-ghost use Rattle.trace_file.specs.Reads.{CausesTraceFault, HeadGives, IsHead, IsTraceFault, Legally, NextGives, ReadsLine, RestGives, TailGives, TakesLine, TakesRead, TellsNothing, TracePlayed, TraceRefused, trace_fault, verbs_in};
+ghost use Rattle.trace_file.specs.Reads.{CausesTraceFault, HeadGives, IsHead, IsTraceFault, KeepsLines, Legally, NextGives, ReadsLine, RestGives, StopsAtRefusal, StopsReading, TailGives, TakesLine, TakesRead, TellsNothing, TracePlayed, TraceRefused, rest_from, trace_fault, verbs_in};
 
 use outside::Shelf;
 use psi_base::{Cause, Event, Fault, NoMemory, Ns, Refusal};
@@ -123,6 +124,8 @@ fn next_event<S: Shelf, P: Player>(
         (counts_of (S.faults shelf.old) (S.absent shelf.old))
         (counts_of (S.faults shelf.new) (S.absent shelf.new))
         (S.given shelf.old) (S.given shelf.new) result }
+    ensures stays { KeepsLines (told (S.holds shelf.old) lines.old.name)
+        lines.old lines.new result }
 {
     let line = lines.number();
     match lines.next_bytes(shelf) {
@@ -158,6 +161,8 @@ fn play_next<S: Shelf, P: Player>(
         (counts_of (S.faults shelf.old) (S.absent shelf.old))
         (counts_of (S.faults shelf.new) (S.absent shelf.new))
         (S.given shelf.old) (S.given shelf.new) result }
+    ensures stays { KeepsLines (told (S.holds shelf.old) lines.old.name)
+        lines.old lines.new result }
 {
     let Some(played) = take_front(lines.held(), player) else {
         return next_event(alloc, version, lines, shelf, player);
@@ -181,8 +186,10 @@ fn close<S: Shelf>(lines: &mut Lines, shelf: &mut S) -> Result<(), TraceFault>
         told (S.holds shelf.old) lines.old.name ≡ None }
     ensures cause { CausesTraceFault (counts_of (S.faults shelf.old) (S.absent shelf.old))
         (counts_of (S.faults shelf.new) (S.absent shelf.new)) result }
-    ensures given { S.given shelf.new + lines.old.at
-        ≤ S.given shelf.old + furthest lines.old.number }
+    ensures given { S.given shelf.new + lines.old.at ≡ S.given shelf.old + lines.new.at }
+    ensures place { lines.new.at ≤ furthest lines.old.number }
+    ensures stays { KeepsLines (told (S.holds shelf.old) lines.old.name)
+        lines.old lines.new result }
 {
     match lines.is_at_end(shelf) {
         Ok(true) => Ok(()),
@@ -213,6 +220,9 @@ fn play_events<S: Shelf, P: Player>(
     ensures cause { CausesTraceFault (counts_of (S.faults shelf.old) (S.absent shelf.old))
         (counts_of (S.faults shelf.new) (S.absent shelf.new)) result }
     ensures given { S.given shelf.new + lines.old.at ≤ S.given shelf.old + most_of_trace }
+    ensures stops { StopsReading (told (S.holds shelf.old) lines.old.name) lines.old lines.new
+        (S.given shelf.old) (S.given shelf.new) (λ bytes. rest_from (verbs_in head.version)
+        (limits_of tick head.cpus) first_world 2 (left lines.old bytes)) result }
 {
     'lines: loop {
         match play_next(alloc, head.version, lines, shelf, player) {
@@ -239,6 +249,8 @@ fn read_head<S: Shelf>(lines: &mut Lines, shelf: &mut S, tick: Ns) -> Result<Hea
         (counts_of (S.faults shelf.old) (S.absent shelf.old))
         (counts_of (S.faults shelf.new) (S.absent shelf.new))
         (S.given shelf.old) (S.given shelf.new) result }
+    ensures stays { KeepsLines (told (S.holds shelf.old) lines.old.name)
+        lines.old lines.new result }
 {
     match lines.next_bytes(shelf) {
         Ok(Some(bytes)) => match read_header(bytes) {
@@ -270,6 +282,8 @@ pub fn play_trace<S: Shelf, P: Player + Drop>(
     ensures cause { CausesTraceFault (counts_of (S.faults shelf.old) (S.absent shelf.old))
         (counts_of (S.faults shelf.new) (S.absent shelf.new)) result }
     ensures given { S.given shelf.new ≤ S.given shelf.old + most_of_trace }
+    ensures stops { StopsAtRefusal tick (told (S.holds shelf.old) name.now)
+        (S.given shelf.old) (S.given shelf.new) result }
 {
     let mut lines = Lines::new(alloc, name)?;
     let head = match read_head(&mut lines, shelf, tick) {

@@ -1,7 +1,11 @@
+use Rattle.std.proofs.Common.{refl}
 use Rattle.outside.specs.Outside.{told}
+use Rattle.psi_base.specs.declared.event.Cause.TheVariants as cause
+use Rattle.psi_base.specs.declared.event.Fault.TheVariants as fault
 use Rattle.psi_lines.specs.Lines.{left}
 use Rattle.trace_file.specs.Reads.{Legally, verbs_in}
 use Rattle.trace_file.proofs.LineLaws as laws
+use Rattle.trace_file.proofs.StopLaws as stop
 use Rattle.trace_file.proofs.trace.next_event.Goals as goal
 
 pub returns-in-Ok-clause-content : goal.returns-in-Ok-clause-content
@@ -25,3 +29,19 @@ returns-in-Err-clause-content g c =
     λ limits events played running bytes tells.
     let found = rw c.in-Err.is at c.next_bytes.follows.holds-at-none.line bytes tells in
     rw c.trace_fault.ensures (laws.line_not_read (verbs_in c.args.version) limits _ bytes c.args.lines.now c.next_bytes.follows.lender-at-none c.in-Err.fault found running)
+
+pub returns-in-Ok-clause-stays : goal.returns-in-Ok-clause-stays
+returns-in-Ok-clause-stays g c =
+    stop.taken_keeps (g.S.Shelf.holds c.args.shelf.now) (g.S.Shelf.given c.args.shelf.now) (g.S.Shelf.given c.next_bytes.new.shelf) c.args.lines.now c.next_bytes.follows.lender-at-none c.next_bytes.result tt c.next_bytes.follows.holds-at-none
+
+pub returns-in-Err-take_line-clause-stays : goal.returns-in-Err-take_line-clause-stays
+returns-in-Err-take_line-clause-stays g c =
+    stop.faulted_keeps (g.S.Shelf.holds c.args.shelf.now) (g.S.Shelf.given c.args.shelf.now) (g.S.Shelf.given c.next_bytes.new.shelf) c.args.lines.now c.next_bytes.follows.lender-at-none c.next_bytes.result _ c.in-Err-take_line.fault _ c.next_bytes.follows.holds-at-none refl (rw c.number-line.ensures at c.fault_at.ensures)
+
+pub returns-in-Ok-None-clause-stays : goal.returns-in-Ok-None-clause-stays
+returns-in-Ok-None-clause-stays g c =
+    stop.faulted_keeps (g.S.Shelf.holds c.args.shelf.now) (g.S.Shelf.given c.args.shelf.now) (g.S.Shelf.given c.next_bytes.new.shelf) c.args.lines.now c.next_bytes.follows.lender-at-none c.next_bytes.result _ (fault.Refused cause.NoEnd) _ c.next_bytes.follows.holds-at-none refl (rw c.number-line.ensures at c.refused.ensures)
+
+pub returns-in-Err-clause-stays : goal.returns-in-Err-clause-stays
+returns-in-Err-clause-stays g c =
+    stop.unread_keeps (g.S.Shelf.holds c.args.shelf.now) (g.S.Shelf.given c.args.shelf.now) (g.S.Shelf.given c.next_bytes.new.shelf) c.args.lines.now c.next_bytes.follows.lender-at-none c.next_bytes.result c.in-Err.fault cause.NoEnd _ c.next_bytes.follows.holds-at-none c.in-Err.is c.next_bytes.ensures.numbered c.trace_fault.ensures

@@ -4,6 +4,7 @@ use Rattle.psi_lines.specs.Lines.{left}
 use Rattle.trace_file.specs.Reads.{Legally, verbs_in}
 use Rattle.psi_spec.specs.Trace.{limits_of}
 use Rattle.trace_file.proofs.LineLaws as laws
+use Rattle.trace_file.proofs.StopLaws as stop
 use Rattle.trace_file.proofs.trace.play_events.Goals as goal
 
 pub lines-preserved : goal.lines-preserved
@@ -19,6 +20,7 @@ lines-preserved g c =
       given = omega (arith, c.in-Ok.ensures.reads.counted, i.given);
       name = cc;
       few = one.few;
+      lines = λ bytes tells. let keeps = rw (i.kept, i.name) at c.in-Ok.ensures.stays in keeps.lines bytes tells ∙ i.lines bytes tells;
       so_far = laws.goes_on (verbs_in c.args.head.version) (Legally (verbs_in c.args.head.version) (g.P.Player.Played c.play_next.new.player)) (limits_of c.args.tick c.args.head.cpus) _ (left c.args.lines.now) (left c.play_next.new.lines) known c.is_ended.result one (λ limits events played. c.is_ended.ensures limits events played.0) c.if-is_ended.false;
     }
 
@@ -42,4 +44,21 @@ returns-then-is_ended-clause-given g c =
     let known = told (g.S.Shelf.holds c.args.shelf.now) c.args.lines.now.name in
     let next = rw (i.kept, i.name) at c.in-Ok.ensures.content in
     let one = laws.one_more (verbs_in c.args.head.version) (Legally (verbs_in c.args.head.version) (g.P.Player.Played c.lines.player)) (Legally (verbs_in c.args.head.version) (g.P.Player.Played c.play_next.new.player)) (limits_of c.args.tick c.args.head.cpus) c.lines.lines.number _ (left c.args.lines.now) (left c.lines.lines) (left c.play_next.new.lines) known tt c.in-Ok.ensures.reads.number i.so_far next in
-    omega (arith, i.given, one.few, c.in-Ok.ensures.reads.counted, c.close.ensures.given)
+    omega (arith, i.given, one.few, c.in-Ok.ensures.reads.counted, c.close.ensures.given, c.close.ensures.place)
+
+pub returns-in-Err-clause-stops : goal.returns-in-Err-clause-stops
+returns-in-Err-clause-stops g c =
+    let i = c.lines.invariant in
+    let keeps = stop.known_keeps _ _ _ _ c.lines.lines c.play_next.new.lines _ i.kept i.name c.in-Err.ensures.stays in
+    stop.stops_here (verbs_in c.args.head.version) (limits_of c.args.tick c.args.head.cpus) i.so_far.events (told (g.S.Shelf.holds c.args.shelf.now) c.args.lines.now.name) c.args.lines.now c.lines.lines c.play_next.new.lines (g.S.Shelf.given c.args.shelf.now) (g.S.Shelf.given c.lines.shelf) (g.S.Shelf.given c.play_next.new.shelf) _ i.given c.in-Err.ensures.reads.counted c.in-Err.ensures.reads.place i.lines i.so_far.read keeps
+
+pub returns-then-is_ended-clause-stops : goal.returns-then-is_ended-clause-stops
+returns-then-is_ended-clause-stops g c =
+    let i = c.lines.invariant in
+    let known = told (g.S.Shelf.holds c.args.shelf.now) c.args.lines.now.name in
+    let next = rw (i.kept, i.name) at c.in-Ok.ensures.content in
+    let one = laws.one_more (verbs_in c.args.head.version) (Legally (verbs_in c.args.head.version) (g.P.Player.Played c.lines.player)) (Legally (verbs_in c.args.head.version) (g.P.Player.Played c.play_next.new.player)) (limits_of c.args.tick c.args.head.cpus) c.lines.lines.number _ (left c.args.lines.now) (left c.lines.lines) (left c.play_next.new.lines) known tt c.in-Ok.ensures.reads.number i.so_far next in
+    let before = rw (i.kept, i.name) at c.in-Ok.ensures.stays in
+    let keeps = stop.known_keeps _ _ _ _ c.play_next.new.lines c.close.new.lines _ (c.play_next.ensures.kept ∙ i.kept) (c.in-Ok.ensures.reads.name ∙ i.name) c.close.ensures.stays in
+    stop.stops_here (verbs_in c.args.head.version) (limits_of c.args.tick c.args.head.cpus) one.events known c.args.lines.now c.play_next.new.lines c.close.new.lines (g.S.Shelf.given c.args.shelf.now) (g.S.Shelf.given c.play_next.new.shelf) (g.S.Shelf.given c.close.new.shelf) _ (omega (arith, i.given, c.in-Ok.ensures.reads.counted)) c.close.ensures.given c.close.ensures.place
+    (λ bytes tells. before.lines bytes tells ∙ i.lines bytes tells) one.read keeps

@@ -1,6 +1,7 @@
-use Rattle.std.proofs.Common.{◌≡◌, ◌+◌, ◌-◌, ◌≤◌}
+use Rattle.std.proofs.Common.{◌≡◌, ◌+◌, ◌-◌, ◌≤◌, ℕ, List}
 use Rattle.outside.specs.Outside.{told}
-use Rattle.psi_lines.specs.Lines.{left}
+use Rattle.std.specs.Prelude.{Some}
+use Rattle.psi_lines.specs.Lines.{left, line_count}
 use Rattle.trace_file.specs.Reads.{Legally, verbs_in}
 use Rattle.psi_spec.specs.Trace.{limits_of}
 use Rattle.trace_file.proofs.LineLaws.{SoFar}
@@ -14,6 +15,7 @@ invariant-lines g l = record {
   given : g.S.Shelf.given l.shelf + l.fn.lines.at ≡ g.S.Shelf.given l.fn.shelf + l.lines.at;
   name : l.lines.name ≡ l.fn.lines.name;
   few : l.lines.number ≤ 4000002;
+  lines : (bytes : List ℕ) → told (g.S.Shelf.holds l.fn.shelf) l.fn.lines.name ≡ Some bytes → l.lines.number + line_count (left l.lines bytes) ≡ l.fn.lines.number + line_count (left l.fn.lines bytes);
   so_far : SoFar (verbs_in l.head.version) (Legally (verbs_in l.head.version) (g.P.Player.Played l.player)) (limits_of l.tick l.head.cpus) l.lines.number (left l.fn.lines) (left l.lines) (told (g.S.Shelf.holds l.fn.shelf) l.fn.lines.name);
 }
 

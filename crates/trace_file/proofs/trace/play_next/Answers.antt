@@ -8,6 +8,7 @@ use Rattle.psi_trace.specs.Front.{HasInFront}
 use Rattle.trace_player.specs.Playing.{PlayerTakes}
 use Rattle.trace_file.specs.Reads.{Legally, verbs_in}
 use Rattle.trace_file.proofs.LineLaws as laws
+use Rattle.trace_file.proofs.StopLaws as stop
 use Rattle.trace_file.proofs.trace.play_next.Goals as goal
 
 pub returns-in-Ok-clause-content : goal.returns-in-Ok-clause-content
@@ -35,3 +36,18 @@ returns-in-Err-clause-content g c =
 -- where no line was played, the player is as before
 pub returns-in_default-clause-content : goal.returns-in_default-clause-content
 returns-in_default-clause-content g c = rw c.in_default.ensures.same at c.next_event.ensures.content
+
+pub returns-in-Ok-clause-stays : goal.returns-in-Ok-clause-stays
+returns-in-Ok-clause-stays g c =
+    let found = c.in-Some.ensures.front in
+    let front = subst (λ held. HasInFront held found.event c.in-Some.played.count) c.held.ensures found.front in
+    stop.passed_taken (told (g.S.Shelf.holds c.args.shelf.now) c.args.lines.now.name) c.args.lines.now c.pass.new.self (spelling found.event) tt
+    (λ bytes tells. laws.front_begins c.args.lines.now c.pass.new.self found.event c.in-Some.played.count bytes front (ap (λ (l : Reader). l.held) c.pass.ensures.rest) (ap (λ (l : Reader). l.at) c.pass.ensures.rest)) (ap (λ (l : Reader). l.number) c.pass.ensures.rest)
+
+pub returns-in-Err-clause-stays : goal.returns-in-Err-clause-stays
+returns-in-Err-clause-stays g c =
+    let found = c.in-Some.ensures.front in
+    let front = subst (λ held. HasInFront held found.event c.in-Some.played.count) c.held.ensures found.front in
+    stop.passed_faulted (told (g.S.Shelf.holds c.args.shelf.now) c.args.lines.now.name) c.args.lines.now c.pass.new.self (spelling found.event) c.in-Err.fault _
+    (λ bytes tells. laws.front_begins c.args.lines.now c.pass.new.self found.event c.in-Some.played.count bytes front (ap (λ (l : Reader). l.held) c.pass.ensures.rest) (ap (λ (l : Reader). l.at) c.pass.ensures.rest)) (ap (λ (l : Reader). l.number) c.pass.ensures.rest)
+    (rw c.number-line.ensures at c.fault_at.ensures)

@@ -1,6 +1,10 @@
+use Rattle.std.proofs.Common.{sym}
+use Rattle.psi_base.specs.declared.event.Cause.TheVariants as cause
+use Rattle.psi_base.specs.declared.event.Fault.TheVariants as fault
 use Rattle.psi_spec.specs.Grammar.{versions}
 use Rattle.psi_spec.specs.Header.{header_with}
 use Rattle.trace_file.proofs.HeadLaws as laws
+use Rattle.trace_file.proofs.StopLaws as stop
 use Rattle.trace_file.proofs.trace.read_head.Goals as goal
 
 pub returns-in-Ok-clause-content : goal.returns-in-Ok-clause-content
@@ -27,3 +31,19 @@ returns-in-Err-clause-content g c =
     λ bytes tells.
     let found = rw c.in-Err.is at c.next_bytes.follows.holds-at-none.line bytes tells in
     rw c.trace_fault.ensures (laws.header_not_read versions c.args.tick bytes c.args.lines.now c.next_bytes.follows.lender-at-none c.in-Err.fault c.requires found)
+
+pub returns-in-Ok-clause-stays : goal.returns-in-Ok-clause-stays
+returns-in-Ok-clause-stays g c =
+    stop.taken_keeps (g.S.Shelf.holds c.args.shelf.now) (g.S.Shelf.given c.args.shelf.now) (g.S.Shelf.given c.next_bytes.new.shelf) c.args.lines.now c.next_bytes.follows.lender-at-none c.next_bytes.result c.in-Ok.head c.next_bytes.follows.holds-at-none
+
+pub returns-in-Err-read_header-clause-stays : goal.returns-in-Err-read_header-clause-stays
+returns-in-Err-read_header-clause-stays g c =
+    stop.faulted_keeps (g.S.Shelf.holds c.args.shelf.now) (g.S.Shelf.given c.args.shelf.now) (g.S.Shelf.given c.next_bytes.new.shelf) c.args.lines.now c.next_bytes.follows.lender-at-none c.next_bytes.result 1 (fault.Refused c.in-Err-read_header.cause) _ c.next_bytes.follows.holds-at-none (sym c.requires) c.refused.ensures
+
+pub returns-in-Ok-None-clause-stays : goal.returns-in-Ok-None-clause-stays
+returns-in-Ok-None-clause-stays g c =
+    stop.faulted_keeps (g.S.Shelf.holds c.args.shelf.now) (g.S.Shelf.given c.args.shelf.now) (g.S.Shelf.given c.next_bytes.new.shelf) c.args.lines.now c.next_bytes.follows.lender-at-none c.next_bytes.result 1 (fault.Refused cause.BadHeader) _ c.next_bytes.follows.holds-at-none (sym c.requires) c.refused-in-Ok-None.ensures
+
+pub returns-in-Err-clause-stays : goal.returns-in-Err-clause-stays
+returns-in-Err-clause-stays g c =
+    stop.unread_keeps (g.S.Shelf.holds c.args.shelf.now) (g.S.Shelf.given c.args.shelf.now) (g.S.Shelf.given c.next_bytes.new.shelf) c.args.lines.now c.next_bytes.follows.lender-at-none c.next_bytes.result c.in-Err.fault cause.BadHeader _ c.next_bytes.follows.holds-at-none c.in-Err.is c.next_bytes.ensures.numbered c.trace_fault.ensures
