@@ -8,6 +8,7 @@ pub mod Marks
 pub mod Runs
 pub mod Sights
 pub mod Steps
+pub mod Stops
 pub mod Texts
 pub mod Turns
 pub mod Whole

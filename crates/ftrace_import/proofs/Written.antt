@@ -1,7 +1,6 @@
 -- The events that a line gives, among all that are written.
 use Rattle.std.proofs.Common.{◌≡◌, ℕ, ◌+◌, List, [], ◌∷◌, ◌++◌, refl, ap, ◌∙◌, sym, append_assoc, Option, None, Some}
 use Rattle.std.specs.Prelude.{◌≢◌, Result, Ok, Err}
-use Rattle.psi_base.specs.Path.{parts_at}
 use Rattle.psi_base.specs.declared.event.Event.{Event}
 use Rattle.psi_spec.specs.World.{World, after, after_from, events_at, first_world}
 use Rattle.psi_spec.proofs.Following.{after_from-append}
@@ -11,7 +10,7 @@ use Rattle.import_spec.specs.declared.seen.Sighting.{Sighting}
 use Rattle.import_spec.specs.Marked.{read_line}
 use Rattle.import_spec.specs.Events.{GivenLine, Reached, acts_cause, acts_of, first_time, given_at, given_read, given_of, given_or, line_moment, needed_cpu, unreached}
 use Rattle.import_spec.specs.Import.{Refused, events_followed, import_from, import_of, line_given, or_refused_line}
-use Rattle.ftrace_import.specs.Laws.{IsWritten, LinesAreWritten, behind_given, reached_by}
+use Rattle.ftrace_import.specs.Laws.{LinesAreWritten, behind_given, reached_by}
 use Rattle.ftrace_import.proofs.Whole.{given_whole}
 
 -- ---- the world behind a line

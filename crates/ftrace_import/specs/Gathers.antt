@@ -1,12 +1,12 @@
 -- What gathering the events of a text gives.
-use Rattle.std.specs.Prelude.{◌≡◌, ℕ, ◌+◌, ◌≤◌, List, [], ◌∷◌, ◌++◌, Bool, true, false, Option, None, Some, OnOk, IsErrOf, Result, Ok, Err, ⊤}
+use Rattle.std.specs.Prelude.{◌≡◌, ℕ, ◌+◌, ◌-◌, ◌≤◌, List, [], ◌∷◌, ◌++◌, length, take, Bool, true, false, Option, None, Some, OnOk, IsErrOf, Result, Ok, Err, ⊤}
 use Rattle.outside.specs.Outside.{HasCauses, ShelfCounts}
 use Rattle.psi_base.specs.Path.{parts_at}
 use Rattle.psi_base.specs.declared.event.Event.{Event}
 use Rattle.psi_base.specs.declared.event.Fault.{Fault}
 use Rattle.psi_base.specs.declared.event.Fault.TheVariants as fault
 use Rattle.psi_spec.specs.World.{after_from, first_world}
-use Rattle.psi_lines.specs.Lines.{Reader}
+use Rattle.psi_lines.specs.Lines.{HasNoNewline, Reader, left, line_count}
 use Rattle.psi_lines.specs.Next.{furthest}
 use Rattle.psi_lines.specs.declared.lines.LineFault.{LineFault}
 use Rattle.psi_lines.specs.declared.lines.LineFault.TheVariants as lines
@@ -107,6 +107,25 @@ pub record ReadsLine {A : Type 0} (known : Option (List ℕ)) (old new : Reader)
   pub cause : CausesImportFault counts counts_now result
   pub counted : given_now + old.at ≡ given + new.at
   pub place : new.at ≤ furthest old.number
+
+-- What reading the next line does to how many lines are left. Where a read failed, no line was
+-- taken, and no whole one is held; and a refused line is the next one.
+pub record KeepsLines {A : Type 0} (known : Option (List ℕ)) (old new : Reader) (result : Result A ImportFault) : Type 0 where
+  pub lines : (bytes : List ℕ) → known ≡ Some bytes → new.number + line_count (left new bytes) ≡ old.number + line_count (left old bytes)
+  pub failed : IsErrOf result import.ReadFault → (new.number ≡ old.number)
+      × ((bytes : List ℕ) → known ≡ Some bytes → HasNoNewline new.held (length new.held))
+  pub refused : (number : ℕ) (why : ImportCause) → IsErrOf result (import.Refused number why) → number ≡ old.number
+
+-- Reading a text stops at the first line that is refused: no more is read than what is held behind
+-- the lines before it, and a read fails only where that line isn't whole in what was read.
+abbrev pub StopsAtRefusal : {A : Type 0} → (List ℕ → Result (List Event) Refused) → Option (List ℕ) → ℕ → ℕ → Result A ImportFault → Type 0
+StopsAtRefusal read known given given_now (Ok x) = ⊤
+StopsAtRefusal read known given given_now (Err (import.Refused number why)) = given_now ≤ given + furthest number
+StopsAtRefusal read known given given_now (Err import.NoFile) = ⊤
+StopsAtRefusal read known given given_now (Err import.ReadFault) =
+    (bytes : List ℕ) (refusal : Refused) → known ≡ Some bytes → read bytes ≡ Err refusal
+    → line_count (take (given_now - given) bytes) ≤ refusal.line
+StopsAtRefusal read known given given_now (Err (import.NoMemory _)) = ⊤
 
 -- nothing is said of any bytes
 abbrev pub TellsNothing : {A : Type 0} → Result A ImportFault → Type 0

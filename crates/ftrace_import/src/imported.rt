@@ -6,7 +6,7 @@ ghost use Rattle.psi_spec.specs.World.{first_world};
 ghost use Rattle.import_spec.specs.Events.{made};
 ghost use Rattle.import_spec.specs.Import.{import_of};
 ghost use Rattle.ftrace_import.specs.Deeds.{event_by};
-ghost use Rattle.ftrace_import.specs.Gathers.{CausesImportFault, RefusalOf, TellsNothing, most_of_text, whole_events};
+ghost use Rattle.ftrace_import.specs.Gathers.{CausesImportFault, RefusalOf, StopsAtRefusal, TellsNothing, most_of_text, whole_events};
 ghost use Rattle.ftrace_import.specs.Lending.{GoesOn, IsMade, shown};
 ghost use Rattle.ftrace_import.specs.Stands.{Ends};
 
@@ -170,6 +170,8 @@ pub fn read_import<S: Shelf>(
     ensures cause { CausesImportFault (counts_of (S.faults shelf.old) (S.absent shelf.old))
         (counts_of (S.faults shelf.new) (S.absent shelf.new)) result }
     ensures given { S.given shelf.new ≤ S.given shelf.old + most_of_text }
+    ensures stops { StopsAtRefusal (import_of cpus) (told (S.holds shelf.old) name.now)
+        (S.given shelf.old) (S.given shelf.new) result }
 {
     let gathering = gather(alloc, shelf, name, cpus)?;
     let events = Imported::make(alloc, gathering)?;

@@ -6,7 +6,7 @@ ghost use Rattle.psi_spec.specs.Trace.{IsCpuCount};
 ghost use Rattle.psi_spec.specs.World.{first_world};
 ghost use Rattle.import_spec.specs.Events.{unreached};
 ghost use Rattle.import_spec.specs.Import.{import_of};
-ghost use Rattle.ftrace_import.specs.Gathers.{CausesImportFault, Gathers, IsGathered, IsLineFault, LinesGive, NextGives, ReadsLine, RefusalOf, TellsNothing, import_fault, most_of_text, reached_in, whole_events};
+ghost use Rattle.ftrace_import.specs.Gathers.{CausesImportFault, Gathers, IsGathered, IsLineFault, KeepsLines, LinesGive, NextGives, ReadsLine, RefusalOf, StopsAtRefusal, TellsNothing, import_fault, most_of_text, reached_in, rest_from, whole_events};
 ghost use Rattle.ftrace_import.specs.Stands.{Ends};
 
 use crate::deeds::event_of;
@@ -89,6 +89,8 @@ fn look_behind<S: Shelf>(
         (counts_of (S.faults shelf.old) (S.absent shelf.old))
         (counts_of (S.faults shelf.new) (S.absent shelf.new))
         (S.given shelf.old) (S.given shelf.new) result }
+    ensures stays { KeepsLines (told (S.holds shelf.old) lines.old.name)
+        lines.old lines.new result }
     ensures missing { lines.old.held ≡ [] → Lacks (S.holds shelf.old) lines.old.name →
         TellsNothing result }
 {
@@ -118,6 +120,8 @@ fn take_next<S: Shelf>(
         (counts_of (S.faults shelf.old) (S.absent shelf.old))
         (counts_of (S.faults shelf.new) (S.absent shelf.new))
         (S.given shelf.old) (S.given shelf.new) result }
+    ensures stays { KeepsLines (told (S.holds shelf.old) lines.old.name)
+        lines.old lines.new result }
     ensures missing { lines.old.held ≡ [] → Lacks (S.holds shelf.old) lines.old.name →
         TellsNothing result }
 {
@@ -149,6 +153,8 @@ fn next_step<S: Shelf>(
         (counts_of (S.faults shelf.old) (S.absent shelf.old))
         (counts_of (S.faults shelf.new) (S.absent shelf.new))
         (S.given shelf.old) (S.given shelf.new) result }
+    ensures stays { KeepsLines (told (S.holds shelf.old) lines.old.name)
+        lines.old lines.new result }
     ensures missing { lines.old.held ≡ [] → Lacks (S.holds shelf.old) lines.old.name →
         TellsNothing result }
 {
@@ -180,6 +186,8 @@ fn take_lines<S: Shelf>(
     ensures cause { CausesImportFault (counts_of (S.faults shelf.old) (S.absent shelf.old))
         (counts_of (S.faults shelf.new) (S.absent shelf.new)) result }
     ensures given { S.given shelf.new ≤ S.given shelf.old + most_of_text }
+    ensures stops { StopsAtRefusal (rest_from g.old.cpus unreached 1)
+        (told (S.holds shelf.old) lines.old.name) (S.given shelf.old) (S.given shelf.new) result }
 {
     'lines: loop {
         match next_step(g, lines, shelf) {
@@ -209,6 +217,8 @@ pub fn gather<S: Shelf>(
     ensures cause { CausesImportFault (counts_of (S.faults shelf.old) (S.absent shelf.old))
         (counts_of (S.faults shelf.new) (S.absent shelf.new)) result }
     ensures given { S.given shelf.new ≤ S.given shelf.old + most_of_text }
+    ensures stops { StopsAtRefusal (import_of cpus) (told (S.holds shelf.old) name.now)
+        (S.given shelf.old) (S.given shelf.new) result }
 {
     let mut lines = Lines::new(alloc, name)?;
     let mut g = start(alloc, cpus)?;
@@ -240,6 +250,8 @@ pub fn import<S: Shelf>(
     ensures cause { CausesImportFault (counts_of (S.faults shelf.old) (S.absent shelf.old))
         (counts_of (S.faults shelf.new) (S.absent shelf.new)) result }
     ensures given { S.given shelf.new ≤ S.given shelf.old + most_of_text }
+    ensures stops { StopsAtRefusal (import_of cpus) (told (S.holds shelf.old) name.now)
+        (S.given shelf.old) (S.given shelf.new) result }
 {
     let g = gather(alloc, shelf, name, cpus)?;
     let events = all_events(alloc, &g)?;

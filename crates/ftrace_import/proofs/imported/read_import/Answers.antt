@@ -1,4 +1,3 @@
-use Rattle.std.proofs.Common.{rules}
 use Rattle.ftrace_import.proofs.imported.read_import.Goals as goal
 
 -- an import that was read missed nothing, and no read of it failed

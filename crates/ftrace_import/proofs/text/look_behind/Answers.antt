@@ -1,6 +1,8 @@
 use Rattle.std.proofs.Common.{◌≡◌, ◌∙◌, ◌<◌, arith, refl}
 use Rattle.ftrace_import.specs.Gathers.{reached_in}
 use Rattle.ftrace_import.proofs.Texts.{rest_many, rest_none}
+use Rattle.outside.specs.Outside.{told}
+use Rattle.ftrace_import.proofs.Stops as stop
 use Rattle.ftrace_import.proofs.text.look_behind.Goals as goal
 
 pub returns-in-Ok-true-clause-content : goal.returns-in-Ok-true-clause-content
@@ -18,3 +20,12 @@ returns-in-Ok-false-clause-content g c =
     let many : 16000000 < c.args.lines.now.number = omega (arith, c.requires.number) in
     let same : c.number.result ≡ c.args.lines.now.number = c.number.ensures ∙ c.is_at_end.ensures.same.1 in
     rw same (rest_many c.args.g.now.cpus (reached_in c.args.g.now) c.args.lines.now.number _ many (λ none. let no = found.1.1 none in absurd (cc no)))
+
+pub returns-in-Ok-true-clause-stays : goal.returns-in-Ok-true-clause-stays
+returns-in-Ok-true-clause-stays g c = stop.ended_keeps (told (g.S.Shelf.holds c.args.shelf.now) c.args.lines.now.name) c.args.lines.now c.is_at_end.new.self _ (λ bytes tells. let found = c.is_at_end.ensures.left bytes tells in found.0) c.is_at_end.ensures.same.1
+
+pub returns-in-Ok-false-clause-stays : goal.returns-in-Ok-false-clause-stays
+returns-in-Ok-false-clause-stays g c = stop.many_keeps (told (g.S.Shelf.holds c.args.shelf.now) c.args.lines.now.name) c.args.lines.now c.is_at_end.new.self _ _ (λ bytes tells. let found = c.is_at_end.ensures.left bytes tells in found.0) c.is_at_end.ensures.same.1 (c.number.ensures ∙ c.is_at_end.ensures.same.1)
+
+pub returns-in-Err-clause-stays : goal.returns-in-Err-clause-stays
+returns-in-Err-clause-stays g c = stop.unseen_keeps (told (g.S.Shelf.holds c.args.shelf.now) c.args.lines.now.name) c.args.lines.now c.is_at_end.new.self c.is_at_end.result c.in-Err.fault _ (λ bytes tells. let found = c.is_at_end.ensures.left bytes tells in found.0) c.is_at_end.ensures.same.1 c.is_at_end.ensures.unread c.is_at_end.ensures.faults c.in-Err.is c.import_fault.ensures

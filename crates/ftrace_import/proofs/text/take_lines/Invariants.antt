@@ -1,6 +1,7 @@
-use Rattle.std.proofs.Common.{◌≡◌, ◌+◌, ◌-◌, ◌≤◌, []}
+use Rattle.std.proofs.Common.{◌≡◌, ◌+◌, ◌-◌, ◌≤◌, ℕ, List, []}
 use Rattle.outside.specs.Outside.{Lacks, told}
-use Rattle.psi_lines.specs.Lines.{left}
+use Rattle.std.specs.Prelude.{Some}
+use Rattle.psi_lines.specs.Lines.{left, line_count}
 use Rattle.ftrace_import.proofs.Texts.{SoFar}
 use Rattle.ftrace_import.proofs.text.take_lines.Given as goal
 
@@ -13,6 +14,7 @@ invariant-lines g l = record {
   name : l.lines.name ≡ l.fn.lines.name;
   few : l.lines.number ≤ 16000001;
   missing : Lacks (g.S.Shelf.holds l.fn.shelf) l.fn.lines.name → l.lines.held ≡ [];
+  lines : (bytes : List ℕ) → told (g.S.Shelf.holds l.fn.shelf) l.fn.lines.name ≡ Some bytes → l.lines.number + line_count (left l.lines bytes) ≡ l.fn.lines.number + line_count (left l.fn.lines bytes);
   so_far : SoFar l.fn.g.cpus l.lines.number l.g (left l.fn.lines) (left l.lines) (told (g.S.Shelf.holds l.fn.shelf) l.fn.lines.name);
 }
 

@@ -3,6 +3,7 @@ use Rattle.outside.specs.Outside.{told}
 use Rattle.psi_lines.specs.Lines.{left}
 use Rattle.ftrace_import.specs.Gathers.{reached_in}
 use Rattle.ftrace_import.proofs.Texts as laws
+use Rattle.ftrace_import.proofs.Stops as stop
 use Rattle.ftrace_import.proofs.text.take_next.Goals as goal
 
 pub returns-in-Ok-clause-content : goal.returns-in-Ok-clause-content
@@ -28,3 +29,19 @@ returns-in-Err-clause-content g c =
     λ bytes tells.
     let found = rw c.in-Err.is at c.next_bytes.follows.holds-at-none.line bytes tells in
     rw c.import_fault.ensures (laws.not_read c.args.g.now bytes c.args.lines.now c.next_bytes.follows.lender-at-none c.in-Err.fault c.requires.number found)
+
+pub returns-in-Ok-clause-stays : goal.returns-in-Ok-clause-stays
+returns-in-Ok-clause-stays g c =
+    stop.taken_keeps (g.S.Shelf.holds c.args.shelf.now) (g.S.Shelf.given c.args.shelf.now) (g.S.Shelf.given c.next_bytes.new.shelf) c.args.lines.now c.next_bytes.follows.lender-at-none c.next_bytes.result _ c.next_bytes.follows.holds-at-none
+
+pub returns-in-Err-take_line-clause-stays : goal.returns-in-Err-take_line-clause-stays
+returns-in-Err-take_line-clause-stays g c =
+    stop.faulted_keeps (g.S.Shelf.holds c.args.shelf.now) (g.S.Shelf.given c.args.shelf.now) (g.S.Shelf.given c.next_bytes.new.shelf) c.args.lines.now c.next_bytes.follows.lender-at-none c.next_bytes.result c.in-Err-take_line.fault _ c.next_bytes.follows.holds-at-none (rw c.number-number.ensures at c.fault_at.ensures)
+
+pub returns-in-Ok-None-clause-stays : goal.returns-in-Ok-None-clause-stays
+returns-in-Ok-None-clause-stays g c =
+    stop.taken_keeps (g.S.Shelf.holds c.args.shelf.now) (g.S.Shelf.given c.args.shelf.now) (g.S.Shelf.given c.next_bytes.new.shelf) c.args.lines.now c.next_bytes.follows.lender-at-none c.next_bytes.result _ c.next_bytes.follows.holds-at-none
+
+pub returns-in-Err-clause-stays : goal.returns-in-Err-clause-stays
+returns-in-Err-clause-stays g c =
+    stop.unread_keeps (g.S.Shelf.holds c.args.shelf.now) (g.S.Shelf.given c.args.shelf.now) (g.S.Shelf.given c.next_bytes.new.shelf) c.args.lines.now c.next_bytes.follows.lender-at-none c.next_bytes.result c.in-Err.fault _ c.next_bytes.follows.holds-at-none c.in-Err.is c.next_bytes.ensures.numbered c.import_fault.ensures
