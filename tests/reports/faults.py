@@ -2,11 +2,12 @@
 from __future__ import annotations
 
 import os
+import shutil
 import tempfile
 
 from checking import TOP
 from must import must, must_be
-from recorded import recording, tool
+from recorded import recording, run as run_words, tool
 
 from .pages import page_of, read, run
 
@@ -40,6 +41,15 @@ def check_a_write_that_fails(program: str) -> None:
     with tempfile.TemporaryDirectory() as folder:
         name = os.path.join(folder, "none", "page.html")
         must_be("what is said", fault(program, 6, TRACE, "-o", name), f"{name}.part: No such file or directory")
+
+
+def check_tools_that_stand_alone(program: str) -> None:
+    """Where there is no launcher above the tools a page comes, by the program that the variable names."""
+    with tempfile.TemporaryDirectory() as folder:
+        shutil.copytree(os.path.join(TOP, "tools"), os.path.join(folder, "tools"))
+        done = run_words([os.path.join(folder, "tools", "report"), TRACE], program=program)
+    must_be(f"the status, of which was said {done.said}", done.status, 0)
+    must("of no known commit" in read(done.output).text(), "the page says that the commit isn't known")
 
 
 def check_a_trace_without_ticks(program: str) -> None:

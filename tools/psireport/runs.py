@@ -83,5 +83,8 @@ class Runs:
 
     def commit(self) -> str:
         """The commit of the sources beside this tool, as the launcher says it."""
-        done = subprocess.run([LAUNCHER, "--version"], capture_output=True, text=True)
-        return done.stdout.strip().removeprefix(f"{PROGRAM} ") or "of no known commit"
+        try:
+            said = subprocess.run([LAUNCHER, "--version"], capture_output=True, text=True).stdout
+        except OSError:  # the tools stand alone, and a variable names the program
+            said = ""
+        return said.strip().removeprefix(f"{PROGRAM} ") or "of no known commit"
