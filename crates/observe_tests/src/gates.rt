@@ -5,8 +5,8 @@ use crate::runs::{is_run, line_of, run_gated};
 use observe_core::ObserveStatus;
 use outside::Gate;
 use psi_base::Cpu;
-use std::sync::atomic::AtomicBool;
 use std::sync::atomic::Ordering::SeqCst;
+use std::sync::atomic::{AtomicBool, AtomicU64};
 use std::test::Fail;
 
 /// How often a thread looks for another one before it gives up.
@@ -156,5 +156,44 @@ fn observers_in_the_order_of_the_journal(rt: HostRuntime) -> Result<(), Fail> {
         board observer=1 tick=1 events=0 kills=0\n\
         end 2000000000 samples=2\n";
     assert!(rt; ran.output.ends_with(end));
+    Ok(())
+}
+
+/// The most observers that there may be.
+const OBSERVERS: u64 = 8;
+
+/// A gate at which each observer waits, before its only sample, until all have come.
+#[derive(Drop)]
+struct AllMeet {
+    come: AtomicU64,
+    are_all: AtomicBool,
+    is_missed: AtomicBool,
+}
+
+impl Gate for AllMeet {
+    fn moved(&self, _cpu: Cpu, _count: u64) {}
+
+    fn before_sample(&self, _cpu: Cpu, _index: u32) {
+        if self.come.fetch_add(1, SeqCst) == OBSERVERS - 1 {
+            self.are_all.store(true, SeqCst);
+        }
+        wait_for(&self.are_all, &self.is_missed);
+    }
+
+    fn sampled(&self, _cpu: Cpu, _count: u64) {}
+}
+
+#[test]
+fn observers_in_threads_of_their_own(rt: HostRuntime) -> Result<(), Fail> {
+    let gate = AllMeet {
+        come: AtomicU64::new(0),
+        are_all: AtomicBool::new(false),
+        is_missed: AtomicBool::new(false),
+    };
+    let ran = run_gated(&rt, "t 8 /", ONE_PROCESSOR, &gate)?;
+    assert!(rt; ran.status == ObserveStatus::Done);
+    assert!(rt; !gate.is_missed.load(SeqCst), "an observer waited in vain");
+    assert_eq!(rt; gate.come.load(SeqCst), OBSERVERS);
+    assert!(rt; ran.output.ends_with(b"\nend 2000000000 samples=8\n"));
     Ok(())
 }

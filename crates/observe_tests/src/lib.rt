@@ -1,6 +1,6 @@
 //! Tests of the top call of psi_observe over shelves and sinks in memory: observers whose threads
-//! are held at gates, groups that come and go, words, faults at each call, and how many samples
-//! there may be.
+//! are held at gates, gates that count, groups that come and go, words, faults at each call, and
+//! how many samples there may be.
 #![tactic(auto)]
 
 #[cfg(test)]
@@ -15,5 +15,7 @@ mod lives;
 mod runs;
 #[cfg(test)]
 mod shares;
+#[cfg(test)]
+mod told;
 #[cfg(test)]
 mod words;

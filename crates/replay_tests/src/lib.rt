@@ -1,6 +1,6 @@
 //! Tests of the top call over shelves and sinks in memory: traces and outputs in pieces, words,
-//! faults at each call, traces that are cut anywhere, traces at their limits, drop-in files over
-//! rules, and traces without the victims of kills.
+//! faults at each call, traces that are cut anywhere, traces at their limits, gates that hold
+//! threads or count, drop-in files over rules, and traces without the victims of kills.
 #![tactic(auto)]
 
 #[cfg(test)]
@@ -21,6 +21,8 @@ mod pieces;
 mod replays;
 #[cfg(test)]
 mod runs;
+#[cfg(test)]
+mod told;
 #[cfg(test)]
 mod whatif;
 #[cfg(test)]

@@ -1,0 +1,169 @@
+//! What a gate is told: each change once with its number, and two calls for each sample.
+
+use crate::runs::{Ran, run_gated};
+use observe_core::ObserveStatus;
+use outside::Gate;
+use psi_base::{Cpu, read_number};
+use std::alloc::Global;
+use std::sync::atomic::Ordering::SeqCst;
+use std::sync::atomic::{AtomicBool, AtomicU64};
+use std::test::Fail;
+
+/// Three ticks of two processors, at each of which the root is live. In the second interval nothing
+/// changes.
+const THREE_TICKS: &str = "psitrace 1 cpus=2\n\
+    0 fork 1 / 0\n\
+    0 fork 2 / 1\n\
+    0 switch 0 1 idle\n\
+    500000000 switch 0 0 iowait\n\
+    1000000000 switch 1 2 idle\n\
+    1500000000 wake 1 0\n\
+    4500000000 switch 0 1 idle\n\
+    5000000000 switch 1 0 sleep\n\
+    6000000000 end\n";
+
+const TICKS: u64 = 3;
+
+const CPUS: u64 = 2;
+
+/// How many changes each of its processors has.
+const CHANGES: [u64; 2] = [5, 3];
+
+/// Room for the numbers of changes after which samples may be.
+const ROOM: u64 = 8;
+
+/// How many observers there are.
+const OBSERVERS: u64 = 3;
+
+/// So many counters that stand at 0.
+fn counters(alloc: Global, many: u64) -> Result<Vec<AtomicU64>, Fail> {
+    let mut counters = Vec::new(alloc);
+    for _ in 0..many {
+        counters.push(AtomicU64::new(0))?;
+    }
+    Ok(counters)
+}
+
+/// What a gate was told of a processor.
+#[derive(Drop)]
+struct Told {
+    /// How many changes.
+    moved: AtomicU64,
+    /// How many samples were taken after so many changes.
+    after: Vec<AtomicU64>,
+}
+
+impl Told {
+    fn new(alloc: Global) -> Result<Told, Fail> {
+        Ok(Told {
+            moved: AtomicU64::new(0),
+            after: counters(alloc, ROOM)?,
+        })
+    }
+}
+
+/// A gate that counts its calls, and notes where one doesn't have the next number.
+#[derive(Drop)]
+struct Counting {
+    /// By processor.
+    told: Vec<Told>,
+    /// How many samples each observer was about to take.
+    asked: Vec<AtomicU64>,
+    is_wrong: AtomicBool,
+}
+
+impl Counting {
+    fn new(alloc: Global) -> Result<Counting, Fail> {
+        let mut told = Vec::new(alloc);
+        for _ in CHANGES {
+            told.push(Told::new(alloc)?)?;
+        }
+        Ok(Counting {
+            told,
+            asked: counters(alloc, OBSERVERS)?,
+            is_wrong: AtomicBool::new(false),
+        })
+    }
+
+    /// Notes whether a call was as it must be.
+    fn note(&self, is_right: Option<bool>) {
+        if is_right != Some(true) {
+            self.is_wrong.store(true, SeqCst);
+        }
+    }
+
+    /// Whether a change of a processor is the next one.
+    fn is_next_change(&self, cpu: Cpu, count: u64) -> Option<bool> {
+        let told = self.told.get(cpu.0 as usize)?;
+        let before = told.moved.fetch_add(1, SeqCst);
+        Some(before < count && count - before == 1)
+    }
+
+    /// Whether an observer goes on to this processor.
+    fn is_next_cpu(&self, cpu: Cpu, observer: u32) -> Option<bool> {
+        let before = self.asked.get(observer as usize)?.fetch_add(1, SeqCst);
+        Some(before % CPUS == u64::from(cpu.0))
+    }
+
+    /// Counts a sample of a processor, after so many of its changes.
+    fn count(&self, cpu: Cpu, count: u64) -> Option<bool> {
+        let told = self.told.get(cpu.0 as usize)?;
+        told.after.get(count as usize)?.fetch_add(1, SeqCst);
+        Some(true)
+    }
+}
+
+impl Gate for Counting {
+    fn moved(&self, cpu: Cpu, count: u64) {
+        self.note(self.is_next_change(cpu, count));
+    }
+
+    fn before_sample(&self, cpu: Cpu, index: u32) {
+        self.note(self.is_next_cpu(cpu, index));
+    }
+
+    fn sampled(&self, cpu: Cpu, count: u64) {
+        self.note(self.count(cpu, count));
+    }
+}
+
+/// The processor and the count in a line, where it is a sample's.
+fn sample_of(line: &[u8]) -> Option<(u64, u64)> {
+    let rest = line.strip_prefix(b"sample observer=")?;
+    let mut words = rest.split(|byte| *byte == b' ').skip(1);
+    let cpu = read_number(words.next()?.strip_prefix(b"cpu=")?)?;
+    let count = read_number(words.next()?.strip_prefix(b"count=")?)?;
+    Some((cpu, count))
+}
+
+/// Whether the samples of a processor that were printed are those that the gate was told of.
+fn are_lines(ran: &Ran, cpu: u64, told: &Told) -> bool {
+    told.after.iter().enumerate().all(|(count, told)| {
+        let lines = ran.output.split(|byte| *byte == b'\n');
+        let samples = lines.filter_map(|line| sample_of(line));
+        let printed = samples
+            .filter(|sample| *sample == (cpu, count as u64))
+            .count();
+        told.load(SeqCst) == printed as u64
+    })
+}
+
+#[test]
+fn each_change_and_each_sample(rt: HostRuntime) -> Result<(), Fail> {
+    let gate = Counting::new(rt.alloc())?;
+    let ran = run_gated(&rt, "t 3 /", THREE_TICKS, &gate)?;
+    assert!(rt; ran.status == ObserveStatus::Done);
+    assert!(rt; !gate.is_wrong.load(SeqCst), "a call has another number");
+    for asked in &gate.asked {
+        assert_eq!(rt; asked.load(SeqCst), TICKS * CPUS);
+    }
+    for (cpu, told) in gate.told.iter().enumerate() {
+        assert!(rt;
+            CHANGES.get(cpu) == Some(&told.moved.load(SeqCst)),
+            "cpu {cpu}"
+        );
+        assert!(rt; are_lines(&ran, cpu as u64, told), "cpu {cpu}");
+    }
+    assert!(rt; ran.output.ends_with(b"\nend 6000000000 samples=18\n"));
+    Ok(())
+}

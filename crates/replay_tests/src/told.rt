@@ -1,0 +1,193 @@
+//! What a gate is told: each change once with its number, and two calls for each sample.
+
+use crate::runs::{NO_FAULT, Ran, run_gated};
+use outside::Gate;
+use psi_base::{Cpu, read_number};
+use replay_core::Status;
+use std::alloc::Global;
+use std::sync::atomic::Ordering::SeqCst;
+use std::sync::atomic::{AtomicBool, AtomicU64};
+use std::test::Fail;
+
+/// Three ticks of two processors, at each of which the root is live. In the second interval nothing
+/// changes.
+const THREE_TICKS: &str = "psitrace 1 cpus=2\n\
+    0 fork 1 / 0\n\
+    0 fork 2 / 1\n\
+    0 switch 0 1 idle\n\
+    500000000 switch 0 0 iowait\n\
+    1000000000 switch 1 2 idle\n\
+    1500000000 wake 1 0\n\
+    4500000000 switch 0 1 idle\n\
+    5000000000 switch 1 0 sleep\n\
+    6000000000 end\n";
+
+/// How many changes each of its processors has.
+const CHANGES: [u64; 2] = [5, 3];
+
+/// Room for the samples of a processor.
+const ROOM: usize = 16;
+
+/// What a gate was told of a processor.
+#[derive(Drop)]
+struct Told {
+    /// How many changes.
+    moved: AtomicU64,
+    /// How many samples, before each.
+    asked: AtomicU64,
+    /// How many samples, once each was taken.
+    sampled: AtomicU64,
+    /// After how many changes each sample was.
+    counts: Vec<AtomicU64>,
+}
+
+impl Told {
+    fn new(alloc: Global) -> Result<Told, Fail> {
+        let mut counts = Vec::new(alloc);
+        for _ in 0..ROOM {
+            counts.push(AtomicU64::new(0))?;
+        }
+        Ok(Told {
+            moved: AtomicU64::new(0),
+            asked: AtomicU64::new(0),
+            sampled: AtomicU64::new(0),
+            counts,
+        })
+    }
+
+    /// After how many changes the sample with this number was.
+    fn count_at(&self, number: usize) -> Option<u64> {
+        self.counts.get(number).map(|count| count.load(SeqCst))
+    }
+}
+
+/// A gate that counts its calls by processor, and notes where one doesn't have the next number.
+#[derive(Drop)]
+struct Counting {
+    told: Vec<Told>,
+    /// How many samples of a processor an interval has.
+    each: u64,
+    is_wrong: AtomicBool,
+}
+
+impl Counting {
+    fn new(alloc: Global, each: u64) -> Result<Counting, Fail> {
+        Ok(Counting {
+            told: vec![in alloc; Told::new(alloc)?, Told::new(alloc)?]?,
+            each,
+            is_wrong: AtomicBool::new(false),
+        })
+    }
+
+    /// Notes whether a call was as it must be.
+    fn note(&self, is_right: Option<bool>) {
+        if is_right != Some(true) {
+            self.is_wrong.store(true, SeqCst);
+        }
+    }
+
+    /// Whether a change of a processor is the next one.
+    fn is_next_change(&self, cpu: Cpu, count: u64) -> Option<bool> {
+        let told = self.told.get(cpu.0 as usize)?;
+        let before = told.moved.fetch_add(1, SeqCst);
+        Some(before < count && count - before == 1)
+    }
+
+    /// Whether a sample of a processor is the next one of its interval, and the one before was
+    /// taken.
+    fn is_next_sample(&self, cpu: Cpu, index: u32) -> Option<bool> {
+        let told = self.told.get(cpu.0 as usize)?;
+        let before = told.asked.fetch_add(1, SeqCst);
+        let place = before.checked_rem(self.each)?;
+        Some(place == u64::from(index) && told.sampled.load(SeqCst) == before)
+    }
+
+    /// Whether a sample was asked for before it was taken, after so many changes.
+    fn is_asked(&self, cpu: Cpu, count: u64) -> Option<bool> {
+        let told = self.told.get(cpu.0 as usize)?;
+        let before = told.sampled.fetch_add(1, SeqCst);
+        told.counts.get(before as usize)?.store(count, SeqCst);
+        let asked = told.asked.load(SeqCst);
+        Some(before < asked && asked - before == 1)
+    }
+}
+
+impl Gate for Counting {
+    fn moved(&self, cpu: Cpu, count: u64) {
+        self.note(self.is_next_change(cpu, count));
+    }
+
+    fn before_sample(&self, cpu: Cpu, index: u32) {
+        self.note(self.is_next_sample(cpu, index));
+    }
+
+    fn sampled(&self, cpu: Cpu, count: u64) {
+        self.note(self.is_asked(cpu, count));
+    }
+}
+
+/// The count in a line, where it is a live line of a processor.
+fn live_count(line: &[u8], cpu: u8) -> Option<u64> {
+    let rest = line.strip_prefix(b"live ")?;
+    let mut words = rest.split(|byte| *byte == b' ').skip(1);
+    let digit = words.next()?.strip_prefix(b"cpu=")?;
+    if digit != [b'0' + cpu % 10].as_slice() {
+        return None;
+    }
+    read_number(words.next()?.strip_prefix(b"count=")?)
+}
+
+/// Whether the live lines of a processor are so many, each after as many changes as the gate was
+/// told of its sample.
+fn are_lines(ran: &Ran, cpu: u8, told: &Told, samples: usize) -> bool {
+    let lines = ran.output.split(|byte| *byte == b'\n');
+    let live = lines.filter_map(|line| live_count(line, cpu)).count();
+    let lines = ran.output.split(|byte| *byte == b'\n');
+    let counts = lines.filter_map(|line| live_count(line, cpu));
+    live == samples
+        && told.asked.load(SeqCst) == samples as u64
+        && told.sampled.load(SeqCst) == samples as u64
+        && counts
+            .enumerate()
+            .all(|(number, count)| told.count_at(number) == Some(count))
+}
+
+/// Whether a run told its gate of all changes and of so many samples of each processor.
+fn is_told(ran: &Ran, gate: &Counting, samples: usize) -> bool {
+    ran.status == Status::Done
+        && !gate.is_wrong.load(SeqCst)
+        && gate.told.iter().enumerate().all(|(cpu, told)| {
+            CHANGES.get(cpu) == Some(&told.moved.load(SeqCst))
+                && are_lines(ran, cpu as u8, told, samples)
+        })
+}
+
+// Whatever the number of workers is.
+#[test]
+fn each_change_once(rt: HostRuntime) -> Result<(), Fail> {
+    for line in [
+        "replay t",
+        "replay t --workers 1",
+        "replay t --tick-ms 1",
+        "replay t --live /nope",
+    ] {
+        let gate = Counting::new(rt.alloc(), 1)?;
+        let ran = run_gated(&rt, line, THREE_TICKS, 65536, NO_FAULT, &gate)?;
+        assert!(rt; is_told(&ran, &gate, 0), "{line}");
+    }
+    Ok(())
+}
+
+#[test]
+fn each_sample_by_two_calls(rt: HostRuntime) -> Result<(), Fail> {
+    for (line, each, samples) in [
+        ("replay t --live /", 1, 3),
+        ("replay t --live / --workers 1", 1, 3),
+        ("replay t --live / --live-count 4", 4, 12),
+    ] {
+        let gate = Counting::new(rt.alloc(), each)?;
+        let ran = run_gated(&rt, line, THREE_TICKS, 65536, NO_FAULT, &gate)?;
+        assert!(rt; is_told(&ran, &gate, samples), "{line}");
+    }
+    Ok(())
+}
