@@ -1,12 +1,14 @@
 -- What loops over bytes find.
-use Rattle.std.proofs.Common.{◌≡◌, ◌≢◌, ℕ, suc, ◌+◌, ◌*◌, ◌-◌, ◌^◌, ◌≤◌, ◌<◌, List, [], ◌∷◌, refl, ap, ◌∙◌, sym, arith, cond, Bool, true, false, Option, None, Some, ◌==◌, length, drop, get_or}
+use Rattle.std.proofs.Common.{◌≡◌, ◌≢◌, ℕ, suc, ◌+◌, ◌*◌, ◌-◌, ◌^◌, ◌≤◌, ◌<◌, List, [], ◌∷◌, refl, ap, ◌∙◌, sym, arith, cond, Bool, true, false, Option, None, Some, ◌==◌, length, take, drop, get_or, inl, inr}
 use Rattle.std.proofs.Math.Nat.{mul_assoc, mul_comm, pow-suc, pow-le-pow_right}
 use Rattle.std.specs.Prelude.{◌&&◌, IfSome, nat_eq, nat_lt}
 use Rattle.std.specs.List.{prefix_len}
 use Rattle.std.specs.Str.{all_ascii_digits}
 use Rattle.std.proofs.Math.ListN.{drop_of_length-le}
-use Rattle.std.proofs.lemmas.List.{drop-drop, drop_more, get_or-drop, length-drop}
+use Rattle.std.proofs.lemmas.List.{drop-drop, drop_more, get_or-drop, get_or-take, length-drop, length-take-le}
+use Rattle.std.proofs.lemmas.Bool.{cases_lt, eq-eqb, ne_eqb}
 use Rattle.std.proofs.lemmas.Bool.Decides.{nat_tests}
+use Rattle.memchr.specs.Find.{Nowhere, Passes, is_byte}
 use Rattle.psi_base.specs.Number.{digits_after, digits_of, value_after}
 use Rattle.import_spec.specs.Places.{begins_with, first_place, last_place}
 use Rattle.import_spec.specs.Laws.{NonePasses}
@@ -26,18 +28,11 @@ begins_other (c ∷ cs) (x ∷ xs) some other = rw other refl
 pub front : (bytes : List ℕ) (at : ℕ) → get_or (drop at bytes) 0 0 ≡ get_or bytes at 0
 front bytes at = let same : at + 0 ≡ at = omega arith in get_or-drop at bytes 0 0 ∙ ap (λ n. get_or bytes n 0) same
 
-other_byte : (x y : ℕ) → y ≢ x → (x == y) ≡ false
-other_byte x y other = grind (arith, nat_tests)
-
-off_byte : (x y : ℕ) → x ≢ y → nat_eq x y ≡ false
-off_byte x y other = grind (arith, nat_tests)
-
-pub other_first : (text bytes : List ℕ) (at : ℕ) → 0 < length text → get_or bytes at 0 ≢ get_or text 0 0 → nat_eq (get_or bytes at 0) (get_or text 0 0) ≡ begins_with text (drop at bytes)
-other_first text bytes at some other =
-    off_byte (get_or bytes at 0) (get_or text 0 0) other
-    ∙ sym (begins_other text (drop at bytes) some (other_byte (get_or text 0 0) (get_or (drop at bytes) 0 0) (λ same. other (sym (front bytes at) ∙ same))))
-
 -- ---- places
+
+-- a byte that a search for another passed over
+pub passed_by : (sought byte : ℕ) → (is_byte sought byte ≡ true → ⊥) → byte ≢ sought
+passed_by sought byte off same = off (eq-eqb byte sought same)
 
 -- one place more at which a test fails
 pub none_down : (test : List ℕ → Bool) (bytes : List ℕ) (at below high : ℕ) → at ≡ below + 1 → NonePasses test bytes at high → test (drop below bytes) ≡ false → NonePasses test bytes below high
@@ -53,6 +48,20 @@ none_up test bytes at none here k low under =
       | true ↦ λ same. let it : k ≡ at = grind (arith, nat_tests) in rw it here
       | false ↦ λ other. let more : k ≢ at = grind (arith, nat_tests) in none k low (omega (arith, under, more))
     ] refl
+
+-- No text begins from `low` on, where none does from `high` on and a search for its first byte
+-- passed over the bytes between.
+pub none_passed : (text bytes : List ℕ) (low high : ℕ) → 0 < length text → high ≤ length bytes → Nowhere (Passes (is_byte (get_or text 0 0)) (take high bytes)) low (length (take high bytes))
+    → NonePasses (begins_with text) bytes high (length bytes) → NonePasses (begins_with text) bytes low (length bytes)
+none_passed text bytes low high some inside off none k from under =
+    elim (cases_lt k high) [
+      | inl early ↦
+          let size = length-take-le high bytes inside in
+          let other = passed_by (get_or text 0 0) (get_or (take high bytes) k 0) (off k from (omega (arith, early, size))) in
+          let same = get_or-take high bytes k 0 early ∙ sym (front bytes k) in
+          begins_other text (drop k bytes) some (ne_eqb (get_or text 0 0) (get_or (drop k bytes) 0 0) (λ first. other (same ∙ sym first)))
+      | inr late ↦ none k late under
+    ]
 
 -- no place is behind the last byte
 pub none_at_end : (test : List ℕ → Bool) (bytes : List ℕ) (at : ℕ) → length bytes ≤ at → NonePasses test bytes at (length bytes)

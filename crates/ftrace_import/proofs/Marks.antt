@@ -1,13 +1,16 @@
 -- The marks of lines, as the code finds them.
-use Rattle.std.proofs.Common.{◌≡◌, ◌≢◌, ℕ, ◌+◌, List, refl, ap, ◌∙◌, sym, arith, true, false, Option, None, Some, ◌==◌, length, drop, take, get_or}
+use Rattle.std.proofs.Common.{◌≡◌, ◌≢◌, ℕ, ◌+◌, ◌-◌, List, refl, ap, ◌∙◌, sym, arith, true, false, Option, None, Some, ◌==◌, length, drop, take, get_or, inl, inr}
 use Rattle.std.specs.Prelude.{codes, is_some, option_map, Ok}
-use Rattle.std.proofs.lemmas.Bool.Decides.{nat_tests}
+use Rattle.std.proofs.lemmas.Bool.{cases_lt, ne_eqb}
+use Rattle.std.proofs.lemmas.List.{get_or-drop}
+use Rattle.memchr.specs.Find.{Nowhere, Passes, is_byte}
 use Rattle.psi_base.specs.OptionSteps.{◌>>=◌}
 use Rattle.import_spec.specs.Places.{begins_with, first_place}
+use Rattle.import_spec.specs.Laws.{NonePasses}
 use Rattle.import_spec.specs.Marked.{Mark, Marked, begins_marked, if_formed, mark_of, marked_of, read_line, read_marked, sighting_of}
 use Rattle.ftrace_import.specs.declared.marked.ShortMark.{ShortMark}
 use Rattle.ftrace_import.specs.Bytes.{IsFirstMark, mark_parts, parted}
-use Rattle.ftrace_import.proofs.Bytes.{begins_other, front}
+use Rattle.ftrace_import.proofs.Bytes.{begins_other, front, passed_by}
 
 -- no mark begins with another byte than a colon
 unmarked : (rest : List ℕ) → (58 == get_or rest 0 0) ≡ false → mark_of rest ≡ None
@@ -15,11 +18,8 @@ unfolding mark_of
 unmarked rest other =
     rw (begins_other (codes ": sched_switch: ") rest (omega arith) other, begins_other (codes ": sched_wakeup: ") rest (omega arith) other, begins_other (codes ": sched_wakeup_new: ") rest (omega arith) other, begins_other (codes ": sched_migrate_task: ") rest (omega arith) other) refl
 
-colon : (x : ℕ) → x ≢ 58 → (58 == x) ≡ false
-colon x other = grind (arith, nat_tests)
-
-pub no_colon : (line : List ℕ) (at : ℕ) → get_or line at 0 ≢ 58 → mark_of (drop at line) ≡ None
-no_colon line at other = unmarked (drop at line) (colon (get_or (drop at line) 0 0) (λ same. other (sym (front line at) ∙ same)))
+no_colon : (line : List ℕ) (at : ℕ) → get_or line at 0 ≢ 58 → mark_of (drop at line) ≡ None
+no_colon line at other = unmarked (drop at line) (ne_eqb 58 (get_or (drop at line) 0 0) (λ same. other (sym (front line at) ∙ sym same)))
 
 -- whether a mark stands here
 pub marked_here : (o : Option Mark) (short : ShortMark) → option_map mark_parts o ≡ Some short → is_some o ≡ true
@@ -29,6 +29,18 @@ marked_here (Some m) short is = refl
 pub unmarked_here : (o : Option Mark) → option_map mark_parts o ≡ None → is_some o ≡ false
 unmarked_here None is = refl
 unmarked_here (Some m) is = absurd (cc is)
+
+-- no mark begins at a byte that a search for a colon in the rest of a line passed over
+pub none_before : (line rest : List ℕ) (from count : ℕ) → rest ≡ drop from line → Nowhere (Passes (is_byte 58) rest) 0 count → NonePasses begins_marked line 0 from → NonePasses begins_marked line 0 (from + count)
+none_before line rest from count is off none k low under =
+    elim (cases_lt k from) [
+      | inl early ↦ none k low early
+      | inr late ↦
+          let back : from + (k - from) ≡ k = omega (arith, late) in
+          let other = passed_by 58 (get_or rest (k - from) 0) (off (k - from) (omega arith) (omega (arith, under, late))) in
+          let same = ap (λ bytes. get_or bytes (k - from) 0) is ∙ get_or-drop from line (k - from) 0 ∙ ap (λ n. get_or line n 0) back in
+          ap is_some (no_colon line k (λ colon. other (same ∙ colon)))
+    ]
 
 -- ---- a line
 

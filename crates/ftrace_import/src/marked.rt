@@ -1,5 +1,5 @@
 //! Which lines are marked, and what each of these tells.
-ghost use Rattle.std.specs.Prelude.{◌≡◌, ◌<◌, ◌+◌, ◌≤◌, IfSome, IsNone, Some, None, length, drop, option_map};
+ghost use Rattle.std.specs.Prelude.{◌≡◌, ◌≤◌, IfSome, IsNone, None, length, option_map};
 ghost use Rattle.import_spec.specs.Places.{first_place};
 ghost use Rattle.import_spec.specs.Marked.{begins_marked, if_formed, mark_of, migration_in, read_line, seen_in, sighting_of, switch_in, wakeup_in};
 ghost use Rattle.ftrace_import.specs.Bytes.{IsFirstMark, mark_parts, parted};
@@ -7,6 +7,7 @@ ghost use Rattle.ftrace_import.specs.Bytes.{IsFirstMark, mark_parts, parted};
 use crate::fields::{cpu_in, field_in, how_in, pid_in, time_in};
 use crate::places::{behind_last, last_text};
 use import_spec::{ImportCause, LineKind, Seen, Sighting};
+use memchr::memchr;
 use psi_base::Cpu;
 
 /// A mark, of which only its kind and its size are known.
@@ -43,20 +44,6 @@ fn mark_of(bytes: &[u8]) -> Option<ShortMark>
     }
 }
 
-/// The mark at a place. Each begins with a colon.
-#[inline(always)]
-fn mark_at(line: &[u8], at: usize) -> Option<ShortMark>
-    requires { at < length line.now }
-    ensures mark { result ≡ option_map mark_parts (mark_of (drop at line.now)) }
-    ensures inside { IfSome result (λ mark. at + mark.size ≤ length line.now) }
-{
-    if line[at] == b':' {
-        mark_of(&line[at..])
-    } else {
-        None
-    }
-}
-
 /// The mark of a line, and where it begins.
 #[derive(Clone, Copy)]
 struct Found {
@@ -64,17 +51,18 @@ struct Found {
     mark: ShortMark,
 }
 
-/// The leftmost mark of a line.
+/// The leftmost mark of a line. Each begins with a colon.
 fn first_mark(line: &[u8]) -> Option<Found>
     ensures none { IsNone result → first_place begins_marked line.now ≡ None }
     ensures some { IfSome result (λ found. IsFirstMark line.now found.at found.mark) }
 {
-    let mut at = 0;
-    'places: while at < line.len() {
-        if let Some(mark) = mark_at(line, at) {
+    let mut from = 0;
+    'places: while let Some(next) = memchr(b':', &line[from..]) {
+        let at = from + next;
+        if let Some(mark) = mark_of(&line[at..]) {
             return Some(Found { at, mark });
         }
-        at += 1;
+        from = at + 1;
     }
     None
 }

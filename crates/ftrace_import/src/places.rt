@@ -1,19 +1,11 @@
 //! Where something stands in bytes.
-ghost use Rattle.std.specs.Prelude.{◌≡◌, ◌+◌, ◌<◌, ◌≤◌, IfSome, length, drop};
+ghost use Rattle.std.specs.Prelude.{◌≡◌, ◌+◌, ◌<◌, ◌≤◌, IfSome, length};
 ghost use Rattle.std.specs.List.{position_or_len, prefix_len};
 ghost use Rattle.std.specs.Char.{is_ascii_digit};
 ghost use Rattle.import_spec.specs.Places.{begins_with, behind_last, last_place};
 ghost use Rattle.ftrace_import.specs.Bytes.{is_at, shown};
 
-/// A text of one byte or more stands at this place.
-#[inline(always)]
-fn stands_at(bytes: &[u8], at: usize, text: &[u8]) -> bool
-    requires some { 0 < length text.now }
-    requires inside { at < length bytes.now }
-    ensures stands { result ≡ begins_with text.now (drop at bytes.now) }
-{
-    bytes[at] == text[0] && bytes[at..].starts_with(text)
-}
+use memchr::memrchr;
 
 /// The last place of a text of one byte or more.
 #[inline(always)]
@@ -22,12 +14,12 @@ pub(crate) fn last_text(bytes: &[u8], text: &[u8]) -> Option<usize>
     ensures last { result ≡ last_place (begins_with text.now) bytes.now }
     ensures inside { IfSome result (λ at. at + length text.now ≤ length bytes.now) }
 {
-    let mut at = bytes.len();
-    'places: while at > 0 {
-        at -= 1;
-        if stands_at(bytes, at, text) {
+    let mut end = bytes.len();
+    'places: while let Some(at) = memrchr(text[0], &bytes[..end]) {
+        if bytes[at..].starts_with(text) {
             return Some(at);
         }
+        end = at;
     }
     None
 }

@@ -5,9 +5,9 @@ use Rattle.ftrace_import.proofs.marked.first_mark.Given as goal
 
 abbrev pub invariant-places : goal.invariant-places
 invariant-places l = record {
-  inside : l.at ≤ length l.line;
-  none : NonePasses begins_marked l.line 0 l.at;
+  inside : l.from ≤ length l.line;
+  none : NonePasses begins_marked l.line 0 l.from;
 }
 
 abbrev pub decreases-places : goal.decreases-places
-decreases-places l = length l.line - l.at
+decreases-places l = length l.line - l.from

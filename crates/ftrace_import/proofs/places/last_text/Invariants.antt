@@ -5,9 +5,9 @@ use Rattle.ftrace_import.proofs.places.last_text.Given as goal
 
 abbrev pub invariant-places : goal.invariant-places
 invariant-places l = record {
-  inside : l.at ≤ length l.bytes;
-  none : NonePasses (begins_with l.text) l.bytes l.at (length l.bytes);
+  inside : l.end ≤ length l.bytes;
+  none : NonePasses (begins_with l.text) l.bytes l.end (length l.bytes);
 }
 
 abbrev pub decreases-places : goal.decreases-places
-decreases-places l = l.at
+decreases-places l = l.end
