@@ -1,8 +1,9 @@
 -- Observers end one after the other.
 use Rattle.std.proofs.Common.{◌≡◌, ℕ, suc, ◌+◌, ◌<◌, List, [], ◌∷◌, ◌++◌, length, map, get_or, refl, sym, ap, ◌∙◌, subst, arith, append_assoc}
 use Rattle.std.specs.List.{All}
-use Rattle.std.proofs.lemmas.List.{length-append}
+use Rattle.std.proofs.lemmas.List.{append-nil, length-append}
 use Rattle.observer_log.specs.declared.entry.Entry.{Entry}
+use Rattle.observer_log.specs.Journal.{joined}
 use Rattle.observe_core.specs.Observing.{ObserverView}
 use Rattle.observe_core.proofs.ReadyLaws.{each_pushed}
 
@@ -15,6 +16,15 @@ pub own_next : (own : List (List Entry)) (list : List Entry) (observer : Observe
     → own ++ map own_of before ≡ whole → (own ++ list ∷ []) ++ map own_of after ≡ whole
 own_next own list observer before after whole step is was =
     append_assoc own (list ∷ []) (map own_of after) ∙ ap (λ (l : List Entry). own ++ l ∷ map own_of after) is ∙ sym (ap (λ (l : List ObserverView). own ++ map own_of l) step) ∙ was
+
+-- and has as many entries as it
+pub joined_next : (own : List (List Entry)) (list : List Entry) → length (joined (own ++ list ∷ [])) ≡ length (joined own) + length list
+joined_next [] list = let same = ap length (append-nil list) in omega (arith, same)
+joined_next (first ∷ own) list =
+    let rest = joined_next own list in
+    let before = length-append first (joined own) in
+    let after = length-append first (joined (own ++ list ∷ [])) in
+    omega (arith, rest, before, after)
 
 -- what holds of all holds of the first, and of the others
 pub all_first : {X : Type 0} → (P : X → Type 0) (x : X) (before after : List X) → before ≡ x ∷ after → All P before → P x

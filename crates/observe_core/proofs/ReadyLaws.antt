@@ -25,7 +25,7 @@ readied_none made watcher = record {
   later = λ cpu past. refl;
 }
 
-either_next : (cpu k : ℕ) → cpu < k + 1 → (cpu < k) ⊎ (cpu ≡ k)
+pub either_next : (cpu k : ℕ) → cpu < k + 1 → (cpu < k) ⊎ (cpu ≡ k)
 either_next cpu k below = grind (arith, below)
 
 -- what was met has seen what was made

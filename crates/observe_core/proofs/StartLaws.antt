@@ -12,7 +12,7 @@ use Rattle.replay_rules.specs.Planned.{IsPlanned}
 use Rattle.replay_ticks.specs.Replays.{IsReplay, ReplayView, asked_by}
 use Rattle.observe_spec.specs.Run.{options_on, pace_on}
 use Rattle.observe_core.specs.Observing.{ObserverView}
-use Rattle.observe_core.specs.Driving.{HaveObserved, IsNew, IsObserved, IsReached, MayBegin, Setting}
+use Rattle.observe_core.specs.Driving.{AreCounted, HaveObserved, IsNew, IsObserved, IsReached, MayBegin, Setting}
 use Rattle.observe_core.specs.Results.{IsPlannedFor}
 use Rattle.observe_core.proofs.TickLaws.{observed_first}
 
@@ -46,9 +46,12 @@ begun options old new plans board trace version path observers count is same pla
     let may : MayBegin set old = record { plans_are = same; rows_are = refl } in
     subst (λ (replay : ReplayView). IsObserved set replay observers 0) (sym stays) (observed_first set old observers reached (λ k d below. each set may refl k d (omega (arith, below, many))))
 
--- all are on the board, and each has one part
+-- all are on the board, each has one part, and its share counts its entries
 pub boards_are : (set : Setting) (i : ℕ) (observers : List ObserverView) → HaveObserved set i observers → All (λ (observer : ObserverView). observer.pass.board ≡ set.board) observers
 boards_are set i observers all = λ k d below. (all k d below).placed.board_is
 
 pub parts_are : (set : Setting) (i : ℕ) (observers : List ObserverView) → HaveObserved set i observers → All (λ (observer : ObserverView). observer.parts ≡ 1) observers
 parts_are set i observers all = λ k d below. (all k d below).placed.backed
+
+pub counted_are : (set : Setting) (i : ℕ) (observers : List ObserverView) → HaveObserved set i observers → AreCounted observers
+counted_are set i observers all = λ k d below. (all k d below).counted

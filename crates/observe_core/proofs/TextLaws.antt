@@ -207,7 +207,7 @@ all_on plans (entry ∷ entries) each =
 -- ---- the lists of all observers
 
 no_observer : ObserverView
-no_observer = record { watcher = new_watcher 0 (plans_view [] [] [] [] 0) []; pass = record { board = no_reader.row; knows = newcomer [] }; parts = 0; lasts = []; failed = false }
+no_observer = record { watcher = new_watcher 0 (plans_view [] [] [] [] 0) []; pass = record { board = no_reader.row; knows = newcomer [] }; parts = 0; amount = 0; lasts = []; fell = false; failed = false }
 
 -- the lists of observers
 abbrev pub lists_of : List ObserverView → List (List Entry)
@@ -267,7 +267,7 @@ last_shown : (trace : Trace) (pace : Pace) (i : ℕ) (states : List BoardState) 
 last_shown trace pace i states state shown last =
     let many = shown.many in
     let place : length states - 1 ≡ i = omega (arith, many) in
-    let there : Some state ≡ Some (state_at trace pace i) = sym last ∙ ap (slice_get states) place ∙ shown.last in
+    let there : Some state ≡ Some (state_at trace pace i) = sym last ∙ ap (slice_get states) place ∙ shown.each i (omega arith) in
     cc there
 
 pub states_last : (trace : Trace) (pace : Pace) (board states : List BoardState) → AreShown trace pace (tick_count trace pace) board → ((k : ℕ) (d : BoardState) → k < length states → IsLast board (get_or states k d)) → AreLast trace pace states

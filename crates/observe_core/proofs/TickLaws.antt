@@ -1,5 +1,5 @@
 -- Observers beside a replay, from tick to tick.
-use Rattle.std.proofs.Common.{◌≡◌, ℕ, ◌+◌, ◌<◌, ◌≤◌, false, zero, suc, List, [], ◌∷◌, ◌++◌, drop, length, get_or, take, refl, sym, ap, ◌∙◌, subst, arith, Option, None, Some}
+use Rattle.std.proofs.Common.{◌≡◌, ⊎_elim, ℕ, ◌+◌, ◌<◌, ◌≤◌, false, zero, suc, List, [], ◌∷◌, ◌++◌, drop, length, get_or, take, refl, sym, ap, ◌∙◌, subst, arith, Option, None, Some}
 use Rattle.std.specs.Prelude.{slice_get, slice_index_or}
 use Rattle.std.specs.List.{All}
 use Rattle.std.proofs.Math.Seq.{take-append_seam}
@@ -21,7 +21,8 @@ use Rattle.observer_log.specs.declared.board.BoardState.{BoardState}
 use Rattle.observer_log.specs.Board.{BoardEnd, first_state}
 use Rattle.observer_log.specs.Watch.{AreReaders, WatcherView, named_by, reader_at}
 use Rattle.observe_core.specs.Observing.{CanLook, CanWatch, HasWatched, HaveAllWatched, ObserverView, last_at}
-use Rattle.observe_core.specs.Driving.{AreLasts, AreReady, AreShown, AreWhole, HasObserved, HasPassed, HaveObserved, IsNew, IsObserved, IsPlaced, IsReached, IsReadied, IsReady, MayReady, Setting, made_by, slot_in, state_at}
+use Rattle.observe_core.specs.Driving.{AreLasts, AreReady, AreShown, AreWhole, HasObserved, HasPassed, HaveObserved, IsCounted, IsNew, IsObserved, IsPlaced, IsReached, IsReadied, IsReady, MayReady, Setting, made_by, slot_in, state_at}
+use Rattle.observe_core.proofs.ReadyLaws.{either_next}
 use Rattle.observe_core.proofs.TakenLaws.{Took, taken_more, taken_none, taken_still}
 
 -- ---- a replay that was reached
@@ -151,6 +152,18 @@ placed_next set number slot replay old mid new placed ready watched whole =
       whole = whole;
     }
 
+-- and its share counts its entries
+counted_next : (slot : ℕ) (plans : PlansView) (made : ℕ → ℕ) (old mid new : ObserverView) → IsReady plans slot made old mid → HasWatched slot mid new → new.failed ≡ false → IsCounted old → IsCounted new
+counted_next slot plans made old mid new ready watched whole was = λ stood.
+    let looked = watched.looked whole in
+    let before = was (sym ready.fell_is ∙ watched.stood stood) in
+    let added = watched.added whole stood in
+    let amount = ready.amount_is in
+    let same : length mid.watcher.own ≡ length old.watcher.own = ap length ready.readied.own_is in
+    let own : length new.watcher.own ≡ length mid.watcher.own + length looked.taken = ap length looked.own_is ∙ length-append mid.watcher.own looked.taken in
+    let taken = looked.taken_are.many in
+    omega (arith, before, added, amount, same, own, taken)
+
 -- after one more tick, at which it watched
 observed_next : (set : Setting) (i number slot : ℕ) (replay : ReplayView) (old mid new : ObserverView) → IsReached set replay i → slot_in set (i + 1) ≡ Some slot → HasObserved set i number old
     → IsReady replay.plans slot (made_by replay.crew) old mid → HasWatched slot mid new → new.failed ≡ false → HasObserved set (i + 1) number new
@@ -158,6 +171,7 @@ observed_next set i number slot replay old mid new is here was ready watched who
   placed = placed_next set number slot replay old mid new was.placed ready watched whole;
   taken = taken_more set i slot number (made_by replay.crew) mid.lasts old.watcher mid.watcher new.watcher (took set i number slot replay old mid new is was.placed ready watched whole)
       here (as_many set i replay is) (made_until set i replay is) was.taken;
+  counted = counted_next slot replay.plans (made_by replay.crew) old mid new ready watched whole was.counted;
 }
 
 -- ---- all observers
@@ -199,6 +213,7 @@ passed_next set i replay passed observers is left none has = record {
   observed = λ k d below. record {
     placed = (is.observed k d below).placed;
     taken = taken_still set i k (get_or observers k d).watcher none (is.observed k d below).taken;
+    counted = (is.observed k d below).counted;
   };
 }
 
@@ -209,21 +224,31 @@ observed_first set replay observers is new = record {
   observed = λ k d below. record {
     placed = (new k d below).placed;
     taken = taken_none set k (get_or observers k d).watcher (new k d below).none;
+    counted = λ stood. (new k d below).nothing ∙ sym (ap length (new k d below).none);
   };
 }
 
 -- ---- the board
 
 -- it shows the first state before the first tick
+first_shown : (trace : Trace) (pace : Pace) (k : ℕ) → k ≤ 0 → slice_get (first_state ∷ []) k ≡ Some (state_at trace pace k)
+first_shown trace pace zero within = refl
+first_shown trace pace (suc k) within = absurd (omega (arith, within))
+
 pub shown_first : (trace : Trace) (pace : Pace) (states : List BoardState) → states ≡ first_state ∷ [] → AreShown trace pace 0 states
 shown_first trace pace states is = subst (AreShown trace pace 0) (sym is) (record {
   many = refl;
-  last = refl;
+  each = first_shown trace pace;
 })
 
 state_last : (states : List BoardState) (state : BoardState) → slice_get (states ++ state ∷ []) (length states) ≡ Some state
 state_last [] state = refl
 state_last (first ∷ states) state = state_last states state
+
+state_before : (states : List BoardState) (state : BoardState) (k : ℕ) → k < length states → slice_get (states ++ state ∷ []) k ≡ slice_get states k
+state_before [] state k below = absurd (omega (arith, below))
+state_before (first ∷ states) state zero below = refl
+state_before (first ∷ states) state (suc k) below = state_before states state k (omega (arith, below))
 
 -- and that of the next tick behind the others
 pub shown_next : (trace : Trace) (pace : Pace) (i tick events : ℕ) (old new : List BoardState) → AreShown trace pace i old → tick ≡ i + 1 → events ≡ signals_until trace pace (i + 1) → new ≡ old ++ record { tick = tick; events = events; kills = 0 } ∷ []
@@ -234,5 +259,9 @@ shown_next trace pace i tick events old new shown ticks signals is =
     ap (λ (n : ℕ). let s : BoardState = record { tick = n; events = events; kills = 0 } in s) ticks ∙ ap (λ (n : ℕ). let s : BoardState = record { tick = i + 1; events = n; kills = 0 } in s) signals in
     record {
       many = ap length is ∙ length-append old (state ∷ []) ∙ ap (λ (n : ℕ). n + 1) shown.many;
-      last = ap (λ (l : List BoardState). slice_get l (i + 1)) is ∙ ap (slice_get (old ++ state ∷ [])) (sym shown.many) ∙ state_last old state ∙ ap (λ (s : BoardState). Some s) same;
+      each = λ k within. ap (λ (l : List BoardState). slice_get l k) is ∙ ⊎_elim
+          (λ (before : k < i + 1). state_before old state k (let many = shown.many in omega (arith, before, many)) ∙ shown.each k (omega (arith, before)))
+          (λ (last : k ≡ i + 1).
+          ap (slice_get (old ++ state ∷ [])) (last ∙ sym shown.many) ∙ state_last old state ∙ ap (λ (s : BoardState). Some s) (same ∙ ap (state_at trace pace) (sym last)))
+          (either_next k (i + 1) (omega (arith, within)));
     }

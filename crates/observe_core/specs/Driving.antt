@@ -83,6 +83,8 @@ pub record AreLasts (plans : PlansView) (slot : ℕ) (made : ℕ → ℕ) (cpus 
 pub record IsReady (plans : PlansView) (slot : ℕ) (made : ℕ → ℕ) (old new : ObserverView) : Type 0 where
   pub pass_is : new.pass ≡ old.pass
   pub parts_are : new.parts ≡ old.parts
+  pub amount_is : new.amount ≡ old.amount
+  pub fell_is : new.fell ≡ old.fell
   pub failed_is : new.failed ≡ old.failed
   pub many : length new.lasts ≡ length old.lasts
   pub readied : IsReadied made (length old.lasts) old.watcher new.watcher
@@ -157,10 +159,28 @@ pub record HasTaken (set : Setting) (i number : ℕ) (readers : List ReaderEnd) 
   pub done : AreDone (due_until set i) (looks_of own)
   pub rise : (cpu : ℕ) → RiseWithin 0 (counts_by number cpu (looks_of own)) (reader_at readers cpu).knows.seen
 
--- An observer with a number has taken the samples that were due at the first so many ticks.
+-- The journal refused no entry of an observer.
+abbrev pub IsIn : ObserverView → Type 0
+IsIn observer = observer.fell ≡ false
+
+-- nor of any
+abbrev pub AreIn : List ObserverView → Type 0
+AreIn observers = All IsIn observers
+
+-- An observer's share counts all its entries, unless the journal refused one.
+abbrev pub IsCounted : ObserverView → Type 0
+IsCounted observer = IsIn observer → observer.amount ≡ length observer.watcher.own
+
+-- so do the shares of all
+abbrev pub AreCounted : List ObserverView → Type 0
+AreCounted observers = All IsCounted observers
+
+-- An observer with a number has taken the samples that were due at the first so many ticks, and
+-- added them to the journal.
 pub record HasObserved (set : Setting) (i number : ℕ) (observer : ObserverView) : Type 0 where
   pub placed : IsPlaced set number observer
   pub taken : HasTaken set i number observer.watcher.readers observer.watcher.own
+  pub counted : IsCounted observer
 
 -- So have all observers, by their numbers.
 abbrev pub HaveObserved : Setting → ℕ → List ObserverView → Type 0
@@ -171,6 +191,7 @@ HaveObserved set i observers =
 pub record IsNew (set : Setting) (number : ℕ) (observer : ObserverView) : Type 0 where
   pub placed : IsPlaced set number observer
   pub none : observer.watcher.own ≡ []
+  pub nothing : observer.amount ≡ 0
 
 -- Observers may begin in a setting beside a replay: it has these plans and rows.
 pub record MayBegin (set : Setting) (replay : ReplayView) : Type 0 where
@@ -208,10 +229,10 @@ AreWhole observers = All (λ (observer : ObserverView). observer.failed ≡ fals
 abbrev pub state_at : Trace → Pace → ℕ → BoardState
 state_at trace pace i = record { tick = i; events = signals_until trace pace i; kills = 0 }
 
--- the states of the first so many ticks are on the board, the last one last
+-- the states of tick 0 and of the first so many ticks were on the board, each in its turn
 pub record AreShown (trace : Trace) (pace : Pace) (i : ℕ) (states : List BoardState) : Type 0 where
   pub many : length states ≡ i + 1
-  pub last : slice_get states i ≡ Some (state_at trace pace i)
+  pub each : (k : ℕ) → k ≤ i → slice_get states k ≡ Some (state_at trace pace k)
 
 -- ---- one tick of the replay
 

@@ -53,13 +53,16 @@ pub record HaveLooked (slot : ℕ) (lasts : List Sample) (cpus : ℕ) (old new :
 
 -- ---- observers
 
--- An observer: its watcher, its pass of the board, the parts of its share of the journal, its last
--- sample on each processor, and whether memory was wanting for an entry.
+-- An observer: its watcher, its pass of the board, the parts of its share of the journal, how many
+-- entries that counts, its last sample on each processor, whether the journal refused an entry, and
+-- whether memory was wanting for one.
 pub record ObserverView : Type 0 where
   pub watcher : WatcherView
   pub pass : BoardEnd
   pub parts : ℕ
+  pub amount : ℕ
   pub lasts : List Sample
+  pub fell : Bool
   pub failed : Bool
 
 -- The observer may watch a slot beside this board.
@@ -69,7 +72,7 @@ pub record CanWatch (board : TableId) (slot : ℕ) (observer : ObserverView) : T
   pub can : CanLook slot observer.lasts observer.watcher
 
 -- An observer watched a slot: it read the board once, and looked at the slot on each processor,
--- unless memory was wanting.
+-- unless memory was wanting. It added each entry to the journal, unless that refused one.
 pub record HasWatched (slot : ℕ) (old new : ObserverView) : Type 0 where
   pub board_is : new.pass.board ≡ old.pass.board
   pub parts_are : new.parts ≡ old.parts
@@ -79,6 +82,8 @@ pub record HasWatched (slot : ℕ) (old new : ObserverView) : Type 0 where
   pub read : new.pass.knows ≡ after_read state old.pass.knows
   pub kept : new.failed ≡ false → old.failed ≡ false
   pub looked : new.failed ≡ false → HaveLooked slot old.lasts (length old.lasts) old.watcher new.watcher
+  pub stood : new.fell ≡ false → old.fell ≡ false
+  pub added : new.failed ≡ false → new.fell ≡ false → new.amount ≡ old.amount + length old.lasts
 
 -- All observers watched a slot.
 pub record HaveAllWatched (slot : ℕ) (old new : List ObserverView) : Type 0 where

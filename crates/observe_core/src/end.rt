@@ -3,6 +3,8 @@ ghost use Rattle.std.specs.Prelude.{◌≡◌, ◌+◌, ℕ, IfOk, length, map};
 ghost use Rattle.std.specs.List.{All};
 ghost use Rattle.observer_log.specs.Board.{IsLast};
 ghost use Rattle.observer_log.specs.Entries.{AreOwn, by, list_of};
+ghost use Rattle.observer_log.specs.Journal.{joined};
+ghost use Rattle.observe_core.specs.Driving.{AreCounted, AreIn};
 ghost use Rattle.observe_core.specs.Observing.{ObserverView};
 
 use crate::observer::Observer;
@@ -21,8 +23,8 @@ pub(crate) struct Ended<'a> {
     pub(crate) states: Vec<BoardState>,
 }
 
-/// Ends all observers, one after the other. Their shares go to the others. NoMemory where there was
-/// none for an entry.
+/// Ends all observers, one after the other. Their shares go to the others, and count all entries of
+/// the lists, unless the journal refused one. NoMemory where there was none for an entry.
 pub(crate) fn end_all<'a, L: Ledger, R: Wait>(
     rt: &R,
     alloc: Global,
@@ -35,6 +37,7 @@ pub(crate) fn end_all<'a, L: Ledger, R: Wait>(
     requires board { All (λ (observer : ObserverView). observer.pass.board ≡ board.now)
         observers.items }
     requires parts { All (λ (observer : ObserverView). observer.parts ≡ 1) observers.items }
+    requires counted { AreCounted observers.items }
     ensures own { IfOk result (λ ended. ended.own.items
         ≡ map (λ (observer : ObserverView). observer.watcher.own) observers.entry.items) }
     ensures many { IfOk result (λ ended.
@@ -42,6 +45,8 @@ pub(crate) fn end_all<'a, L: Ledger, R: Wait>(
     ensures last { IfOk result (λ ended. All (IsLast driver.old.states) ended.states.items) }
     ensures parts { IfOk result (λ _.
         all.new.parts ≡ all.old.parts + length observers.entry.items) }
+    ensures counted { IfOk result (λ ended. AreIn observers.entry.items →
+        all.new.amount ≡ all.old.amount + length (joined ended.own.items)) }
 {
     let mut own = Vec::new(alloc);
     let mut states = Vec::new(alloc);
@@ -53,7 +58,8 @@ pub(crate) fn end_all<'a, L: Ledger, R: Wait>(
     Ok(Ended { own, states })
 }
 
-/// The entries of the lists, in the order of the journal. All shares have come back.
+/// The entries of the lists, in the order of the journal, which has as many as the shares count.
+/// All of these have come back.
 pub(crate) fn ordered<'a, L: Ledger>(
     mut journal: Journal<'a, L>,
     all: &mut Share<L>,
@@ -61,6 +67,7 @@ pub(crate) fn ordered<'a, L: Ledger>(
 ) -> Result<Vec<Entry<'a>>, NoMemory>
     requires whole { all.old.parts ≡ L.parts }
     requires own { AreOwn own.now }
+    ensures many { length journal.entry ≡ all.old.amount }
     ensures own { IfOk result (λ entries. (observer : ℕ) →
         by observer entries.items ≡ list_of own.now observer) }
 {

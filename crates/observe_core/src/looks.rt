@@ -1,16 +1,36 @@
 //! Looks at all processors, one after the other.
-ghost use Rattle.std.specs.Prelude.{◌≡◌, ◌<◌, length, IfOk};
+ghost use Rattle.std.specs.Prelude.{◌≡◌, ◌+◌, ◌<◌, None, length, IfOk};
 ghost use Rattle.observe_core.specs.Observing.{CanLook, HaveLooked};
 
 use clock_row::Sample;
-use observer_log::{AddFault, Journal, Watcher};
+use observer_log::{AddFault, Entry, Fall, Journal, Watcher};
 use outside::Gate;
 use psi_base::{Cpu, NoMemory, Slot};
 use std::sync::ledger::{Ledger, Share};
 use std::sync::{Mutex, Wait};
 
+// Adds an entry to the journal, unless it falls.
+fn enter<'a, L: Ledger, R: Wait>(
+    rt: &R,
+    journal: &Mutex<Journal<'a, L>>,
+    entry: Entry<'a>,
+    share: &mut Share<L>,
+) -> Result<Option<Fall>, NoMemory>
+    requires { 0 < share.old.parts }
+    ensures counted { IfOk result (λ fell. fell ≡ None →
+        share.new.amount ≡ share.old.amount + 1) }
+    ensures parts { share.new.parts ≡ share.old.parts }
+{
+    match journal.lock(rt).add(entry, share) {
+        Ok(()) => Ok(None),
+        Err(AddFault::Falls(fall)) => Ok(Some(fall)),
+        Err(AddFault::NoMemory(none)) => Err(none),
+    }
+}
+
 /// Looks at a slot on each processor, after the last sample there, and adds each entry to the
-/// journal: one that falls stays out of it. Tells the gate once an entry was added.
+/// journal: one that falls stays out of it, and the last fall comes back. Tells the gate once an
+/// entry was added.
 pub(crate) fn look_at_all<'a, L: Ledger, R: Wait, G: Gate>(
     rt: &R,
     journal: &Mutex<Journal<'a, L>>,
@@ -19,23 +39,23 @@ pub(crate) fn look_at_all<'a, L: Ledger, R: Wait, G: Gate>(
     lasts: &[Sample],
     slot: Slot,
     gate: &G,
-) -> Result<(), NoMemory>
+) -> Result<Option<Fall>, NoMemory>
     requires can { CanLook slot.0 lasts.now watcher.old }
     requires backed { 0 < share.old.parts }
     ensures looked { IfOk result (λ _.
         HaveLooked slot.0 lasts.now (length lasts.now) watcher.old watcher.new) }
+    ensures counted { IfOk result (λ fell. fell ≡ None →
+        share.new.amount ≡ share.old.amount + length lasts.now) }
     ensures parts { share.new.parts ≡ share.old.parts }
 {
+    let mut fell = None;
     'cpus: for place in 0..lasts.len() {
         let cpu = Cpu(place as u32);
         watcher.look(cpu, slot, &lasts[place], gate)?;
         let entries = watcher.own().entries();
         let entry = entries[entries.len() - 1];
-        match journal.lock(rt).add(entry, share) {
-            Ok(()) | Err(AddFault::Falls { .. }) => {}
-            Err(AddFault::NoMemory(none)) => return Err(none),
-        }
+        fell = enter(rt, journal, entry, share)?.or(fell);
         gate.sampled(cpu, entry.count);
     }
-    Ok(())
+    Ok(fell)
 }

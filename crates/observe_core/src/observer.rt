@@ -5,7 +5,7 @@ ghost use Rattle.observe_core.specs.Observing.{CanWatch, HasWatched};
 
 use crate::looks::look_at_all;
 use clock_row::Sample;
-use observer_log::{Board, BoardPass, BoardState, DriverPass, Journal, Own, Watcher};
+use observer_log::{Board, BoardPass, BoardState, DriverPass, Fall, Journal, Own, Watcher};
 use outside::Gate;
 use psi_base::{NoMemory, Slot};
 use std::marker::Model;
@@ -13,7 +13,8 @@ use std::sync::ledger::{Ledger, Share};
 use std::sync::{Mutex, Wait};
 
 /// One observer. It may go to another thread. Contracts see its watcher, its pass of the board, the
-/// parts of its share of the journal, its last samples, and whether memory was wanting.
+/// parts and the amount of its share of the journal, its last samples, whether the journal refused
+/// an entry, and whether memory was wanting.
 #[derive(Drop)]
 pub struct Observer<'j, 'a, L: Ledger> {
     pub(crate) journal: &'j Mutex<Journal<'a, L>>,
@@ -22,6 +23,8 @@ pub struct Observer<'j, 'a, L: Ledger> {
     pub(crate) share: Share<L>,
     /// The last sample on each processor: the writer's own clock, before an interval.
     pub(crate) lasts: Vec<Sample>,
+    /// The journal refused an entry.
+    pub(crate) fell: Option<Fall>,
     /// There was no memory for an entry.
     pub(crate) failed: Option<NoMemory>,
 }
@@ -36,7 +39,9 @@ impl<'j, 'a, L: Ledger> Model for Observer<'j, 'a, L> {
       watcher = o.watcher;
       pass = o.pass;
       parts = o.share.parts;
+      amount = o.share.amount;
       lasts = o.lasts.items;
+      fell = is_some o.fell;
       failed = is_some o.failed;
     } };
 }
@@ -53,7 +58,9 @@ impl<'j, 'a, L: Ledger> Observer<'j, 'a, L> {
         ensures watcher { result.watcher ≡ watcher.entry }
         ensures pass { result.pass ≡ pass }
         ensures parts { result.parts ≡ share.parts }
+        ensures amount { result.amount ≡ share.amount }
         ensures lasts { result.lasts ≡ lasts.items }
+        ensures fell { result.fell ≡ false }
         ensures failed { result.failed ≡ false }
     {
         Observer {
@@ -62,6 +69,7 @@ impl<'j, 'a, L: Ledger> Observer<'j, 'a, L> {
             pass,
             share,
             lasts,
+            fell: None,
             failed: None,
         }
     }
@@ -81,7 +89,8 @@ impl<'j, 'a, L: Ledger> Observer<'j, 'a, L> {
             slot,
             gate,
         ) {
-            Ok(()) => {}
+            Ok(None) => {}
+            Ok(Some(fall)) => self.fell = Some(fall),
             Err(none) => self.failed = Some(none),
         }
     }
@@ -110,6 +119,7 @@ impl<'j, 'a, L: Ledger> Observer<'j, 'a, L> {
         ensures last { IfOk result (λ ended. IsLast driver.old.states ended.1) }
         ensures whole { IfOk result (λ _. self.entry.failed ≡ false) }
         ensures parts { all.new.parts ≡ all.old.parts + self.entry.parts }
+        ensures amount { all.new.amount ≡ all.old.amount + self.entry.amount }
     {
         let Observer {
             journal: _,
@@ -117,6 +127,7 @@ impl<'j, 'a, L: Ledger> Observer<'j, 'a, L> {
             mut pass,
             share,
             lasts: _,
+            fell: _,
             failed,
         } = self;
         all.merge(share);

@@ -80,6 +80,7 @@ fn observer_of<'j, 'a, L: Ledger>(
     requires plans { plans.now ≡ replay.old.plans }
     requires rows { AreInRows replay.old.plans replay.old.crew.rows }
     requires part { share.parts ≡ 1 }
+    requires nothing { share.amount ≡ 0 }
     ensures same { replay.new ≡ replay.old }
     ensures new { IfOk result (λ observer. (set : Setting) → MayBegin set replay.old →
         set.board ≡ pass.board → IsNew set number observer) }
@@ -111,6 +112,7 @@ pub(crate) fn make_observers<'j, 'a, L: Ledger, R: Wait>(
     ensures same { replay.new ≡ replay.old }
     ensures driver { driver.new ≡ driver.old }
     ensures parts { IfOk result (λ _. all.new.parts ≡ 0) }
+    ensures amount { IfOk result (λ _. all.new.amount ≡ 0) }
     ensures many { IfOk result (λ observers. length observers.items ≡ count) }
     ensures new { IfOk result (λ observers. (set : Setting) → MayBegin set replay.old →
         set.board ≡ board.now → (number : ℕ) (d : ObserverView) → number < count →

@@ -12,11 +12,26 @@ use std::alloc::Global;
 use std::marker::Model;
 use std::sync::ledger::{Book, Ledger, Share};
 
+/// An entry stayed out of a journal: the last entry of its observer and processor has the greater
+/// count. Its field is private, so that one comes only of what a journal refused.
+#[derive(Clone, Copy, Debug, PartialEq, Eq)]
+pub struct Fall {
+    last: u64,
+}
+
+impl Fall {
+    /// The greater count.
+    pub fn last(self) -> u64
+        ensures { result ≡ self.last }
+    {
+        self.last
+    }
+}
+
 /// Why an entry stays out of the journal.
 #[derive(Clone, Copy, Debug, PartialEq, Eq)]
 pub enum AddFault {
-    /// The last entry of its observer and processor has the greater count.
-    Falls { last: u64 },
+    Falls(Fall),
     NoMemory(NoMemory),
 }
 
@@ -100,10 +115,10 @@ impl<'a, L: Ledger> Journal<'a, L> {
             (self.new ≡ self.old) × (share.new.amount ≡ share.old.amount)) }
         ensures parts { share.new.parts ≡ share.old.parts }
         ensures falls { (last : ℕ) →
-            (result ≡ Err (Falls last)) ↔ IsBefore self.old entry.entry last }
+            (result ≡ Err (Falls (record { last = last }))) ↔ IsBefore self.old entry.entry last }
     {
         match greater_last(&self.entries, &entry) {
-            Some(last) => Err(AddFault::Falls { last }),
+            Some(last) => Err(AddFault::Falls(Fall { last })),
             None => match self.entries.push(entry) {
                 Ok(()) => {
                     self.book.add(share, 1);

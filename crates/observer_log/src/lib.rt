@@ -17,7 +17,7 @@ mod watcher;
 
 pub use board::{Board, BoardPass, BoardState, DriverPass};
 pub use entry::Entry;
-pub use journal::{AddFault, Journal};
+pub use journal::{AddFault, Fall, Journal};
 pub use laws::law_last_read;
 pub use own::Own;
 pub use watcher::Watcher;

@@ -22,6 +22,14 @@ fn counts_never_fall(rt: HostRuntime) -> Result<(), Fail> {
     falls(&rt, rt.alloc(), &plans)
 }
 
+// Whether an entry was refused since this count is greater.
+fn is_fall_from(added: Result<(), AddFault>, last: u64) -> bool {
+    match added {
+        Err(AddFault::Falls(fall)) => fall.last() == last,
+        _ => false,
+    }
+}
+
 fn falls<R: Abort>(rt: &R, alloc: Global, plans: &Plans) -> Result<(), Fail>
     requires { length plans.now.plans ≡ 1 }
 {
@@ -34,7 +42,7 @@ fn falls<R: Abort>(rt: &R, alloc: Global, plans: &Plans) -> Result<(), Fail>
     assert_eq!(rt; late.seven, [0, 0, 0, 0, 0, 0, 500_000_000]);
     let added = add_both::<Brand>(alloc, Blank::new(1), late, early);
     assert_eq!(rt; added.first, Ok(()));
-    assert_eq!(rt; added.second, Err(AddFault::Falls { last: 3 }));
+    assert!(rt; is_fall_from(added.second, 3));
     assert_eq!(rt; added.entries, 1);
     Ok(())
 }

@@ -6,7 +6,7 @@ use Rattle.observe_spec.specs.Observed.{IsObservedText}
 use Rattle.observe_spec.specs.Run.{options_on, pace_on}
 use Rattle.observe_core.specs.Driving.{IsToBegin}
 use Rattle.observe_core.specs.Printed.{printed}
-use Rattle.observe_core.proofs.StartLaws.{begun, boards_are, parts_are, reached_first, setting_of}
+use Rattle.observe_core.proofs.StartLaws.{begun, boards_are, counted_are, parts_are, reached_first, setting_of}
 use Rattle.observe_core.proofs.TextLaws.{are_own, whole_text}
 use Rattle.observe_core.proofs.TickLaws.{some_replay}
 use Rattle.observe_core.proofs.observed.observe_trace.Goals as goal
@@ -53,6 +53,17 @@ end_all-requires-clause-parts g c =
     refl c.in_ok-replay.ensures.plans planned.1 c.in_ok-replay.ensures.replay c.in_ok-observers.ensures.same c.in_ok-observers.ensures.many c.in_ok-observers.ensures.new in
     let all = c.in_ok-observers-2.ensures.observed set refl begin in
     parts_are set (tick_count set.trace set.pace) c.in_ok-observers-2.observers.items all
+
+pub end_all-requires-clause-counted : goal.end_all-requires-clause-counted
+end_all-requires-clause-counted g c =
+    let planned = c.requires.planned in
+    let path = c.args.request.now.path in
+    let set = setting_of c.args.plans.now c.in_ok-replay.replay c.in_ok-board.board planned.0 path in
+    let begin =
+    begun (options_on (Some path)) c.in_ok-replay.replay c.make_observers.new.replay c.args.plans.now c.in_ok-board.board planned.0 c.args.version path c.in_ok-observers.observers.items c.args.request.now.observers
+    refl c.in_ok-replay.ensures.plans planned.1 c.in_ok-replay.ensures.replay c.in_ok-observers.ensures.same c.in_ok-observers.ensures.many c.in_ok-observers.ensures.new in
+    let all = c.in_ok-observers-2.ensures.observed set refl begin in
+    counted_are set (tick_count set.trace set.pace) c.in_ok-observers-2.observers.items all
 
 pub ordered-requires-clause-own : goal.ordered-requires-clause-own
 ordered-requires-clause-own g c =
