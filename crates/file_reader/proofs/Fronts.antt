@@ -17,3 +17,7 @@ pub front_ends : (whole before new : List ℕ) (held n : ℕ) → ReadsBytes who
 front_ends whole before new held n reads none room =
     let ends : length whole ≤ held = reads.end none (omega (arith, room, length-drop held new)) in
     take_all held whole ends ∙ sym (take_all (length new) whole (omega (arith, ends, room)))
+
+-- what is held behind a read is no more than there is
+pub held_within : (whole before into : List ℕ) (held n : ℕ) → held ≤ length whole → ReadsBytes whole held n before into → held + n ≤ length whole
+held_within whole before into held n inside reads = omega (arith, inside, reads.inside)

@@ -62,6 +62,8 @@ fn fill<S: Shelf>(shelf: &mut S, name: &str, bytes: &mut [u8]) -> Result<usize, 
     ensures cause { CausesFileFault (counts_of (S.faults shelf.old) (S.absent shelf.old))
         (counts_of (S.faults shelf.new) (S.absent shelf.new)) result }
     ensures given { S.given shelf.new ≤ S.given shelf.old + length bytes.new }
+    ensures within { (whole : List ℕ) → told (S.holds shelf.old) name.now ≡ Some whole →
+        S.given shelf.new ≤ S.given shelf.old + length whole }
     ensures missed { IsErrOf result FileFault.NoFile →
         told (S.holds shelf.old) name.now ≡ None }
     ensures lacking { Lacks (S.holds shelf.old) name.now → TellsNothing result }
@@ -78,8 +80,8 @@ fn fill<S: Shelf>(shelf: &mut S, name: &str, bytes: &mut [u8]) -> Result<usize, 
 }
 
 /// The bytes of a name, or the first `most` of them where it has more. It takes the memory for
-/// `most` bytes before it reads, and reads no more bytes than these, also where it fails. `NoFile`
-/// and `ReadFault` come from the shelf, which counts them.
+/// `most` bytes before it reads, and reads no more bytes than these, nor than the name has, also
+/// where it fails. `NoFile` and `ReadFault` come from the shelf, which counts them.
 pub fn read_front<S: Shelf>(
     alloc: Global,
     shelf: &mut S,
@@ -94,6 +96,8 @@ pub fn read_front<S: Shelf>(
     ensures cause { CausesFileFault (counts_of (S.faults shelf.old) (S.absent shelf.old))
         (counts_of (S.faults shelf.new) (S.absent shelf.new)) result }
     ensures given { S.given shelf.new ≤ S.given shelf.old + most }
+    ensures within { (whole : List ℕ) → told (S.holds shelf.old) name.now ≡ Some whole →
+        S.given shelf.new ≤ S.given shelf.old + length whole }
     ensures missed { IsErrOf result FileFault.NoFile →
         told (S.holds shelf.old) name.now ≡ None }
     ensures lacking { Lacks (S.holds shelf.old) name.now → TellsNothing result }

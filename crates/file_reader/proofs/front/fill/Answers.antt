@@ -1,5 +1,5 @@
 use Rattle.std.proofs.Common.{arith, ◌∙◌, ⊎_elim}
-use Rattle.file_reader.proofs.Fronts.{front_grows, front_ends}
+use Rattle.file_reader.proofs.Fronts.{front_grows, front_ends, held_within}
 use Rattle.file_reader.proofs.front.fill.Goals as goal
 
 pub returns-in-Ok-eq0-clause-front : goal.returns-in-Ok-eq0-clause-front
@@ -19,5 +19,6 @@ reads-preserved g c =
       faults = cause.faults_same (λ failed. cc failed) ∙ i.faults;
       absent = cause.absent_same (λ missed. cc missed) ∙ i.absent;
       given = omega (arith, c.in-Ok.ensures.given, i.given);
+      within = λ whole tells. held_within whole _ _ c.reads.held c.in-Ok.count (i.within whole tells) (c.in-Ok.ensures.bytes whole (rw i.kept tells));
       missing = λ lacks. ⊎_elim (λ missed. cc) (λ failed. cc) (c.in-Ok.ensures.lacking (rw i.kept lacks));
     }

@@ -11,6 +11,7 @@ invariant-reads g l = record {
   faults : g.S.Shelf.faults l.shelf ≡ g.S.Shelf.faults l.fn.shelf;
   absent : g.S.Shelf.absent l.shelf ≡ g.S.Shelf.absent l.fn.shelf;
   given : g.S.Shelf.given l.shelf ≡ g.S.Shelf.given l.fn.shelf + l.held;
+  within : (whole : List ℕ) → told (g.S.Shelf.holds l.fn.shelf) l.fn.name ≡ Some whole → l.held ≤ length whole;
   missing : Lacks (g.S.Shelf.holds l.fn.shelf) l.fn.name → l.held ≡ 0;
 }
 
