@@ -10,4 +10,5 @@ pub mod Outputs
 pub mod MostRead
 pub mod Status
 pub mod Run
+pub mod Stops
 pub mod Laws

@@ -1,5 +1,5 @@
 -- How many bytes a command reads at most.
-use Rattle.std.specs.Prelude.{ℕ, ◌+◌, ◌*◌, List, Option, None, Some}
+use Rattle.std.specs.Prelude.{ℕ, ◌+◌, ◌-◌, ◌*◌, List, Option, None, Some}
 use Rattle.run_spec.specs.declared.command.Command.{Command}
 use Rattle.run_spec.specs.Outputs.{drop_in_name, import_name, rules_name, trace_name}
 
@@ -19,6 +19,11 @@ read_ahead = 65536
 -- read ahead
 abbrev pub most_held : ℕ
 most_held = longest_line + read_ahead
+
+-- the most bytes that are read of a file whose line with this number is refused: no further than
+-- what is held behind the lines before it
+abbrev pub most_until : ℕ → ℕ
+most_until line = (longest_line + 1) * (line - 1) + most_held
 
 -- the most bytes that are read of a trace: no further than what is held behind the most lines that
 -- it can have

@@ -5,7 +5,7 @@
 //! `Generated`, `Live` and `Replay` (what is printed), `Whatif` (what is left of a trace without
 //! the victims of its kills), `Outputs` (which files a command reads, and its whole output),
 //! `MostRead` (how many bytes are read), `Status` (exit status and note), `Run` (what a run
-//! promises); and `Laws`, what follows.
+//! promises), `Stops` (where it stops reading); and `Laws`, what follows.
 #![tactic(auto)]
 
 mod command;
