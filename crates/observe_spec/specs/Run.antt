@@ -1,14 +1,17 @@
 -- What a run of psi_observe promises: what each status says of the trace and of the output, and
 -- which counts of failures rose.
-use Rattle.std.specs.Prelude.{◌≡◌, ℕ, ◌*◌, ◌<◌, ◌≤◌, List, Option, None, Some, Ok, Err}
+use Rattle.std.specs.Prelude.{◌≡◌, ℕ, ◌+◌, ◌-◌, ◌*◌, ◌<◌, ◌≤◌, List, Option, None, Some, Ok, Err, ⊤}
 use Rattle.std.specs.Io.KnownBytes.{Appends, Keeps}
 use Rattle.outside.specs.Outside.{AppendsFront, Files, Lacks, told}
+use Rattle.psi_base.specs.declared.event.Refusal.{Refusal}
 use Rattle.psi_spec.specs.Grammar.{verbs_of, versions}
 use Rattle.psi_spec.specs.Trace.{Accepts, AreKnown, IsAccepted, IsCpuCount, Trace, accepts_with, limits_of, trace_of}
 use Rattle.run_spec.specs.declared.command.Options.{Options}
+use Rattle.run_spec.specs.MostRead.{most_until}
 use Rattle.run_spec.specs.Outputs.{pace_of}
 use Rattle.run_spec.specs.Replay.{Pace, tick_count}
 use Rattle.run_spec.specs.Run.{RisesWhere, RunCounts}
+use Rattle.run_spec.specs.Stops.{IsNotWhole}
 use Rattle.observe_spec.specs.declared.status.ObserveStatus.{ObserveStatus}
 use Rattle.observe_spec.specs.declared.status.ObserveStatus.TheVariants as status
 use Rattle.observe_spec.specs.Observed.{IsObservedText}
@@ -102,3 +105,16 @@ pub record Observes (request : Request) (files : Option Files) (before now : Run
     (result : ObserveStatus) : Type 0 where
   pub ends : ObservingEnds request files old new result
   pub counts : ObserverFailuresAreCounted before now result
+
+-- ---- where reading stops
+
+-- Reading the trace stops at its first refused line, if these are the numbers of bytes that were
+-- given before a run and up to its end. Where it ends with that line, no more was read than what is
+-- held behind the lines before it. Where it ends with a failed read, that line wasn't whole in what
+-- was read.
+abbrev pub StopsObserving : Request → Option Files → ℕ → ℕ → ObserveStatus → Type 0
+StopsObserving request files given given_now (status.Trace line why) = given_now ≤ given + most_until line
+StopsObserving request files given given_now status.ReadFault =
+    (bytes : List ℕ) (refusal : Refusal) → told files request.trace ≡ Some bytes → trace_of accepts bytes ≡ Err refusal
+    → IsNotWhole refusal.line (given_now - given) bytes
+StopsObserving request files given given_now _ = ⊤
