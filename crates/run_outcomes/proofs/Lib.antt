@@ -1,2 +1,3 @@
 pub mod Planned
 pub mod RunLaws
+pub mod RunStops

@@ -1,23 +1,39 @@
 -- The plans of a trace that is to be replayed.
-use Rattle.std.proofs.Common.{List, arith, subst}
+use Rattle.std.proofs.Common.{ℕ, ◌≤◌, List, arith, refl, subst}
 use Rattle.psi_base.specs.declared.event.Event.{Event}
 use Rattle.psi_spec.specs.Grammar.{Version}
-use Rattle.psi_spec.specs.Trace.{IsAccepted}
+use Rattle.psi_spec.specs.Trace.{IsAccepted, limits_of}
 use Rattle.psi_spec.specs.World.{Limits}
-use Rattle.proc_plan.specs.Plans.{PlannerView, PlansView, StandForTaken}
-use Rattle.run_spec.specs.Outputs.{pace_of}
+use Rattle.proc_plan.specs.Plans.{HasTaken, PlannerView, PlansView, StandForTaken}
+use Rattle.run_spec.specs.LegalCommand.{IsWithin}
+use Rattle.run_spec.specs.Outputs.{of_ms, pace_of}
 use Rattle.run_spec.specs.declared.command.Options.{Options}
 use Rattle.replay_rules.specs.Planned.{IsPlanned}
 use Rattle.trace_file.specs.Reads.{trace_with}
 use Rattle.run_outcomes.specs.Writes.{IsToReplay}
 
+-- a trace that was taken apart, accepted at the length of a tick that options have, is to be
+-- replayed with these
+pub to_replay : (planner : PlannerView) (options : Options) (cpus : ℕ) (events : List Event) → HasTaken planner (limits_of (of_ms options.tick_ms) cpus) events → IsAccepted (limits_of (of_ms options.tick_ms) cpus) events
+    → 1 ≤ options.tick_ms → options.tick_ms ≤ 60000 → 1 ≤ options.interval_s → options.interval_s ≤ 3600 → IsWithin 1 64 options.workers → IsToReplay planner options (limits_of (of_ms options.tick_ms) cpus) events
+to_replay planner options cpus events taken ended some short interval often workers = record {
+  taken = taken;
+  ended = ended;
+  latest = refl;
+  some = some;
+  short = short;
+  interval = interval;
+  often = often;
+  workers = workers;
+}
+
 -- the plans of a trace that was taken apart stand for it
 pub planned : (version : Version) (planner : PlannerView) (plans : PlansView) (options : Options) (limits : Limits) (events : List Event) → IsToReplay planner options limits events → StandForTaken planner plans → IsPlanned plans (trace_with version limits.cpus events) (pace_of options)
-planned version planner plans options limits events to_replay stand = record {
-  counted = to_replay.taken.counted;
-  stand = stand limits events to_replay.taken;
-  accepted = subst (λ l. IsAccepted l events) to_replay.latest to_replay.ended;
-  some = omega (arith, to_replay.some);
-  short = omega (arith, to_replay.short);
-  due = omega (arith, to_replay.interval);
+planned version planner plans options limits events is stand = record {
+  counted = is.taken.counted;
+  stand = stand limits events is.taken;
+  accepted = subst (λ l. IsAccepted l events) is.latest is.ended;
+  some = omega (arith, is.some);
+  short = omega (arith, is.short);
+  due = omega (arith, is.interval);
 }
