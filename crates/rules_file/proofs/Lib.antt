@@ -1,2 +1,3 @@
 pub mod RulesLaws
 pub mod RulesRuns
+pub mod RulesStops

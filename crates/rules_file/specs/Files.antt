@@ -13,6 +13,7 @@ use Rattle.run_spec.specs.declared.status.Which.TheVariants.{DropInFile, RulesFi
 use Rattle.run_spec.specs.Outputs.{drop_in_name, rules_name}
 use Rattle.run_spec.specs.Run.{RunCounts, Runs}
 use Rattle.run_spec.specs.MostRead.{most_of_rules}
+use Rattle.run_spec.specs.Stops.{StopsAtRefusal}
 
 -- ---- one file
 
@@ -74,3 +75,9 @@ abbrev pub EndsRun : Option (List ℕ) → Option (List ℕ) → Option Files �
 EndsRun named drop_in files before now result =
     (command : Command) (writes : ℕ) (had : Option (List ℕ)) → rules_name command ≡ named → drop_in_name command ≡ drop_in
     → Runs command files (counts_with before writes) (counts_with now writes) had had result
+
+-- a run of any command that names these files of rules stops there with this status, if these are
+-- the numbers of bytes that were given before it and up to its end
+abbrev pub StopsRun : Option (List ℕ) → Option (List ℕ) → Option Files → ℕ → ℕ → Status → Type 0
+StopsRun named drop_in files given given_now result =
+    (command : Command) → rules_name command ≡ named → drop_in_name command ≡ drop_in → StopsAtRefusal command files given given_now result

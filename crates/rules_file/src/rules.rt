@@ -1,11 +1,12 @@
 //! The rules of a command from a shelf: those of its rules file, with the drop-in file over it.
-ghost use Rattle.std.specs.Prelude.{◌≡◌, ◌+◌, ◌≤◌, None, Some, IfSome, IsUtf8, MatchResult};
+ghost use Rattle.std.specs.Prelude.{◌≡◌, ◌+◌, ◌≤◌, None, Some, IfSome, IsUtf8, MatchResult, ⊤};
 ghost use Rattle.psi_base.specs.Gives.{Gives};
 ghost use Rattle.outside.specs.Outside.{counts_of};
 ghost use Rattle.dropin_rules.specs.Joined.{dropped_in};
 ghost use Rattle.ruleset_json.specs.RuleRanges.{FitsRules};
 ghost use Rattle.run_spec.specs.MostRead.{most_if_named, most_of_rules};
-ghost use Rattle.rules_file.specs.Files.{BaseFails, BaseGiven, EndsRun, IsFront, OverFails, OverGiven, Stays, Unread};
+ghost use Rattle.run_spec.specs.Stops.{read_of_rules};
+ghost use Rattle.rules_file.specs.Files.{BaseFails, BaseGiven, EndsRun, IsFront, OverFails, OverGiven, Stays, StopsRun, Unread};
 ghost use Rattle.run_outcomes.specs.Rules.{RulesGiven};
 ghost use Rattle.replay_rules.specs.Judged.{given_rules};
 
@@ -47,6 +48,8 @@ fn read_bytes<S: Shelf>(
         (λ bytes. IsFront bytes.items name.now (S.holds shelf.old) before now)
         (λ status. Unread which name.now (S.holds shelf.old) before now status) }
     ensures given { S.given shelf.new ≤ S.given shelf.old + most_of_rules }
+    ensures within { S.given shelf.new
+        ≤ S.given shelf.old + read_of_rules (S.holds shelf.old) (Some name.now) }
 {
     match read_front(alloc, shelf, name, MOST) {
         Ok(bytes) => Ok(bytes),
@@ -65,6 +68,8 @@ fn read_base<S: Shelf>(alloc: Global, name: &str, shelf: &mut S) -> Result<Rules
         (λ rules. BaseGiven name.now (S.holds shelf.old) before now rules)
         (λ status. BaseFails name.now (S.holds shelf.old) before now status) }
     ensures given { S.given shelf.new ≤ S.given shelf.old + most_of_rules }
+    ensures within { S.given shelf.new
+        ≤ S.given shelf.old + read_of_rules (S.holds shelf.old) (Some name.now) }
 {
     let bytes = match read_bytes(alloc, name, Which::RulesFile, shelf) {
         Ok(bytes) => bytes,
@@ -103,6 +108,8 @@ fn read_over<S: Shelf>(
         (λ rules. OverGiven base name.now (S.holds shelf.old) before now rules)
         (λ status. OverFails base name.now (S.holds shelf.old) before now status) }
     ensures given { S.given shelf.new ≤ S.given shelf.old + most_of_rules }
+    ensures within { S.given shelf.new
+        ≤ S.given shelf.old + read_of_rules (S.holds shelf.old) (Some name.now) }
 {
     let bytes = match read_bytes(alloc, name, Which::DropInFile, shelf) {
         Ok(bytes) => bytes,
@@ -133,6 +140,12 @@ pub fn read_joined<S: Shelf>(
         (λ status. EndsRun (Some name.now) drop_in.now (S.holds shelf.old) before now status) }
     ensures given { S.given shelf.new ≤ S.given shelf.old + (most_of_rules
         + most_if_named most_of_rules drop_in.now) }
+    ensures within { S.given shelf.new ≤ S.given shelf.old
+        + (read_of_rules (S.holds shelf.old) (Some name.now)
+        + read_of_rules (S.holds shelf.old) drop_in.now) }
+    ensures stops { MatchResult result (λ rules. ⊤)
+        (λ status. StopsRun (Some name.now) drop_in.now (S.holds shelf.old)
+        (S.given shelf.old) (S.given shelf.new) status) }
 {
     let base = match read_base(alloc, name, shelf) {
         Ok(base) => base,
@@ -165,6 +178,12 @@ pub fn read_rules<S: Shelf>(
     ensures given { S.given shelf.new
         ≤ S.given shelf.old + (most_if_named most_of_rules options.now.rules
         + most_if_named most_of_rules options.now.drop_in) }
+    ensures within { S.given shelf.new ≤ S.given shelf.old
+        + (read_of_rules (S.holds shelf.old) options.now.rules
+        + read_of_rules (S.holds shelf.old) options.now.drop_in) }
+    ensures stops { MatchResult result (λ rules. ⊤)
+        (λ status. StopsRun options.now.rules options.now.drop_in (S.holds shelf.old)
+        (S.given shelf.old) (S.given shelf.new) status) }
 {
     match &options.rules {
         Some(name) => match read_joined(alloc, name_of(name), &options.drop_in, shelf) {

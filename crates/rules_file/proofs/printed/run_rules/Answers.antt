@@ -1,5 +1,6 @@
 use Rattle.std.proofs.Common.{refl}
 use Rattle.run_spec.specs.declared.command.Command.TheVariants.{Rules}
+use Rattle.run_outcomes.proofs.RunStops.{written_stops}
 use Rattle.rules_file.proofs.RulesRuns.{rules_written}
 use Rattle.rules_file.proofs.printed.run_rules.Goals as goal
 
@@ -10,3 +11,9 @@ returns-in-Ok-clause-runs g c =
 
 pub returns-in-Err-clause-runs : goal.returns-in-Err-clause-runs
 returns-in-Err-clause-runs g c = c.in-Err.ensures.answer (Rules c.args.name.now _) _ _ refl refl
+
+pub returns-in-Ok-clause-stops : goal.returns-in-Ok-clause-stops
+returns-in-Ok-clause-stops g c = written_stops (Rules c.args.name.now _) (g.S.Shelf.holds c.args.shelf.now) _ _ _ _ _ _ _ c.print_rules.result c.print_rules.ensures.writes
+
+pub returns-in-Err-clause-stops : goal.returns-in-Err-clause-stops
+returns-in-Err-clause-stops g c = c.in-Err.ensures.stops (Rules c.args.name.now _) refl refl

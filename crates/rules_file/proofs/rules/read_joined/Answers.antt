@@ -1,4 +1,5 @@
 use Rattle.rules_file.proofs.RulesRuns.{base_alone, base_ends, over_answers}
+use Rattle.rules_file.proofs.RulesStops.{base_stops, over_stops}
 use Rattle.rules_file.proofs.rules.read_joined.Goals as goal
 
 pub returns-in-Err-clause-answer : goal.returns-in-Err-clause-answer
@@ -13,3 +14,12 @@ pub returns-in-None-clause-answer : goal.returns-in-None-clause-answer
 returns-in-None-clause-answer g c =
     let given = c.in-Ok.ensures.answer in
     rw c.in-None.is (base_alone c.args.name.now (g.S.Shelf.holds c.args.shelf.now) _ _ c.in-Ok.base given, given.stays)
+
+pub returns-in-Err-clause-stops : goal.returns-in-Err-clause-stops
+returns-in-Err-clause-stops g c = base_stops c.args.name.now _ (g.S.Shelf.holds c.args.shelf.now) _ _ _ _ _ c.in-Err.ensures.answer c.in-Err.ensures.within
+
+pub returns-in-Some-clause-stops : goal.returns-in-Some-clause-stops
+returns-in-Some-clause-stops g c =
+    let put = rw (c.name_of.ensures, c.in-Ok.ensures.kept) at c.read_over.ensures.answer in
+    let more = rw (c.name_of.ensures, c.in-Ok.ensures.kept) at c.read_over.ensures.within in
+    rw c.in-Some.is (over_stops c.in-Ok.base c.args.name.now c.in-Some.drop_in (g.S.Shelf.holds c.args.shelf.now) _ _ _ _ _ c.read_over.result put c.in-Ok.ensures.within more)
