@@ -1,12 +1,12 @@
 -- What importing a text comes to as a run.
-use Rattle.std.proofs.Common.{◌≡◌, ℕ, List, [], refl, sym, ap, subst, inl, Option, Some, None, Ok, Err}
-use Rattle.std.specs.Prelude.{IsErrOf}
+use Rattle.std.proofs.Common.{◌≡◌, ℕ, ◌+◌, ◌-◌, List, [], arith, refl, sym, ap, subst, inl, Option, Some, None, Ok, Err}
+use Rattle.std.specs.Prelude.{IsErrOf, Result}
 use Rattle.outside.specs.Outside.{Files, Lacks, told}
 use Rattle.psi_base.specs.declared.event.Event.{Event}
 use Rattle.psi_spec.specs.Trace.{IsCpuCount}
 use Rattle.psi_spec.specs.World.{first_world}
-use Rattle.import_spec.specs.Import.{import_of, import_trace}
-use Rattle.ftrace_import.specs.Gathers.{CausesImportFault, RefusalOf, TellsNothing}
+use Rattle.import_spec.specs.Import.{Refused, import_of, import_trace}
+use Rattle.ftrace_import.specs.Gathers.{CausesImportFault, RefusalOf, StopsAtRefusal as TextStops, TellsNothing}
 use Rattle.ftrace_import.specs.Stands.{Ends}
 use Rattle.ftrace_import.specs.declared.text.ImportFault.{ImportFault}
 use Rattle.ftrace_import.specs.declared.text.ImportFault.TheVariants as fault
@@ -16,8 +16,10 @@ use Rattle.run_spec.specs.declared.status.Status.TheVariants as status
 use Rattle.run_spec.specs.declared.status.Which.TheVariants.{ImportFile}
 use Rattle.run_spec.specs.Outputs.{or_not_imported}
 use Rattle.run_spec.specs.Run.{RunCounts, Runs, TakesTrace}
+use Rattle.run_spec.specs.Stops.{StopsAtRefusal, refused_line, rules_read}
 use Rattle.import_run.specs.Import.{IsStatusOfImport}
 use Rattle.run_outcomes.proofs.RunLaws.{counts_written, file_there, is_named, keeps_same, memory_wanting, missed_counts, none_given, read_failed, rules_there, same_name, stays, takes_given}
+use Rattle.run_outcomes.proofs.RunStops.{fewer_read}
 
 -- an import takes the trace of the events that its text gives
 pub takes_import : (name : List ℕ) (cpus : ℕ) (files : Option Files) (events : List Event) → IsCpuCount cpus → Ends cpus first_world events
@@ -54,3 +56,25 @@ not_imported name cpus files before now had fault.ReadFault result refused lacki
     subst (Runs command files before now had had) (sym is) (read_failed command files before now had (ImportFile, is_named command ImportFile name refl) (causes.failed refl) (causes.absent_same (λ is. cc is)) writes)
 not_imported name cpus files before now had (fault.NoMemory _) result refused lacking missed causes writes is =
     subst (Runs (Import name cpus) files before now had had) (sym is) (memory_wanting (Import name cpus) files before now had (causes.faults_same (λ is. cc is)) (causes.absent_same (λ is. cc is)) writes)
+
+-- ---- where reading a text stops
+
+-- the line that a text was refused at
+import_refused_at : (cpus : ℕ) (read : Result (List Event) Refused) (why : Status) → or_not_imported cpus read ≡ Err why → (refusal : Refused) × (read ≡ Err refusal) × (refused_line why ≡ refusal.line)
+import_refused_at cpus (Ok events) why is = absurd (let no : ⊥ = cc is in no)
+import_refused_at cpus (Err refusal) why is =
+    let same : status.Import refusal.line refusal.cause ≡ why = cc is in
+    (refusal, refl, ap refused_line (sym same))
+
+-- no file of rules is read before it
+pub import_stops : (name : List ℕ) (cpus : ℕ) (files : Option Files) (given given_now : ℕ) (found : ImportFault) (result : Status) → TextStops {A = Unit {0}} (import_of cpus) (told files name) given given_now (Err found)
+    → IsStatusOfImport found result → StopsAtRefusal (Import name cpus) files given given_now result
+import_stops name cpus files given given_now (fault.Refused line why) result stops is = subst (StopsAtRefusal (Import name cpus) files given given_now) (sym is) (omega (arith, stops))
+import_stops name cpus files given given_now fault.NoFile result stops is = subst (StopsAtRefusal (Import name cpus) files given given_now) (sym is) tt
+import_stops name cpus files given given_now fault.ReadFault result stops is =
+    subst (StopsAtRefusal (Import name cpus) files given given_now) (sym is) (λ bytes why known refuses.
+    let tells = subst (λ n. told files n ≡ Some bytes) (same_name (Import name cpus) ImportFile name known.0 refl known.1) known.2 in
+    let refused = import_refused_at cpus (import_of cpus bytes) why refuses in
+    let within = stops bytes refused.0 tells refused.1 in
+    fewer_read (refused_line why) (given_now - (given + rules_read (Import name cpus) files)) (given_now - given) bytes (omega arith) (omega (arith, within, refused.2)))
+import_stops name cpus files given given_now (fault.NoMemory none) result stops is = subst (StopsAtRefusal (Import name cpus) files given given_now) (sym is) tt

@@ -7,6 +7,7 @@ ghost use Rattle.psi_spec.specs.Trace.{AllFit, lines_of, text_of};
 ghost use Rattle.import_spec.specs.Import.{import_trace};
 ghost use Rattle.run_spec.specs.MostRead.{most_read};
 ghost use Rattle.run_spec.specs.Run.{Runs, run_counts};
+ghost use Rattle.run_spec.specs.Stops.{StopsAtRefusal};
 ghost use Rattle.run_spec.specs.LegalCommand.{IsWithin};
 ghost use Rattle.import_run.specs.Import.{IsStatusOfImport};
 ghost use Rattle.run_outcomes.specs.Writes.{WritesText};
@@ -122,6 +123,8 @@ pub fn run_import<S: Shelf, K: Sink>(
         (K.has out.old) (K.has out.new) result }
     ensures reads { S.given shelf.new
         ≤ S.given shelf.old + most_read (Command.Import name.now cpus) }
+    ensures stops { StopsAtRefusal (Command.Import name.now cpus) (S.holds shelf.old)
+        (S.given shelf.old) (S.given shelf.new) result }
     ensures below { StaysOver (K.below out.old) (K.below out.new) }
 {
     match read_import(alloc, shelf, name, cpus) {

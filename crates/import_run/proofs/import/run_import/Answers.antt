@@ -2,8 +2,9 @@ use Rattle.std.proofs.Common.{refl, []}
 use Rattle.psi_spec.specs.Trace.{text_of}
 use Rattle.import_spec.specs.Import.{import_trace}
 use Rattle.run_spec.specs.declared.command.Command.TheVariants.{Import}
-use Rattle.import_run.proofs.ImportLaws.{not_imported, takes_import}
+use Rattle.import_run.proofs.ImportLaws.{import_stops, not_imported, takes_import}
 use Rattle.run_outcomes.proofs.RunLaws.{none_given, runs_written}
+use Rattle.run_outcomes.proofs.RunStops.{written_stops}
 use Rattle.import_run.proofs.import.run_import.Goals as goal
 
 pub returns-in-Ok-clause-runs : goal.returns-in-Ok-clause-runs
@@ -21,3 +22,9 @@ pub returns-in-Err-clause-runs : goal.returns-in-Err-clause-runs
 returns-in-Err-clause-runs g c =
     not_imported c.args.name.now c.args.cpus (g.S.Shelf.holds c.args.shelf.now) _ _ _ c.in-Err.fault c.import_status.result
     c.in-Err.ensures.content c.in-Err.ensures.missing c.in-Err.ensures.missed c.in-Err.ensures.cause refl c.import_status.ensures
+
+pub returns-in-Ok-clause-stops : goal.returns-in-Ok-clause-stops
+returns-in-Ok-clause-stops g c = written_stops (Import c.args.name.now c.args.cpus) (g.S.Shelf.holds c.args.shelf.now) _ _ _ _ _ _ _ c.write_imported.result c.write_imported.ensures.writes
+
+pub returns-in-Err-clause-stops : goal.returns-in-Err-clause-stops
+returns-in-Err-clause-stops g c = import_stops c.args.name.now c.args.cpus (g.S.Shelf.holds c.args.shelf.now) _ _ c.in-Err.fault c.import_status.result c.in-Err.ensures.stops c.import_status.ensures
