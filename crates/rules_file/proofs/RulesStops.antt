@@ -3,11 +3,9 @@ use Rattle.std.proofs.Common.{◌≡◌, ℕ, ◌+◌, ◌≤◌, List, length, 
 use Rattle.std.specs.Prelude.{MatchResult, Result, ⊤}
 use Rattle.outside.specs.Outside.{Files, ShelfCounts, told}
 use Rattle.ruleset_json.specs.declared.types.Rules.{Rules}
-use Rattle.run_spec.specs.declared.command.Command.{Command}
 use Rattle.run_spec.specs.declared.status.Status.{Status}
 use Rattle.run_spec.specs.declared.status.Status.TheVariants as status
 use Rattle.run_spec.specs.MostRead.{most_of_rules}
-use Rattle.run_spec.specs.Outputs.{drop_in_name, rules_name}
 use Rattle.run_spec.specs.Stops.{length_or, read_of_rules}
 use Rattle.rules_file.specs.Files.{BaseFails, OverFails, OverGiven, StopsRun}
 use Rattle.run_outcomes.proofs.RunStops.{rules_stop}
