@@ -3,6 +3,7 @@ ghost use Rattle.std.specs.Prelude.{◌≡◌, ◌+◌, ◌≤◌, None, IfSome,
 ghost use Rattle.outside.specs.Outside.{StaysOver};
 ghost use Rattle.run_spec.specs.MostRead.{most_read};
 ghost use Rattle.run_spec.specs.Run.{Runs, run_counts};
+ghost use Rattle.run_spec.specs.Stops.{StopsAtRefusal};
 ghost use Rattle.run_spec.specs.LegalCommand.{IsCommand, IsWithin};
 ghost use Rattle.psi_words.specs.Reads.{HasTextNames};
 ghost use Rattle.run_outcomes.specs.Writes.{IsStatusOf};
@@ -59,6 +60,8 @@ fn run_stall<R: Threads + Sync, S: Shelf, K: Sink>(
         (run_counts (S.faults shelf.new) (S.absent shelf.new) (K.faults out.new))
         (K.has out.old) (K.has out.new) result }
     ensures reads { S.given shelf.new ≤ S.given shelf.old + most_read (Command.Stall name.now) }
+    ensures stops { StopsAtRefusal (Command.Stall name.now) (S.holds shelf.old)
+        (S.given shelf.old) (S.given shelf.new) result }
     ensures below { StaysOver (K.below out.old) (K.below out.new) }
 {
     match play_trace::<S, Planner>(alloc, name, shelf, TICK) {
@@ -83,6 +86,8 @@ fn run_check<S: Shelf, K: Sink>(
         (K.has out.old) (K.has out.new) result }
     ensures reads { S.given shelf.new
         ≤ S.given shelf.old + most_read (Command.Check name.now tick_ms) }
+    ensures stops { StopsAtRefusal (Command.Check name.now tick_ms) (S.holds shelf.old)
+        (S.given shelf.old) (S.given shelf.new) result }
     ensures below { StaysOver (K.below out.old) (K.below out.new) }
 {
     let tick = Ns::from(tick_ms) * MILLISECOND;
@@ -118,6 +123,8 @@ fn run_replay<R: Threads + Sync, S: Shelf, K: Sink, G: Gate>(
         (K.has out.old) (K.has out.new) result }
     ensures reads { S.given shelf.new
         ≤ S.given shelf.old + most_read (Command.Replay name.now options.now) }
+    ensures stops { StopsAtRefusal (Command.Replay name.now options.now) (S.holds shelf.old)
+        (S.given shelf.old) (S.given shelf.new) result }
     ensures below { StaysOver (K.below out.old) (K.below out.new) }
 {
     let rules = match read_rules(alloc, options, shelf) {
@@ -150,6 +157,8 @@ pub(crate) fn run_command<R: Threads + Sync, S: Shelf, K: Sink, G: Gate>(
         (run_counts (S.faults shelf.new) (S.absent shelf.new) (K.faults out.new))
         (K.has out.old) (K.has out.new) result }
     ensures reads { S.given shelf.new ≤ S.given shelf.old + most_read command.now }
+    ensures stops { StopsAtRefusal command.now (S.holds shelf.old)
+        (S.given shelf.old) (S.given shelf.new) result }
     ensures below { StaysOver (K.below out.old) (K.below out.new) }
 {
     match command {

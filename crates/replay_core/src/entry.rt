@@ -15,6 +15,7 @@ ghost use Rattle.run_spec.specs.MostRead.{most_read};
 ghost use Rattle.run_spec.specs.Replay.{IsReplayText, replay_text, with_rules};
 ghost use Rattle.run_spec.specs.Whatif.{last_trace};
 ghost use Rattle.run_spec.specs.Run.{FailuresAreCounted, IsTold, ReadsFiles, RulesTold, Runs, run_counts};
+ghost use Rattle.run_spec.specs.Stops.{StopsAtRefusal};
 ghost use Rattle.run_spec.specs.declared.status.Which.TheVariants.{DropInFile, ImportFile, RulesFile, TraceFile};
 ghost use Rattle.dropin_rules.specs.RulesText.{rules_text};
 ghost use Rattle.dropin_rules.specs.declared.fault.DropFault.{DropFault};
@@ -51,6 +52,8 @@ fn run_buffered<R: Threads + Sync, S: Shelf, K: Sink, G: Gate>(
         (run_counts (S.faults shelf.new) (S.absent shelf.new) (K.faults out.new))
         (K.has out.old) (K.has out.new) result }
     ensures reads { S.given shelf.new ≤ S.given shelf.old + most_read command.now }
+    ensures stops { StopsAtRefusal command.now (S.holds shelf.old)
+        (S.given shelf.old) (S.given shelf.new) result }
 {
     let mut pending = match Pending::new(alloc) {
         Ok(pending) => pending,
@@ -233,6 +236,14 @@ pub fn run<R: Threads + Sync, S: Shelf, K: Sink, N: Sink, G: Gate>(
         S.given shelf.new ≤ S.given shelf.old + most_read command }
     ensures unread { command_of (map string_bytes words.now) ≡ None →
         S.given shelf.new ≡ S.given shelf.old }
+
+    // Reading stops at the first refused line of a trace, or of a text of ftrace. Where that is the
+    // answer, no more was read than files of rules and what is held behind the lines before it. A
+    // failed read is the answer only where that line wasn't read in whole.
+    ensures stops { (command : Command) →
+        command_of (map string_bytes words.now) ≡ Some command →
+        StopsAtRefusal command (S.holds shelf.old) (S.given shelf.old) (S.given shelf.new)
+        result }
 
     // Nothing is written but by Done and WriteFault.
     ensures quiet { result ≢ Status.Done → result ≢ Status.WriteFault →

@@ -6,6 +6,7 @@ ghost use Rattle.ruleset_json.specs.RuleRanges.{FitsRules};
 ghost use Rattle.run_spec.specs.Outputs.{pace_of};
 ghost use Rattle.run_spec.specs.MostRead.{most_read};
 ghost use Rattle.run_spec.specs.Run.{Runs, run_counts};
+ghost use Rattle.run_spec.specs.Stops.{StopsAtRefusal};
 ghost use Rattle.whatif_rounds.specs.Rounds.{IsTraceAt, MayReplay, trace_from};
 ghost use Rattle.run_outcomes.specs.Writes.{IsStatusOfRounds, WritesLast};
 
@@ -82,6 +83,8 @@ pub(crate) fn run_whatif<R: Threads + Sync, S: Shelf, K: Sink, G: Gate>(
         (K.has out.old) (K.has out.new) result }
     ensures reads { S.given shelf.new
         ≤ S.given shelf.old + most_read (Command.Whatif name.now options.now) }
+    ensures stops { StopsAtRefusal (Command.Whatif name.now options.now) (S.holds shelf.old)
+        (S.given shelf.old) (S.given shelf.new) result }
     ensures below { StaysOver (K.below out.old) (K.below out.new) }
 {
     let Some(rules_name) = &options.rules else {

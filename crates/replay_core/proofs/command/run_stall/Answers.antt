@@ -1,9 +1,11 @@
-use Rattle.std.proofs.Common.{refl, []}
+use Rattle.std.proofs.Common.{arith, refl, []}
+use Rattle.run_spec.specs.Outputs.{tick_length}
 use Rattle.run_spec.specs.Text.{stall_text}
 use Rattle.run_spec.specs.declared.command.Command.TheVariants.{Stall}
 use Rattle.psi_spec.specs.Header.{version_of}
 use Rattle.trace_file.specs.Reads.{trace_with}
 use Rattle.run_outcomes.proofs.RunLaws.{none_given, runs_refused, runs_written, takes_any}
+use Rattle.run_outcomes.proofs.RunStops.{trace_stops, written_stops}
 use Rattle.replay_core.proofs.command.run_stall.Goals as goal
 
 pub returns-in-Ok-clause-runs : goal.returns-in-Ok-clause-runs
@@ -22,3 +24,13 @@ returns-in-Err-clause-runs g c =
     let files = g.S.Shelf.holds c.args.shelf.now in
     runs_refused (Stall c.args.name.now) c.args.name.now files _ _ _ [] c.in-Err.fault c.fault_status.result (λ bytes. refl) refl (none_given files)
     c.in-Err.ensures.content c.in-Err.ensures.missing c.in-Err.ensures.missed c.in-Err.ensures.cause refl c.fault_status.ensures.status
+
+pub returns-in-Ok-clause-stops : goal.returns-in-Ok-clause-stops
+returns-in-Ok-clause-stops g c =
+    let read = c.in-Ok.ensures.content in
+    written_stops (Stall c.args.name.now) (g.S.Shelf.holds c.args.shelf.now) _ _ _ _ _ _ _ c.write_stalls.result (c.write_stalls.ensures.writes _ read.events read.played)
+
+pub returns-in-Err-clause-stops : goal.returns-in-Err-clause-stops
+returns-in-Err-clause-stops g c =
+    trace_stops (Stall c.args.name.now) c.args.name.now (tick_length (Stall c.args.name.now)) (g.S.Shelf.holds c.args.shelf.now) (g.S.Shelf.given c.args.shelf.now) (g.S.Shelf.given c.args.shelf.now) _ c.in-Err.fault c.fault_status.result (λ bytes. refl) refl refl (omega arith)
+    c.in-Err.ensures.stops c.fault_status.ensures.status

@@ -80,5 +80,10 @@ returns-in-Ok-clause-reads g c = λ command is.
     let same : c.in-Ok.command ≡ command = cc (c.in-Ok.ensures.exact, is) in
     rw (← same) c.run_buffered-status.ensures.reads
 
+pub returns-in-Ok-clause-stops : goal.returns-in-Ok-clause-stops
+returns-in-Ok-clause-stops g c = λ command is.
+    let same : c.in-Ok.command ≡ command = cc (c.in-Ok.ensures.exact, is) in
+    rw (← same) c.run_buffered-status.ensures.stops
+
 pub returns-in-Ok-clause-note_front : goal.returns-in-Ok-clause-note_front
 returns-in-Ok-clause-note_front g c = rw c.in-Ok.ensures.exact (front_of_puts _ _ _ _ c.put_status.ensures.bytes)

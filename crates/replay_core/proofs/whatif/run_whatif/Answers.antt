@@ -1,11 +1,15 @@
-use Rattle.std.proofs.Common.{Some, refl, sym, ap, ◌∙◌, subst}
+use Rattle.std.proofs.Common.{Err, Some, arith, refl, sym, ap, ◌∙◌, subst}
+use Rattle.outside.specs.Outside.{told}
+use Rattle.psi_spec.specs.Grammar.{versions}
 use Rattle.psi_spec.specs.Header.{version_of}
-use Rattle.psi_spec.specs.Trace.{limits_of}
+use Rattle.psi_spec.specs.Trace.{accepts_with, limits_of}
 use Rattle.run_spec.specs.Outputs.{of_ms, pace_of}
+use Rattle.run_spec.specs.Stops.{read_of_rules}
 use Rattle.run_spec.specs.declared.command.Command.TheVariants.{Whatif}
-use Rattle.trace_file.specs.Reads.{trace_with}
+use Rattle.trace_file.specs.Reads.{StopsAtRefusal, trace_with}
 use Rattle.run_outcomes.specs.Rules.{RulesGiven}
 use Rattle.run_outcomes.proofs.RunLaws.{runs_supposed, takes_any}
+use Rattle.run_outcomes.proofs.RunStops.{supposed_stops, trace_stops}
 use Rattle.replay_core.proofs.WhatifLaws.{kept_accepted, kept_written}
 use Rattle.replay_core.proofs.whatif.run_whatif.Goals as goal
 
@@ -34,3 +38,24 @@ returns-in-Ok-play_trace-clause-runs g c =
 
 pub returns-in-Err-clause-runs : goal.returns-in-Err-clause-runs
 returns-in-Err-clause-runs g c = c.in-Err.ensures.answer (Whatif c.args.name.now c.args.options.now) _ _ (c.in-Some.is ∙ ap (λ n. Some n) (sym c.name_of.ensures)) refl
+
+pub returns-in-Ok-play_trace-clause-stops : goal.returns-in-Ok-play_trace-clause-stops
+returns-in-Ok-play_trace-clause-stops g c =
+    supposed_stops (Whatif c.args.name.now c.args.options.now) (g.S.Shelf.holds c.args.shelf.now) _ _ _ _ _ _ _ _ _ c.write_whatif.result c.write_whatif.ensures.writes
+
+pub returns-in-Err-clause-stops : goal.returns-in-Err-clause-stops
+returns-in-Err-clause-stops g c = c.in-Err.ensures.stops (Whatif c.args.name.now c.args.options.now) (c.in-Some.is ∙ ap (λ n. Some n) (sym c.name_of.ensures)) refl
+
+pub returns-in-Err-play_trace-clause-stops : goal.returns-in-Err-play_trace-clause-stops
+returns-in-Err-play_trace-clause-stops g c =
+    let name = c.args.name.now in
+    let files = g.S.Shelf.holds c.args.shelf.now in
+    let tick = of_ms c.from-tick.result in
+    let given = g.S.Shelf.given c.args.shelf.now in
+    let middle = g.S.Shelf.given c.read_joined.new.shelf in
+    let now = g.S.Shelf.given c.play_trace.new.shelf in
+    let found = c.in-Err-play_trace.fault in
+    let same = ap (λ n. accepts_with versions (of_ms n)) (sym c.from-tick.ensures) in
+    let base = ap (read_of_rules files) (c.in-Some.is ∙ ap (λ n. Some n) (sym c.name_of.ensures)) in
+    let stops = subst (λ held. StopsAtRefusal {A = Unit {0}} tick (told held name) middle now (Err found)) c.in-Ok.ensures.kept c.in-Err-play_trace.ensures.stops in
+    trace_stops (Whatif name c.args.options.now) name tick files given middle now found c.fault_status.result (λ bytes. refl) refl same (omega (arith, base, c.in-Ok.ensures.within)) stops c.fault_status.ensures.status
