@@ -11,14 +11,14 @@ use Rattle.psi_spec.specs.Within.{last_moment}
 use Rattle.plan_laws.proofs.PlanStates.{legal_after}
 use Rattle.proc_plan.specs.Plans.{PlansView}
 use Rattle.run_spec.specs.Run.{RisesWhere, RunCounts}
-use Rattle.trace_file.specs.Reads.{CausesTraceFault, PlansRead, RefusalOf, TellsNothing}
+use Rattle.trace_file.specs.Reads.{CausesTraceFault, PlansRead, RefusalOf, StopsAtRefusal, TellsNothing}
 use Rattle.trace_file.specs.declared.trace.TraceFault.{TraceFault}
 use Rattle.trace_file.specs.declared.trace.TraceFault.TheVariants as fault
 use Rattle.run_outcomes.proofs.RunLaws.{keeps_same, stays}
 use Rattle.observe_spec.specs.declared.status.ObserveStatus.{ObserveStatus}
 use Rattle.observe_spec.specs.declared.status.ObserveStatus.TheVariants as status
 use Rattle.observe_spec.specs.Observed.{IsObservedText}
-use Rattle.observe_spec.specs.Run.{ObservingEnds, ObserverFailuresAreCounted, Observes, TakesAskedTrace, accepts, most_samples, pace_on, samples_asked, observed_tick_length}
+use Rattle.observe_spec.specs.Run.{ObservingEnds, ObserverFailuresAreCounted, Observes, StopsObserving, TakesAskedTrace, accepts, most_samples, pace_on, samples_asked, observed_tick_length}
 use Rattle.observe_spec.specs.Words.{Request}
 use Rattle.observe_core.specs.Results.{IsPlannedFor, IsStatusOf, WritesObserved}
 
@@ -128,6 +128,27 @@ runs_refused request files before now had (fault.NoMemory _) result refused lack
       ends = keeps_same had;
       counts = counts_same before now (status.NoMemory no_memory) (causes.faults_same (λ e. cc e)) (causes.absent_same (λ e. cc e)) (λ e. cc e) (λ e. cc e) (stays _ before.writes now.writes (λ e. cc e) writes);
     })
+
+-- ---- where reading stops
+
+-- where a trace was observed, no line was refused, and no read failed
+pub observed_stops : (request : Request) (files : Option Files) (given given_now : ℕ) (trace : Trace) (before now : ℕ) (had has : Option (List ℕ)) (result : ObserveStatus) → WritesObserved request trace before now had has result → StopsObserving request files given given_now result
+observed_stops request files given given_now trace before now had has status.Done wrote = tt
+observed_stops request files given given_now trace before now had has status.WriteFault wrote = tt
+observed_stops request files given given_now trace before now had has (status.TooManySamples samples) wrote = tt
+observed_stops request files given given_now trace before now had has (status.NoMemory _) wrote = tt
+observed_stops request files given given_now trace before now had has status.Usage wrote = tt
+observed_stops request files given given_now trace before now had has status.NoFile wrote = tt
+observed_stops request files given given_now trace before now had has status.ReadFault wrote = absurd wrote.1.2
+observed_stops request files given given_now trace before now had has (status.Trace line why) wrote = absurd wrote.1.2
+
+-- and where it couldn't be read, it stops where reading it does
+pub refused_stops : (request : Request) (files : Option Files) (given given_now : ℕ) (found : TraceFault) (result : ObserveStatus) → StopsAtRefusal {A = Unit {0}} observed_tick_length (told files request.trace) given given_now (Err found)
+    → IsStatusOf found result → StopsObserving request files given given_now result
+refused_stops request files given given_now (fault.Refused refusal) result stops is = subst (StopsObserving request files given given_now) (sym is) (omega (arith, stops))
+refused_stops request files given given_now fault.NoFile result stops is = subst (StopsObserving request files given given_now) (sym is) tt
+refused_stops request files given given_now fault.ReadFault result stops is = subst (StopsObserving request files given given_now) (sym is) (λ bytes refusal tells refuses. stops bytes refusal tells refuses)
+refused_stops request files given given_now (fault.NoMemory _) result stops is = subst (StopsObserving request files given given_now) (sym is) tt
 
 -- nothing was done, for want of memory
 pub runs_lacking : (request : Request) (files : Option Files) (counts : RunCounts) (had : Option (List ℕ)) → Observes request files counts counts had had (status.NoMemory no_memory)

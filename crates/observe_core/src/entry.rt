@@ -9,7 +9,7 @@ ghost use Rattle.run_spec.specs.MostRead.{most_of_trace};
 ghost use Rattle.run_spec.specs.Run.{run_counts};
 ghost use Rattle.observe_spec.specs.declared.status.ObserveStatus.{ObserveStatus};
 ghost use Rattle.observe_spec.specs.Observed.{IsObservedText};
-ghost use Rattle.observe_spec.specs.Run.{ObserverFailuresAreCounted, Observes, accepts, most_samples, pace_on, samples_asked};
+ghost use Rattle.observe_spec.specs.Run.{ObserverFailuresAreCounted, Observes, StopsObserving, accepts, most_samples, pace_on, samples_asked};
 ghost use Rattle.observe_spec.specs.Status.{observe_status_text};
 ghost use Rattle.observe_spec.specs.Words.{Request, request_of};
 
@@ -105,6 +105,14 @@ pub fn observe<R: Threads + Wait + Sync, S: Shelf, K: Sink, N: Sink, G: Gate>(
     ensures reads { S.given shelf.new ≤ S.given shelf.old + most_of_trace }
     ensures unread { request_of (map string_bytes words.now) ≡ None →
         S.given shelf.new ≡ S.given shelf.old }
+
+    // Reading stops at the first refused line of the trace. Where that is the answer, no more was
+    // read than what is held behind the lines before it. A failed read is the answer only where
+    // that line wasn't read in whole.
+    ensures stops { (request : Request) →
+        request_of (map string_bytes words.now) ≡ Some request →
+        StopsObserving request (S.holds shelf.old) (S.given shelf.old) (S.given shelf.new)
+        result }
 
     // Nothing is written but by Done and WriteFault.
     ensures quiet { result ≢ ObserveStatus.Done → result ≢ ObserveStatus.WriteFault →

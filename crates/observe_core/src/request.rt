@@ -7,7 +7,7 @@ ghost use Rattle.psi_spec.specs.Within.{last_moment};
 ghost use Rattle.run_spec.specs.MostRead.{most_of_trace};
 ghost use Rattle.run_spec.specs.Run.{run_counts};
 ghost use Rattle.run_spec.specs.LegalCommand.{IsWithin};
-ghost use Rattle.observe_spec.specs.Run.{Observes};
+ghost use Rattle.observe_spec.specs.Run.{Observes, StopsObserving};
 ghost use Rattle.observe_core.specs.Asked.{request_in};
 ghost use Rattle.observe_core.specs.Printed.{printed};
 ghost use Rattle.observe_core.specs.Results.{IsPlannedFor, IsStatusOf, WritesObserved, WritesText};
@@ -147,6 +147,8 @@ pub(crate) fn run_request<R: Threads + Wait + Sync, S: Shelf, K: Sink, G: Gate>(
         (run_counts (S.faults shelf.new) (S.absent shelf.new) (K.faults out.new))
         (K.has out.old) (K.has out.new) result }
     ensures reads { S.given shelf.new ≤ S.given shelf.old + most_of_trace }
+    ensures stops { StopsObserving (request_in request.now) (S.holds shelf.old)
+        (S.given shelf.old) (S.given shelf.new) result }
 {
     match read_plans(alloc, request.trace, shelf, TICK) {
         Ok((version, plans)) => write_observed(rt, alloc, version, &plans, request, out, gate),
