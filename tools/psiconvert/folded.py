@@ -11,6 +11,7 @@ import tempfile
 from bisect import bisect_left
 from collections import Counter
 from collections.abc import Callable, Iterable, Iterator
+from dataclasses import dataclass
 from operator import itemgetter
 from typing import NamedTuple
 
@@ -80,15 +81,23 @@ class Spool:
 # ---------------------------------------------------------------- slices
 
 
-class Slice(NamedTuple):
+@dataclass
+class Slice:
     """Events that follow one another, with the switches among them that weren't written, and those of the next slice."""
 
     events: list[Event]
     following: list[Event]
 
+    def __post_init__(self) -> None:
+        self.kinds = {*map(type, self.events), *map(type, self.following)}
+
     def both(self) -> list[Event]:
         """As far as is looked ahead."""
         return [*self.events, *self.following]
+
+    def has(self, *kinds: type) -> bool:
+        """Whether some event, as far as is looked ahead, is of one of these kinds."""
+        return not self.kinds.isdisjoint(kinds)
 
 
 class Mender:
@@ -114,15 +123,10 @@ class Mender:
 
     def mended(self, events: list[Event], before: list[Event] | None) -> tuple[list[Event], list[Event]]:
         """The events of a slice with what is missing among them, and what is missing before its first one."""
-        chains, whole, count = self.chains, list[Event](), len(self.moments)
-        for event in events:
-            for missing in chains.missing(event):
-                self.moments.append(missing.moment)
-                whole.append(missing)
-            chains.take(event)
-            whole.append(event)
-        if count == len(self.moments):
+        whole, moments = self.chains.mended(events)
+        if not moments:
             return events, []
+        self.moments += moments
         whole.sort(key=MOMENT)
         first = bisect_left(whole, events[0].moment, key=MOMENT) if before else 0
         return whole[first:], whole[:first]
@@ -155,24 +159,26 @@ class Conversion:
             return by_state(part.events)
         if self.wanted.method is Method.PROBE:
             known = {place for place, event in enumerate(part.events) if type(event) is WaitingSwitch}
-            return known | by_probe(part.events, self.probes)
+            return known | by_probe(part.events, self.probes) if self.probes or part.has(SwitchProbe) else known
         return {place for place in by_statistics(part.both()) if place < len(part.events)}
 
     def tell(self, player: Player, part: Slice, waits: set[int]) -> None:
         """Lets the player know what is to be known of a slice: waits, accounts, and numbers that change."""
         player.waits = waits
-        markers = ((place, event) for place, event in enumerate(part.events) if type(event) is Marker)
-        player.accounts = {place: self.accounts[event] for place, event in markers if event in self.accounts}
+        player.accounts.clear()
         player.changes.clear()
-        for place, event in enumerate(part.both()):
-            if type(event) is Exec and event.task != event.old:
+        for place, event in enumerate(part.both() if part.has(Marker, Exec) else ()):
+            if type(event) is Marker and event in self.accounts and place < len(part.events):
+                player.accounts[place] = self.accounts[event]
+            elif type(event) is Exec and event.task != event.old:
                 player.changes[event.task].append((place, event.old))
         for task, count in self.early.items():
             del player.changes[task][:count]
 
     def note_early(self, player: Player, part: Slice) -> None:
         """Counts the changes of numbers in the next slice that were noticed in this one already."""
-        told = Counter(event.task for event in part.following if type(event) is Exec and event.task != event.old)
+        following = part.following if part.has(Exec) else ()
+        told = Counter(event.task for event in following if type(event) is Exec and event.task != event.old)
         left = {task: sum(place >= len(part.events) for place, _ in player.changes.get(task, ())) for task in told}
         self.early = Counter({task: count - left[task] for task, count in told.items() if count > left[task]})
 

@@ -91,10 +91,9 @@ class Player:
     def is_there(self, number: int, place: int, fits: Callable[[Task], bool]) -> bool:
         """Whether the trace has the task. A number that an exec is about to change is changed where an event fits the thread
         alone that takes it over."""
-        changes = self.changes.get(number)
+        changes, tasks = self.changes.get(number), self.world.tasks
         while changes and changes[0][0] < place:
             changes.pop(0)
-        tasks = self.world.tasks
         if changes and changes[0][1] in tasks:
             first, thread = tasks.get(number), tasks[changes[0][1]]
             if first is None or (not fits(first) and fits(thread)):
@@ -117,15 +116,23 @@ class Player:
 
     def switch(self, place: int, event: Switch) -> None:
         """One task leaves, and another runs."""
-        self.leaver(place, event)
-        self.follower(place, event)
-        world, processor = self.world, event.processor
-        if world.running(processor) == event.next:
+        world, (_, processor, _, previous, _, number) = self.world, event
+        runs = world.runs.get(processor, 0)
+        if runs != previous or not self.is_ready(number, processor):
+            self.leaver(place, event)
+            self.follower(place, event)
+            runs = world.runs.get(processor, 0)
+        if runs == number:
             return
-        if world.running(processor):
-            world.leave(processor, self.how(place, event), event.next)
+        if runs:
+            world.leave(processor, self.how(place, event), number)
         else:
-            world.run(event.next, processor)
+            world.run(number, processor)
+
+    def is_ready(self, number: int, processor: int) -> bool:
+        """Whether the one that is to run is known to be ready there, as it is mostly, or nobody is to run."""
+        task = self.world.tasks.get(number)
+        return not number or (task is not None and task.is_on(processor, State.READY) and number not in self.changes)
 
     def how(self, place: int, event: Switch) -> How:
         """How the task leaves. One that stays ready doesn't wait, though its mark may say so."""
@@ -172,11 +179,12 @@ class Player:
 
     def wake(self, place: int, event: Wakeup) -> None:
         """A task that slept is ready. One that is woken before it slept goes on."""
-        if not self.is_there(event.task, place, Task.is_blocked):
-            self.world.fork(event.task, ROOT, event.target, event.task)
+        _, _, _, number, target = event
+        if not self.is_there(number, place, Task.is_blocked):
+            self.world.fork(number, ROOT, target, number)
             self.mended["task first met when it was woken"] += 1
-        elif self.world.tasks[event.task].is_blocked():
-            self.world.ready(event.task, event.target)
+        elif self.world.tasks[number].is_blocked():
+            self.world.ready(number, target)
 
     def migrate(self, event: Migration) -> None:
         """A ready task goes to another processor. Of one that waits for IO the kernel ends the wait there, and not at the

@@ -9,7 +9,6 @@ from __future__ import annotations
 
 from collections.abc import Iterator, Sequence
 from operator import itemgetter
-from typing import NamedTuple
 
 from psiread.events import Event, Exec, FirstWakeup, Gap, Migration, Switch, Wakeup
 from psiread.window import Window, overlapping
@@ -18,13 +17,6 @@ from psiread.window import Window, overlapping
 UNWRITTEN = "switch that wasn't written, put where the task that left was seen last"
 # The letters of tasks that leave and stay ready, and of those that sleep.
 STAYS, SLEEPS = "R", "S"
-
-
-class Ready(NamedTuple):
-    """On which processor a task waits to run, and since when that is known (ns)."""
-
-    processor: int
-    moment: int
 
 
 def renamed(events: Sequence[Event]) -> set[tuple[int, int]]:
@@ -48,23 +40,38 @@ class Chains:
         self.running: dict[int, int] = {}
         # When each processor's last event was, in ns.
         self.moments: dict[int, int] = {}
-        self.ready: dict[int, Ready] = {}
+        # On which processor each task waits to run, and since when that is known (ns).
+        self.ready: dict[int, tuple[int, int]] = {}
 
-    def missing(self, event: Event) -> list[Switch]:
-        """The switches that must have been on the event's processor before it, and weren't written."""
-        processor = event.processor
-        runs = event.previous if isinstance(event, Switch) else event.current
-        known = self.running.get(processor, runs)
-        self.running[processor] = runs
-        if known == runs or (known, runs) in self.renamed or self.is_gap(event):
+    def mended(self, events: Iterable[Event]) -> tuple[list[Event], list[int]]:
+        """The next events with the switches among them that weren't written, each before the event that shows it, and the moments of
+        these switches."""
+        whole: list[Event] = []
+        moments: list[int] = []
+        running = self.running
+        for event in events:
+            processor, runs = event[1], event[3] if isinstance(event, Switch) else event[2]
+            if running.get(processor, runs) != runs:
+                missing = self.missing(event, running[processor], runs)
+                moments += (it.moment for it in missing)
+                whole += missing
+            running[processor] = runs
+            self.take(event)
+            whole.append(event)
+        return whole, moments
+
+    def missing(self, event: Event, known: int, runs: int) -> list[Switch]:
+        """The switches that must have been on the event's processor before it, and weren't written: from who was known to run there to
+        who does."""
+        if (known, runs) in self.renamed or self.is_gap(event):
             return []
         follows = [runs] if runs in self.ready or not runs else []
-        return list(self.switches(processor, [known, *self.waiting(processor, {known, runs}), *follows]))
+        return list(self.switches(event.processor, [known, *self.waiting(event.processor, {known, runs}), *follows]))
 
     def waiting(self, processor: int, others: set[int]) -> list[int]:
         """Tasks that write no switch and were ready there, the first first: whoever follows them, they ran before it."""
-        waiting = [it for it in self.silent - others if it in self.ready and self.ready[it].processor == processor]
-        return sorted(waiting, key=lambda it: self.ready[it].moment)
+        waiting = [it for it in self.silent - others if it in self.ready and self.ready[it][0] == processor]
+        return sorted(waiting, key=lambda it: self.ready[it][1])
 
     def is_gap(self, event: Event) -> bool:
         """Whether events of the processor were lost right before this one."""
@@ -76,33 +83,27 @@ class Chains:
         moment = self.moments[processor]
         for previous, following in zip(route, route[1:]):
             self.ready.pop(previous, None)
-            moment = max(moment, self.ready.pop(following).moment if following else 0)
+            moment = max(moment, self.ready.pop(following)[1] if following else 0)
             yield Switch(moment, processor, previous, previous, SLEEPS if previous else STAYS, following)
 
     def take(self, event: Event) -> None:
         """Takes an event that was written."""
-        self.moments[event.processor] = event.moment
+        moment, processor = event[:2]
+        self.moments[processor] = moment
         if isinstance(event, Switch):
-            self.running[event.processor] = event.next
-            self.ready.pop(event.next, None)
-            self.ready.pop(event.previous, None)
-            if event.state == STAYS and event.previous:
-                self.ready[event.previous] = Ready(event.processor, event.moment)
+            _, _, _, previous, state, following = event
+            self.running[processor] = following
+            self.ready.pop(following, None)
+            self.ready.pop(previous, None)
+            if state == STAYS and previous:
+                self.ready[previous] = processor, moment
         elif isinstance(event, (Wakeup, FirstWakeup)) or (isinstance(event, Migration) and event.task in self.ready):
-            self.ready[event.task] = Ready(event.target, event.moment)
+            self.ready[event.task] = event.target, moment
 
 
 def with_unwritten(events: Sequence[Event], gaps: Sequence[Gap]) -> tuple[list[Event], list[int]]:
     """The events with the switches among them that weren't written, and the moments of these; not where events were lost, since
     then nothing is known of who ran meanwhile."""
-    chains = Chains(events, gaps)
-    whole: list[Event] = []
-    moments: list[int] = []
-    for event in events:
-        missing = chains.missing(event)
-        moments += (it.moment for it in missing)
-        whole += missing
-        chains.take(event)
-        whole.append(event)
+    whole, moments = Chains(events, gaps).mended(events)
     whole.sort(key=itemgetter(0))
     return whole, moments

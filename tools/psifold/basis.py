@@ -15,6 +15,7 @@ the inverse says when the numbers must be looked at, and fields are widened wher
 from __future__ import annotations
 
 from collections.abc import Sequence
+from operator import getitem
 from typing import NamedTuple
 
 from .world import bits_of
@@ -58,28 +59,26 @@ class Fields:
 
 
 class Units:
-    """Columns with a bit for each sum as packed ones. `used` has the bits that there are; the rows are theirs, in their order."""
+    """Columns with a bit for each sum as packed ones, byte by byte. `used` has the bits that there are; the rows are theirs, in their
+    order."""
 
     def __init__(self, used: int, fields: Fields) -> None:
-        self.used, self.fields = used, fields
-        self.rows = {bit: row for row, bit in enumerate(bits_of(used))}
-        self.size = (used.bit_length() + 7) // 8
-        # What a byte of a column stands for, by its place and value.
-        self.bytes: list[dict[int, int]] = [{} for _ in range(self.size)]
+        self.fields, self.size = fields, (used.bit_length() + 7) // 8
+        self.bytes = [ByteFields(value, fields.bits // 8) for value in used.to_bytes(self.size, "little")]
 
     def packed(self, column: int) -> int:
         """A column with a 1 in each row whose bit it has."""
-        packed = 0
-        for table, place, value in zip(self.bytes, range(self.size), column.to_bytes(self.size, "little")):
-            if value:
-                found = table.get(value)
-                packed += self.of_byte(place, value) if found is None else found
-        return packed
+        return int.from_bytes(b"".join(map(getitem, self.bytes, column.to_bytes(self.size, "little"))), "little")
 
-    def of_byte(self, place: int, value: int) -> int:
-        """What a byte at this place stands for."""
-        found = sum(1 << self.rows[8 * place + bit] * self.fields.bits for bit in bits_of(value))
-        self.bytes[place][value] = found
+
+class ByteFields(dict[int, bytes]):
+    """By the value of a byte the fields, of so many bytes each, of those of its bits that are used: 1 where the bit is set."""
+
+    def __init__(self, used: int, size: int) -> None:
+        self.places, self.size = list(bits_of(used)), size
+
+    def __missing__(self, value: int) -> bytes:
+        found = self[value] = b"".join((value >> place & 1).to_bytes(self.size, "little") for place in self.places)
         return found
 
 
@@ -96,26 +95,33 @@ class Basis:
         # No number of the inverse is greater.
         self.most = 1
 
-    def take_all(self, columns: Sequence[int], times: Sequence[int]) -> None:
-        """Takes joint states, whose numbers are their places: columns, packed into fields of FIELD_BITS, and times (ns)."""
+    def take_all(self, columns: Sequence[int], times: Sequence[int]) -> int:
+        """Takes joint states, whose numbers are their places: columns, packed into fields of FIELD_BITS, and times (ns). Answers the
+        sums of all, packed."""
+        total = 0
         for start in range(0, len(columns), TOGETHER):
             sums = [0]
             for column, time in zip(columns[start : start + TOGETHER], times[start : start + TOGETHER]):
                 sums.append(sums[-1] + time * column)
             self.take_some(start, columns, times, sums)
+            total += sums[-1]
+        return total
 
     def take_some(self, start: int, columns: Sequence[int], times: Sequence[int], sums: Sequence[int]) -> None:
-        """Takes the joint states from `start` on, whose sums are these: all, or where there is no room for all of them half as many."""
-        taken, wanted = 0, len(sums) - 1
-        while taken < len(sums) - 1:
+        """Takes the joint states from `start` on, whose sums are these: all, or where there is no room for all of them half as many.
+        Where there was none for all, there is none for the rest either when some were given; only a pivot changes that."""
+        end = wanted = len(sums) - 1
+        taken, is_full = 0, False
+        while taken < end:
             if wanted - taken > 1:
-                if self.give(sums[wanted] - sums[taken]):
-                    taken, wanted = wanted, len(sums) - 1
+                if not (is_full and wanted == end) and self.give(sums[wanted] - sums[taken]):
+                    taken, wanted = wanted, end
                 else:
+                    is_full = is_full or wanted == end
                     wanted = taken + (wanted - taken) // 2
             else:
-                self.take(start + taken, columns[start + taken], times[start + taken])
-                taken, wanted = taken + 1, min(taken + 3, len(sums) - 1)
+                is_full &= not self.take(start + taken, columns[start + taken], times[start + taken])
+                taken, wanted = taken + 1, min(taken + 3, end)
 
     def made_of(self, packed: int) -> int:
         """By how much of each joint state of the basis a column of sums is made, times the divisor; packed."""
@@ -134,8 +140,8 @@ class Basis:
         self.times = times
         return True
 
-    def take(self, number: int, column: int, time: int) -> None:
-        """Takes a joint state, by its number, its column and its time (ns)."""
+    def take(self, number: int, column: int, time: int) -> bool:
+        """Takes a joint state, by its number, its column and its time (ns); whether by a pivot."""
         parts = self.made_of(column)
         times, signs = self.times + time * parts, self.fields.signs
         if (parts + signs ^ signs) & self.free:
@@ -146,6 +152,8 @@ class Basis:
             self.pivot(first_at_zero(self.fields.numbers(self.times), self.fields.numbers(parts)), number, parts, time)
         else:
             self.times = times
+            return False
+        return True
 
     def pivot(self, row: int, number: int, parts: int, time: int) -> None:
         """A joint state, whose column is made of such parts and which has so much time (ns), takes the row in place of the one that

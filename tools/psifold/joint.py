@@ -28,7 +28,7 @@ class Kind(IntEnum):
 STALLED, WAY = 4, 3
 KINDS = len(Kind)
 # What a task does that left its processor by this word.
-LEFT_BY = {How.PREEMPT.value: int(Kind.READY), How.SLEEP.value: int(Kind.ASLEEP), How.WAIT.value: int(Kind.WAITING)}
+LEFT_BY = {How.PREEMPT.word: int(Kind.READY), How.SLEEP.word: int(Kind.ASLEEP), How.WAIT.word: int(Kind.WAITING)}
 # By which word a task leaves that is to do this.
 LEAVES_TO = {kind: word for word, kind in LEFT_BY.items()}
 

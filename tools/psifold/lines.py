@@ -55,7 +55,7 @@ class Move(NamedTuple):
 
     def how(self) -> str:
         """The word by which it leaves the processor."""
-        return How.EXIT.value if self.after is None else LEAVES_TO[Kind(self.after & WAY)]
+        return How.EXIT.word if self.after is None else LEAVES_TO[Kind(self.after & WAY)]
 
 
 def runs(kind: Kind | None) -> bool:
@@ -189,7 +189,7 @@ class Writer:
         turns = [it for it in moves if it.turns()]
         following = comes.task if comes else 0 if leaves else before
         if turns or following != before:
-            how = "idle" if not before else leaves.how() if leaves and leaves is not comes else How.PREEMPT.value
+            how = "idle" if not before else leaves.how() if leaves and leaves is not comes else How.PREEMPT.word
             words += self.chain(turns, following, how)
         if comes and comes is not leaves and comes.changes_stall():
             words.append(comes.stall())

@@ -42,10 +42,9 @@ def few_of(spent: dict[int, int], sums: Sums, left: Left) -> Few:
     units = Units(used, Fields(rows, FIELD_BITS))
     packed, times = [units.packed(column | sums.total) for column in order], [columns[column] for column in order]
     basis = Basis(rows, length)
-    basis.take_all(packed, times)
+    totals = units.fields.numbers(basis.take_all(packed, times))
     whole = whole_times(basis.shares(), basis.divisor, order, sums.sum_of, left)
     found = {sums.least(states[order[number]], order[number]): time for number, time in whole.items()}
-    totals = units.fields.numbers(sum(time * column for column, time in zip(packed, times)))
     had = {sums.sum_of(bit): time for bit, time in zip(bits_of(used), totals) if bit != sums.size}
     return Few(found, had, len(spent))
 

@@ -17,6 +17,9 @@ Decoder = Callable[[int, int, bytes, int, int], Event]
 
 CURRENT = "common_pid"
 
+# Makes an event of a kind, by all of its values: what the kind does itself, in a third of the time.
+made: Callable[[type, tuple[object, ...]], Event] = tuple.__new__
+
 # The events that are nothing but whole numbers: the fields behind the task in which they were written.
 NUMBERS: dict[str, tuple[type, tuple[str, ...]]] = {
     "sched_wakeup": (Wakeup, ("pid", "target_cpu")),
@@ -42,8 +45,7 @@ def number_decoder(kind: type, form: Format, names: tuple[str, ...]) -> Decoder:
     read = integers_of(form, (CURRENT, *names))
 
     def decode(moment: int, processor: int, data: bytes, start: int, end: int) -> Event:
-        event: Event = kind(moment, processor, *read(data, start))
-        return event
+        return made(kind, (moment, processor, *read(data, start)))
 
     return decode
 
@@ -62,7 +64,7 @@ def switch_decoder(form: Format) -> Decoder:
 
     def decode(moment: int, processor: int, data: bytes, start: int, end: int) -> Event:
         current, previous, state, following = read(data, start)
-        return Switch(moment, processor, current, previous, known.get(state) or letter_of(state), following)
+        return made(Switch, (moment, processor, current, previous, known.get(state) or letter_of(state), following))
 
     return decode
 

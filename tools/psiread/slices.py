@@ -19,7 +19,7 @@ from threading import Thread
 from psirec.layout import FORMATS, MARK, Probe, raw_name
 
 from .events import NEVER, Event, Gap, Marker, Switch, SwitchProbe
-from .formats import formats_of, sections_of
+from .formats import formats_of, integers_of, sections_of
 from .pages import Page, PageFault, page_at, records_of
 from .recording import Meta, gaps_behind, kernel_of, open_raw, text_of
 from .source import Source, Unreadable
@@ -46,8 +46,12 @@ class Records:
 
     def __init__(self, folder: str) -> None:
         self.kernel = kernel_of(folder)
-        numbers = {name: form.number for name, form in formats_of(sections_of(text_of(folder, FORMATS))).items()}
+        forms = formats_of(sections_of(text_of(folder, FORMATS)))
+        numbers = {name: form.number for name, form in forms.items()}
         self.switch, self.probe = numbers.get("sched_switch", -1), numbers.get(Probe.SWITCH, -1)
+        # Of a switch who leaves and who comes; of its probe the task, and whether it waits.
+        self.ends_of = integers_of(forms["sched_switch"], ("prev_pid", "next_pid")) if self.switch >= 0 else None
+        self.told_by = integers_of(forms[Probe.SWITCH], (Probe.PID, Probe.IO)) if self.probe >= 0 else None
         # Those of which a survey needs nothing.
         self.often = {numbers.get(name, -1) for name in OFTEN}
 
@@ -61,9 +65,8 @@ class Reader:
         self.form = records.kernel.page
         self.size = max(size // self.form.size, 1) * self.form.size
         self.rest, self.before, self.gaps = 0, 0, list[Gap]()
-        # What the probe told last whose switch is still to come: the task, and whether it waits; and how many probes there were.
-        self.told: SwitchProbe | None = None
-        self.probes = 0
+        # What the probe told last whose switch is still to come: the task, and whether it waits.
+        self.told: tuple[int, ...] | None = None
         try:
             self.file = open_raw(folder, processor)
         except OSError as fault:
@@ -98,24 +101,22 @@ class Reader:
     def decoded(self, data: bytes) -> list[Event]:
         """The events of these pages, but probes of switches."""
         events: list[Event] = []
-        processor, decoders, switch, probe = self.processor, self.records.kernel.decoders, self.records.switch, self.records.probe
+        add, processor, records, told, moment = events.append, self.processor, self.records, self.told, self.before
+        decoders, switch, probe, told_by = records.kernel.decoders, records.switch, records.probe, records.told_by
         for page in self.pages(data):
             for moment, start, end in records_of(data, page):
                 number = data[start] | data[start + 1] << 8
-                decoder = decoders.get(number)
-                if decoder:
-                    event = decoder(moment, processor, data, start, end)
-                    if number == switch:
-                        told, self.told = self.told, None
-                        if told is not None and told[4] and told[3] == event[3]:
-                            event = WaitingSwitch._make(event)
-                        events.append(event)
-                    elif number == probe:
-                        self.told = event
-                        self.probes += 1
-                    else:
-                        events.append(event)
-                self.before = moment
+                if number == probe:
+                    told = told_by(data, start)
+                elif number == switch:
+                    event = decoders[number](moment, processor, data, start, end)
+                    is_wait = told is not None and told[1] and told[0] == event[3]
+                    add(WaitingSwitch._make(event) if is_wait else event)
+                    told = None
+                elif number in decoders:
+                    add(decoders[number](moment, processor, data, start, end))
+            self.before = moment
+        self.told = told
         return events
 
 
@@ -142,21 +143,22 @@ class Surveyed:
 
     def take(self, reader: Reader, data: bytes) -> None:
         """Takes the next pages. Of what is often the first is kept of each kind."""
-        records, processor, seen = reader.records, reader.processor, self.seen
-        decoders, switch, often = records.kernel.decoders, records.switch, records.often
-        last = None
+        records, processor, seen, leave, come = reader.records, reader.processor, self.seen, self.leaving.add, self.coming.add
+        decoders, switch, often, ends_of = records.kernel.decoders, records.switch, records.often, records.ends_of
+        last, moment = None, reader.before
         for page in reader.pages(data):
             for moment, start, end in records_of(data, page):
-                reader.before = moment
                 number = data[start] | data[start + 1] << 8
-                if number in decoders:
-                    last = moment, start, end
-                    if number == switch:
-                        event = decoders[number](moment, processor, data, start, end)
-                        self.leaving.add(event[3])
-                        self.coming.add(event[5])
-                    if number not in often or number not in seen:
-                        self.take_rare(decoders[number](moment, processor, data, start, end), number)
+                if number == switch:
+                    previous, following = ends_of(data, start)
+                    leave(previous)
+                    come(following)
+                if number not in often or number not in seen:
+                    if number not in decoders:
+                        continue
+                    self.take_rare(decoders[number](moment, processor, data, start, end), number)
+                last = moment, start, end
+            reader.before = moment
         if last:
             number = data[last[1]] | data[last[1] + 1] << 8
             self.last = decoders[number](last[0], processor, data, *last[1:])

@@ -26,15 +26,15 @@ class State(Enum):
 
 
 class How(Enum):
-    """The word for how a running task leaves."""
+    """How a running task leaves: the word for it, and what the task does then. One that exits is gone."""
 
-    PREEMPT = "preempt"
-    SLEEP = "sleep"
-    WAIT = "iowait"
-    EXIT = "exit"
+    PREEMPT = "preempt", State.READY
+    SLEEP = "sleep", State.ASLEEP
+    WAIT = "iowait", State.WAITING
+    EXIT = "exit", None
 
-
-AFTER = {How.PREEMPT: State.READY, How.SLEEP: State.ASLEEP, How.WAIT: State.WAITING}
+    def __init__(self, word: str, after: State | None) -> None:
+        self.word, self.after = word, after
 
 
 class Task:
@@ -188,10 +188,11 @@ class World:
 
     def run(self, number: int, processor: int, how: How = How.PREEMPT) -> None:
         """Makes the task run on the processor; who ran there leaves by `how`."""
-        if self.running(processor) == number:
+        before = self.running(processor)
+        if before == number:
             return
         self.ready(number, processor)
-        if self.running(processor):
+        if before:
             self.leave(processor, how, number)
         else:
             task = self.tasks[number]
@@ -205,15 +206,16 @@ class World:
         if how is How.EXIT and task.is_stalled:
             self.unstall(task)
             self.mended["memory stall ended by exit"] += 1
-        label = self.tasks[following].label if following else 0
-        self.put(f"switch {processor} {label} {how.value}")
-        self.runs[processor] = following
+        label = 0
         if following:
-            self.tasks[following].state = State.RUNNING
-        if how is How.EXIT:
+            comes = self.tasks[following]
+            label, comes.state = comes.label, State.RUNNING
+        self.put(f"switch {processor} {label} {how.word}")
+        self.runs[processor] = following
+        if how.after is None:
             self.forget(number)
         else:
-            task.state = AFTER[how]
+            task.state = how.after
 
     def detour(self, number: int, how: How, stalls: bool = False) -> None:
         """Lets a ready task run for no time and leave by `how`, and who ran on its processor runs again."""
