@@ -234,8 +234,7 @@ class Conversion:
         """Plays these events, and hands on what comes of them. The commonest kinds are told by their types."""
         world, start, put, play = player.world, self.wanted.window.start, self.put, player.play
         switch, wake, migrate, lines = player.switch, player.wake, player.migrate, world.lines
-        for place in places:
-            event = events[place]
+        for place, event in zip(places, events[places.start : places.stop]):
             moment = event[0] - start
             if moment > world.now:
                 world.now = moment

@@ -88,9 +88,9 @@ class Player:
         task = self.world.tasks.get(number)
         return task.group if task else ROOT
 
-    def is_there(self, number: int, place: int, fits: Callable[[Task], bool]) -> bool:
-        """Whether the trace has the task. A number that an exec is about to change is changed where an event fits the thread
-        alone that takes it over."""
+    def task_of(self, number: int, place: int, fits: Callable[[Task], bool]) -> Task | None:
+        """The task of this number, where the trace has it. A number that an exec is about to change is changed where an event fits the
+        thread alone that takes it over."""
         changes, tasks = self.changes.get(number), self.world.tasks
         while changes and changes[0][0] < place:
             changes.pop(0)
@@ -98,7 +98,7 @@ class Player:
             first, thread = tasks.get(number), tasks[changes[0][1]]
             if first is None or (not fits(first) and fits(thread)):
                 self.change_number(number, changes.pop(0)[1])
-        return number in tasks
+        return tasks.get(number)
 
     def change_number(self, number: int, old: int) -> None:
         """The thread `old` has taken over the number of its process's first thread. That one, if it isn't gone yet, leaves
@@ -115,30 +115,21 @@ class Player:
     # ------------------------------------------------------------ switches
 
     def switch(self, place: int, event: Switch) -> None:
-        """One task leaves, and another runs."""
-        world, (_, processor, _, previous, _, number) = self.world, event
-        runs = world.runs.get(processor, 0)
-        if runs != previous or not self.is_ready(number, processor):
+        """One task leaves, and another runs. Mostly who leaves is known to run, and who runs to be ready."""
+        world, (_, processor, _, previous, state, number) = self.world, event
+        runs, comes = world.runs.get(processor, 0), world.tasks.get(number)
+        if runs != previous or number in self.changes or not (comes.is_on(processor, State.READY) if comes else number == 0):
             self.leaver(place, event)
             self.follower(place, event)
             runs = world.runs.get(processor, 0)
-        if runs == number:
-            return
-        if runs:
-            world.leave(processor, self.how(place, event), number)
-        else:
-            world.run(number, processor)
+        if runs != number:
+            world.leave(processor, self.how(place, state), number)
 
-    def is_ready(self, number: int, processor: int) -> bool:
-        """Whether the one that is to run is known to be ready there, as it is mostly, or nobody is to run."""
-        task = self.world.tasks.get(number)
-        return not number or (task is not None and task.is_on(processor, State.READY) and number not in self.changes)
-
-    def how(self, place: int, event: Switch) -> How:
+    def how(self, place: int, state: str) -> How:
         """How the task leaves. One that stays ready doesn't wait, though its mark may say so."""
-        if event.state == STAYS:
+        if state == STAYS:
             return How.PREEMPT
-        if event.state in GONE:
+        if state in GONE:
             return How.EXIT
         return How.WAIT if place in self.waits else How.SLEEP
 
@@ -155,7 +146,7 @@ class Player:
         if self.is_swapped(number, processor):
             self.change_number(running, number)
             return
-        if not self.is_there(number, place, lambda task: task.is_on(processor, State.RUNNING)):
+        if not self.task_of(number, place, lambda task: task.is_on(processor, State.RUNNING)):
             world.fork(number, ROOT, processor, number)
             self.mended["task first met when it left"] += 1
         elif world.running(processor) != number:
@@ -167,11 +158,11 @@ class Player:
         world, number, processor = self.world, event.next, event.processor
         if not number or world.running(processor) == number:
             return
-        if not self.is_there(number, place, lambda task: task.is_on(processor, State.READY)):
+        task = self.task_of(number, place, lambda task: task.is_on(processor, State.READY))
+        if task is None:
             world.fork(number, ROOT, processor, number)
             self.mended["task first met when it ran"] += 1
-            return
-        if world.running(processor) != number and not world.tasks[number].is_on(processor, State.READY):
+        elif world.running(processor) != number and not task.is_on(processor, State.READY):
             self.mended["task ran that wasn't known to be ready there"] += 1
             world.ready(number, processor)
 
@@ -180,11 +171,12 @@ class Player:
     def wake(self, place: int, event: Wakeup) -> None:
         """A task that slept is ready. One that is woken before it slept goes on."""
         _, _, _, number, target = event
-        if not self.is_there(number, place, Task.is_blocked):
+        task = self.task_of(number, place, Task.is_blocked)
+        if task is None:
             self.world.fork(number, ROOT, target, number)
             self.mended["task first met when it was woken"] += 1
-        elif self.world.tasks[number].is_blocked():
-            self.world.ready(number, target)
+        elif task.is_blocked():
+            self.world.wake(task, target)
 
     def migrate(self, event: Migration) -> None:
         """A ready task goes to another processor. Of one that waits for IO the kernel ends the wait there, and not at the

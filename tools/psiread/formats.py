@@ -14,6 +14,8 @@ from typing import NamedTuple
 FIELD = re.compile(r"\s+field:(.*?)([A-Za-z0-9_]+)(\[[^\]]*\])?;\s*offset:(\d+);\s*size:(\d+);\s*signed:([01]);")
 INTEGERS = {(1, True): "b", (1, False): "B", (2, True): "h", (2, False): "H",
             (4, True): "i", (4, False): "I", (8, True): "q", (8, False): "Q"}  # fmt: skip
+# What reads fields that are whole numbers from a record at a place.
+IntegerReader = Callable[[bytes, int], tuple[int, ...]]
 
 
 class FormatFault(Exception):
@@ -105,8 +107,8 @@ def state_letters(print_format: str) -> tuple[dict[int, str], int]:
     return letters, 2 * max(letters)
 
 
-def integers_of(form: Format, names: Sequence[str]) -> Callable[[bytes, int], tuple[int, ...]]:
-    """What reads these fields, all of them whole numbers, from a record at a place."""
+def integers_of(form: Format, names: Sequence[str]) -> IntegerReader:
+    """What reads these fields, all of them whole numbers."""
     try:
         fields = [form.fields[name] for name in names]
         order = sorted(range(len(fields)), key=lambda place: fields[place].offset)
@@ -120,7 +122,7 @@ def integers_of(form: Format, names: Sequence[str]) -> Callable[[bytes, int], tu
     return in_order(reader, [order.index(place) for place in range(len(order))])
 
 
-def in_order(reader: struct.Struct, places: list[int]) -> Callable[[bytes, int], tuple[int, ...]]:
+def in_order(reader: struct.Struct, places: list[int]) -> IntegerReader:
     """What reads by this structure and answers the numbers in the order of `places`."""
     unpack = reader.unpack_from
     if places == list(range(len(places))):

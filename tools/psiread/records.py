@@ -2,7 +2,7 @@
 from __future__ import annotations
 
 from collections.abc import Callable
-from typing import Union
+from typing import Any, Union
 
 from psirec.layout import Probe
 
@@ -17,8 +17,8 @@ Decoder = Callable[[int, int, bytes, int, int], Event]
 
 CURRENT = "common_pid"
 
-# Makes an event of a kind, by all of its values: what the kind does itself, in a third of the time.
-made: Callable[[type, tuple[object, ...]], Event] = tuple.__new__
+# Makes an event of a kind, of all of its values: what the kind does itself, in a third of the time.
+made: Any = tuple.__new__
 
 # The events that are nothing but whole numbers: the fields behind the task in which they were written.
 NUMBERS: dict[str, tuple[type, tuple[str, ...]]] = {
@@ -45,7 +45,8 @@ def number_decoder(kind: type, form: Format, names: tuple[str, ...]) -> Decoder:
     read = integers_of(form, (CURRENT, *names))
 
     def decode(moment: int, processor: int, data: bytes, start: int, end: int) -> Event:
-        return made(kind, (moment, processor, *read(data, start)))
+        event: Event = made(kind, (moment, processor, *read(data, start)))
+        return event
 
     return decode
 
@@ -64,7 +65,8 @@ def switch_decoder(form: Format) -> Decoder:
 
     def decode(moment: int, processor: int, data: bytes, start: int, end: int) -> Event:
         current, previous, state, following = read(data, start)
-        return made(Switch, (moment, processor, current, previous, known.get(state) or letter_of(state), following))
+        event: Event = made(Switch, (moment, processor, current, previous, known.get(state) or letter_of(state), following))
+        return event
 
     return decode
 

@@ -18,8 +18,8 @@ from threading import Thread
 
 from psirec.layout import FORMATS, MARK, Probe, raw_name
 
-from .events import NEVER, Event, Gap, Marker, Switch, SwitchProbe
-from .formats import formats_of, integers_of, sections_of
+from .events import NEVER, Event, Gap, Marker, Switch
+from .formats import Format, IntegerReader, formats_of, integers_of, sections_of
 from .pages import Page, PageFault, page_at, records_of
 from .recording import Meta, gaps_behind, kernel_of, open_raw, text_of
 from .source import Source, Unreadable
@@ -47,13 +47,17 @@ class Records:
     def __init__(self, folder: str) -> None:
         self.kernel = kernel_of(folder)
         forms = formats_of(sections_of(text_of(folder, FORMATS)))
-        numbers = {name: form.number for name, form in forms.items()}
-        self.switch, self.probe = numbers.get("sched_switch", -1), numbers.get(Probe.SWITCH, -1)
         # Of a switch who leaves and who comes; of its probe the task, and whether it waits.
-        self.ends_of = integers_of(forms["sched_switch"], ("prev_pid", "next_pid")) if self.switch >= 0 else None
-        self.told_by = integers_of(forms[Probe.SWITCH], (Probe.PID, Probe.IO)) if self.probe >= 0 else None
+        self.switch, self.ends_of = reader_of(forms, "sched_switch", ("prev_pid", "next_pid"))
+        self.probe, self.told_by = reader_of(forms, Probe.SWITCH, (Probe.PID, Probe.IO))
         # Those of which a survey needs nothing.
-        self.often = {numbers.get(name, -1) for name in OFTEN}
+        self.often = {forms[name].number for name in OFTEN if name in forms}
+
+
+def reader_of(forms: dict[str, Format], name: str, fields: tuple[str, ...]) -> tuple[int, IntegerReader]:
+    """An event's number, and what reads these fields of its records; -1 and nothing where the recording doesn't have it."""
+    form = forms.get(name)
+    return (form.number, integers_of(form, fields)) if form else (-1, integers_of(Format(name, -1, {}, ""), ()))
 
 
 class Reader:

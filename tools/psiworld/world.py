@@ -180,42 +180,38 @@ class World:
         if task.state is State.RUNNING:
             self.leave(task.processor, How.PREEMPT)
         if task.is_blocked():
-            self.put(f"wake {task.label} {processor}")
-            task.state, task.processor = State.READY, processor
+            self.wake(task, processor)
         elif task.processor != processor:
             self.put(f"migrate {task.label} {processor}")
             task.processor = processor
 
+    def wake(self, task: Task, processor: int) -> None:
+        """Wakes the task, which is blocked, on the processor."""
+        self.lines.append(f"{self.now} wake {task.label} {processor}")
+        task.state, task.processor = State.READY, processor
+
     def run(self, number: int, processor: int, how: How = How.PREEMPT) -> None:
         """Makes the task run on the processor; who ran there leaves by `how`."""
-        before = self.running(processor)
-        if before == number:
-            return
-        self.ready(number, processor)
-        if before:
+        if self.running(processor) != number:
+            self.ready(number, processor)
             self.leave(processor, how, number)
-        else:
-            task = self.tasks[number]
-            self.put(f"switch {processor} {task.label} idle")
-            task.state, self.runs[processor] = State.RUNNING, number
 
     def leave(self, processor: int, how: How, following: int = 0) -> None:
-        """Who runs on the processor leaves, and `following`, which is ready there, runs; or none, where it is 0."""
-        number = self.runs[processor]
-        task = self.tasks[number]
-        if how is How.EXIT and task.is_stalled:
-            self.unstall(task)
+        """Who runs on the processor leaves, if somebody does, and `following`, which is ready there, runs; or none, where it is 0."""
+        number, label = self.runs.get(processor, 0), 0
+        leaves = self.tasks[number] if number else None
+        if leaves and leaves.is_stalled and how is How.EXIT:
+            self.unstall(leaves)
             self.mended["memory stall ended by exit"] += 1
-        label = 0
         if following:
             comes = self.tasks[following]
             label, comes.state = comes.label, State.RUNNING
-        self.put(f"switch {processor} {label} {how.word}")
+        self.lines.append(f"{self.now} switch {processor} {label} {how.word if leaves else 'idle'}")
         self.runs[processor] = following
-        if how.after is None:
+        if leaves and how.after:
+            leaves.state = how.after
+        elif leaves:
             self.forget(number)
-        else:
-            task.state = how.after
 
     def detour(self, number: int, how: How, stalls: bool = False) -> None:
         """Lets a ready task run for no time and leave by `how`, and who ran on its processor runs again."""
