@@ -1,7 +1,7 @@
 -- How a chain goes on behind an action, and when a ruleset rests.
-use Rattle.std.proofs.Common.{◌≡◌, ℕ, ◌+◌, ◌<◌, List, [], ◌∷◌, length, drop, get_or, refl, sym, subst, true, false, Option, None, Some}
+use Rattle.std.proofs.Common.{◌≡◌, ℕ, ◌+◌, ◌<◌, ◌≤◌, List, [], ◌∷◌, ◌++◌, length, drop, get_or, refl, sym, ◌∙◌, ap, subst, true, false, Option, None, Some}
 use Rattle.std.specs.Prelude.{find, slice_get, option_map}
-use Rattle.std.proofs.lemmas.List.{drop_more}
+use Rattle.std.proofs.lemmas.List.{append-nil, drop_all, drop_more}
 use Rattle.std.proofs.lemmas.Option.{slice_get_read}
 use Rattle.psi_spec.specs.declared.machine.GroupLife.{GroupLife}
 use Rattle.ruleset_json.specs.declared.types.Action.{Action}
@@ -29,6 +29,27 @@ StandsAt actions act action = action ≡ get_or actions act action
 turn_next : (lives : List GroupLife) (number : ℕ) (actions : List Action) (now : Reading) (past : List Reading) (act : ℕ) (action : Action) → act < length actions → StandsAt actions act action →
     behind lives number actions now past act ≡ and_then (after_of action).always_continue (turn lives number now past act action) (behind lives number actions now past (act + 1))
 turn_next lives number actions now past act action below here = rw (drop_more actions act action below, sym here) refl
+
+-- Without a victim the chain is that of the rest.
+pub passes : (lives : List GroupLife) (number : ℕ) (actions : List Action) (now : Reading) (past : List Reading) (act : ℕ) (action : Action) → act < length actions → StandsAt actions act action →
+    None ≡ turn lives number now past act action →
+    behind lives number actions now past (act + 1) ≡ behind lives number actions now past act
+passes lives number actions now past act action below here none = rw (turn_next lives number actions now past act action below here, sym none) refl
+
+-- Behind the last action there is none.
+none_behind : (lives : List GroupLife) (number : ℕ) (actions : List Action) (now : Reading) (past : List Reading) (act : ℕ) → length actions ≤ act → behind lives number actions now past act ≡ []
+none_behind lives number actions now past act over = ap (λ rest. chain lives number act rest now past) (drop_all act actions over)
+
+-- There the kills are those of the whole chain,
+pub all_found : (lives : List GroupLife) (number : ℕ) (actions : List Action) (now : Reading) (past : List Reading) (act : ℕ) (found all : List Kill) → length actions ≤ act →
+    found ++ behind lives number actions now past act ≡ all → found ≡ all
+all_found lives number actions now past act found all over is =
+    sym (append-nil found) ∙ ap (λ kills. found ++ kills) (sym (none_behind lives number actions now past act over)) ∙ is
+
+-- and none of them ended it.
+pub none_rests : (lives : List GroupLife) (number : ℕ) (actions : List Action) (now : Reading) (past : List Reading) (act : ℕ) → length actions ≤ act →
+    None ≡ option_map (rest_of actions) (find (ends_chain actions) (behind lives number actions now past act))
+none_rests lives number actions now past act over = rw (none_behind lives number actions now past act over) refl
 
 -- a kill has its moment and the number of its action
 record IsOf (now : Reading) (act : ℕ) (kill : Kill) : Type 0 where
