@@ -4,12 +4,12 @@ ghost use Rattle.psi_base.specs.Path.{parts_at};
 ghost use Rattle.psi_base.specs.declared.event.Cause.{Cause};
 ghost use Rattle.psi_base.specs.declared.event.Event.{Event};
 ghost use Rattle.psi_spec.specs.Grammar as verb;
-ghost use Rattle.psi_spec.specs.Grammar.{Fits, IsKnown, act_at, act_from, event_of, spelling, verbs_of};
+ghost use Rattle.psi_spec.specs.Grammar.{Fits, IsKnown, act_at, act_from, act_in, event_of, spelling, verb_of, verbs_of};
 ghost use Rattle.psi_spec.specs.Header.{IsVersion, version_of};
 ghost use Rattle.psi_spec.specs.LineLaws.{IsCause};
 ghost use Rattle.psi_base.specs.declared.event.Fault.TheVariants as fault;
 ghost use Rattle.psi_base.specs.Gives.{Gives, lacks_memory};
-ghost use Rattle.psi_trace.specs.Taking.{dated, names_path};
+ghost use Rattle.psi_trace.specs.Taking.{dated, names_path, takes_path};
 
 use crate::field::{
     Words, account_field, amount_field, cpu_field, end_of, how_field, level_field, next_field,
@@ -240,7 +240,8 @@ fn end_of_trace(at: Ns, mut words: Words) -> Result<Event, Fault<Cause>>
 }
 
 // The event at a time (ns) of the verb that is the next part, and of its fields, in a trace of a
-// version: the verbs that a trace has most of first.
+// version: the verbs that a trace has most of first. In three functions, since at each verb the
+// proof goes over all tests before it.
 #[tactic(auto, unfolding(psi_spec::specs::Grammar::act_at, psi_spec::specs::Grammar::verb_of))]
 fn event_at(alloc: Global, version: u32, at: Ns, mut words: Words) -> Result<Event, Fault<Cause>>
     ensures exact { Gives result (dated at (act_at (verbs_of (version_of version)) words.entry)) }
@@ -260,7 +261,27 @@ fn event_at(alloc: Global, version: u32, at: Ns, mut words: Words) -> Result<Eve
         unstall_of(at, words)
     } else if verb == b"migrate".as_slice() {
         migrate_of(at, words)
-    } else if verb == b"move".as_slice() {
+    } else {
+        rarer_event_at(alloc, version, at, verb, words)
+    }
+}
+
+// The same where the verb is none of a version's first five. Inlined like the functions above.
+#[tactic(auto, unfolding(psi_spec::specs::Grammar::verb_of))]
+#[inline(always)]
+fn rarer_event_at(
+    alloc: Global,
+    version: u32,
+    at: Ns,
+    verb: &[u8],
+    words: Words,
+) -> Result<Event, Fault<Cause>>
+    ensures exact { Gives result (dated at
+        (act_in (verb_of (drop 5 (verbs_of (version_of version))) verb.now) words.entry)) }
+    ensures memory { result ≡ Err lacks_memory →
+        takes_path (verb_of (drop 5 (verbs_of (version_of version))) verb.now) ≡ true }
+{
+    if verb == b"move".as_slice() {
         move_of(alloc, at, words)
     } else if verb == b"fork".as_slice() {
         fork_of(alloc, at, words)
@@ -270,7 +291,27 @@ fn event_at(alloc: Global, version: u32, at: Ns, mut words: Words) -> Result<Eve
         host_of(at, words)
     } else if verb == b"group".as_slice() {
         group_of(alloc, at, words)
-    } else if verb == b"rmgroup".as_slice() {
+    } else {
+        rarest_event_at(alloc, version, at, verb, words)
+    }
+}
+
+// The same where it is none of the first ten.
+#[tactic(auto, unfolding(psi_spec::specs::Grammar::verb_of))]
+#[inline(always)]
+fn rarest_event_at(
+    alloc: Global,
+    version: u32,
+    at: Ns,
+    verb: &[u8],
+    words: Words,
+) -> Result<Event, Fault<Cause>>
+    ensures exact { Gives result (dated at
+        (act_in (verb_of (drop 10 (verbs_of (version_of version))) verb.now) words.entry)) }
+    ensures memory { result ≡ Err lacks_memory →
+        takes_path (verb_of (drop 10 (verbs_of (version_of version))) verb.now) ≡ true }
+{
+    if verb == b"rmgroup".as_slice() {
         rmgroup_of(alloc, at, words)
     } else if verb == b"prefer".as_slice() {
         prefer_of(alloc, at, words)
