@@ -167,6 +167,39 @@ impl Lines {
         })
     }
 
+    // As [`find_line`], for the line with the reader's number: the reader stays before it.
+    #[inline(always)]
+    fn find<S: Shelf>(&mut self, shelf: &mut S) -> Result<Option<usize>, LineFault>
+        requires { self.old.number < 2 ^ 32 }
+        ensures kept { S.holds shelf.new ≡ S.holds shelf.old }
+        ensures name { self.new.name ≡ self.old.name }
+        ensures number { self.new.number ≡ self.old.number }
+        ensures on { ReadsOn self.old.held self.old.at self.new.held self.new.at }
+        ensures left { (bytes : List ℕ) → told (S.holds shelf.old) self.old.name ≡ Some bytes
+            → left self.new bytes ≡ left self.old bytes }
+        ensures found { FindsLine self.old.number self.new.held result }
+        ensures end { (bytes : List ℕ) → told (S.holds shelf.old) self.old.name ≡ Some bytes
+            → EndsAt bytes self.new.at result }
+        ensures cause { CausesFault (counts_of (S.faults shelf.old) (S.absent shelf.old))
+            (counts_of (S.faults shelf.new) (S.absent shelf.new)) result }
+        ensures given { S.given shelf.new + self.old.at ≡ S.given shelf.old + self.new.at }
+        ensures place { self.new.at ≤ furthest self.old.number }
+        ensures held { TellsLine self.old.held → shelf.new ≡ shelf.old }
+        ensures missed { IsErrOf result LineFault.NoFile
+            → told (S.holds shelf.old) self.old.name ≡ None }
+        ensures missing { self.old.held ≡ [] → Lacks (S.holds shelf.old) self.old.name
+            → (self.new.held ≡ []) × (self.new.at ≡ self.old.at) × IsMissing result }
+    {
+        let number = self.number();
+        find_line(
+            shelf,
+            self.name.as_str(),
+            number,
+            &mut self.at,
+            &mut self.held,
+        )
+    }
+
     /// The bytes up to the next newline, without it; the reader then stands behind it. None exactly
     /// at the end of the input, with no byte of a further line.
     ///
@@ -201,14 +234,7 @@ impl Lines {
             → (self.new.held ≡ []) × (self.new.at ≡ self.old.at) × IsMissing result }
     {
         let number = self.number();
-        let found = find_line(
-            shelf,
-            self.name.as_str(),
-            number,
-            &mut self.at,
-            &mut self.held,
-        )?;
-        let Some(count) = found else {
+        let Some(count) = self.find(shelf)? else {
             return Ok(None);
         };
         let bytes = Text::make(self.alloc, &self.held.held()[..count])?;
@@ -235,15 +261,7 @@ impl Lines {
             → IsMissing result }
         ensures memory { IsErrOf result (LineFault.NoMemory no_memory) → ⊥ }
     {
-        let number = self.number();
-        let found = find_line(
-            shelf,
-            self.name.as_str(),
-            number,
-            &mut self.at,
-            &mut self.held,
-        )?;
-        let Some(count) = found else {
+        let Some(count) = self.find(shelf)? else {
             return Ok(None);
         };
         self.number += 1;
