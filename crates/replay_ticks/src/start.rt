@@ -72,11 +72,12 @@ pub fn prepare<'a>(
     let ahead = if live.is_some() { 1 } else { last };
     Ok(Replay {
         plans,
-        crew: Crew::make(alloc, plans, options.workers, ahead, asked)?,
+        // What owns most is made last: where memory is wanting none of it has to be given up.
+        order: plans.groups().path_order(alloc)?,
         rows: Rows::make(alloc, plans.cpus(), slots)?,
         engine: Engine::make(alloc, plans.lives(), plans.triggers(), plans.cpus())?,
+        crew: Crew::make(alloc, plans, options.workers, ahead, asked)?,
         judge: Judge::make(alloc, plans, rules, interval)?,
-        order: plans.groups().path_order(alloc)?,
         pacing: Pacing {
             version,
             length,
