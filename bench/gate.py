@@ -129,7 +129,7 @@ def dear_walks() -> list[tuple[int, str, str]]:
 
 def keeps_between_runs() -> bool:
     """Whether this `rt` keeps what a gate has proved for the next one, and so knows `--anew`."""
-    said = subprocess.run(["rt", "help"], capture_output=True, text=True, check=False).stdout
+    said = subprocess.run(["rt", "help"], stdout=subprocess.PIPE, stderr=subprocess.STDOUT, text=True, check=False).stdout
     return "--anew" in said
 
 
