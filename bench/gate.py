@@ -11,7 +11,8 @@ usage: bench/gate.py [--anew | --dear]
 Prints what `rt ci` prints, and after it the minutes by the clock and, for each crate and the whole, the minutes of processor time
 that its proofs, the proofs of its tests and its must-fail edits took, the dearest first, and the minutes after the start at which
 its first check began, it was proved, and its last check ended. Once a second it looks which checks run, so a crate that takes less
-than some seconds is shown too low. Ends with the status of `rt ci`.
+than some seconds is shown too low; the last lines have what the system counted of all. Under `taskset -c 0,1` it times a machine of
+two processors. Ends with the status of `rt ci`.
 """
 
 from __future__ import annotations
@@ -20,6 +21,7 @@ import collections
 import os
 import pathlib
 import re
+import resource
 import subprocess
 import sys
 import time
@@ -51,10 +53,13 @@ def words_of(process: pathlib.Path) -> list[str]:
         return []
 
 
-def check_of(process: pathlib.Path) -> tuple[str, str] | None:
-    """The crate that a process checks, and for what, if it is a check."""
+def check_of(process: pathlib.Path, gate: int) -> tuple[str, str] | None:
+    """The crate that a process checks, and for what, if it is a check that the gate started.
+
+    Copies that a check makes of itself aren't: once they have ended, their time is part of its own.
+    """
     words = words_of(process)
-    if "--crate-name" not in words or not words[0].endswith("/rattle"):
+    if "--crate-name" not in words or not words[0].endswith("/rattle") or parent_of(process) != gate:
         return None
     crate = words[words.index("--crate-name") + 1]
     try:
@@ -66,13 +71,23 @@ def check_of(process: pathlib.Path) -> tuple[str, str] | None:
     return crate, "tests" if "--test" in words else "proof"
 
 
+def numbers_of(process: pathlib.Path) -> list[str]:
+    """What the kernel says of a process, from its state on (proc(5), `stat`), or nothing where it has ended."""
+    try:
+        return process.joinpath("stat").read_text().rpartition(")")[2].split()
+    except OSError:
+        return []
+
+
+def parent_of(process: pathlib.Path) -> int | None:
+    """The number of the process that started this one, if it is there."""
+    numbers = numbers_of(process)
+    return int(numbers[1]) if numbers else None
+
+
 def processor_time(process: pathlib.Path) -> float:
     """The seconds of processor time that a process took so far, with its children that have ended."""
-    try:
-        fields = process.joinpath("stat").read_text().rpartition(")")[2].split()
-    except OSError:
-        return 0.0
-    return sum(map(int, fields[11:15])) / TICKS
+    return sum(map(int, numbers_of(process)[11:15])) / TICKS
 
 
 def watch(gate: subprocess.Popen[bytes], start: float) -> Works:
@@ -81,7 +96,7 @@ def watch(gate: subprocess.Popen[bytes], start: float) -> Works:
     while gate.poll() is None:
         now = time.monotonic() - start
         for process in pathlib.Path("/proc").iterdir():
-            found = check_of(process) if process.name.isdigit() else None
+            found = check_of(process, gate.pid) if process.name.isdigit() else None
             if found is not None:
                 key = int(process.name), *found
                 taken[key] = Work(processor_time(process), taken[key].begun if key in taken else now, now)
@@ -148,7 +163,11 @@ def main() -> int:
     start = time.monotonic()
     gate = subprocess.Popen(["rt", "ci", *words], cwd=ROOT)
     works = watch(gate, start)
-    print(f"{table(works)}\nby the clock {(time.monotonic() - start) / 60:.1f} minutes on {os.cpu_count()} processors")
+    clock, processors = time.monotonic() - start, len(os.sched_getaffinity(0))
+    taken = resource.getrusage(resource.RUSAGE_CHILDREN)
+    print(table(works))
+    print(f"by the clock {clock / 60:.1f} minutes on {processors} processors, of whose time {(taken.ru_utime + taken.ru_stime) / 60:.1f}")
+    print(f"the largest process had {taken.ru_maxrss * 1024 / 1e9:.1f} GB")
     return gate.returncode
 
 
