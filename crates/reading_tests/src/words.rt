@@ -1,17 +1,13 @@
 //! Command words: those that are a command, with all that it says, and the others.
 mod rows;
 
+use crate::checks::{is, shown};
 use crate::words::rows::{ACCEPTED, REFUSED};
 use psi_base::{Fault, Path, Text};
 use psi_words::read_words;
 use run_spec::{Command, Options, Shape};
-use std::alloc::{AllocError, Global};
-use std::test::Fail;
-
-// The bytes as text.
-fn shown(bytes: &[u8]) -> &str {
-    str::from_utf8(bytes).unwrap_or("?")
-}
+use std::alloc::Global;
+use std::process::Abort;
 
 fn name_shown(name: &Option<Text>) -> &str {
     match name {
@@ -35,40 +31,42 @@ fn path_shown(path: &Option<Path>) -> &str {
     }
 }
 
-fn options_shown(alloc: Global, options: &Options) -> Result<String, AllocError> {
+fn options_shown(rt: &impl Abort, alloc: Global, options: &Options) -> String {
     let rules = name_shown(&options.rules);
     let live = path_shown(&options.live);
     let (plus, drop_in) = over_shown(&options.drop_in);
-    format!(in alloc;
+    let shown = format!(in alloc;
         "{rules}{plus}{drop_in} {} {} {} {} {live} {}",
         options.tick_ms, options.interval_s, options.report_s, options.workers, options.live_count
-    )
+    );
+    shown.expect(rt, "memory")
 }
 
-fn shape_shown(alloc: Global, shape: &Shape) -> Result<String, AllocError> {
-    format!(in alloc;
+fn shape_shown(rt: &impl Abort, alloc: Global, shape: &Shape) -> String {
+    let shown = format!(in alloc;
         "{} {} {} {}",
         shape.seed, shape.cpus, shape.groups, shape.events
-    )
+    );
+    shown.expect(rt, "memory")
 }
 
 // A command with all its fields.
-fn command_shown(alloc: Global, command: &Command) -> Result<String, AllocError> {
-    match command {
+fn command_shown(rt: &impl Abort, alloc: Global, command: &Command) -> String {
+    let text = match command {
         Command::Stall { trace } => format!(in alloc; "stall {}", shown(trace.bytes())),
         Command::Check { trace, tick_ms } => {
             format!(in alloc; "check {} {tick_ms}", shown(trace.bytes()))
         }
         Command::Replay { trace, options } => {
-            let options = options_shown(alloc, options)?;
+            let options = options_shown(rt, alloc, options);
             format!(in alloc; "replay {} {options}", shown(trace.bytes()))
         }
         Command::Gen { shape } => {
-            let shape = shape_shown(alloc, shape)?;
+            let shape = shape_shown(rt, alloc, shape);
             format!(in alloc; "gen {shape}")
         }
         Command::Stress { shape, workers } => {
-            let shape = shape_shown(alloc, shape)?;
+            let shape = shape_shown(rt, alloc, shape);
             format!(in alloc; "stress {shape} {workers}")
         }
         Command::Import { file, cpus } => {
@@ -79,48 +77,52 @@ fn command_shown(alloc: Global, command: &Command) -> Result<String, AllocError>
             format!(in alloc; "rules {}{plus}{drop_in}", shown(file.bytes()))
         }
         Command::Whatif { trace, options } => {
-            let options = options_shown(alloc, options)?;
+            let options = options_shown(rt, alloc, options);
             format!(in alloc; "whatif {} {options}", shown(trace.bytes()))
         }
-    }
+    };
+    text.expect(rt, "memory")
 }
 
 // The words of a line.
-fn words_of(alloc: Global, line: &str) -> Result<Vec<String>, Fail> {
+fn words_of(rt: &impl Abort, alloc: Global, line: &str) -> Vec<String> {
     let mut words = Vec::new(alloc);
     if line != "(none)" {
         for word in line.split('|') {
-            words.push(String::from_str(alloc, word)?)?;
+            let word = String::from_str(alloc, word).expect(rt, "memory");
+            words.push(word).expect(rt, "memory");
         }
     }
-    Ok(words)
+    words
 }
 
 // What the words of a line are.
-fn answer(alloc: Global, line: &str) -> Result<String, Fail> {
-    let words = words_of(alloc, line)?;
+fn answer(rt: &impl Abort, alloc: Global, line: &str) -> String {
+    let words = words_of(rt, alloc, line);
     match read_words(alloc, words.as_slice()) {
-        Ok(command) => Ok(command_shown(alloc, &command)?),
-        Err(Fault::Refused(_)) => Ok(String::from_str(alloc, "refused")?),
-        Err(Fault::NoMemory(_)) => Ok(String::from_str(alloc, "no memory")?),
+        Ok(command) => command_shown(rt, alloc, &command),
+        Err(Fault::Refused(_)) => String::from_str(alloc, "refused").expect(rt, "memory"),
+        Err(Fault::NoMemory(_)) => String::from_str(alloc, "no memory").expect(rt, "memory"),
     }
 }
 
+// The words of a line are this.
+fn answers(rt: &impl Abort, alloc: Global, line: &str, wanted: &str) {
+    let answer = answer(rt, alloc, line);
+    is(rt, answer.as_str(), wanted, line);
+}
+
 #[test]
-fn accepts(rt: HostRuntime) -> Result<(), Fail> {
+fn accepts(rt: HostRuntime) {
     for row in ACCEPTED.lines() {
-        let (line, wanted) = row.split_once(" => ").unwrap_or((row, ""));
-        let answer = answer(rt.alloc(), line)?;
-        assert_eq!(rt; answer.as_str(), wanted, "{line}");
+        let (line, wanted) = row.split_once(" => ").expect(&rt, row);
+        answers(&rt, rt.alloc(), line, wanted);
     }
-    Ok(())
 }
 
 #[test]
-fn refuses(rt: HostRuntime) -> Result<(), Fail> {
+fn refuses(rt: HostRuntime) {
     for line in REFUSED.lines() {
-        let answer = answer(rt.alloc(), line)?;
-        assert_eq!(rt; answer.as_str(), "refused", "{line}");
+        answers(&rt, rt.alloc(), line, "refused");
     }
-    Ok(())
 }

@@ -3,11 +3,11 @@ ghost use Rattle.std.specs.Prelude.{◌≡◌, ◌++◌, ◌<◌, decimal, []};
 ghost use Rattle.outside.specs.Outside.{HasCause};
 ghost use Rattle.outside.specs.Calls.{PutsAll};
 
+use crate::checks::is;
 use outside::{BufferedSink, Pending, Sink, WriteFailed, put_all, put_number};
 use outside_fakes::MemSink;
 use std::alloc::Global;
 use std::process::Abort;
-use std::test::Fail;
 
 // Puts bytes and a number by way of a buffer.
 fn put_buffered<K: Sink>(
@@ -26,10 +26,8 @@ fn put_buffered<K: Sink>(
     buffered.flush()
 }
 
-// More bytes than a buffer holds.
-fn long_bytes(alloc: Global) -> Result<Vec<u8>, Fail> {
-    Ok(vec![in alloc; b'x'; 65537]?)
-}
+// How a sink takes bytes by way of a buffer: the answer, and how many bytes and calls it took.
+type Taken = (Result<(), WriteFailed>, usize, u64);
 
 // Puts bytes and the number 12 by way of a buffer to a sink that takes at most so many bytes a
 // call, and fails at one.
@@ -39,26 +37,28 @@ fn goes_through(
     bytes: &[u8],
     most: usize,
     fails: u64,
-    wanted: (Result<(), WriteFailed>, usize, u64),
-) -> Result<(), Fail>
+    wanted: Taken,
+)
     requires { 0 < most }
 {
-    let mut sink = MemSink::new(alloc, 70000, most, vec![in alloc; fails]?)?;
-    let mut pending = Pending::new(alloc)?;
+    let fails = vec![in alloc; fails].expect(rt, "memory");
+    let mut sink = MemSink::new(alloc, 70000, most, fails).expect(rt, "memory");
+    let mut pending = Pending::new(alloc).expect(rt, "memory");
     let answer = put_buffered(&mut sink, &mut pending, bytes, 12);
-    assert_eq!(rt; (answer, sink.bytes.len(), sink.calls), wanted);
-    assert_eq!(rt; sink.faults == 0, answer.is_ok());
-    Ok(())
+    let taken = (answer, sink.bytes.len(), sink.calls);
+    is(rt, taken, wanted, "a sink behind a buffer");
+    is(rt, sink.faults == 0, answer.is_ok(), "whether it failed");
 }
 
 #[test]
-fn buffers_send_on_in_large_writes(rt: HostRuntime) -> Result<(), Fail> {
+fn buffers_send_on_in_large_writes(rt: HostRuntime) {
     let alloc = rt.alloc();
-    goes_through(&rt, alloc, b"abc", 1, u64::MAX, (Ok(()), 5, 5))?;
-    goes_through(&rt, alloc, b"abc", 9, u64::MAX, (Ok(()), 5, 1))?;
-    goes_through(&rt, alloc, b"abc", 1, 2, (Err(WriteFailed), 2, 3))?;
-    let long = long_bytes(alloc)?;
-    goes_through(&rt, alloc, &long, 65536, u64::MAX, (Ok(()), 65539, 2))?;
-    goes_through(&rt, alloc, &long, 65536, 0, (Err(WriteFailed), 0, 1))?;
-    goes_through(&rt, alloc, &long, 65536, 1, (Err(WriteFailed), 65536, 2))
+    goes_through(&rt, alloc, b"abc", 1, u64::MAX, (Ok(()), 5, 5));
+    goes_through(&rt, alloc, b"abc", 9, u64::MAX, (Ok(()), 5, 1));
+    goes_through(&rt, alloc, b"abc", 1, 2, (Err(WriteFailed), 2, 3));
+    // More bytes than a buffer holds.
+    let long = vec![in alloc; b'x'; 65537].expect(&rt, "memory");
+    goes_through(&rt, alloc, &long, 65536, u64::MAX, (Ok(()), 65539, 2));
+    goes_through(&rt, alloc, &long, 65536, 0, (Err(WriteFailed), 0, 1));
+    goes_through(&rt, alloc, &long, 65536, 1, (Err(WriteFailed), 65536, 2));
 }

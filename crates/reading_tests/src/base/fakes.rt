@@ -1,67 +1,105 @@
 //! The shelves and sinks in memory: what each call answers and counts.
+ghost use Rattle.std.specs.Prelude.{◌<◌};
+
+use crate::checks::is;
 use outside::{Gate, OpenGate, Shelf, ShelfFault, WriteFailed, put_all, put_each, put_number};
 use outside_fakes::{HonestShelf, HonestSink, MemShelf, MemSink};
-use psi_base::{Cpu, NoMemory, Text};
+use psi_base::{Cpu, Text};
 use std::alloc::Global;
-use std::test::Fail;
+use std::process::Abort;
 
-// One file, `f`.
-fn one_file(alloc: Global, bytes: &[u8]) -> Result<Vec<(Text, Text)>, NoMemory> {
-    let file = (Text::make(alloc, b"f")?, Text::make(alloc, bytes)?);
-    Ok(vec![in alloc; file]?)
+/// One file, `f`.
+pub fn one_file(rt: &impl Abort, alloc: Global, bytes: &[u8]) -> Vec<(Text, Text)> {
+    let name = Text::make(alloc, b"f").expect(rt, "memory");
+    let text = Text::make(alloc, bytes).expect(rt, "memory");
+    vec![in alloc; (name, text)].expect(rt, "memory")
+}
+
+/// The file and the place that each call names, its answer, and how many calls, faults and absent
+/// files there are behind it.
+const READS: [(&str, u64, Result<usize, ShelfFault>, u64, u64, u64); 6] = [
+    ("f", 0, Ok(2), 1, 0, 0),
+    ("f", 0, Err(ShelfFault::Failed), 2, 1, 0),
+    ("g", 0, Err(ShelfFault::NoFile), 3, 1, 1),
+    ("f", 4, Ok(1), 4, 1, 1),
+    ("f", 5, Ok(0), 5, 1, 1),
+    ("f", 99, Ok(0), 6, 1, 1),
+];
+
+// A shelf with the bytes `abcde`, which gives at most two of them a call and fails at the second.
+fn failing_shelf(rt: &impl Abort, alloc: Global) -> MemShelf {
+    let fails = vec![in alloc; 1].expect(rt, "memory");
+    MemShelf::new(one_file(rt, alloc, b"abcde"), 2, fails)
 }
 
 #[test]
-fn shelf_fails_by_number(rt: HostRuntime) -> Result<(), Fail> {
-    let alloc = rt.alloc();
-    let mut shelf = MemShelf::new(one_file(alloc, b"abcde")?, 2, vec![in alloc; 1]?);
+fn shelf_fails_by_number(rt: HostRuntime) {
+    let mut shelf = failing_shelf(&rt, rt.alloc());
     let mut into = [0u8; 4];
-    let calls = [
-        ("f", 0, Ok(2), 0, 0),
-        ("f", 0, Err(ShelfFault::Failed), 1, 0),
-        ("g", 0, Err(ShelfFault::NoFile), 1, 1),
-        ("f", 4, Ok(1), 1, 1),
-        ("f", 5, Ok(0), 1, 1),
-        ("f", 99, Ok(0), 1, 1),
-    ];
-    for (name, at, answer, faults, absent) in calls {
-        assert_eq!(rt; shelf.read_at(name, at, &mut into), answer, "{name} {at}");
-        assert_eq!(rt; (shelf.faults, shelf.absent), (faults, absent));
+    for (name, at, answer, calls, faults, absent) in &READS {
+        let found = shelf.read_at(name, *at, &mut into);
+        is(&rt, (shelf.calls, found), (*calls, *answer), name);
+        is(&rt, (shelf.faults, shelf.absent), (*faults, *absent), name);
     }
-    assert_eq!(rt; shelf.calls, 6);
-    assert_eq!(rt; into.as_slice(), b"eb\0\0".as_slice());
-    let mut honest = HonestShelf::new(one_file(alloc, b"abcde")?, 9);
-    assert_eq!(rt; honest.read_at("f", 1, &mut into), Ok(4));
-    assert_eq!(rt; into.as_slice(), b"bcde".as_slice());
-    assert_eq!(rt; honest.read_at("g", 0, &mut into), Err(ShelfFault::NoFile));
-    assert_eq!(rt; honest.absent, 1);
-    Ok(())
+    is(&rt, into.as_slice(), b"eb\0\0".as_slice(), "the bytes read");
 }
 
 #[test]
-fn sinks_keep_a_prefix(rt: HostRuntime) -> Result<(), Fail> {
-    let alloc = rt.alloc();
-    let mut sink = MemSink::new(alloc, 9, 3, vec![in alloc; 1]?)?;
-    assert_eq!(rt; put_all(&mut sink, b"abcdef"), Err(WriteFailed));
-    assert_eq!(rt; sink.bytes.as_slice(), b"abc".as_slice());
-    assert_eq!(rt; (sink.calls, sink.faults), (2, 1));
-    assert_eq!(rt; put_all(&mut sink, b"defghi"), Ok(()));
-    assert_eq!(rt; put_all(&mut sink, b""), Ok(()));
-    assert_eq!(rt; sink.bytes.as_slice(), b"abcdefghi".as_slice());
-    assert_eq!(rt; put_all(&mut sink, b"j"), Err(WriteFailed));
-    assert_eq!(rt; (sink.calls, sink.faults), (5, 2));
-    let mut short = MemSink::new(alloc, 9, 2, vec![in alloc; 1]?)?;
-    assert_eq!(rt; put_number(&mut short, 12345), Err(WriteFailed));
-    assert_eq!(rt; short.bytes.as_slice(), b"12".as_slice());
-    assert_eq!(rt; (short.calls, short.faults), (2, 1));
-    let mut honest = HonestSink::new(alloc, 8)?;
+fn honest_shelf_misses_only_names(rt: HostRuntime) {
+    let mut shelf = HonestShelf::new(one_file(&rt, rt.alloc(), b"abcde"), 9);
+    let mut into = [0u8; 4];
+    is(&rt, shelf.read_at("f", 1, &mut into), Ok(4), "f");
+    is(&rt, into.as_slice(), b"bcde".as_slice(), "the bytes read");
+    let missed = shelf.read_at("g", 0, &mut into);
+    is(&rt, missed, Err(ShelfFault::NoFile), "g");
+    is(&rt, shelf.absent, 1, "absent files");
+}
+
+// A sink with room for nine bytes, which takes at most so many a call and fails at the second.
+fn failing_sink(rt: &impl Abort, alloc: Global, most: usize) -> MemSink
+    requires { 0 < most }
+{
+    let fails = vec![in alloc; 1].expect(rt, "memory");
+    MemSink::new(alloc, 9, most, fails).expect(rt, "memory")
+}
+
+// The sink took these bytes, by so many calls with so many faults.
+fn took(rt: &impl Abort, sink: &MemSink, bytes: &[u8], calls: u64, faults: u64) {
+    is(rt, sink.bytes.as_slice(), bytes, "what the sink took");
+    let counts = (sink.calls, sink.faults);
+    is(rt, counts, (calls, faults), "its calls and faults");
+}
+
+#[test]
+fn sinks_keep_a_prefix(rt: HostRuntime) {
+    let mut sink = failing_sink(&rt, rt.alloc(), 3);
+    let answer = put_all(&mut sink, b"abcdef");
+    is(&rt, answer, Err(WriteFailed), "abcdef");
+    took(&rt, &sink, b"abc", 2, 1);
+    is(&rt, put_all(&mut sink, b"defghi"), Ok(()), "defghi");
+    is(&rt, put_all(&mut sink, b""), Ok(()), "nothing");
+    took(&rt, &sink, b"abcdefghi", 4, 1);
+    is(&rt, put_all(&mut sink, b"j"), Err(WriteFailed), "j");
+    took(&rt, &sink, b"abcdefghi", 5, 2);
+}
+
+#[test]
+fn sinks_keep_a_prefix_of_a_number(rt: HostRuntime) {
+    let mut sink = failing_sink(&rt, rt.alloc(), 2);
+    is(&rt, put_number(&mut sink, 12345), Err(WriteFailed), "12345");
+    took(&rt, &sink, b"12", 2, 1);
+}
+
+#[test]
+fn honest_sink_fails_only_where_it_is_full(rt: HostRuntime) {
+    let mut sink = HonestSink::new(rt.alloc(), 8).expect(&rt, "memory");
     let pieces = [b"ab".as_slice(), b"".as_slice(), b"cde".as_slice()];
-    assert_eq!(rt; put_each(&mut honest, &pieces), Ok(()));
-    assert_eq!(rt; honest.faults, 0);
-    assert_eq!(rt; put_number(&mut honest, u64::MAX), Err(WriteFailed));
-    assert_eq!(rt; honest.bytes.as_slice(), b"abcde184".as_slice());
-    assert_eq!(rt; honest.faults, 1);
-    Ok(())
+    is(&rt, put_each(&mut sink, &pieces), Ok(()), "pieces");
+    is(&rt, sink.faults, 0, "faults of pieces that fit");
+    let answer = put_number(&mut sink, u64::MAX);
+    is(&rt, answer, Err(WriteFailed), "a number that doesn't fit");
+    is(&rt, sink.bytes.as_slice(), b"abcde184".as_slice(), "bytes");
+    is(&rt, sink.faults, 1, "faults of a number that doesn't fit");
 }
 
 #[test]

@@ -1,70 +1,96 @@
 //! Numbers, paths and parts at their borders.
+use crate::checks::is;
 use psi_base::{Parts, Path, Text, read_number};
 use std::alloc::Global;
 use std::process::Abort;
-use std::test::Fail;
+
+/// Texts, each with the number that it writes, if it writes one.
+const NUMBERS: [(&str, Option<u64>); 11] = [
+    ("0", Some(0)),
+    ("7", Some(7)),
+    ("18446744073709551615", Some(u64::MAX)),
+    ("18446744073709551616", None),
+    ("99999999999999999999", None),
+    ("", None),
+    ("00", None),
+    ("007", None),
+    ("1a", None),
+    ("+1", None),
+    (" 1", None),
+];
 
 #[test]
 fn numbers(rt: HostRuntime) {
-    let cases = [
-        ("0", Some(0)),
-        ("7", Some(7)),
-        ("18446744073709551615", Some(u64::MAX)),
-        ("18446744073709551616", None),
-        ("99999999999999999999", None),
-        ("", None),
-        ("00", None),
-        ("007", None),
-        ("1a", None),
-        ("+1", None),
-        (" 1", None),
-    ];
-    for (text, number) in cases {
-        assert_eq!(rt; read_number(text.as_bytes()), number, "{text}");
+    for (text, number) in &NUMBERS {
+        is(&rt, read_number(text.as_bytes()), *number, text);
     }
 }
 
-// The bytes are a path, and are kept, or they are none.
-fn reads_path(rt: &impl Abort, alloc: Global, bytes: &[u8], is_path: bool) -> Result<(), Fail> {
-    match Path::read(alloc, bytes)? {
-        Some(path) => assert_eq!(rt; (path.bytes(), is_path), (bytes, true)),
-        None => assert!(rt; !is_path),
+// The text is a path, and is kept, or it is none.
+fn reads_path(rt: &impl Abort, alloc: Global, text: &str, is_path: bool) {
+    let path = Path::read(alloc, text.as_bytes()).expect(rt, "memory");
+    let kept = match &path {
+        Some(path) => Some(path.bytes()),
+        None => None,
+    };
+    is(rt, kept, is_path.then_some(text.as_bytes()), text);
+}
+
+/// Texts, and whether they are a path.
+const PATHS: [(&str, bool); 17] = [
+    ("/", true),
+    ("/a", true),
+    ("/a/b", true),
+    ("/Az09_.@:-\\", true),
+    ("/...", true),
+    ("/.a", true),
+    ("", false),
+    ("a", false),
+    ("//", false),
+    ("/.", false),
+    ("/..", false),
+    ("/a/", false),
+    ("/a//b", false),
+    ("/a/../b", false),
+    ("/a b", false),
+    ("/a\n", false),
+    ("/é", false),
+];
+
+#[test]
+fn paths(rt: HostRuntime) {
+    for (text, is_path) in &PATHS {
+        reads_path(&rt, rt.alloc(), text, *is_path);
     }
-    Ok(())
 }
 
 #[test]
-fn paths(rt: HostRuntime) -> Result<(), Fail> {
-    let alloc = rt.alloc();
-    for text in ["/", "/a", "/a/b", "/Az09_.@:-\\", "/...", "/.a"] {
-        reads_path(&rt, alloc, text.as_bytes(), true)?;
-    }
-    for text in [
-        "", "a", "//", "/.", "/..", "/a/", "/a//b", "/a/../b", "/a b", "/a\n", "/é",
-    ] {
-        reads_path(&rt, alloc, text.as_bytes(), false)?;
-    }
-    for (component, count, is_path) in [
-        ("/a", 32, true),
-        ("/a", 33, false),
-        ("/abcdefghijklmn", 17, true),
-        ("/abcdefghijklmno", 16, false),
-    ] {
-        let path = component.repeat(alloc, count)?;
-        reads_path(&rt, alloc, path.as_bytes(), is_path)?;
-    }
-    assert_eq!(rt; Path::root(alloc)?.bytes(), b"/".as_slice());
-    Ok(())
+fn root_is_a_path(rt: HostRuntime) {
+    let root = Path::root(rt.alloc()).expect(&rt, "memory");
+    is(&rt, root.bytes(), b"/".as_slice(), "the root");
+}
+
+// So many components after one another are a path, or they are none.
+fn repeats(rt: &impl Abort, alloc: Global, component: &str, count: usize, is_path: bool) {
+    let text = component.repeat(alloc, count).expect(rt, "memory");
+    reads_path(rt, alloc, text.as_str(), is_path);
 }
 
 #[test]
-fn texts_and_parts(rt: HostRuntime) -> Result<(), Fail> {
-    let text = Text::make(rt.alloc(), b"a  b ")?;
-    assert_eq!(rt; text.bytes(), b"a  b ".as_slice());
+fn long_paths(rt: HostRuntime) {
+    repeats(&rt, rt.alloc(), "/a", 32, true);
+    repeats(&rt, rt.alloc(), "/a", 33, false);
+    repeats(&rt, rt.alloc(), "/abcdefghijklmn", 17, true);
+    repeats(&rt, rt.alloc(), "/abcdefghijklmno", 16, false);
+}
+
+#[test]
+fn texts_and_parts(rt: HostRuntime) {
+    let text = Text::make(rt.alloc(), b"a  b ").expect(&rt, "memory");
+    is(&rt, text.bytes(), b"a  b ".as_slice(), "a text");
     let mut words: Parts<'_, b' '> = Parts::new(text.bytes());
-    for word in ["a", "", "b", ""] {
-        assert_eq!(rt; words.next_part(), Some(word.as_bytes()));
+    for word in &["a", "", "b", ""] {
+        is(&rt, words.next_part(), Some(word.as_bytes()), word);
     }
     assert!(rt; words.next_part().is_none());
-    Ok(())
 }

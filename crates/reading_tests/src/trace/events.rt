@@ -1,24 +1,37 @@
 //! Event lines: which are read and written again, and which are refused for what.
 ghost use Rattle.psi_spec.specs.Header.{IsVersion};
 
+use crate::checks::is;
 use psi_base::{Cause, Fault};
 use psi_trace::{read_event, write_event};
 use std::alloc::Global;
 use std::process::Abort;
-use std::test::Fail;
+
+/// A line of a trace of this version is read, and written behind the bytes.
+fn rewrite(rt: &impl Abort, alloc: Global, version: u32, line: &str, written: &mut Vec<u8>)
+    requires { IsVersion version }
+{
+    let event = read_event(alloc, version, line.as_bytes()).expect(rt, line);
+    write_event(&event, written).expect(rt, "memory");
+}
 
 /// Each line of a trace of this version is read, and written again as it stands.
-fn rewrites(rt: &impl Abort, alloc: Global, version: u32, lines: &[&str]) -> Result<(), Fail>
+fn rewrites(rt: &impl Abort, alloc: Global, version: u32, lines: &[&str])
     requires { IsVersion version }
 {
     for line in lines {
         let mut written = Vec::new(alloc);
-        if let Ok(event) = read_event(alloc, version, line.as_bytes()) {
-            write_event(&event, &mut written)?;
-        }
-        assert_eq!(rt; written.as_slice(), line.as_bytes(), "at {line}");
+        rewrite(rt, alloc, version, line, &mut written);
+        is(rt, written.as_slice(), line.as_bytes(), line);
     }
-    Ok(())
+}
+
+/// A line of a trace of this version is refused for this cause.
+fn is_refused(rt: &impl Abort, alloc: Global, version: u32, line: &str, cause: Cause)
+    requires { IsVersion version }
+{
+    let refused = read_event(alloc, version, line.as_bytes()).err();
+    is(rt, refused, Some(Fault::Refused(cause)), line);
 }
 
 /// Each line of a trace of this version is refused for the cause beside it.
@@ -26,17 +39,8 @@ fn refuses(rt: &impl Abort, alloc: Global, version: u32, rows: &[(&str, Cause)])
     requires { IsVersion version }
 {
     for (line, cause) in rows {
-        let refused = read_event(alloc, version, line.as_bytes()).err();
-        assert_eq!(rt; refused, Some(Fault::Refused(*cause)), "at {line}");
+        is_refused(rt, alloc, version, line, *cause);
     }
-}
-
-/// Each line has a verb that only the second version knows, and is read and written again there.
-fn is_of_the_second(rt: &impl Abort, alloc: Global, lines: &[&str]) -> Result<(), Fail> {
-    for line in lines {
-        refuses(rt, alloc, 1, &[(*line, Cause::BadVerb)]);
-    }
-    rewrites(rt, alloc, 2, lines)
 }
 
 /// Lines of both versions.
@@ -75,49 +79,37 @@ const LINES: [&str; 31] = [
 ];
 
 #[test]
-fn writes_what_it_reads(rt: HostRuntime) -> Result<(), Fail> {
-    rewrites(&rt, rt.alloc(), 1, &LINES)?;
-    rewrites(&rt, rt.alloc(), 2, &LINES)
+fn writes_what_it_reads(rt: HostRuntime) {
+    rewrites(&rt, rt.alloc(), 1, &LINES);
+    rewrites(&rt, rt.alloc(), 2, &LINES);
 }
 
-#[test]
-fn writes_interrupts_of_the_second_version(rt: HostRuntime) -> Result<(), Fail> {
-    is_of_the_second(
-        &rt,
-        rt.alloc(),
-        &[
-            "5 irq 0 0",
-            "5 irq 63 1000000000",
-            "18446744073709551615 irq 4294967295 18446744073709551615",
-        ],
-    )
-}
+/// Lines of interrupts and of accounts that are switched.
+const SECOND: [&str; 6] = [
+    "5 irq 0 0",
+    "5 irq 63 1000000000",
+    "18446744073709551615 irq 4294967295 18446744073709551615",
+    "5 pressure / on",
+    "5 pressure /a off",
+    "18446744073709551615 pressure /a/b.c on",
+];
 
 #[test]
-fn writes_accounts_of_the_second_version(rt: HostRuntime) -> Result<(), Fail> {
-    is_of_the_second(
-        &rt,
-        rt.alloc(),
-        &[
-            "5 pressure / on",
-            "5 pressure /a off",
-            "18446744073709551615 pressure /a/b.c on",
-        ],
-    )
-}
-
-#[test]
-fn appends_to_what_is_there(rt: HostRuntime) -> Result<(), Fail> {
-    let alloc = rt.alloc();
-    let mut written = Vec::from_slice(alloc, b"psitrace 1 cpus=1\n")?;
-    if let Ok(event) = read_event(alloc, 1, b"0 fork 1 / 0") {
-        write_event(&event, &mut written)?;
+fn knows_verbs_of_the_second_version(rt: HostRuntime) {
+    for line in &SECOND {
+        is_refused(&rt, rt.alloc(), 1, line, Cause::BadVerb);
     }
+    rewrites(&rt, rt.alloc(), 2, &SECOND);
+}
+
+#[test]
+fn appends_to_what_is_there(rt: HostRuntime) {
+    let mut written = Vec::from_slice(rt.alloc(), b"psitrace 1 cpus=1\n").expect(&rt, "memory");
+    rewrite(&rt, rt.alloc(), 1, "0 fork 1 / 0", &mut written);
     assert_eq!(rt;
         written.as_slice(),
         b"psitrace 1 cpus=1\n0 fork 1 / 0".as_slice()
     );
-    Ok(())
 }
 
 /// Lines of accounts that are switched.
@@ -136,11 +128,6 @@ const ACCOUNTS: [(&str, Cause); 12] = [
     ("5 pressure /a on off", Cause::BadField(3)),
 ];
 
-#[test]
-fn refuses_the_leftmost_fault_of_accounts(rt: HostRuntime) {
-    refuses(&rt, rt.alloc(), 2, &ACCOUNTS);
-}
-
 /// Lines of interrupts.
 const INTERRUPTS: [(&str, Cause); 12] = [
     ("x irq 0 1", Cause::BadTime),
@@ -156,11 +143,6 @@ const INTERRUPTS: [(&str, Cause); 12] = [
     ("5 irq 0 1 ", Cause::BadField(3)),
     ("5 irq 0 1 1", Cause::BadField(3)),
 ];
-
-#[test]
-fn refuses_the_leftmost_fault_of_interrupts(rt: HostRuntime) {
-    refuses(&rt, rt.alloc(), 2, &INTERRUPTS);
-}
 
 /// Lines without a time or a verb, or with words behind a verb that has none.
 const TIMES_AND_VERBS: [(&str, Cause); 24] = [
@@ -189,12 +171,6 @@ const TIMES_AND_VERBS: [(&str, Cause); 24] = [
     ("5 end ", Cause::BadField(1)),
     ("5 end x", Cause::BadField(1)),
 ];
-
-#[test]
-fn refuses_what_is_no_time_and_no_verb(rt: HostRuntime) {
-    refuses(&rt, rt.alloc(), 1, &TIMES_AND_VERBS);
-    refuses(&rt, rt.alloc(), 2, &TIMES_AND_VERBS);
-}
 
 /// Lines of tasks.
 const TASKS: [(&str, Cause); 41] = [
@@ -240,12 +216,6 @@ const TASKS: [(&str, Cause); 41] = [
     ("5 move 1 a", Cause::BadField(2)),
     ("5 move 1 / /", Cause::BadField(3)),
 ];
-
-#[test]
-fn refuses_the_leftmost_fault_of_tasks(rt: HostRuntime) {
-    refuses(&rt, rt.alloc(), 1, &TASKS);
-    refuses(&rt, rt.alloc(), 2, &TASKS);
-}
 
 /// Lines of groups, of the host and of triggers.
 const GROUPS: [(&str, Cause); 36] = [
@@ -299,8 +269,17 @@ const GROUPS: [(&str, Cause); 36] = [
     ("5 trigger / io some 1 1 1", Cause::BadField(6)),
 ];
 
+/// Each line of a trace of either version is refused for the cause beside it.
+fn refuses_in_both(rt: &impl Abort, alloc: Global, rows: &[(&str, Cause)]) {
+    refuses(rt, alloc, 1, rows);
+    refuses(rt, alloc, 2, rows);
+}
+
 #[test]
-fn refuses_the_leftmost_fault_of_groups(rt: HostRuntime) {
-    refuses(&rt, rt.alloc(), 1, &GROUPS);
-    refuses(&rt, rt.alloc(), 2, &GROUPS);
+fn refuses_the_leftmost_fault(rt: HostRuntime) {
+    refuses_in_both(&rt, rt.alloc(), &TIMES_AND_VERBS);
+    refuses_in_both(&rt, rt.alloc(), &TASKS);
+    refuses_in_both(&rt, rt.alloc(), &GROUPS);
+    refuses(&rt, rt.alloc(), 2, &ACCOUNTS);
+    refuses(&rt, rt.alloc(), 2, &INTERRUPTS);
 }

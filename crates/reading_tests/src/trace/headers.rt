@@ -1,55 +1,62 @@
 //! Header lines: the versions and the numbers of processors that they name, and which are none.
+use crate::checks::is;
 use psi_base::Cause;
 use psi_trace::{Header, read_header};
 
+/// Headers, each with its version and its number of processors.
+const HEADERS: [(&str, u32, u32); 6] = [
+    ("psitrace 1 cpus=1", 1, 1),
+    ("psitrace 1 cpus=9", 1, 9),
+    ("psitrace 1 cpus=10", 1, 10),
+    ("psitrace 1 cpus=64", 1, 64),
+    ("psitrace 2 cpus=1", 2, 1),
+    ("psitrace 2 cpus=64", 2, 64),
+];
+
 #[test]
 fn reads_the_version_and_the_number_of_processors(rt: HostRuntime) {
-    for (line, version, cpus) in [
-        ("psitrace 1 cpus=1", 1, 1),
-        ("psitrace 1 cpus=9", 1, 9),
-        ("psitrace 1 cpus=10", 1, 10),
-        ("psitrace 1 cpus=64", 1, 64),
-        ("psitrace 2 cpus=1", 2, 1),
-        ("psitrace 2 cpus=64", 2, 64),
-    ] {
-        let head = Header { version, cpus };
-        assert_eq!(rt; read_header(line.as_bytes()), Ok(head), "at {line}");
+    for (line, version, cpus) in &HEADERS {
+        let head = Header {
+            version: *version,
+            cpus: *cpus,
+        };
+        is(&rt, read_header(line.as_bytes()), Ok(head), line);
     }
 }
 
+/// Lines that are no header.
+const OTHERS: [&str; 25] = [
+    "",
+    "psitrace",
+    "psitrace 1 cpus=",
+    "psitrace 1 cpus=0",
+    "psitrace 1 cpus=65",
+    "psitrace 1 cpus=08",
+    "psitrace 1 cpus=1 ",
+    "psitrace 1 cpus= 1",
+    "psitrace 1  cpus=1",
+    " psitrace 1 cpus=1",
+    "psitrace 1 cpus=1\r",
+    "psitrace 1 cpus=1\n",
+    "psitrace 1 cpus=-1",
+    "psitrace 1 cpus=4294967297",
+    "psitrace 1 cpus=18446744073709551617",
+    "psitrace 01 cpus=1",
+    "psitrace 0 cpus=1",
+    "psitrace 2",
+    "psitrace 2 cpus=0",
+    "psitrace 2 cpus=65",
+    "psitrace 02 cpus=1",
+    "psitrace 12 cpus=1",
+    "psitrace 3 cpus=1",
+    "Psitrace 1 cpus=1",
+    "0 end",
+];
+
 #[test]
 fn refuses_other_headers(rt: HostRuntime) {
-    for line in [
-        "",
-        "psitrace",
-        "psitrace 1 cpus=",
-        "psitrace 1 cpus=0",
-        "psitrace 1 cpus=65",
-        "psitrace 1 cpus=08",
-        "psitrace 1 cpus=1 ",
-        "psitrace 1 cpus= 1",
-        "psitrace 1  cpus=1",
-        " psitrace 1 cpus=1",
-        "psitrace 1 cpus=1\r",
-        "psitrace 1 cpus=1\n",
-        "psitrace 1 cpus=-1",
-        "psitrace 1 cpus=4294967297",
-        "psitrace 1 cpus=18446744073709551617",
-        "psitrace 01 cpus=1",
-        "psitrace 0 cpus=1",
-        "psitrace 2",
-        "psitrace 2 cpus=0",
-        "psitrace 2 cpus=65",
-        "psitrace 02 cpus=1",
-        "psitrace 12 cpus=1",
-        "psitrace 3 cpus=1",
-        "Psitrace 1 cpus=1",
-        "0 end",
-    ] {
-        assert_eq!(rt;
-            read_header(line.as_bytes()),
-            Err(Cause::BadHeader),
-            "at {line}"
-        );
+    for line in &OTHERS {
+        let refused = read_header(line.as_bytes());
+        is(&rt, refused, Err(Cause::BadHeader), line);
     }
 }
