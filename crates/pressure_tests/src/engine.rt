@@ -2,3 +2,4 @@
 mod checks;
 mod machine;
 mod ticks;
+mod told;

@@ -5,6 +5,8 @@
 #[cfg(test)]
 mod arithmetic;
 #[cfg(test)]
+mod check;
+#[cfg(test)]
 mod engine;
 #[cfg(test)]
 mod text;

@@ -1,5 +1,6 @@
 //! A machine whose times grow as a test tells.
 
+use crate::check::holds;
 use crate::engine::checks::{LAST_MOMENT, are_lives, are_triggers, table_grew_within};
 use aggregate::Rows;
 use pressure_spec::{Amounts, AverageRows, Times};
@@ -7,7 +8,7 @@ use psi_base::{Cpu, Ns, Slot, State, TriggerSpec};
 use psi_spec::GroupLife;
 use std::alloc::Global;
 use std::marker::Model;
-use std::test::Fail;
+use std::process::Abort;
 use tick_engine::Engine;
 
 /// The longest tick (ns).
@@ -38,62 +39,62 @@ impl Model for Machine {
 impl Machine {
     /// A machine with so many processors, with these groups and triggers.
     pub fn make(
+        rt: &impl Abort,
         alloc: Global,
         cpus: u32,
         lives: &[GroupLife],
         triggers: &[TriggerSpec],
-    ) -> Result<Machine, Fail> {
-        let few = (1..=64).contains(&cpus) && lives.len() <= 1024 && triggers.len() <= 256;
-        if !few || !are_lives(lives) || !are_triggers(triggers, lives.len()) {
-            return Err(Fail::new("a number, a group or a trigger is out of range"));
-        }
+    ) -> Machine {
+        holds(rt, (1..=64).contains(&cpus), "processors in range");
+        let few = lives.len() <= 1024 && triggers.len() <= 256;
+        holds(rt, few, "few groups and triggers");
+        holds(rt, are_lives(lives), "groups in range");
+        holds(rt, are_triggers(triggers, lives.len()), "triggers in range");
         let slots = lives.len() as u32;
-        Ok(Machine {
+        Machine {
             cpus,
             slots,
             at: 0,
-            last: Rows::make(alloc, cpus, slots)?,
-            next: Rows::make(alloc, cpus, slots)?,
-            engine: Engine::make(alloc, lives, triggers, cpus)?,
-        })
+            last: Rows::make(alloc, cpus, slots).expect(rt, "memory"),
+            next: Rows::make(alloc, cpus, slots).expect(rt, "memory"),
+            engine: Engine::make(alloc, lives, triggers, cpus).expect(rt, "memory"),
+        }
     }
 
     /// Sets the times (ns) of a group on a processor up to the tick to come.
-    pub fn set(&mut self, cpu: u32, slot: u32, times: Times) -> Result<(), Fail> {
-        if cpu >= self.cpus || slot >= self.slots {
-            return Err(Fail::new("there is no such processor or group"));
-        }
+    pub fn set(&mut self, rt: &impl Abort, cpu: u32, slot: u32, times: Times) {
+        holds(rt, cpu < self.cpus, "such a processor");
+        holds(rt, slot < self.slots, "such a group");
         self.next.set(Cpu(cpu), Slot(slot), times);
-        Ok(())
     }
 
     /// The next tick, at this moment (ns).
-    pub fn tick(&mut self, now: Ns) -> Result<(), Fail> {
+    pub fn tick(&mut self, rt: &impl Abort, now: Ns) {
         let is_soon = now > self.at && now - self.at <= LONGEST_TICK && now <= LAST_MOMENT;
-        if !is_soon || !table_grew_within(now - self.at, now, self.slots, &self.last, &self.next) {
-            return Err(Fail::new("the tick can't come next"));
-        }
+        holds(rt, is_soon, "a moment that can come next");
+        let has_grown = table_grew_within(now - self.at, now, self.slots, &self.last, &self.next);
+        holds(rt, has_grown, "times that can come next");
         self.engine.tick(now, &self.next);
         self.last.copy_from(&self.next);
         self.at = now;
-        Ok(())
+    }
+
+    /// The moment of the last tick (ns).
+    pub fn at(&self) -> Ns {
+        self.at
     }
 
     /// The totals of a group (ns).
-    pub fn totals(&self, slot: u32) -> Result<Amounts, Fail> {
-        if slot >= self.slots {
-            return Err(Fail::new("there is no such group"));
-        }
-        Ok(self.engine.totals(Slot(slot)))
+    pub fn totals(&self, rt: &impl Abort, slot: u32) -> Amounts {
+        holds(rt, slot < self.slots, "such a group");
+        self.engine.totals(Slot(slot))
     }
 
     /// The averages of a group, in the order of the states, and of interrupt time.
-    pub fn averages(&self, slot: u32) -> Result<AverageRows, Fail> {
-        if slot >= self.slots {
-            return Err(Fail::new("there is no such group"));
-        }
+    pub fn averages(&self, rt: &impl Abort, slot: u32) -> AverageRows {
+        holds(rt, slot < self.slots, "such a group");
         let averages = self.engine.averages(Slot(slot));
-        Ok([
+        [
             averages.get(State::IoSome),
             averages.get(State::IoFull),
             averages.get(State::MemSome),
@@ -101,7 +102,7 @@ impl Machine {
             averages.get(State::CpuSome),
             averages.get(State::CpuFull),
             averages.irq(),
-        ])
+        ]
     }
 
     /// The triggers that signalled at the last tick.

@@ -1,25 +1,27 @@
 //! Groups and triggers over ticks. The expected numbers were computed apart from this program, from
 //! the rules of shares, averages and triggers.
 
+use crate::check::is;
 use crate::engine::machine::Machine;
-use pressure_spec::{AverageRows, Times};
+use crate::engine::told::{has_averages, has_totals, have_signalled};
+use pressure_spec::Times;
 use psi_base::{Level, Ns, Path, Res, Slot, TriggerSpec};
 use psi_spec::GroupLife;
 use std::alloc::Global;
-use std::test::Fail;
+use std::process::Abort;
 
 /// A second (ns).
 const SECOND: Ns = 1_000_000_000;
 
 /// A group that is made at a moment and may go at another (ns). The engine reads no paths.
-fn group(alloc: Global, made: Ns, gone: Option<Ns>) -> Result<GroupLife, Fail> {
-    Ok(GroupLife {
-        path: Path::root(alloc)?,
+fn group(rt: &impl Abort, alloc: Global, made: Ns, gone: Option<Ns>) -> GroupLife {
+    GroupLife {
+        path: Path::root(alloc).expect(rt, "memory"),
         parent: None,
         made,
         gone,
         on: true,
-    })
+    }
 }
 
 /// A trigger on a group, from a moment on (ns), with its threshold and its window (us).
@@ -52,13 +54,13 @@ fn growth(tick: u64, slot: u64, cpu: u64, place: u64, interval: Ns) -> Ns {
 }
 
 /// The groups of the first test.
-fn groups(alloc: Global) -> Result<Vec<GroupLife>, Fail> {
-    let mut lives = Vec::new(alloc);
-    lives.push(group(alloc, 0, None)?)?;
-    lives.push(group(alloc, 0, Some(5 * SECOND))?)?;
-    lives.push(group(alloc, 2_500_000_000, None)?)?;
-    lives.push(group(alloc, 4 * SECOND, None)?)?;
-    Ok(lives)
+fn groups(rt: &impl Abort, alloc: Global) -> [GroupLife; 4] {
+    [
+        group(rt, alloc, 0, None),
+        group(rt, alloc, 0, Some(5 * SECOND)),
+        group(rt, alloc, 2_500_000_000, None),
+        group(rt, alloc, 4 * SECOND, None),
+    ]
 }
 
 /// The triggers of the first test.
@@ -73,6 +75,11 @@ fn triggers() -> [TriggerSpec; 6] {
         trigger(SECOND, 1, Res::Io, full, 1, 500_000),
         trigger(2_500_000_000, 2, Res::Cpu, full, 300_000, 500_000),
     ]
+}
+
+/// The machine of the first test.
+fn large_machine(rt: &impl Abort, alloc: Global) -> Machine {
+    Machine::make(rt, alloc, 3, &groups(rt, alloc), &triggers())
 }
 
 /// The moment of a tick (ns), and of the start.
@@ -115,83 +122,33 @@ fn times(tick: u64, slot: u32, cpu: u32) -> Times {
 }
 
 /// Lets the times of four groups on three processors grow, and makes the tick.
-fn play(machine: &mut Machine, tick: u64) -> Result<(), Fail> {
+fn play(rt: &impl Abort, machine: &mut Machine, tick: u64) {
     for place in 0..12u32 {
         let slot = place / 3;
         let cpu = place % 3;
-        machine.set(cpu, slot, times(tick, slot, cpu))?;
+        machine.set(rt, cpu, slot, times(tick, slot, cpu));
     }
-    machine.tick(moment(tick))
-}
-
-/// The numbers are those of the text.
-fn are(numbers: &[u64], text: &str) -> bool {
-    let mut words = text.split(' ');
-    for number in numbers {
-        let Some(word) = words.next() else {
-            return false;
-        };
-        if word.parse::<u64>().ok() != Some(*number) {
-            return false;
-        }
-    }
-    words.next().is_none()
-}
-
-/// The group has these totals.
-fn has_totals(machine: &Machine, slot: u32, text: &str) -> Result<bool, Fail> {
-    Ok(are(&machine.totals(slot)?, text))
+    machine.tick(rt, moment(tick));
 }
 
 /// The four groups have these.
-fn have_totals(machine: &Machine, text: &str) -> Result<bool, Fail> {
+fn have_totals(rt: &impl Abort, machine: &Machine, text: &str) {
     let mut slot = 0u32;
     for totals in text.split('|') {
-        if !has_totals(machine, slot, totals)? {
-            return Ok(false);
-        }
+        has_totals(rt, machine, slot, totals);
         slot = slot.wrapping_add(1);
     }
-    Ok(slot == 4)
-}
-
-/// The numbers of all quantities are those of the text.
-fn are_averages(averages: &AverageRows, text: &str) -> bool {
-    let mut parts = text.split(", ");
-    for numbers in averages {
-        let Some(part) = parts.next() else {
-            return false;
-        };
-        if !are(numbers, part) {
-            return false;
-        }
-    }
-    parts.next().is_none()
-}
-
-/// The group has these averages.
-fn has_averages(machine: &Machine, slot: u32, text: &str) -> Result<bool, Fail> {
-    Ok(are_averages(&machine.averages(slot)?, text))
-}
-
-/// The triggers that signalled are those whose digits stand here.
-fn have_signalled(machine: &Machine, digits: &str) -> bool {
-    let fired = machine.fired();
-    for (number, digit) in fired.iter().zip(digits.bytes()) {
-        if *number != u32::from(digit.wrapping_sub(b'0')) {
-            return false;
-        }
-    }
-    fired.len() == digits.len()
+    is(rt, slot, 4, "groups of a row");
 }
 
 /// After the tick the triggers and totals are those of the row.
-fn is_tick(machine: &mut Machine, tick: u64, row: &str) -> Result<bool, Fail> {
-    let Some((digits, totals)) = row.split_once('|') else {
-        return Ok(false);
-    };
-    play(machine, tick)?;
-    Ok(have_signalled(machine, digits) && have_totals(machine, totals)?)
+fn play_row(rt: &impl Abort, machine: &mut Machine, tick: u64, row: &str) {
+    let (digits, totals) = row
+        .split_once('|')
+        .expect(rt, "a row has digits and totals");
+    play(rt, machine, tick);
+    have_signalled(rt, machine, digits);
+    have_totals(rt, machine, totals);
 }
 
 /// Each tick: the triggers that signal, and behind them the totals of each group.
@@ -238,113 +195,111 @@ const AVERAGES: &str =
     77486 16699 3608, 63912 14735 3223, 81155 17990 3908, 49316 11085 2411, 70754 15285 3303, 75985 16172 3486, 80522 18276 3986;\
     92356 19450 4172, 92356 19450 4172, 58387 13127 2844, 85307 18177 3906, 71951 15765 3402, 92356 19450 4172, 73527 15652 3364";
 
+/// The four groups have these.
+fn have_averages(rt: &impl Abort, machine: &Machine) {
+    let mut slot = 0u32;
+    for row in AVERAGES.split(';') {
+        has_averages(rt, machine, slot, row);
+        slot = slot.wrapping_add(1);
+    }
+    is(rt, slot, 4, "groups with averages");
+}
+
 // The machine has three processors and four groups. The second group goes at the fourth tick, the
 // third is made between the second tick and the third, and the last at the third. Times grow also
 // where a group isn't live, and no total sees it. The second trigger is set at the very moment of a
 // tick, the third so on the group that is made then, the fourth a nanosecond later, and the fifth
 // is on the group that goes. There are ticks at which periods were missed.
 #[test]
-fn groups_that_come_and_go(rt: HostRuntime) -> Result<(), Fail> {
-    let alloc = rt.alloc();
-    let mut machine = Machine::make(alloc, 3, &groups(alloc)?, &triggers())?;
+fn groups_that_come_and_go(rt: HostRuntime) {
+    let mut machine = large_machine(&rt, rt.alloc());
     let mut tick = 0u64;
     for row in TICKS.split(';') {
         tick = tick.wrapping_add(1);
-        assert!(rt; is_tick(&mut machine, tick, row)?, "at tick {tick}");
+        play_row(&rt, &mut machine, tick, row);
     }
-    assert_eq!(rt; tick, 7);
-    let mut slot = 0u32;
-    for row in AVERAGES.split(';') {
-        assert!(rt; has_averages(&machine, slot, row)?, "of group {slot}");
-        slot = slot.wrapping_add(1);
-    }
-    assert_eq!(rt; slot, 4);
-    Ok(())
+    is(&rt, tick, 7, "ticks");
+    have_averages(&rt, &machine);
 }
 
-/// All states have lasted the whole time for IO, and none for memory and processors.
-fn waits(machine: &mut Machine, now: Ns) -> Result<(), Fail> {
-    machine.set(0, 0, [now, now, 0, 0, 0, 0, now, 0])?;
-    machine.tick(now)
+/// A machine of one processor and one group.
+fn small_machine(rt: &impl Abort, alloc: Global, triggers: &[TriggerSpec]) -> Machine {
+    let lives = [group(rt, alloc, 0, None)];
+    Machine::make(rt, alloc, 1, &lives, triggers)
 }
 
-/// At a moment, the group has these totals and averages, and nothing signalled.
-fn is_wait(machine: &mut Machine, now: Ns, totals: &str, averages: &str) -> Result<bool, Fail> {
-    waits(machine, now)?;
-    let is_told = has_totals(machine, 0, totals)? && has_averages(machine, 0, averages)?;
-    Ok(is_told && machine.fired().is_empty())
+/// At a moment up to which all time was one of waits for IO, of some and of all tasks, and none of
+/// memory and processors, the group has these totals and averages, and nothing signalled.
+fn waits(rt: &impl Abort, machine: &mut Machine, now: Ns, totals: &str, averages: &str) {
+    machine.set(rt, 0, 0, [now, now, 0, 0, 0, 0, now, 0]);
+    machine.tick(rt, now);
+    has_totals(rt, machine, 0, totals);
+    has_averages(rt, machine, 0, averages);
+    have_signalled(rt, machine, "");
 }
 
 // One processor, where some and all tasks wait for IO all the time, and ticks of two seconds.
 #[test]
-fn waits_without_end(rt: HostRuntime) -> Result<(), Fail> {
-    let alloc = rt.alloc();
-    let lives = vec![in alloc; group(alloc, 0, None)?]?;
-    let mut machine = Machine::make(alloc, 1, &lives, &[])?;
+fn waits_without_end(rt: HostRuntime) {
+    let mut machine = small_machine(&rt, rt.alloc(), &[]);
     let totals = "2000000000 2000000000 0 0 0 0 0";
     let averages = "37100 6700 1400, 37100 6700 1400, 0 0 0, 0 0 0, 0 0 0, 0 0 0, 0 0 0";
-    assert!(rt; is_wait(&mut machine, 2 * SECOND, totals, averages)?);
+    waits(&rt, &mut machine, 2 * SECOND, totals, averages);
     let totals = "4000000000 4000000000 0 0 0 0 0";
     let averages = "67480 13181 2791, 67480 13181 2791, 0 0 0, 0 0 0, 0 0 0, 0 0 0, 0 0 0";
-    assert!(rt; is_wait(&mut machine, 4 * SECOND, totals, averages)?);
-    Ok(())
+    waits(&rt, &mut machine, 4 * SECOND, totals, averages);
 }
 
 /// Interrupts took so long (ns) up to a moment from a group that is never idle on one processor,
-/// and in none of the states.
-fn interrupt(machine: &mut Machine, now: Ns, irq: Ns) -> Result<(), Fail> {
-    machine.set(0, 0, [0, 0, 0, 0, 0, 0, now, irq])?;
-    machine.tick(now)
+/// and in none of the states: it has that as its total, no other, and these averages.
+fn interrupt(rt: &impl Abort, machine: &mut Machine, now: Ns, irq: Ns, averages: &str) {
+    machine.set(rt, 0, 0, [0, 0, 0, 0, 0, 0, now, irq]);
+    machine.tick(rt, now);
+    is(rt, machine.totals(rt, 0), [0, 0, 0, 0, 0, 0, irq], averages);
+    has_averages(rt, machine, 0, averages);
 }
 
-/// The group has this total of interrupt time (ns), and no other.
-fn has_irq_total(machine: &Machine, irq: Ns) -> Result<bool, Fail> {
-    Ok(machine.totals(0)? == [0, 0, 0, 0, 0, 0, irq])
-}
-
-/// At a moment, the group has all that interrupts took as its total, and these averages.
-fn is_interrupted(machine: &mut Machine, now: Ns, irq: Ns, averages: &str) -> Result<bool, Fail> {
-    interrupt(machine, now, irq)?;
-    Ok(has_irq_total(machine, irq)? && has_averages(machine, 0, averages)?)
+/// So at each moment, with what interrupts took up to it and the averages.
+fn interrupts(rt: &impl Abort, alloc: Global, rows: &[(Ns, Ns, &str)]) {
+    let mut machine = small_machine(rt, alloc, &[]);
+    for (now, irq, averages) in rows {
+        interrupt(rt, &mut machine, *now, *irq, averages);
+    }
 }
 
 // One processor, where interrupts took half of the first two seconds, and nothing of the next two.
 #[test]
-fn interrupts_of_half_a_period(rt: HostRuntime) -> Result<(), Fail> {
-    let alloc = rt.alloc();
-    let lives = vec![in alloc; group(alloc, 0, None)?]?;
-    let mut machine = Machine::make(alloc, 1, &lives, &[])?;
-    let averages = "0 0 0, 0 0 0, 0 0 0, 0 0 0, 0 0 0, 0 0 0, 18550 3350 700";
-    assert!(rt; is_interrupted(&mut machine, 2 * SECOND, SECOND, averages)?);
-    let averages = "0 0 0, 0 0 0, 0 0 0, 0 0 0, 0 0 0, 0 0 0, 15189 3240 695";
-    assert!(rt; is_interrupted(&mut machine, 4 * SECOND, SECOND, averages)?);
-    Ok(())
+fn interrupts_of_half_a_period(rt: HostRuntime) {
+    let half = "0 0 0, 0 0 0, 0 0 0, 0 0 0, 0 0 0, 0 0 0, 18550 3350 700";
+    let none = "0 0 0, 0 0 0, 0 0 0, 0 0 0, 0 0 0, 0 0 0, 15189 3240 695";
+    let rows = [(2 * SECOND, SECOND, half), (4 * SECOND, SECOND, none)];
+    interrupts(&rt, rt.alloc(), &rows);
 }
 
 // A trace tells of interrupts when they are over. So a share may be a second longer than its
 // interval, which is half a second here.
 #[test]
-fn interrupts_told_late(rt: HostRuntime) -> Result<(), Fail> {
-    let alloc = rt.alloc();
-    let lives = vec![in alloc; group(alloc, 0, None)?]?;
-    let mut machine = Machine::make(alloc, 1, &lives, &[])?;
+fn interrupts_told_late(rt: HostRuntime) {
     let none = "0 0 0, 0 0 0, 0 0 0, 0 0 0, 0 0 0, 0 0 0, 0 0 0";
-    assert!(rt; is_interrupted(&mut machine, SECOND, 0, none)?);
+    let late = "0 0 0, 0 0 0, 0 0 0, 0 0 0, 0 0 0, 0 0 0, 27825 5025 1050";
     let half = SECOND / 2;
-    assert!(rt; is_interrupted(&mut machine, SECOND + half, SECOND + half, none)?);
-    let averages = "0 0 0, 0 0 0, 0 0 0, 0 0 0, 0 0 0, 0 0 0, 27825 5025 1050";
-    assert!(rt; is_interrupted(&mut machine, 2 * SECOND, SECOND + half, averages)?);
-    Ok(())
+    let rows = [
+        (SECOND, 0, none),
+        (SECOND + half, SECOND + half, none),
+        (2 * SECOND, SECOND + half, late),
+    ];
+    interrupts(&rt, rt.alloc(), &rows);
 }
 
 /// Thresholds of 10 ms, 20 ms and so on to 2560 ms, in windows of ten seconds.
-fn many_triggers(alloc: Global) -> Result<Vec<TriggerSpec>, Fail> {
+fn many_triggers(rt: &impl Abort, alloc: Global) -> Vec<TriggerSpec> {
     let mut triggers = Vec::new(alloc);
     for i in 0..256u64 {
         let threshold_us = (i + 1) * 10_000;
-        triggers.push(trigger(0, 0, Res::Io, Level::SomeStalled, threshold_us, 10_000_000))?;
+        let next = trigger(0, 0, Res::Io, Level::SomeStalled, threshold_us, 10_000_000);
+        triggers.push(next).expect(rt, "memory");
     }
-    Ok(triggers)
+    triggers
 }
 
 /// The numbers are those from the first up to the one before the last.
@@ -359,28 +314,34 @@ fn is_range(numbers: &[u32], from: u32, to: u32) -> bool {
     next == to
 }
 
-/// A second more is all stalled, and the triggers that signal after it are those that are owed.
-fn is_second(machine: &mut Machine, second: u64) -> Result<bool, Fail> {
-    let now = second.wrapping_mul(SECOND);
-    let (from, to) = match second {
+/// The first trigger that owes a signal after so many seconds, and the one behind the last.
+fn owed(second: u64) -> (u32, u32) {
+    match second {
         1 | 11 => (0, 100),
         2 | 12 => (100, 200),
         3 => (200, 256),
         _ => (0, 0),
-    };
-    machine.set(0, 0, [now, 0, 0, 0, 0, 0, now, 0])?;
-    machine.tick(now)?;
-    Ok(is_range(machine.fired(), from, to))
+    }
+}
+
+/// A second more is all stalled, and the triggers that signal after it are those that are owed.
+fn stall(rt: &impl Abort, machine: &mut Machine, second: u64) {
+    let now = second.wrapping_mul(SECOND);
+    let (from, to) = owed(second);
+    machine.set(rt, 0, 0, [now, 0, 0, 0, 0, 0, now, 0]);
+    machine.tick(rt, now);
+    let fired = machine.fired();
+    assert!(rt;
+        is_range(fired, from, to),
+        "at {second} s {fired:?} signalled in place of {from}..{to}"
+    );
 }
 
 // The total grows by a second a second.
 #[test]
-fn many_triggers_on_one_group(rt: HostRuntime) -> Result<(), Fail> {
-    let alloc = rt.alloc();
-    let lives = vec![in alloc; group(alloc, 0, None)?]?;
-    let mut machine = Machine::make(alloc, 1, &lives, &many_triggers(alloc)?)?;
+fn many_triggers_on_one_group(rt: HostRuntime) {
+    let mut machine = small_machine(&rt, rt.alloc(), &many_triggers(&rt, rt.alloc()));
     for second in 1..13u64 {
-        assert!(rt; is_second(&mut machine, second)?, "at {second} s");
+        stall(&rt, &mut machine, second);
     }
-    Ok(())
 }

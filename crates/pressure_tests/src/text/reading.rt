@@ -1,7 +1,8 @@
 //! Pressure files at the borders of what is read.
+use crate::check::is;
 use pressure_text::{PressureFile, PressureLine, read_file, read_irq};
-use std::alloc::{AllocError, Global};
-use std::test::Fail;
+use std::alloc::Global;
+use std::process::Abort;
 
 /// A line of zeros on all tasks.
 const FULL: &str = "full avg10=0.00 avg60=0.00 avg300=0.00 total=0\n";
@@ -12,18 +13,21 @@ const ZEROS: PressureLine = PressureLine {
     total_us: 0,
 };
 
-/// Lines on some tasks that are read: each with its averages (hundredths of a percent) and its
-/// total (us).
-const LINES: [(&str, [u32; 3], u64); 2] = [
+/// Lines on some tasks that are read, each with what it tells.
+const LINES: [(&str, PressureLine); 2] = [
     (
         "some avg10=18.11 avg60=3.27 avg300=0.68 total=2000000\n",
-        [1811, 327, 68],
-        2_000_000,
+        PressureLine {
+            hundredths: [1811, 327, 68],
+            total_us: 2_000_000,
+        },
     ),
     (
         "some avg10=100.00 avg60=99.99 avg300=0.09 total=18446744073709551615\n",
-        [10_000, 9999, 9],
-        u64::MAX,
+        PressureLine {
+            hundredths: [10_000, 9999, 9],
+            total_us: u64::MAX,
+        },
     ),
 ];
 
@@ -58,46 +62,45 @@ const WRONG_FILES: [&str; 6] = [
     "",
 ];
 
-/// A file of this line and the one of zeros.
-fn file_of(alloc: Global, line: &str) -> Result<String, AllocError> {
-    format!(in alloc; "{line}{}", FULL)
+/// What is read of a file of this line and the one of zeros.
+fn reads(rt: &impl Abort, alloc: Global, line: &str, wanted: Option<PressureFile>) {
+    let text = format!(in alloc; "{line}{}", FULL).expect(rt, "memory");
+    is(rt, read_file(text.as_bytes()), wanted, text.as_str());
 }
 
 #[test]
-fn files_at_their_borders(rt: HostRuntime) -> Result<(), Fail> {
-    for (line, hundredths, total_us) in LINES {
+fn files_at_their_borders(rt: HostRuntime) {
+    for (line, told) in &LINES {
         let file = PressureFile {
-            some_line: PressureLine {
-                hundredths,
-                total_us,
-            },
+            some_line: *told,
             full_line: ZEROS,
         };
-        let text = file_of(rt.alloc(), line)?;
-        assert_eq!(rt; read_file(text.as_bytes()), Some(file), "{text}");
+        reads(&rt, rt.alloc(), line, Some(file));
     }
-    for line in WRONG_LINES {
-        let text = file_of(rt.alloc(), line)?;
-        assert_eq!(rt; read_file(text.as_bytes()), None, "{text}");
+    for line in &WRONG_LINES {
+        reads(&rt, rt.alloc(), line, None);
     }
-    for text in WRONG_FILES {
-        assert_eq!(rt; read_file(text.as_bytes()), None, "{text}");
+    for text in &WRONG_FILES {
+        is(&rt, read_file(text.as_bytes()), None, text);
     }
-    Ok(())
 }
 
-/// Files of interrupts that are read, told so too.
-const IRQ_FILES: [(&str, [u32; 3], u64); 3] = [
-    (FULL, [0; 3], 0),
+/// Files of interrupts that are read, each with what it tells.
+const IRQ_FILES: [(&str, PressureLine); 3] = [
+    (FULL, ZEROS),
     (
         "full avg10=9.05 avg60=1.63 avg300=0.34 total=1000000\n",
-        [905, 163, 34],
-        1_000_000,
+        PressureLine {
+            hundredths: [905, 163, 34],
+            total_us: 1_000_000,
+        },
     ),
     (
         "full avg10=100.00 avg60=99.99 avg300=0.09 total=18446744073709551615\n",
-        [10_000, 9999, 9],
-        u64::MAX,
+        PressureLine {
+            hundredths: [10_000, 9999, 9],
+            total_us: u64::MAX,
+        },
     ),
 ];
 
@@ -117,14 +120,10 @@ const WRONG_IRQ_FILES: [&str; 10] = [
 
 #[test]
 fn files_of_interrupts(rt: HostRuntime) {
-    for (text, hundredths, total_us) in IRQ_FILES {
-        let line = PressureLine {
-            hundredths,
-            total_us,
-        };
-        assert_eq!(rt; read_irq(text.as_bytes()), Some(line), "{text}");
+    for (text, told) in &IRQ_FILES {
+        is(&rt, read_irq(text.as_bytes()), Some(*told), text);
     }
-    for text in WRONG_IRQ_FILES {
-        assert_eq!(rt; read_irq(text.as_bytes()), None, "{text}");
+    for text in &WRONG_IRQ_FILES {
+        is(&rt, read_irq(text.as_bytes()), None, text);
     }
 }

@@ -1,14 +1,17 @@
 //! Each line with its exact text.
+use crate::check::is;
 use fixed_average::Averages;
 use outside::WriteFailed;
 use outside_fakes::{HonestSink, MemSink};
+use pressure_spec::Amounts;
 use pressure_text::{
     PressureFile, PressureLine, read_file, read_irq, write_check, write_end, write_file,
     write_fired, write_irq, write_kill, write_live, write_report, write_report_head, write_stall,
     write_stall_irq,
 };
 use psi_base::{Cpu, Level, Path, Res, Slot, TriggerSpec};
-use std::test::Fail;
+use std::alloc::Global;
+use std::process::Abort;
 
 /// Two seconds (ns).
 const TICK: u64 = 2_000_000_000;
@@ -21,11 +24,28 @@ fn stalled_averages() -> Averages {
     averages
 }
 
-#[test]
-fn lines(rt: HostRuntime) -> Result<(), Fail> {
-    let alloc = rt.alloc();
-    let mut out = HonestSink::new(alloc, 1024)?;
-    let root = Path::root(alloc)?;
+/// An empty sink with room for so many bytes.
+fn sink(rt: &impl Abort, alloc: Global, room: usize) -> HonestSink {
+    HonestSink::new(alloc, room).expect(rt, "memory")
+}
+
+/// The root group.
+fn root(rt: &impl Abort, alloc: Global) -> Path {
+    Path::root(alloc).expect(rt, "memory")
+}
+
+/// Writes the first four of the lines below.
+fn write_first_lines(rt: &impl Abort, out: &mut HonestSink, root: &Path) {
+    let seven = [1, 2, 3, 4, 5, 6, u64::MAX];
+    write_stall(out, Cpu(63), root, seven).expect(rt, "a stall");
+    let eight = [1, 2, 3, 4, 5, 6, TICK, u64::MAX];
+    write_stall_irq(out, Cpu(0), root, eight).expect(rt, "a stall with interrupts");
+    write_check(out, 4, TICK).expect(rt, "a check");
+    write_live(out, TICK, Cpu(1), 12, [0; 7]).expect(rt, "a live line");
+}
+
+/// Writes the other four.
+fn write_last_lines(rt: &impl Abort, out: &mut HonestSink, root: &Path) {
     let spec = TriggerSpec {
         at: 5,
         slot: Slot(0),
@@ -34,17 +54,14 @@ fn lines(rt: HostRuntime) -> Result<(), Fail> {
         threshold_us: 150_000,
         window_us: 1_000_000,
     };
-    let seven = [1, 2, 3, 4, 5, 6, u64::MAX];
-    assert_eq!(rt; write_stall(&mut out, Cpu(63), &root, seven), Ok(()));
-    let eight = [1, 2, 3, 4, 5, 6, TICK, u64::MAX];
-    assert_eq!(rt; write_stall_irq(&mut out, Cpu(0), &root, eight), Ok(()));
-    assert_eq!(rt; write_check(&mut out, 4, TICK), Ok(()));
-    assert_eq!(rt; write_live(&mut out, TICK, Cpu(1), 12, [0; 7]), Ok(()));
-    assert_eq!(rt; write_fired(&mut out, TICK, 3, &root, &spec), Ok(()));
-    assert_eq!(rt; write_kill(&mut out, TICK, 0, 2, &root), Ok(()));
-    assert_eq!(rt; write_report_head(&mut out, TICK, &root, Res::Cpu), Ok(()));
-    assert_eq!(rt; write_end(&mut out, 7, 1, 2, 3), Ok(()));
-    let text = b"stall cpu=63 / 1 2 3 4 5 6 18446744073709551615
+    write_fired(out, TICK, 3, root, &spec).expect(rt, "an event");
+    write_kill(out, TICK, 0, 2, root).expect(rt, "a kill");
+    write_report_head(out, TICK, root, Res::Cpu).expect(rt, "a report's head");
+    write_end(out, 7, 1, 2, 3).expect(rt, "an end");
+}
+
+/// One line of each form.
+const LINES: &[u8] = b"stall cpu=63 / 1 2 3 4 5 6 18446744073709551615
 stall cpu=0 / 1 2 3 4 5 6 2000000000 18446744073709551615
 ok lines=5 events=4 end=2000000000
 live 2000000000 cpu=1 count=12 0 0 0 0 0 0 0
@@ -53,54 +70,68 @@ kill 2000000000 ruleset=0 action=2 /
 report 2000000000 / cpu
 end 7 ticks=1 events=2 kills=3
 ";
-    assert_eq!(rt; out.bytes.as_slice(), text.as_slice());
-    Ok(())
+
+#[test]
+fn lines(rt: HostRuntime) {
+    let mut out = sink(&rt, rt.alloc(), 1024);
+    let root = root(&rt, rt.alloc());
+    write_first_lines(&rt, &mut out, &root);
+    write_last_lines(&rt, &mut out, &root);
+    is(&rt, out.bytes.as_slice(), LINES, "lines");
+}
+
+/// The totals of a group (ns).
+const TOTALS: Amounts = [1_000, 2_000, 3_999, 4_000, TICK, 999, 5_000];
+
+/// The pressure file of a group with these totals has this text.
+fn is_file(rt: &impl Abort, alloc: Global, res: Res, root: bool, text: &[u8]) {
+    let mut out = sink(rt, alloc, 256);
+    write_file(&mut out, res, root, TOTALS, &stalled_averages()).expect(rt, "a file");
+    is(rt, out.bytes.as_slice(), text, "a file");
 }
 
 #[test]
-fn files(rt: HostRuntime) -> Result<(), Fail> {
-    let alloc = rt.alloc();
-    let averages = stalled_averages();
-    let totals = [1_000, 2_000, 3_999, 4_000, TICK, 999, 5_000];
+fn files(rt: HostRuntime) {
     let numbers = b"some avg10=18.11 avg60=3.27 avg300=0.68 total=1
 full avg10=18.11 avg60=3.27 avg300=0.68 total=2
-"
-        .as_slice();
+";
+    is_file(&rt, rt.alloc(), Res::Io, true, numbers);
     let memory = b"some avg10=18.11 avg60=3.27 avg300=0.68 total=3
 full avg10=18.11 avg60=3.27 avg300=0.68 total=4
-"
-        .as_slice();
+";
+    is_file(&rt, rt.alloc(), Res::Memory, true, memory);
     let group = b"some avg10=18.11 avg60=3.27 avg300=0.68 total=2000000
 full avg10=18.11 avg60=3.27 avg300=0.68 total=0
-"
-        .as_slice();
+";
+    is_file(&rt, rt.alloc(), Res::Cpu, false, group);
     let machine = b"some avg10=18.11 avg60=3.27 avg300=0.68 total=2000000
 full avg10=0.00 avg60=0.00 avg300=0.00 total=0
-"
-        .as_slice();
-    let rows = [
-        (Res::Io, true, numbers),
-        (Res::Memory, true, memory),
-        (Res::Cpu, false, group),
-        (Res::Cpu, true, machine),
-    ];
-    for (res, root, text) in rows {
-        let mut out = HonestSink::new(alloc, 256)?;
-        assert_eq!(rt; write_file(&mut out, res, root, totals, &averages), Ok(()));
-        assert_eq!(rt; out.bytes.as_slice(), text);
-    }
-    Ok(())
+";
+    is_file(&rt, rt.alloc(), Res::Cpu, true, machine);
+}
+
+/// A report on the root's IO.
+fn report(rt: &impl Abort, alloc: Global) -> Vec<u8> {
+    let root = root(rt, alloc);
+    let mut out = sink(rt, alloc, 256);
+    write_report(
+        &mut out,
+        TICK,
+        &root,
+        Res::Io,
+        true,
+        [TICK; 7],
+        &stalled_averages(),
+    )
+    .expect(rt, "a report");
+    out.bytes
 }
 
 #[test]
-fn reports_are_read_again(rt: HostRuntime) -> Result<(), Fail> {
-    let alloc = rt.alloc();
-    let root = Path::root(alloc)?;
-    let averages = stalled_averages();
-    let mut out = HonestSink::new(alloc, 256)?;
-    let wrote = write_report(&mut out, TICK, &root, Res::Io, true, [TICK; 7], &averages);
-    assert_eq!(rt; wrote, Ok(()));
+fn reports_are_read_again(rt: HostRuntime) {
+    let written = report(&rt, rt.alloc());
     let head = b"report 2000000000 / io\n".as_slice();
+    let bytes = written.as_slice().strip_prefix(head).expect(&rt, "a head");
     let line = PressureLine {
         hundredths: [1811, 327, 68],
         total_us: 2_000_000,
@@ -109,52 +140,52 @@ fn reports_are_read_again(rt: HostRuntime) -> Result<(), Fail> {
         some_line: line,
         full_line: line,
     };
-    match out.bytes.as_slice().strip_prefix(head) {
-        Some(bytes) => assert_eq!(rt; read_file(bytes), Some(file)),
-        None => assert!(rt; false, "a head"),
-    }
-    Ok(())
+    is(&rt, read_file(bytes), Some(file), "a report");
 }
 
-// Interrupts took half of the first interval.
-#[test]
-fn a_report_on_interrupts_is_read_again(rt: HostRuntime) -> Result<(), Fail> {
-    let alloc = rt.alloc();
-    let root = Path::root(alloc)?;
+/// A report on interrupts, which took half of the first interval.
+fn irq_report(rt: &impl Abort, alloc: Global) -> Vec<u8> {
     let mut averages = Averages::new(0);
     averages.update(TICK, [0, 0, 0, 0, 0, 0, TICK / 2]);
-    let mut out = HonestSink::new(alloc, 256)?;
-    assert_eq!(rt;
-        write_irq(&mut out, TICK, &root, TICK / 2, &averages),
-        Ok(())
-    );
+    let root = root(rt, alloc);
+    let mut out = sink(rt, alloc, 256);
+    write_irq(&mut out, TICK, &root, TICK / 2, &averages).expect(rt, "a report");
+    out.bytes
+}
+
+#[test]
+fn a_report_on_interrupts_is_read_again(rt: HostRuntime) {
+    let written = irq_report(&rt, rt.alloc());
     let text = b"report 2000000000 / irq
 full avg10=9.05 avg60=1.63 avg300=0.34 total=1000000
 "
         .as_slice();
-    assert_eq!(rt; out.bytes.as_slice(), text);
+    is(&rt, written.as_slice(), text, "a report on interrupts");
+    let head = b"report 2000000000 / irq\n".as_slice();
+    let bytes = written.as_slice().strip_prefix(head).expect(&rt, "a head");
     let line = PressureLine {
         hundredths: [905, 163, 34],
         total_us: 1_000_000,
     };
-    match out
-        .bytes
-        .as_slice()
-        .strip_prefix(b"report 2000000000 / irq\n".as_slice())
-    {
-        Some(bytes) => assert_eq!(rt; read_irq(bytes), Some(line)),
-        None => assert!(rt; false, "a head"),
-    }
-    Ok(())
+    is(&rt, read_irq(bytes), Some(line), "what it tells");
 }
 
 // The third piece of the line fails.
 #[test]
-fn a_failure_leaves_a_front(rt: HostRuntime) -> Result<(), Fail> {
-    let alloc = rt.alloc();
-    let mut out = MemSink::new(alloc, 256, 256, vec![in alloc; 2]?)?;
-    assert_eq!(rt; write_end(&mut out, 7, 1, 2, 3), Err(WriteFailed));
-    assert_eq!(rt; out.bytes.as_slice(), b"end 7".as_slice());
-    assert_eq!(rt; (out.calls, out.faults), (3, 1));
-    Ok(())
+fn a_failure_leaves_a_front(rt: HostRuntime) {
+    let fails = vec![in rt.alloc(); 2].expect(&rt, "memory");
+    let mut out = MemSink::new(rt.alloc(), 256, 256, fails).expect(&rt, "memory");
+    is(
+        &rt,
+        write_end(&mut out, 7, 1, 2, 3),
+        Err(WriteFailed),
+        "a line that fails",
+    );
+    is(
+        &rt,
+        out.bytes.as_slice(),
+        b"end 7".as_slice(),
+        "what is left of it",
+    );
+    is(&rt, (out.calls, out.faults), (3, 1), "calls and faults");
 }

@@ -1,0 +1,73 @@
+//! What a machine tells, held against texts.
+use crate::engine::machine::Machine;
+use pressure_spec::AverageRows;
+use std::process::Abort;
+
+/// The numbers are those of the text.
+fn are(numbers: &[u64], text: &str) -> bool {
+    let mut words = text.split(' ');
+    for number in numbers {
+        let Some(word) = words.next() else {
+            return false;
+        };
+        if word.parse::<u64>().ok() != Some(*number) {
+            return false;
+        }
+    }
+    words.next().is_none()
+}
+
+/// The group has these totals.
+pub fn has_totals(rt: &impl Abort, machine: &Machine, slot: u32, text: &str) {
+    let totals = machine.totals(rt, slot);
+    let at = machine.at();
+    assert!(rt;
+        are(&totals, text),
+        "group {slot} at {at} ns has {totals:?} in place of {text}"
+    );
+}
+
+/// The numbers of all quantities are those of the text.
+fn are_averages(averages: &AverageRows, text: &str) -> bool {
+    let mut parts = text.split(", ");
+    for numbers in averages {
+        let Some(part) = parts.next() else {
+            return false;
+        };
+        if !are(numbers, part) {
+            return false;
+        }
+    }
+    parts.next().is_none()
+}
+
+/// The group has these averages.
+pub fn has_averages(rt: &impl Abort, machine: &Machine, slot: u32, text: &str) {
+    let averages = machine.averages(rt, slot);
+    let at = machine.at();
+    let are_these = are_averages(&averages, text);
+    assert!(rt;
+        are_these,
+        "group {slot} at {at} ns has {averages:?} in place of {text}"
+    );
+}
+
+/// The numbers are those whose digits stand here.
+fn are_digits(numbers: &[u32], digits: &str) -> bool {
+    for (number, digit) in numbers.iter().zip(digits.bytes()) {
+        if *number != u32::from(digit.wrapping_sub(b'0')) {
+            return false;
+        }
+    }
+    numbers.len() == digits.len()
+}
+
+/// The triggers that signalled are those whose digits stand here.
+pub fn have_signalled(rt: &impl Abort, machine: &Machine, digits: &str) {
+    let fired = machine.fired();
+    let at = machine.at();
+    assert!(rt;
+        are_digits(fired, digits),
+        "at {at} ns {fired:?} signalled in place of {digits}"
+    );
+}
