@@ -1,4 +1,4 @@
-//! What a test must see before it calls a reading or asks for a victim.
+//! What a test must see before it calls a reading or asks for a victim, and of what it got.
 
 ghost use Rattle.std.specs.Prelude.{◌≡◌, ◌<◌, ◌≤◌, All, length, true};
 ghost use Rattle.pressure_spec.specs.Within.{IsRow};
@@ -9,6 +9,8 @@ ghost use Rattle.detectors.specs.Views.{ComesLast};
 use detectors::{GroupReading, HostReading, Reading};
 use psi_base::Res;
 use ruleset_json::{Action, After, Size};
+use std::fmt::Display;
+use std::process::Abort;
 
 /// The most bytes and scans that a sample tells (2^60).
 pub const MOST: u64 = 1 << 60;
@@ -115,4 +117,9 @@ pub fn is_action(action: &Action) -> bool
         } => is_stallable(*resource) && is_time(after),
         Action::PgScan { after, .. } => is_time(after),
     }
+}
+
+/// The text is the one that is wanted, in this case.
+pub fn is_text(rt: &impl Abort, found: &str, wanted: &str, case: impl Display + Drop) {
+    assert_eq!(rt; found, wanted, "at {case}");
 }

@@ -1,9 +1,10 @@
 //! What tests put into readings.
 use detectors::{GroupReading, HostReading};
 use pressure_spec::QUANTITIES;
-use psi_base::{NoMemory, Ns, Path, Preference, Slot};
+use psi_base::{Ns, Path, Preference, Slot};
 use psi_spec::GroupLife;
 use std::alloc::Global;
+use std::process::Abort;
 
 /// A second (ns).
 pub const SECOND: Ns = 1_000_000_000;
@@ -15,19 +16,21 @@ pub const NO_HOST: HostReading = HostReading {
     swap_free: 0,
 };
 
+/// The path of a text.
+pub fn path(rt: &impl Abort, alloc: Global, text: &str) -> Path {
+    let path = Path::read(alloc, text.as_bytes()).expect(rt, "memory");
+    path.expect(rt, text)
+}
+
 /// The life of a group that was made at 0.
-pub fn life(alloc: Global, path: &str, parent: Option<Slot>) -> Result<GroupLife, NoMemory> {
-    let path = match Path::read(alloc, path.as_bytes())? {
-        Some(path) => path,
-        None => Path::root(alloc)?,
-    };
-    Ok(GroupLife {
-        path,
+pub fn life(rt: &impl Abort, alloc: Global, text: &str, parent: Option<Slot>) -> GroupLife {
+    GroupLife {
+        path: path(rt, alloc, text),
         parent,
         made: 0,
         gone: None,
         on: true,
-    })
+    }
 }
 
 /// A group with tasks, of which nothing else is read.

@@ -1,17 +1,18 @@
 //! Choices over rows of readings, each with the victim that is wanted. The numbers are from the
 //! rules of victims.
 
+ghost use Rattle.std.specs.Prelude.{◌≡◌, length};
+
 use crate::checks::{MOST, is_action};
 use crate::readings::{NO_HOST, SECOND, bare_group, life, scanned, using};
 use crate::rig::Rig;
-use detectors::GroupReading;
+use detectors::{GroupReading, Reading};
 use path_match::Patterns;
 use psi_base::{Ns, Preference, Res, Slot, State};
 use psi_spec::GroupLife;
 use ruleset_json::{Action, After, Size};
 use std::alloc::Global;
 use std::process::Abort;
-use std::test::Fail;
 use victim_rank::{MatchTable, Past, victim};
 
 /// A reading as a test has it: the groups in the byte order of their paths.
@@ -49,15 +50,15 @@ fn pressed(slot: u32, ten: u64, sixty: u64) -> Option<GroupReading> {
 
 /// The root, three groups below it, and two below the first of them, whose paths come before those
 /// of the others.
-fn lives(alloc: Global) -> Result<Vec<GroupLife>, Fail> {
-    let mut lives = Vec::new(alloc);
-    lives.push(life(alloc, "/", None)?)?;
-    lives.push(life(alloc, "/a", Some(Slot(0)))?)?;
-    lives.push(life(alloc, "/b", Some(Slot(0)))?)?;
-    lives.push(life(alloc, "/c", Some(Slot(0)))?)?;
-    lives.push(life(alloc, "/a/x", Some(Slot(1)))?)?;
-    lives.push(life(alloc, "/a/y", Some(Slot(1)))?)?;
-    Ok(lives)
+fn lives(rt: &impl Abort, alloc: Global) -> [GroupLife; 6] {
+    [
+        life(rt, alloc, "/", None),
+        life(rt, alloc, "/a", Some(Slot(0))),
+        life(rt, alloc, "/b", Some(Slot(0))),
+        life(rt, alloc, "/c", Some(Slot(0))),
+        life(rt, alloc, "/a/x", Some(Slot(1))),
+        life(rt, alloc, "/a/y", Some(Slot(1))),
+    ]
 }
 
 /// What an action says of the time after it.
@@ -69,153 +70,166 @@ fn after(recursive: bool) -> After {
     }
 }
 
+/// The groups right below the root.
+fn below_root(rt: &impl Abort, alloc: Global) -> Patterns {
+    Patterns::read(alloc, "*").expect(rt, "patterns")
+}
+
 /// The groups right below the root, by size or growth: half of the memory of all, or a growth by
 /// 1.25.
-fn size_or_growth(alloc: Global, percentile: u32, recursive: bool) -> Result<Action, Fail> {
-    Ok(Action::SizeOrGrowth {
-        cgroup: Patterns::read(alloc, "*")?,
+fn size_or_growth(rt: &impl Abort, alloc: Global, percentile: u32, recursive: bool) -> Action {
+    Action::SizeOrGrowth {
+        cgroup: below_root(rt, alloc),
         size_threshold: 50,
         percentile,
         ratio: 1250,
         after: after(recursive),
-    })
+    }
 }
 
-fn swap_usage(alloc: Global, threshold: Size) -> Result<Action, Fail> {
-    Ok(Action::SwapUsage {
-        cgroup: Patterns::read(alloc, "*")?,
+fn swap_usage(rt: &impl Abort, alloc: Global, threshold: Size) -> Action {
+    Action::SwapUsage {
+        cgroup: below_root(rt, alloc),
         threshold,
         after: after(false),
-    })
+    }
 }
 
-fn pressure(alloc: Global, recursive: bool) -> Result<Action, Fail> {
-    Ok(Action::Pressure {
-        cgroup: Patterns::read(alloc, "*")?,
+fn pressure(rt: &impl Abort, alloc: Global, recursive: bool) -> Action {
+    Action::Pressure {
+        cgroup: below_root(rt, alloc),
         resource: Res::Memory,
         after: after(recursive),
-    })
+    }
 }
 
-fn pg_scan(alloc: Global) -> Result<Action, Fail> {
-    Ok(Action::PgScan {
-        cgroup: Patterns::read(alloc, "*")?,
+fn pg_scan(rt: &impl Abort, alloc: Global) -> Action {
+    Action::PgScan {
+        cgroup: below_root(rt, alloc),
         after: after(false),
-    })
+    }
 }
 
-/// The victim at the last of these readings is the group in the slot that is wanted.
-fn kills(
+/// The victim at the reading is the group in the slot that is wanted.
+fn is_victim(
     rt: &impl Abort,
     alloc: Global,
     action: &Action,
-    rows: &[Row],
+    reading: &Reading,
+    past: &Past,
     wanted: Option<Slot>,
-) -> Result<(), Fail> {
-    let mut rig = Rig::make(alloc, &lives(alloc)?)?;
-    let mut past = Past::make(alloc, rig.reading.lives().len() as u32)?;
+)
+    requires { length past.now.sizes ≡ length reading.now.lives }
+{
+    assert!(rt; is_action(action), "the action is out of range");
+    let lives = reading.lives();
+    let table = MatchTable::of(alloc, action, lives).expect(rt, "memory");
+    assert_eq!(rt; victim(action, &table, reading, past, lives), wanted);
+}
+
+/// The victim at the last of these readings is the group in the slot that is wanted.
+fn kills(rt: &impl Abort, alloc: Global, action: &Action, rows: &[Row], wanted: Option<Slot>) {
+    let mut rig = Rig::make(rt, alloc, &lives(rt, alloc));
+    let past = Past::make(alloc, rig.reading.lives().len() as u32);
+    let mut past = past.expect(rt, "memory");
     let mut now: Ns = 0;
     'rows: for row in rows {
         past.push(&rig.reading);
         now = now.saturating_add(5 * SECOND);
-        rig.read(now, NO_HOST, row)?;
+        rig.read(rt, now, NO_HOST, row);
     }
-    assert!(rt; is_action(action));
-    let lives = rig.reading.lives();
-    let table = MatchTable::of(alloc, action, lives)?;
-    assert_eq!(rt; victim(action, &table, &rig.reading, &past, lives), wanted);
-    Ok(())
+    is_victim(rt, alloc, action, &rig.reading, &past, wanted);
 }
 
 // ---- size or growth
 
 // None has half of 108. The second grew from a mean of 30 to 38, by 1.27.
 #[test]
-fn growth_is_over_the_mean_of_the_past(rt: HostRuntime) -> Result<(), Fail> {
+fn growth_is_over_the_mean_of_the_past(rt: HostRuntime) {
     let before = [using(1, 40), using(2, 30), using(3, 30)];
     let now = [using(1, 40), using(2, 38), using(3, 30)];
-    let action = size_or_growth(rt.alloc(), 0, false)?;
+    let action = size_or_growth(&rt, rt.alloc(), 0, false);
     kills(
         &rt,
         rt.alloc(),
         &action,
         &[before, before, before, now],
         Some(Slot(2)),
-    )?;
-    kills(&rt, rt.alloc(), &action, &[now], Some(Slot(1)))
+    );
+    kills(&rt, rt.alloc(), &action, &[now], Some(Slot(1)));
 }
 
 // A reading at which the group wasn't live is left out, and so is the fifth size before the present
 // one: over four sizes of 30 it grew by 1.23, and over three of them and one of 10 by 1.48.
 #[test]
-fn the_past_has_four_sizes(rt: HostRuntime) -> Result<(), Fail> {
+fn the_past_has_four_sizes(rt: HostRuntime) {
     let first = [using(1, 40), using(2, 10), using(3, 40)];
     let before = [using(1, 40), using(2, 30), using(3, 40)];
     let gone = [using(1, 40), None, using(3, 40)];
     let now = [using(1, 40), using(2, 37), using(3, 40)];
-    let action = size_or_growth(rt.alloc(), 0, false)?;
+    let action = size_or_growth(&rt, rt.alloc(), 0, false);
     kills(
         &rt,
         rt.alloc(),
         &action,
         &[first, before, before, gone, before, before, now],
         Some(Slot(1)),
-    )?;
+    );
     kills(
         &rt,
         rt.alloc(),
         &action,
         &[first, before, gone, before, before, now],
         Some(Slot(2)),
-    )
+    );
 }
 
 // Of three groups one stands above the percentile 80: 0.6, rounded up. So the one that grew isn't
 // looked at.
 #[test]
-fn the_percentile_is_rounded_up(rt: HostRuntime) -> Result<(), Fail> {
+fn the_percentile_is_rounded_up(rt: HostRuntime) {
     let before = [using(1, 40), using(2, 30), using(3, 30)];
     let now = [using(1, 40), using(2, 39), using(3, 30)];
     kills(
         &rt,
         rt.alloc(),
-        &size_or_growth(rt.alloc(), 80, false)?,
+        &size_or_growth(&rt, rt.alloc(), 80, false),
         &[before, now],
         Some(Slot(1)),
-    )?;
+    );
     kills(
         &rt,
         rt.alloc(),
-        &size_or_growth(rt.alloc(), 60, false)?,
+        &size_or_growth(&rt, rt.alloc(), 60, false),
         &[before, now],
         Some(Slot(2)),
-    )
+    );
 }
 
 // A group with half of all is taken though another grew; at a total of 0 each has its share, and
 // the first path is taken.
 #[test]
-fn half_of_all_is_large(rt: HostRuntime) -> Result<(), Fail> {
+fn half_of_all_is_large(rt: HostRuntime) {
     let before = [using(1, 50), using(2, 10), None];
     let now = [using(1, 50), using(2, 25), using(3, 25)];
     let nothing = [using(1, 0), using(2, 0), using(3, 0)];
     let most = [using(1, MOST), using(2, MOST), using(3, MOST)];
-    let action = size_or_growth(rt.alloc(), 0, false)?;
-    kills(&rt, rt.alloc(), &action, &[before, now], Some(Slot(1)))?;
-    kills(&rt, rt.alloc(), &action, &[nothing], Some(Slot(1)))?;
+    let action = size_or_growth(&rt, rt.alloc(), 0, false);
+    kills(&rt, rt.alloc(), &action, &[before, now], Some(Slot(1)));
+    kills(&rt, rt.alloc(), &action, &[nothing], Some(Slot(1)));
     kills(
         &rt,
         rt.alloc(),
         &action,
         &[most, most, most, most, most],
         Some(Slot(1)),
-    )
+    );
 }
 
 // ---- preferences
 
 #[test]
-fn preference_comes_first(rt: HostRuntime) -> Result<(), Fail> {
+fn preference_comes_first(rt: HostRuntime) {
     let avoided = [
         preferring(1, 60, Preference::Avoid),
         using(2, 10),
@@ -227,77 +241,77 @@ fn preference_comes_first(rt: HostRuntime) -> Result<(), Fail> {
         preferring(3, 10, Preference::Prefer),
     ];
     let tasks = [empty(1, 60), using(2, 20), using(3, 20)];
-    let action = size_or_growth(rt.alloc(), 0, false)?;
-    kills(&rt, rt.alloc(), &action, &[avoided], Some(Slot(3)))?;
-    kills(&rt, rt.alloc(), &action, &[preferred], Some(Slot(3)))?;
-    kills(&rt, rt.alloc(), &action, &[tasks], Some(Slot(2)))?;
-    kills(&rt, rt.alloc(), &action, &[[None, None, None]], None)
+    let action = size_or_growth(&rt, rt.alloc(), 0, false);
+    kills(&rt, rt.alloc(), &action, &[avoided], Some(Slot(3)));
+    kills(&rt, rt.alloc(), &action, &[preferred], Some(Slot(3)));
+    kills(&rt, rt.alloc(), &action, &[tasks], Some(Slot(2)));
+    kills(&rt, rt.alloc(), &action, &[[None, None, None]], None);
 }
 
 // ---- swap, pressure and scans
 
 #[test]
-fn swap_at_the_threshold_is_enough(rt: HostRuntime) -> Result<(), Fail> {
+fn swap_at_the_threshold_is_enough(rt: HostRuntime) {
     let none = [swapping(1, 0), swapping(2, 0), None];
     let some = [swapping(1, 9), swapping(2, 10), swapping(3, 10)];
     kills(
         &rt,
         rt.alloc(),
-        &swap_usage(rt.alloc(), Size::Bytes(0))?,
+        &swap_usage(&rt, rt.alloc(), Size::Bytes(0)),
         &[none],
         Some(Slot(1)),
-    )?;
+    );
     kills(
         &rt,
         rt.alloc(),
-        &swap_usage(rt.alloc(), Size::Percent(50))?,
+        &swap_usage(&rt, rt.alloc(), Size::Percent(50)),
         &[none],
         Some(Slot(1)),
-    )?;
+    );
     kills(
         &rt,
         rt.alloc(),
-        &swap_usage(rt.alloc(), Size::Bytes(10))?,
+        &swap_usage(&rt, rt.alloc(), Size::Bytes(10)),
         &[some],
         Some(Slot(2)),
-    )?;
+    );
     kills(
         &rt,
         rt.alloc(),
-        &swap_usage(rt.alloc(), Size::Bytes(11))?,
+        &swap_usage(&rt, rt.alloc(), Size::Bytes(11)),
         &[some],
         None,
-    )
+    );
 }
 
 #[test]
-fn pressure_and_scans_are_above_zero(rt: HostRuntime) -> Result<(), Fail> {
+fn pressure_and_scans_are_above_zero(rt: HostRuntime) {
     let none = [pressed(1, 0, 0), pressed(2, 0, 0), None];
     let some = [pressed(1, 3, 3), pressed(2, 0, 7), pressed(3, 6, 0)];
     kills(
         &rt,
         rt.alloc(),
-        &pressure(rt.alloc(), false)?,
+        &pressure(&rt, rt.alloc(), false),
         &[none],
         None,
-    )?;
+    );
     kills(
         &rt,
         rt.alloc(),
-        &pressure(rt.alloc(), false)?,
+        &pressure(&rt, rt.alloc(), false),
         &[some],
         Some(Slot(2)),
-    )?;
+    );
     let before = [scanned(1, 5), scanned(2, 5), None];
     let now = [scanned(1, 6), scanned(2, 7), scanned(3, 90)];
-    kills(&rt, rt.alloc(), &pg_scan(rt.alloc())?, &[before], None)?;
+    kills(&rt, rt.alloc(), &pg_scan(&rt, rt.alloc()), &[before], None);
     kills(
         &rt,
         rt.alloc(),
-        &pg_scan(rt.alloc())?,
+        &pg_scan(&rt, rt.alloc()),
         &[before, now],
         Some(Slot(2)),
-    )
+    );
 }
 
 // ---- children
@@ -305,28 +319,28 @@ fn pressure_and_scans_are_above_zero(rt: HostRuntime) -> Result<(), Fail> {
 // The choice goes down to a child, though no pattern matches it, and stays where no child is
 // eligible.
 #[test]
-fn recursive_goes_down(rt: HostRuntime) -> Result<(), Fail> {
+fn recursive_goes_down(rt: HostRuntime) {
     let sizes = [using(1, 60), using(4, 20), using(5, 40)];
     kills(
         &rt,
         rt.alloc(),
-        &size_or_growth(rt.alloc(), 0, true)?,
+        &size_or_growth(&rt, rt.alloc(), 0, true),
         &[sizes],
         Some(Slot(5)),
-    )?;
+    );
     kills(
         &rt,
         rt.alloc(),
-        &size_or_growth(rt.alloc(), 0, false)?,
+        &size_or_growth(&rt, rt.alloc(), 0, false),
         &[sizes],
         Some(Slot(1)),
-    )?;
+    );
     let pressures = [pressed(1, 9, 9), pressed(4, 0, 0), pressed(5, 0, 0)];
     kills(
         &rt,
         rt.alloc(),
-        &pressure(rt.alloc(), true)?,
+        &pressure(&rt, rt.alloc(), true),
         &[pressures],
         Some(Slot(1)),
-    )
+    );
 }

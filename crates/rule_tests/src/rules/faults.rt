@@ -1,7 +1,6 @@
 //! The faults of rules files: each place with each cause that can stand there, and which of two
 //! comes first.
 use crate::rules::shown::reads_rows;
-use std::test::Fail;
 
 const WHOLE: &str = "{!BadJson
 {}!MissingKey
@@ -15,8 +14,8 @@ const WHOLE: &str = "{!BadJson
 null!WrongKind";
 
 #[test]
-fn whole_file(rt: HostRuntime) -> Result<(), Fail> {
-    reads_rows(&rt, rt.alloc(), "@", "@", "rules: @", WHOLE)
+fn whole_file(rt: HostRuntime) {
+    reads_rows(&rt, rt.alloc(), "@", "@", "rules: @", WHOLE);
 }
 
 const OF_RULE: &str = "{'rulesets':[{'name':'q','detectors':[],'actions':[]},@]}";
@@ -36,8 +35,8 @@ null!WrongKind
 {'name':'r','detectors':[],'actions':[0,0,0,0,0,0,0,0,0,0,0,0,0,0,0,0,0]}!TooMany";
 
 #[test]
-fn rulesets(rt: HostRuntime) -> Result<(), Fail> {
-    reads_rows(&rt, rt.alloc(), OF_RULE, "@", "rules ruleset 1: @", RULES)
+fn rulesets(rt: HostRuntime) {
+    reads_rows(&rt, rt.alloc(), OF_RULE, "@", "rules ruleset 1: @", RULES);
 }
 
 const OF_GROUP: &str = "{'rulesets':[{'name':'r','detectors':[['f'],['f'],@],'actions':[]}]}";
@@ -51,7 +50,7 @@ null!WrongKind
 ['g',0,0,0,0,0,0,0,0,0,0,0,0,0,0,0,0,0]!TooMany";
 
 #[test]
-fn groups(rt: HostRuntime) -> Result<(), Fail> {
+fn groups(rt: HostRuntime) {
     reads_rows(
         &rt,
         rt.alloc(),
@@ -59,7 +58,7 @@ fn groups(rt: HostRuntime) -> Result<(), Fail> {
         "@",
         "rules ruleset 0 group 2: @",
         GROUPS,
-    )
+    );
 }
 
 const OF_DETECTOR: &str =
@@ -101,23 +100,20 @@ const AS_ACTIONS: &str = "{'name':'exists','args':{'cgroup':'g0'}}!UnknownPlugin
 {'name':'kill_by_pg_scan','args':{'cgroup':'s/?'}}!BadArg
 {'name':'kill_by_pg_scan','args':{'cgroup':'x,x,x,x,x,x,x,x,x,x,x,x,x,x,x,x,x'}}!TooMany";
 
+// The fault of the second detector of the one group.
+const AT_DETECTOR: &str = "rules ruleset 0 group 0 item 1: @";
+
+// The fault of the second action.
+const AT_ACTION: &str = "rules ruleset 0 action 1: @";
+
 #[test]
-fn plugins(rt: HostRuntime) -> Result<(), Fail> {
-    let item = "rules ruleset 0 group 0 item 1: @";
-    for rows in [PLUGINS, AS_DETECTORS] {
-        reads_rows(&rt, rt.alloc(), OF_DETECTOR, "@", item, rows)?;
+fn plugins(rt: HostRuntime) {
+    for rows in &[PLUGINS, AS_DETECTORS] {
+        reads_rows(&rt, rt.alloc(), OF_DETECTOR, "@", AT_DETECTOR, rows);
     }
-    for rows in [PLUGINS, AS_ACTIONS] {
-        reads_rows(
-            &rt,
-            rt.alloc(),
-            OF_ACTION,
-            "@",
-            "rules ruleset 0 action 1: @",
-            rows,
-        )?;
+    for rows in &[PLUGINS, AS_ACTIONS] {
+        reads_rows(&rt, rt.alloc(), OF_ACTION, "@", AT_ACTION, rows);
     }
-    Ok(())
 }
 
 // Each required argument is missed, and arguments are taken in the order of the tables.
@@ -161,11 +157,16 @@ const ACTION_ARGUMENTS: &str = "{'name':'kill_by_memory_size_or_growth'}!Missing
 {'name':'kill_by_pg_scan','args':{'cgroup':'g','post_action_delay':'x'}}!BadArg";
 
 #[test]
-fn arguments_in_order(rt: HostRuntime) -> Result<(), Fail> {
-    let item = "rules ruleset 0 group 0 item 1: @";
-    reads_rows(&rt, rt.alloc(), OF_DETECTOR, "@", item, DETECTOR_ARGUMENTS)?;
-    let action = "rules ruleset 0 action 1: @";
-    reads_rows(&rt, rt.alloc(), OF_ACTION, "@", action, ACTION_ARGUMENTS)
+fn arguments_in_order(rt: HostRuntime) {
+    reads_rows(
+        &rt,
+        rt.alloc(),
+        OF_DETECTOR,
+        "@",
+        AT_DETECTOR,
+        DETECTOR_ARGUMENTS,
+    );
+    reads_rows(&rt, rt.alloc(), OF_ACTION, "@", AT_ACTION, ACTION_ARGUMENTS);
 }
 
 // A ruleset with two faults, before one with another. The walk goes down into each part before the
@@ -189,6 +190,6 @@ const TWO: &str = "'post_action_delay':'x'!: MissingKey
 'name':'r','detectors':[['g',{'args':5}]],'actions':[]! group 0 item 0: MissingKey";
 
 #[test]
-fn first_of_two(rt: HostRuntime) -> Result<(), Fail> {
-    reads_rows(&rt, rt.alloc(), OF_TWO, "@", "rules ruleset 0@", TWO)
+fn first_of_two(rt: HostRuntime) {
+    reads_rows(&rt, rt.alloc(), OF_TWO, "@", "rules ruleset 0@", TWO);
 }

@@ -1,6 +1,5 @@
 //! The arguments: each form at its borders, and each default.
 use crate::rules::shown::reads_rows;
-use std::test::Fail;
 
 /// The fault of the one detector.
 const AT_ITEM: &str = "rules ruleset 0 group 0 item 0: @";
@@ -40,7 +39,7 @@ null!WrongKind
 {}!WrongKind";
 
 #[test]
-fn numbers(rt: HostRuntime) -> Result<(), Fail> {
+fn numbers(rt: HostRuntime) {
     reads_rows(
         &rt,
         rt.alloc(),
@@ -48,7 +47,7 @@ fn numbers(rt: HostRuntime) -> Result<(), Fail> {
         "r: [g; swap_free @]\n",
         AT_ITEM,
         NUMBERS,
-    )
+    );
 }
 
 const OF_TIME: &str =
@@ -60,7 +59,7 @@ const TIMES: &str = "'0'~0
 1000001!BadArg";
 
 #[test]
-fn times(rt: HostRuntime) -> Result<(), Fail> {
+fn times(rt: HostRuntime) {
     reads_rows(
         &rt,
         rt.alloc(),
@@ -68,7 +67,7 @@ fn times(rt: HostRuntime) -> Result<(), Fail> {
         "r: [g; memory_reclaim /g0 @]\n",
         AT_ITEM,
         TIMES,
-    )
+    );
 }
 
 const OF_RATIO: &str =
@@ -100,9 +99,9 @@ true!BadArg
 null!WrongKind";
 
 #[test]
-fn ratios(rt: HostRuntime) -> Result<(), Fail> {
+fn ratios(rt: HostRuntime) {
     let rules = "r: [g; pressure_rising_beyond /g0 Io 1 2 @]\n";
-    reads_rows(&rt, rt.alloc(), OF_RATIO, rules, AT_ITEM, RATIOS)
+    reads_rows(&rt, rt.alloc(), OF_RATIO, rules, AT_ITEM, RATIOS);
 }
 
 const OF_SIZE: &str =
@@ -155,7 +154,7 @@ true!BadArg
 null!WrongKind";
 
 #[test]
-fn sizes(rt: HostRuntime) -> Result<(), Fail> {
+fn sizes(rt: HostRuntime) {
     reads_rows(
         &rt,
         rt.alloc(),
@@ -163,7 +162,7 @@ fn sizes(rt: HostRuntime) -> Result<(), Fail> {
         "r: [g; memory_above /g0 @ 1]\n",
         AT_ITEM,
         SIZES,
-    )
+    );
 }
 
 const OF_CGROUP: &str =
@@ -209,8 +208,8 @@ const UNKNOWN: &str =
 'g0'},'kind':[],'Args':{~/g0 false";
 
 #[test]
-fn truths_and_patterns(rt: HostRuntime) -> Result<(), Fail> {
-    for rows in [TRUTHS, PATTERNS, UNKNOWN] {
+fn truths_and_patterns(rt: HostRuntime) {
+    for rows in &[TRUTHS, PATTERNS, UNKNOWN] {
         reads_rows(
             &rt,
             rt.alloc(),
@@ -218,9 +217,8 @@ fn truths_and_patterns(rt: HostRuntime) -> Result<(), Fail> {
             "r: [g; exists @]\n",
             AT_ITEM,
             rows,
-        )?;
+        );
     }
-    Ok(())
 }
 
 const OF_RESOURCE: &str =
@@ -235,9 +233,9 @@ const RESOURCES: &str = "'io'~Io
 []!WrongKind";
 
 #[test]
-fn resources(rt: HostRuntime) -> Result<(), Fail> {
+fn resources(rt: HostRuntime) {
     let rules = "r: [g; pressure_above /g0 @ 1 1]\n";
-    reads_rows(&rt, rt.alloc(), OF_RESOURCE, rules, AT_ITEM, RESOURCES)
+    reads_rows(&rt, rt.alloc(), OF_RESOURCE, rules, AT_ITEM, RESOURCES);
 }
 
 // Each default of a detector.
@@ -266,7 +264,7 @@ const ACTIONS: &str =
 'kill_by_pg_scan','args':{'cgroup':'g0','always_continue':null!WrongKind";
 
 #[test]
-fn defaults(rt: HostRuntime) -> Result<(), Fail> {
+fn defaults(rt: HostRuntime) {
     reads_rows(
         &rt,
         rt.alloc(),
@@ -274,8 +272,8 @@ fn defaults(rt: HostRuntime) -> Result<(), Fail> {
         "r: [g; @]\n",
         AT_ITEM,
         DETECTORS,
-    )?;
-    reads_rows(&rt, rt.alloc(), OF_ACTION, "r: @;\n", AT_ACTION, ACTIONS)
+    );
+    reads_rows(&rt, rt.alloc(), OF_ACTION, "r: @;\n", AT_ACTION, ACTIONS);
 }
 
 // The ruleset's delay stands for that of an action that has none.
@@ -295,7 +293,7 @@ null,'actions':[{'name':'kill_by_pg_scan','args':{'cgroup':'g0'!WrongKind
 [],'actions':[{'name':'kill_by_pg_scan','args':{'cgroup':'g0'!WrongKind";
 
 #[test]
-fn delays(rt: HostRuntime) -> Result<(), Fail> {
+fn delays(rt: HostRuntime) {
     let rules = "r: pg_scan /g0 false false @;\n";
     reads_rows(
         &rt,
@@ -304,5 +302,5 @@ fn delays(rt: HostRuntime) -> Result<(), Fail> {
         rules,
         "rules ruleset 0: @",
         DELAYS,
-    )
+    );
 }

@@ -1,7 +1,7 @@
 //! What is a JSON text, and how long it may be.
 use crate::rules::shown::{reads, reads_bytes, reads_rows};
-use std::alloc::{AllocError, Global};
-use std::test::Fail;
+use std::alloc::Global;
+use std::process::Abort;
 
 const LARGEST: usize = 1_048_576;
 
@@ -40,68 +40,51 @@ const TEXTS: &str = " \t\r{'rulesets':[]} \t\r~
 {'a':'\t','rulesets':[]}!BadJson";
 
 #[test]
-fn texts(rt: HostRuntime) -> Result<(), Fail> {
-    reads_rows(&rt, rt.alloc(), "@", "@", "rules: @", TEXTS)
+fn texts(rt: HostRuntime) {
+    reads_rows(&rt, rt.alloc(), "@", "@", "rules: @", TEXTS);
 }
 
 #[test]
-fn bytes_that_are_no_text(rt: HostRuntime) -> Result<(), Fail> {
+fn bytes_that_are_no_text(rt: HostRuntime) {
     let alloc = rt.alloc();
     let bad = "rules: BadJson";
-    reads_bytes(&rt, alloc, b"{\"a\":\"\xc3\xa9\",\"rulesets\":[]}", "")?;
-    reads_bytes(&rt, alloc, b"{\"a\":\"\xff\",\"rulesets\":[]}", bad)?;
-    reads_bytes(&rt, alloc, b"{\"a\":\"\xc3\",\"rulesets\":[]}", bad)?;
-    reads_bytes(&rt, alloc, b"{\"a\":\"\xed\xa0\x80\",\"rulesets\":[]}", bad)?;
-    reads_bytes(&rt, alloc, b"{\"a\":\"\xc0\x80\",\"rulesets\":[]}", bad)?;
-    reads_bytes(&rt, alloc, b"\xef\xbb\xbf{\"rulesets\":[]}", bad)
+    reads_bytes(&rt, alloc, b"{\"a\":\"\xc3\xa9\",\"rulesets\":[]}", "");
+    reads_bytes(&rt, alloc, b"{\"a\":\"\xff\",\"rulesets\":[]}", bad);
+    reads_bytes(&rt, alloc, b"{\"a\":\"\xc3\",\"rulesets\":[]}", bad);
+    reads_bytes(&rt, alloc, b"{\"a\":\"\xed\xa0\x80\",\"rulesets\":[]}", bad);
+    reads_bytes(&rt, alloc, b"{\"a\":\"\xc0\x80\",\"rulesets\":[]}", bad);
+    reads_bytes(&rt, alloc, b"\xef\xbb\xbf{\"rulesets\":[]}", bad);
 }
 
-// An object with a list of lists, so deep together.
-fn nested(alloc: Global, depth: usize) -> Result<String, AllocError> {
-    let mut text = String::from_str(alloc, "{'a':")?;
-    for _ in 1..depth {
-        text.push_str("[")?;
-    }
-    for _ in 1..depth {
-        text.push_str("]")?;
-    }
-    text.push_str(",'rulesets':[]}")?;
-    Ok(text)
+// An object with a list of lists, so deep together, is read as this text.
+fn reads_nested(rt: &impl Abort, alloc: Global, depth: usize, text: &str) {
+    let lists = depth.saturating_sub(1);
+    let open = "[".repeat(alloc, lists).expect(rt, "memory");
+    let close = "]".repeat(alloc, lists).expect(rt, "memory");
+    let file = format!(in alloc; "{{'a':{open}{close},'rulesets':[]}}").expect(rt, "memory");
+    reads(rt, alloc, &file, text);
 }
 
 #[test]
-fn nesting(rt: HostRuntime) -> Result<(), Fail> {
-    let alloc = rt.alloc();
-    reads(&rt, alloc, &nested(alloc, 2)?, "")?;
-    reads(&rt, alloc, &nested(alloc, 127)?, "")?;
-    reads(&rt, alloc, &nested(alloc, 128)?, "rules: BadJson")
+fn nesting(rt: HostRuntime) {
+    reads_nested(&rt, rt.alloc(), 2, "");
+    reads_nested(&rt, rt.alloc(), 127, "");
+    reads_nested(&rt, rt.alloc(), 128, "rules: BadJson");
 }
 
-// The text, and spaces behind it up to so many bytes.
-fn padded(alloc: Global, text: &[u8], bytes: usize) -> Result<Vec<u8>, AllocError> {
-    let mut long = Vec::from_slice(alloc, text)?;
-    for _ in text.len()..bytes {
-        long.push(b' ')?;
-    }
-    Ok(long)
+// The bytes, and spaces behind them up to so many, are read as this text.
+fn reads_padded(rt: &impl Abort, alloc: Global, bytes: &[u8], length: usize, text: &str) {
+    let mut long = Vec::from_slice(alloc, bytes).expect(rt, "memory");
+    long.resize(length, b' ').expect(rt, "memory");
+    reads_bytes(rt, alloc, &long, text);
 }
 
 #[test]
-fn lengths(rt: HostRuntime) -> Result<(), Fail> {
+fn lengths(rt: HostRuntime) {
     let alloc = rt.alloc();
-    let text = b"{\"rulesets\":[]}".as_slice();
-    reads_bytes(&rt, alloc, &padded(alloc, text, LARGEST)?, "")?;
-    reads_bytes(
-        &rt,
-        alloc,
-        &padded(alloc, text, LARGEST + 1)?,
-        "rules: TooLong",
-    )?;
-    reads_bytes(&rt, alloc, &padded(alloc, b"{", LARGEST)?, "rules: BadJson")?;
-    reads_bytes(
-        &rt,
-        alloc,
-        &padded(alloc, b"{", LARGEST + 1)?,
-        "rules: TooLong",
-    )
+    let whole = b"{\"rulesets\":[]}".as_slice();
+    reads_padded(&rt, alloc, whole, LARGEST, "");
+    reads_padded(&rt, alloc, whole, LARGEST + 1, "rules: TooLong");
+    reads_padded(&rt, alloc, b"{", LARGEST, "rules: BadJson");
+    reads_padded(&rt, alloc, b"{", LARGEST + 1, "rules: TooLong");
 }

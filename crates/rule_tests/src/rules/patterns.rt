@@ -1,35 +1,25 @@
 //! Patterns of paths: which match what, and which texts have none.
+use crate::readings;
 use path_match::{PatternFault, Patterns};
-use psi_base::{Fault, NoMemory, Path};
+use psi_base::Fault;
 use std::alloc::Global;
 use std::process::Abort;
-use std::test::Fail;
-
-// Whether the patterns match the path, where those of a copy answer the same.
-fn answer(alloc: Global, patterns: &Patterns, path: &Path) -> Result<Option<bool>, NoMemory> {
-    let is_match = patterns.matches(path);
-    let is_same = patterns.copy(alloc)?.matches(path) == is_match;
-    Ok(is_same.then_some(is_match))
-}
 
 // The patterns of a text match a path or don't, and so do those of a copy.
-fn is_so(alloc: Global, text: &str, path: &str, wanted: bool) -> Result<bool, Fail> {
-    let Ok(patterns) = Patterns::read(alloc, text) else {
-        return Ok(false);
-    };
-    let Some(path) = Path::read(alloc, path.as_bytes())? else {
-        return Ok(false);
-    };
-    Ok(answer(alloc, &patterns, &path)? == Some(wanted))
+fn is_so(rt: &impl Abort, alloc: Global, text: &str, path: &str, wanted: bool) {
+    let patterns = Patterns::read(alloc, text).expect(rt, text);
+    let copy = patterns.copy(alloc).expect(rt, "memory");
+    let read = readings::path(rt, alloc, path);
+    let found = (patterns.matches(&read), copy.matches(&read));
+    assert!(rt; found == (wanted, wanted), "{text} {path}: {found:?}");
 }
 
 // Each row is a text of patterns, a space, and a path.
-fn are_so(rt: &impl Abort, alloc: Global, rows: &str, wanted: bool) -> Result<(), Fail> {
+fn are_so(rt: &impl Abort, alloc: Global, rows: &str, wanted: bool) {
     for row in rows.split('\n') {
-        let (text, path) = row.split_once(' ').unwrap_or((row, ""));
-        assert!(rt; is_so(alloc, text, path, wanted)?, "at {row}");
+        let (text, path) = row.split_once(' ').expect(rt, row);
+        is_so(rt, alloc, text, path, wanted);
     }
-    Ok(())
 }
 
 // Patterns with a path that they match.
@@ -91,34 +81,31 @@ const OTHERS: &str = "system.slice/*,web /system.slice\n\
     a.b /axb";
 
 #[test]
-fn patterns_match(rt: HostRuntime) -> Result<(), Fail> {
-    are_so(&rt, rt.alloc(), MATCHING, true)?;
-    are_so(&rt, rt.alloc(), OTHERS, false)
+fn patterns_match(rt: HostRuntime) {
+    are_so(&rt, rt.alloc(), MATCHING, true);
+    are_so(&rt, rt.alloc(), OTHERS, false);
+}
+
+// The fault for which the text is refused, if it is.
+fn fault_of(rt: &impl Abort, alloc: Global, text: &str) -> Option<PatternFault> {
+    match Patterns::read(alloc, text) {
+        Ok(_) => None,
+        Err(Fault::Refused(fault)) => Some(fault),
+        Err(Fault::NoMemory(_)) => panic!(rt; "memory"),
+    }
 }
 
 // The text is refused for this fault, or has patterns where there is none.
-fn is_read(alloc: Global, text: &str, fault: Option<PatternFault>) -> bool {
-    match Patterns::read(alloc, text) {
-        Ok(_) => fault == None,
-        Err(Fault::Refused(found)) => fault == Some(found),
-        Err(Fault::NoMemory(_)) => false,
-    }
+fn is_read(rt: &impl Abort, alloc: Global, text: &str, fault: Option<PatternFault>) {
+    assert_eq!(rt; fault_of(rt, alloc, text), fault, "at {text}");
 }
 
 // So is each of these behind the front.
-fn are_read(
-    rt: &impl Abort,
-    alloc: Global,
-    front: &str,
-    ends: &str,
-    fault: Option<PatternFault>,
-) -> Result<(), Fail> {
+fn are_read(rt: &impl Abort, alloc: Global, front: &str, ends: &str, fault: Option<PatternFault>) {
     for end in ends.split('|') {
-        let mut text = String::from_str(alloc, front)?;
-        text.push_str(end)?;
-        assert!(rt; is_read(alloc, &text, fault), "at {text}");
+        let text = [front, end].concat(alloc).expect(rt, "memory");
+        is_read(rt, alloc, &text, fault);
     }
-    Ok(())
 }
 
 const BAD: &str =
@@ -127,89 +114,77 @@ const BAD: &str =
 const GOOD: &str = "/|a|/a|*|**|.*|*.|*..|...|a/.b/..c";
 
 #[test]
-fn bad_patterns(rt: HostRuntime) -> Result<(), Fail> {
-    are_read(&rt, rt.alloc(), "", BAD, Some(PatternFault::BadPattern))?;
-    are_read(&rt, rt.alloc(), "", GOOD, None)
+fn bad_patterns(rt: HostRuntime) {
+    are_read(&rt, rt.alloc(), "", BAD, Some(PatternFault::BadPattern));
+    are_read(&rt, rt.alloc(), "", GOOD, None);
 }
 
 const FIFTEEN: &str = "a,a,a,a,a,a,a,a,a,a,a,a,a,a,a,";
 
 #[test]
-fn limits(rt: HostRuntime) -> Result<(), Fail> {
+fn limits(rt: HostRuntime) {
     let alloc = rt.alloc();
     let bad = Some(PatternFault::BadPattern);
-    are_read(&rt, alloc, FIFTEEN, "a", None)?;
-    are_read(
-        &rt,
-        alloc,
-        FIFTEEN,
-        "a,a|a,a,/",
-        Some(PatternFault::TooMany),
-    )?;
-    are_read(&rt, alloc, FIFTEEN, "..|a,..|a,|a,a,a,a b", bad)?;
+    let many = Some(PatternFault::TooMany);
+    are_read(&rt, alloc, FIFTEEN, "a", None);
+    are_read(&rt, alloc, FIFTEEN, "a,a|a,a,/", many);
+    are_read(&rt, alloc, FIFTEEN, "..|a,..|a,|a,a,a,a b", bad);
     let last = "a,a,a,a,a,a,a,a,a,a,a,a,a,a,a,*/b";
-    assert!(rt; is_so(alloc, last, "/a/b", true)?);
-    assert!(rt; is_so(alloc, last, "/a/b/c", false)?);
-    Ok(())
+    is_so(&rt, alloc, last, "/a/b", true);
+    is_so(&rt, alloc, last, "/a/b/c", false);
 }
 
-// The piece as many times is refused for this fault, or has patterns where there is none.
-fn is_read_repeated(
-    alloc: Global,
-    piece: &str,
-    times: usize,
-    fault: Option<PatternFault>,
-) -> Result<bool, Fail> {
-    Ok(is_read(alloc, &piece.repeat(alloc, times)?, fault))
+// The piece as many times.
+fn repeated(rt: &impl Abort, alloc: Global, piece: &str, times: usize) -> String {
+    piece.repeat(alloc, times).expect(rt, "memory")
 }
 
 #[test]
-fn long_texts(rt: HostRuntime) -> Result<(), Fail> {
+fn long_texts(rt: HostRuntime) {
     let alloc = rt.alloc();
-    assert!(rt; is_read_repeated(alloc, ",", 99, Some(PatternFault::BadPattern))?);
-    assert!(rt; is_read_repeated(alloc, "a", 300, None)?);
-    assert!(rt; is_read_repeated(alloc, "/a", 33, None)?);
-    Ok(())
+    let bad = Some(PatternFault::BadPattern);
+    is_read(&rt, alloc, &repeated(&rt, alloc, ",", 99), bad);
+    is_read(&rt, alloc, &repeated(&rt, alloc, "a", 300), None);
+    is_read(&rt, alloc, &repeated(&rt, alloc, "/a", 33), None);
 }
 
 // The piece as many times, with this end, matches the path of the root's child of 254 letters `a`,
 // or doesn't.
 fn is_so_of_long(
+    rt: &impl Abort,
     alloc: Global,
     piece: &str,
     times: usize,
     end: &str,
     wanted: bool,
-) -> Result<bool, Fail> {
-    let mut text = piece.repeat(alloc, times)?;
-    text.push_str(end)?;
-    let mut path = String::from_str(alloc, "/")?;
-    path.push_str(&"a".repeat(alloc, 254)?)?;
-    is_so(alloc, &text, &path, wanted)
+) {
+    let mut text = repeated(rt, alloc, piece, times);
+    text.push_str(end).expect(rt, "memory");
+    let mut path = repeated(rt, alloc, "a", 254);
+    path.insert_str(0, "/").expect(rt, "memory");
+    is_so(rt, alloc, &text, &path, wanted);
 }
 
 #[test]
-fn long_patterns(rt: HostRuntime) -> Result<(), Fail> {
+fn long_patterns(rt: HostRuntime) {
     let alloc = rt.alloc();
-    assert!(rt; is_so_of_long(alloc, "*a", 16, "", true)?);
-    assert!(rt; is_so_of_long(alloc, "*a", 16, "*b", false)?);
-    assert!(rt; is_so_of_long(alloc, "*", 300, "", true)?);
-    assert!(rt; is_so_of_long(alloc, "*a", 254, "", true)?);
-    assert!(rt; is_so_of_long(alloc, "*a", 255, "", false)?);
-    assert!(rt; is_so_of_long(alloc, "a", 300, "", false)?);
-    Ok(())
+    is_so_of_long(&rt, alloc, "*a", 16, "", true);
+    is_so_of_long(&rt, alloc, "*a", 16, "*b", false);
+    is_so_of_long(&rt, alloc, "*", 300, "", true);
+    is_so_of_long(&rt, alloc, "*a", 254, "", true);
+    is_so_of_long(&rt, alloc, "*a", 255, "", false);
+    is_so_of_long(&rt, alloc, "a", 300, "", false);
 }
 
 // The text of as many levels matches the path of 32, or doesn't.
-fn is_so_of_deep(alloc: Global, levels: usize, wanted: bool) -> Result<bool, Fail> {
-    let text = "/*".repeat(alloc, levels)?;
-    let path = "/a".repeat(alloc, 32)?;
-    is_so(alloc, &text, &path, wanted)
+fn is_so_of_deep(rt: &impl Abort, alloc: Global, levels: usize, wanted: bool) {
+    let text = repeated(rt, alloc, "/*", levels);
+    let path = repeated(rt, alloc, "/a", 32);
+    is_so(rt, alloc, &text, &path, wanted);
 }
 
 #[test]
-fn deep_patterns(rt: HostRuntime) -> Result<(), Fail> {
-    assert!(rt; is_so_of_deep(rt.alloc(), 32, true)?);
-    assert!(rt; is_so_of_deep(rt.alloc(), 33, false)?);
-    Ok(())
+fn deep_patterns(rt: HostRuntime) {
+    is_so_of_deep(&rt, rt.alloc(), 32, true);
+    is_so_of_deep(&rt, rt.alloc(), 33, false);
 }

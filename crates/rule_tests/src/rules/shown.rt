@@ -1,225 +1,252 @@
 //! What a rules file is read as, as one text: the rules, or the fault as it is told.
+use crate::checks::is_text;
+use crate::readings::path;
 use path_match::Patterns;
-use psi_base::{Fault, Path, Text};
-use ruleset_json::{Action, After, DetectorSpec, Place, Rules, RulesFault, read};
-use std::alloc::{AllocError, Global};
+use psi_base::{Fault, Res, Text};
+use ruleset_json::{
+    Action, After, DetectorGroup, DetectorSpec, Place, Rule, Rules, RulesFault, read,
+};
+use std::alloc::Global;
+use std::fmt::Display;
 use std::process::Abort;
-use std::test::Fail;
 
 // Paths of which it is shown whether patterns match.
 const SAMPLE: [&str; 7] = ["/", "/g0", "/g1", "/g2", "/5", "/true", "/s/a"];
 
-// The paths of the sample that match, each with a space behind it.
-fn matching(alloc: Global, patterns: &Patterns) -> Result<String, Fail> {
-    let mut text = String::new(alloc);
-    for name in SAMPLE {
-        if let Some(path) = Path::read(alloc, name.as_bytes())? {
-            if patterns.matches(&path) {
-                text.push_str(name)?;
-                text.push_str(" ")?;
-            }
+/// Writes this behind the text.
+pub fn put(rt: &impl Abort, to: &mut String, text: impl Display + Drop) {
+    to.write(text).expect(rt, "memory");
+}
+
+// The name of a plugin and the paths of the sample that its patterns match, each with a space
+// behind it.
+fn put_plugin(rt: &impl Abort, alloc: Global, to: &mut String, name: &str, patterns: &Patterns) {
+    put(rt, to, name);
+    put(rt, to, " ");
+    for sample in &SAMPLE {
+        if patterns.matches(&path(rt, alloc, sample)) {
+            put(rt, to, *sample);
+            put(rt, to, " ");
         }
     }
-    Ok(text)
 }
 
-fn after(alloc: Global, after: &After) -> Result<String, AllocError> {
-    format!(in alloc;
-        "{} {} {}",
-        after.recursive, after.always_continue, after.delay_s
-    )
+fn put_pressure(rt: &impl Abort, to: &mut String, resource: Res, threshold: u32, duration_s: u32) {
+    put(
+        rt,
+        to,
+        format_args!("{resource:?} {threshold} {duration_s}"),
+    );
 }
 
-// The patterns of a detector, if it has any.
-fn watched(spec: &DetectorSpec) -> Option<&Patterns> {
-    match spec {
-        DetectorSpec::PressureAbove { cgroup, .. } => Some(cgroup),
-        DetectorSpec::PressureRisingBeyond { cgroup, .. } => Some(cgroup),
-        DetectorSpec::MemoryAbove { cgroup, .. } => Some(cgroup),
-        DetectorSpec::MemoryReclaim { cgroup, .. } => Some(cgroup),
-        DetectorSpec::SwapFree { .. } => None,
-        DetectorSpec::Exists { cgroup, .. } => Some(cgroup),
-    }
-}
-
-// A detector, of whose patterns these paths are shown.
-fn detector_with(alloc: Global, spec: &DetectorSpec, cgroup: &str) -> Result<String, AllocError> {
+fn put_detector(rt: &impl Abort, alloc: Global, to: &mut String, spec: &DetectorSpec) {
     match spec {
         DetectorSpec::PressureAbove {
+            cgroup,
             resource,
             threshold,
             duration_s,
-            ..
-        } => format!(in alloc; "pressure_above {cgroup}{resource:?} {threshold} {duration_s}"),
+        } => {
+            put_plugin(rt, alloc, to, "pressure_above", cgroup);
+            put_pressure(rt, to, *resource, *threshold, *duration_s);
+        }
         DetectorSpec::PressureRisingBeyond {
+            cgroup,
             resource,
             threshold,
             duration_s,
             ratio,
-            ..
-        } => format!(in alloc;
-            "pressure_rising_beyond {cgroup}{resource:?} {threshold} {duration_s} {ratio}"
-        ),
+        } => {
+            put_plugin(rt, alloc, to, "pressure_rising_beyond", cgroup);
+            put_pressure(rt, to, *resource, *threshold, *duration_s);
+            put(rt, to, format_args!(" {ratio}"));
+        }
         DetectorSpec::MemoryAbove {
+            cgroup,
             threshold,
             duration_s,
-            ..
-        } => format!(in alloc; "memory_above {cgroup}{threshold:?} {duration_s}"),
-        DetectorSpec::MemoryReclaim { duration_s, .. } => {
-            format!(in alloc; "memory_reclaim {cgroup}{duration_s}")
+        } => {
+            put_plugin(rt, alloc, to, "memory_above", cgroup);
+            put(rt, to, format_args!("{threshold:?} {duration_s}"));
+        }
+        DetectorSpec::MemoryReclaim { cgroup, duration_s } => {
+            put_plugin(rt, alloc, to, "memory_reclaim", cgroup);
+            put(rt, to, *duration_s);
         }
         DetectorSpec::SwapFree { threshold_pct } => {
-            format!(in alloc; "swap_free {cgroup}{threshold_pct}")
+            put(rt, to, format_args!("swap_free {threshold_pct}"));
         }
-        DetectorSpec::Exists { negate, .. } => format!(in alloc; "exists {cgroup}{negate}"),
+        DetectorSpec::Exists { cgroup, negate } => {
+            put_plugin(rt, alloc, to, "exists", cgroup);
+            put(rt, to, *negate);
+        }
     }
 }
 
-fn detector(alloc: Global, spec: &DetectorSpec) -> Result<String, Fail> {
-    let cgroup = match watched(spec) {
-        Some(patterns) => matching(alloc, patterns)?,
-        None => String::new(alloc),
-    };
-    Ok(detector_with(alloc, spec, &cgroup)?)
+fn put_after(rt: &impl Abort, to: &mut String, after: &After) {
+    let After {
+        recursive,
+        always_continue,
+        delay_s,
+    } = *after;
+    put(
+        rt,
+        to,
+        format_args!("{recursive} {always_continue} {delay_s}"),
+    );
 }
 
-// The patterns of an action, and what comes behind it.
-fn aimed(action: &Action) -> (&Patterns, &After) {
-    match action {
-        Action::SizeOrGrowth { cgroup, after, .. } => (cgroup, after),
-        Action::SwapUsage { cgroup, after, .. } => (cgroup, after),
-        Action::Pressure { cgroup, after, .. } => (cgroup, after),
-        Action::PgScan { cgroup, after } => (cgroup, after),
-    }
-}
-
-// An action, of whose patterns these paths are shown, and this behind.
-fn action_with(
-    alloc: Global,
-    action: &Action,
-    cgroup: &str,
-    rest: &str,
-) -> Result<String, AllocError> {
-    match action {
+// What is shown of an action is what is its own, and then what each has.
+fn put_action(rt: &impl Abort, alloc: Global, to: &mut String, action: &Action) {
+    let after = match action {
         Action::SizeOrGrowth {
+            cgroup,
             size_threshold,
             percentile,
             ratio,
-            ..
-        } => format!(in alloc;
-            "size_or_growth {cgroup}{size_threshold} {percentile} {ratio} {rest}"
-        ),
-        Action::SwapUsage { threshold, .. } => {
-            format!(in alloc; "swap_usage {cgroup}{threshold:?} {rest}")
+            after,
+        } => {
+            put_plugin(rt, alloc, to, "size_or_growth", cgroup);
+            put(
+                rt,
+                to,
+                format_args!("{size_threshold} {percentile} {ratio} "),
+            );
+            after
         }
-        Action::Pressure { resource, .. } => {
-            format!(in alloc; "pressure {cgroup}{resource:?} {rest}")
+        Action::SwapUsage {
+            cgroup,
+            threshold,
+            after,
+        } => {
+            put_plugin(rt, alloc, to, "swap_usage", cgroup);
+            put(rt, to, format_args!("{threshold:?} "));
+            after
         }
-        Action::PgScan { .. } => format!(in alloc; "pg_scan {cgroup}{rest}"),
+        Action::Pressure {
+            cgroup,
+            resource,
+            after,
+        } => {
+            put_plugin(rt, alloc, to, "pressure", cgroup);
+            put(rt, to, format_args!("{resource:?} "));
+            after
+        }
+        Action::PgScan { cgroup, after } => {
+            put_plugin(rt, alloc, to, "pg_scan", cgroup);
+            after
+        }
+    };
+    put_after(rt, to, after);
+}
+
+fn put_name(rt: &impl Abort, to: &mut String, name: &Text) {
+    for byte in name.bytes() {
+        put(rt, to, char::from(*byte));
     }
 }
 
-fn action(alloc: Global, action: &Action) -> Result<String, Fail> {
-    let (patterns, rest) = aimed(action);
-    let cgroup = matching(alloc, patterns)?;
-    let rest = after(alloc, rest)?;
-    Ok(action_with(alloc, action, &cgroup, &rest)?)
-}
-
-fn push_text(to: &mut String, text: &Text) -> Result<(), AllocError> {
-    for byte in text.bytes() {
-        to.push(char::from(*byte))?;
+fn put_group(rt: &impl Abort, alloc: Global, to: &mut String, group: &DetectorGroup) {
+    put(rt, to, " [");
+    put_name(rt, to, &group.name);
+    for spec in group.detectors.items() {
+        put(rt, to, "; ");
+        put_detector(rt, alloc, to, spec);
     }
-    Ok(())
+    put(rt, to, "]");
 }
 
-// The rules: a ruleset is its name and a colon, then each group in brackets, each detector with a
-// semicolon behind it, then each action with one.
-fn rules(alloc: Global, rules: &Rules) -> Result<String, Fail> {
-    let mut text = String::new(alloc);
+fn put_actions(rt: &impl Abort, alloc: Global, to: &mut String, actions: &[Action]) {
+    for action in actions {
+        put(rt, to, " ");
+        put_action(rt, alloc, to, action);
+        put(rt, to, ";");
+    }
+}
+
+// A ruleset is its name and a colon, then each group in brackets, each detector with a semicolon
+// before it, then each action with one behind it.
+fn put_rule(rt: &impl Abort, alloc: Global, to: &mut String, rule: &Rule) {
+    put_name(rt, to, &rule.name);
+    put(rt, to, ":");
+    for group in rule.groups.items() {
+        put_group(rt, alloc, to, group);
+    }
+    put_actions(rt, alloc, to, rule.actions.items());
+    put(rt, to, "\n");
+}
+
+fn put_rules(rt: &impl Abort, alloc: Global, to: &mut String, rules: &Rules) {
     for rule in rules.rules.items() {
-        push_text(&mut text, &rule.name)?;
-        text.push_str(":")?;
-        for group in rule.groups.items() {
-            text.push_str(" [")?;
-            push_text(&mut text, &group.name)?;
-            for spec in group.detectors.items() {
-                text.push_str("; ")?;
-                text.push_str(&detector(alloc, spec)?)?;
-            }
-            text.push_str("]")?;
-        }
-        for one in rule.actions.items() {
-            text.push_str(" ")?;
-            text.push_str(&action(alloc, one)?)?;
-            text.push_str(";")?;
-        }
-        text.push_str("\n")?;
+        put_rule(rt, alloc, to, rule);
     }
-    Ok(text)
+}
+
+fn put_number(rt: &impl Abort, to: &mut String, word: &str, number: u32) {
+    put(rt, to, format_args!(" {word} {number}"));
 }
 
 // Where a fault stands, with a space before each word.
-fn place(alloc: Global, place: Place) -> Result<String, AllocError> {
+fn put_place(rt: &impl Abort, to: &mut String, place: Place) {
     match place {
-        Place::Whole => Ok(String::new(alloc)),
-        Place::Rule(rule) => format!(in alloc; " ruleset {rule}"),
-        Place::Group(rule, group) => format!(in alloc; " ruleset {rule} group {group}"),
-        Place::Detector(rule, group, item) => {
-            format!(in alloc; " ruleset {rule} group {group} item {item}")
+        Place::Whole => {}
+        Place::Rule(rule) => put_number(rt, to, "ruleset", rule),
+        Place::Group(rule, group) => {
+            put_number(rt, to, "ruleset", rule);
+            put_number(rt, to, "group", group);
         }
-        Place::Action(rule, action) => format!(in alloc; " ruleset {rule} action {action}"),
+        Place::Detector(rule, group, item) => {
+            put_number(rt, to, "ruleset", rule);
+            put_number(rt, to, "group", group);
+            put_number(rt, to, "item", item);
+        }
+        Place::Action(rule, action) => {
+            put_number(rt, to, "ruleset", rule);
+            put_number(rt, to, "action", action);
+        }
     }
 }
 
-// The text of a fault.
-fn fault(alloc: Global, fault: RulesFault) -> Result<String, Fail> {
-    let place = place(alloc, fault.place)?;
-    Ok(format!(in alloc; "rules{place}: {:?}", fault.what)?)
+fn put_fault(rt: &impl Abort, to: &mut String, fault: RulesFault) {
+    put(rt, to, "rules");
+    put_place(rt, to, fault.place);
+    put(rt, to, format_args!(": {:?}", fault.what));
 }
 
-/// What the bytes are read as.
-pub fn shown(alloc: Global, bytes: &[u8]) -> Result<String, Fail> {
+fn put_read(rt: &impl Abort, alloc: Global, to: &mut String, bytes: &[u8]) {
     match read(alloc, bytes) {
-        Ok(read) => rules(alloc, &read),
-        Err(Fault::Refused(refused)) => fault(alloc, refused),
-        Err(Fault::NoMemory(none)) => Err(Fail::from(none)),
+        Ok(rules) => put_rules(rt, alloc, to, &rules),
+        Err(Fault::Refused(fault)) => put_fault(rt, to, fault),
+        Err(Fault::NoMemory(_)) => panic!(rt; "memory"),
     }
+}
+
+// The bytes of the file are read as this text.
+fn reads_file(rt: &impl Abort, alloc: Global, bytes: &[u8], text: &str, file: &str) {
+    let mut shown = String::new(alloc);
+    put_read(rt, alloc, &mut shown, bytes);
+    is_text(rt, &shown, text, file);
 }
 
 /// The bytes are read as this text.
-pub fn reads_bytes(rt: &impl Abort, alloc: Global, bytes: &[u8], text: &str) -> Result<(), Fail> {
-    assert_eq!(rt; shown(alloc, bytes)?.as_str(), text);
-    Ok(())
+pub fn reads_bytes(rt: &impl Abort, alloc: Global, bytes: &[u8], text: &str) {
+    reads_file(rt, alloc, bytes, text, "bytes");
 }
 
 /// The text with quotes in place of its `'`.
-pub fn quoted(alloc: Global, text: &str) -> Result<String, AllocError> {
-    text.replace(alloc, "'", "\"")
+pub fn quoted(rt: &impl Abort, alloc: Global, text: &str) -> String {
+    text.replace(alloc, "'", "\"").expect(rt, "memory")
 }
 
 /// The file is read as this text. Its quotes are written `'`.
-pub fn reads(rt: &impl Abort, alloc: Global, file: &str, text: &str) -> Result<(), Fail> {
-    let bytes = quoted(alloc, file)?;
-    assert_eq!(rt; shown(alloc, bytes.as_bytes())?.as_str(), text, "at {file}");
-    Ok(())
+pub fn reads(rt: &impl Abort, alloc: Global, file: &str, text: &str) {
+    let quoted = quoted(rt, alloc, file);
+    reads_file(rt, alloc, quoted.as_bytes(), text, file);
 }
 
 /// The text with this in place of its first `@`, if it has one.
-pub fn with(alloc: Global, text: &str, value: &str) -> Result<String, AllocError> {
-    match text.split_once('@') {
-        Some((front, behind)) => format!(in alloc; "{front}{value}{behind}"),
-        None => String::from_str(alloc, text),
-    }
-}
-
-// The file and the text of a row: behind a `~` the rules, and behind a `!` the fault.
-fn parted<'a>(row: &'a str, rules: &'a str, fault: &'a str) -> Option<(&'a str, &'a str, &'a str)> {
-    if let Some((value, shown)) = row.split_once('~') {
-        return Some((value, rules, shown));
-    }
-    let (value, cause) = row.split_once('!')?;
-    Some((value, fault, cause))
+pub fn with(rt: &impl Abort, alloc: Global, text: &str, value: &str) -> String {
+    text.replacen(alloc, "@", value, 1).expect(rt, "memory")
 }
 
 // The file with the one value is read as the text with the other.
@@ -228,10 +255,24 @@ fn reads_with(
     alloc: Global,
     (file, value): (&str, &str),
     (text, shown): (&str, &str),
-) -> Result<(), Fail> {
-    let file = with(alloc, file, value)?;
-    let text = with(alloc, text, shown)?;
-    reads(rt, alloc, &file, &text)
+) {
+    let file = with(rt, alloc, file, value);
+    let text = with(rt, alloc, text, shown);
+    reads(rt, alloc, &file, &text);
+}
+
+// The file and the text of a row: behind a `~` the rules, and behind a `!` the fault.
+fn parted<'a>(
+    rt: &impl Abort,
+    row: &'a str,
+    rules: &'a str,
+    fault: &'a str,
+) -> (&'a str, &'a str, &'a str) {
+    if let Some((value, shown)) = row.split_once('~') {
+        return (value, rules, shown);
+    }
+    let (value, cause) = row.split_once('!').expect(rt, row);
+    (value, fault, cause)
 }
 
 /// Files and what they are read as, a row each. A row is what stands for the `@` of the file, and
@@ -244,13 +285,9 @@ pub fn reads_rows(
     rules: &str,
     fault: &str,
     rows: &str,
-) -> Result<(), Fail> {
+) {
     for row in rows.split('\n') {
-        let found = parted(row, rules, fault);
-        assert!(rt; found.is_some(), "no row: {row}");
-        if let Some((value, text, shown)) = found {
-            reads_with(rt, alloc, (file, value), (text, shown))?;
-        }
+        let (value, text, shown) = parted(rt, row, rules, fault);
+        reads_with(rt, alloc, (file, value), (text, shown));
     }
-    Ok(())
 }

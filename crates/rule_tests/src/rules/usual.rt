@@ -1,9 +1,8 @@
 //! Whole rules files: the usual one, field by field, and lists at their limits.
 use crate::rules::shown::{reads, reads_rows, with};
 use ruleset_json::{ActionList, GroupList, Rule, RuleList, Rules, read};
-use std::alloc::{AllocError, Global};
+use std::alloc::Global;
 use std::process::Abort;
-use std::test::Fail;
 
 const USUAL: &str = "{'rulesets':[
  {'name':'memory pressure','detectors':[['slow',
@@ -26,8 +25,8 @@ low swap: [swap; swap_free 15; exists /g0 /g1 /g2 false] swap_usage /g0 /g1 /g2 
 ";
 
 #[test]
-fn usual_file(rt: HostRuntime) -> Result<(), Fail> {
-    reads(&rt, rt.alloc(), USUAL, SHOWN)
+fn usual_file(rt: HostRuntime) {
+    reads(&rt, rt.alloc(), USUAL, SHOWN);
 }
 
 // Rules of one ruleset, and the same with a bad pattern.
@@ -35,30 +34,10 @@ const ONE: &str =
     "{'rulesets':[{'name':'r','detectors':[['g',{'name':'exists','args':{'cgroup':'s/*'}}]],'actions':[{'name':'kill_by_memory_size_or_growth','args':{'cgroup':'s/@'}}]}]}";
 
 #[test]
-fn file_of_one(rt: HostRuntime) -> Result<(), Fail> {
+fn file_of_one(rt: HostRuntime) {
     let rules = "r: [g; exists /s/a false] size_or_growth /s/a 50 80 1250 false false 15;\n";
     let fault = "rules ruleset 0 action 0: BadArg";
-    reads_rows(&rt, rt.alloc(), ONE, rules, fault, "*~\n?!")
-}
-
-// The piece as many times, with this between.
-fn listed(alloc: Global, piece: &str, times: usize, between: &str) -> Result<String, AllocError> {
-    vec![in alloc; piece; times]?.join(alloc, between)
-}
-
-// A file of as many pieces is read as this text.
-fn reads_listed(
-    rt: &impl Abort,
-    file: &str,
-    piece: &str,
-    between: &str,
-    times: usize,
-    text: &str,
-    alloc: Global,
-) -> Result<(), Fail> {
-    let pieces = listed(alloc, piece, times, between)?;
-    let file = with(alloc, file, &pieces)?;
-    reads(rt, alloc, &file, text)
+    reads_rows(&rt, rt.alloc(), ONE, rules, fault, "*~\n?!");
 }
 
 // Pieces in a file, and what is shown of them.
@@ -72,20 +51,19 @@ struct Lists {
     fault: &'static str,
 }
 
+// The file of as many pieces is read as this text.
+fn reads_listed(rt: &impl Abort, alloc: Global, lists: &Lists, times: usize, text: &str) {
+    let pieces = vec![in alloc; lists.piece; times].expect(rt, "memory");
+    let pieces = pieces.join(alloc, lists.between).expect(rt, "memory");
+    reads(rt, alloc, &with(rt, alloc, lists.file, &pieces), text);
+}
+
 // A file of as many pieces as there may be is shown, and one of one more has the fault.
-fn are_limited(rt: &impl Abort, alloc: Global, lists: &Lists) -> Result<(), Fail> {
-    let shown = lists.shown.repeat(alloc, lists.most)?;
-    let rules = with(alloc, lists.rules, &shown)?;
-    let Lists {
-        file,
-        piece,
-        between,
-        most,
-        fault,
-        ..
-    } = *lists;
-    reads_listed(rt, file, piece, between, most, &rules, alloc)?;
-    reads_listed(rt, file, piece, between, most.wrapping_add(1), fault, alloc)
+fn are_limited(rt: &impl Abort, alloc: Global, lists: &Lists) {
+    let shown = lists.shown.repeat(alloc, lists.most).expect(rt, "memory");
+    let rules = with(rt, alloc, lists.rules, &shown);
+    reads_listed(rt, alloc, lists, lists.most, &rules);
+    reads_listed(rt, alloc, lists, lists.most.wrapping_add(1), lists.fault);
 }
 
 const RULESETS: Lists = Lists {
@@ -129,13 +107,11 @@ const ACTIONS: Lists = Lists {
 };
 
 #[test]
-fn lists_at_their_limits(rt: HostRuntime) -> Result<(), Fail> {
-    let alloc = rt.alloc();
-    reads(&rt, alloc, "{'rulesets':[]}", "")?;
-    are_limited(&rt, alloc, &RULESETS)?;
-    are_limited(&rt, alloc, &GROUPS)?;
-    are_limited(&rt, alloc, &DETECTORS)?;
-    are_limited(&rt, alloc, &ACTIONS)
+fn lists_at_their_limits(rt: HostRuntime) {
+    reads(&rt, rt.alloc(), "{'rulesets':[]}", "");
+    for lists in &[RULESETS, GROUPS, DETECTORS, ACTIONS] {
+        are_limited(&rt, rt.alloc(), lists);
+    }
 }
 
 const ALL: &[u8] =
@@ -160,14 +136,10 @@ fn is_the_rule(rule: Rule) -> bool {
 
 // Lists give their members, and are made of them again.
 #[test]
-fn lists_again(rt: HostRuntime) -> Result<(), Fail> {
-    let Ok(Rules { rules }) = read(rt.alloc(), ALL) else {
-        assert!(rt; false, "no rules");
-        return Ok(());
-    };
+fn lists_again(rt: HostRuntime) {
+    let Rules { rules } = read(rt.alloc(), ALL).expect(&rt, "rules");
     assert_eq!(rt; rules.items().len(), 1);
     let mut rules = rules.into_items();
     assert!(rt; rules.pop().is_some_and(is_the_rule));
     assert_eq!(rt; RuleList::new(rules).items().len(), 0);
-    Ok(())
 }

@@ -2,81 +2,79 @@
 //! same.
 use crate::rules::shown::{quoted, with};
 use dropin_rules::write_rules;
-use psi_base::Fault;
 use ruleset_json::read;
 use std::alloc::Global;
 use std::process::Abort;
-use std::test::Fail;
 
 // The text of the rules that the bytes are read as, behind a mark.
-fn written(rt: &impl Abort, alloc: Global, bytes: &[u8]) -> Result<Vec<u8>, Fail> {
-    let mut text = Vec::from_slice(alloc, b">".as_slice())?;
-    match read(alloc, bytes) {
-        Ok(rules) => write_rules(&rules, &mut text)?,
-        Err(Fault::Refused(_)) => assert!(rt; false, "refused"),
-        Err(Fault::NoMemory(none)) => return Err(Fail::from(none)),
-    }
-    Ok(text)
+fn written(rt: &impl Abort, alloc: Global, bytes: &[u8]) -> Vec<u8> {
+    let rules = read(alloc, bytes).expect(rt, "rules");
+    let mut text = Vec::from_slice(alloc, b">".as_slice()).expect(rt, "memory");
+    write_rules(&rules, &mut text).expect(rt, "memory");
+    text
 }
 
-// The bytes are written as this text, and so is what is read of that.
-fn writes_bytes(rt: &impl Abort, alloc: Global, bytes: &[u8], text: &[u8]) -> Result<(), Fail> {
-    let once = written(rt, alloc, bytes)?;
-    assert!(rt;
-        once.len() > 0 && &once[1..] == text,
-        "{:?}",
-        str::from_utf8(&once)
-    );
-    let again = written(rt, alloc, text)?;
-    assert!(rt; once.as_slice() == again.as_slice());
-    Ok(())
+// The bytes are written as this text, behind what stands there.
+fn writes_once(rt: &impl Abort, alloc: Global, bytes: &[u8], text: &[u8]) {
+    let written = written(rt, alloc, bytes);
+    let behind = written.strip_prefix(b">").expect(rt, "no mark");
+    assert_eq!(rt; str::from_utf8(behind), str::from_utf8(text));
+}
+
+// So they are, and so is what is read of the text.
+fn writes_bytes(rt: &impl Abort, alloc: Global, bytes: &[u8], text: &[u8]) {
+    writes_once(rt, alloc, bytes, text);
+    writes_once(rt, alloc, text, text);
 }
 
 // The same of texts whose quotes are written `'`.
-fn writes(rt: &impl Abort, alloc: Global, file: &str, text: &str) -> Result<(), Fail> {
-    let (file, text) = (quoted(alloc, file)?, quoted(alloc, text)?);
-    writes_bytes(rt, alloc, file.as_bytes(), text.as_bytes())
+fn writes(rt: &impl Abort, alloc: Global, file: &str, text: &str) {
+    let (file, text) = (quoted(rt, alloc, file), quoted(rt, alloc, text));
+    writes_bytes(rt, alloc, file.as_bytes(), text.as_bytes());
 }
 
 #[test]
-fn file_of_one(rt: HostRuntime) -> Result<(), Fail> {
+fn file_of_one(rt: HostRuntime) {
     writes(
         &rt,
         rt.alloc(),
         "{ 'rulesets': [{'name':'r','detectors':[['g',{'name':'exists','args':{'cgroup':'/s/*'}}]],
           'actions':[{'name':'kill_by_memory_size_or_growth','args':{'cgroup':'s/*','size_threshold':50}}]}]}",
         "{'rulesets':[{'actions':[{'args':{'always_continue':'false','cgroup':'s/*','growing_size_percentile':'80','min_growth_ratio':'1.250','post_action_delay':'15','recursive':'false','size_threshold':'50'},'name':'kill_by_memory_size_or_growth'}],'detectors':[['g',{'args':{'cgroup':'s/*','negate':'false'},'name':'exists'}]],'name':'r'}]}",
-    )
+    );
 }
 
 // What stands before a mark, and behind it.
 fn halves<'a>(rt: &impl Abort, text: &'a str, mark: char) -> (&'a str, &'a str) {
-    match text.split_once(mark) {
-        Some(both) => both,
-        None => {
-            assert!(rt; false, "no mark: {text}");
-            (text, text)
-        }
-    }
+    text.split_once(mark).expect(rt, text)
+}
+
+// The text with this in place of its first `@`, and that in place of the next.
+fn with_both(rt: &impl Abort, alloc: Global, text: &str, first: &str, next: &str) -> String {
+    with(rt, alloc, &with(rt, alloc, text, first), next)
+}
+
+// A plugin of this name and with these arguments is written with those.
+fn writes_plugin(
+    rt: &impl Abort,
+    alloc: Global,
+    (file, text): (&str, &str),
+    name: &str,
+    (given, shown): (&str, &str),
+) {
+    let file = with_both(rt, alloc, file, name, given);
+    let text = with_both(rt, alloc, text, shown, name);
+    writes(rt, alloc, &file, &text);
 }
 
 // Plugins, a row each: a name, behind a `|` its arguments, and behind a `~` these as they are
 // written.
-fn writes_rows(
-    rt: &impl Abort,
-    alloc: Global,
-    file: &str,
-    text: &str,
-    rows: &str,
-) -> Result<(), Fail> {
+fn writes_rows(rt: &impl Abort, alloc: Global, file: &str, text: &str, rows: &str) {
     for row in rows.split('\n') {
         let (name, args) = halves(rt, row, '|');
-        let (given, shown) = halves(rt, args, '~');
-        let file = with(alloc, &with(alloc, file, name)?, given)?;
-        let text = with(alloc, &with(alloc, text, shown)?, name)?;
-        writes(rt, alloc, &file, &text)?;
+        let args = halves(rt, args, '~');
+        writes_plugin(rt, alloc, (file, text), name, args);
     }
-    Ok(())
 }
 
 const OF_DETECTOR: &str =
@@ -101,8 +99,8 @@ exists|'cgroup':'a'~'cgroup':'a','negate':'false'
 exists|'cgroup':'a','negate':'True'~'cgroup':'a','negate':'true'";
 
 #[test]
-fn detectors(rt: HostRuntime) -> Result<(), Fail> {
-    writes_rows(&rt, rt.alloc(), OF_DETECTOR, DETECTOR, DETECTORS)
+fn detectors(rt: HostRuntime) {
+    writes_rows(&rt, rt.alloc(), OF_DETECTOR, DETECTOR, DETECTORS);
 }
 
 const OF_ACTION: &str =
@@ -120,31 +118,38 @@ kill_by_pressure|'cgroup':'a','resource':'io','always_continue':'1'~'always_cont
 kill_by_pg_scan|'cgroup':'a','post_action_delay':0~'always_continue':'false','cgroup':'a','post_action_delay':'0','recursive':'false'";
 
 #[test]
-fn actions(rt: HostRuntime) -> Result<(), Fail> {
-    writes_rows(&rt, rt.alloc(), OF_ACTION, ACTION, ACTIONS)
+fn actions(rt: HostRuntime) {
+    writes_rows(&rt, rt.alloc(), OF_ACTION, ACTION, ACTIONS);
 }
 
 // Names of a ruleset and a group, and how they are written.
+const NAMES: [(&str, &str); 7] = [
+    ("", ""),
+    ("a\\\"b\\\\c\\/d", "a\\\"b\\\\c/d"),
+    ("\\b\\t\\n\\f\\r", "\\b\\t\\n\\f\\r"),
+    (
+        "\\u0000\\u0001\\u000B\\u001F",
+        "\\u0000\\u0001\\u000b\\u001f",
+    ),
+    ("\\u0008\\u0009\\u000a\\u000c\\u000d", "\\b\\t\\n\\f\\r"),
+    ("\\u007f\u{80}\\u00e9", "\u{7f}\u{80}\u{e9}"),
+    ("\u{20ac}\\ud83d\\ude00", "\u{20ac}\u{1f600}"),
+];
+
+const OF_NAMES: &str = "{\"rulesets\":[{\"name\":\"@\",\"detectors\":[[\"@\"]],\"actions\":[]}]}";
+
+const WRITTEN_NAMES: &str =
+    "{\"rulesets\":[{\"actions\":[],\"detectors\":[[\"@\"]],\"name\":\"@\"}]}";
+
+fn writes_name(rt: &impl Abort, alloc: Global, given: &str, shown: &str) {
+    let file = with_both(rt, alloc, OF_NAMES, given, "g");
+    let text = with_both(rt, alloc, WRITTEN_NAMES, "g", shown);
+    writes_bytes(rt, alloc, file.as_bytes(), text.as_bytes());
+}
+
 #[test]
-fn names(rt: HostRuntime) -> Result<(), Fail> {
-    let alloc = rt.alloc();
-    let file = "{\"rulesets\":[{\"name\":\"@\",\"detectors\":[[\"@\"]],\"actions\":[]}]}";
-    let text = "{\"rulesets\":[{\"actions\":[],\"detectors\":[[\"@\"]],\"name\":\"@\"}]}";
-    for (given, shown) in [
-        ("", ""),
-        ("a\\\"b\\\\c\\/d", "a\\\"b\\\\c/d"),
-        ("\\b\\t\\n\\f\\r", "\\b\\t\\n\\f\\r"),
-        (
-            "\\u0000\\u0001\\u000B\\u001F",
-            "\\u0000\\u0001\\u000b\\u001f",
-        ),
-        ("\\u0008\\u0009\\u000a\\u000c\\u000d", "\\b\\t\\n\\f\\r"),
-        ("\\u007f\u{80}\\u00e9", "\u{7f}\u{80}\u{e9}"),
-        ("\u{20ac}\\ud83d\\ude00", "\u{20ac}\u{1f600}"),
-    ] {
-        let file = with(alloc, &with(alloc, file, given)?, "g")?;
-        let text = with(alloc, &with(alloc, text, "g")?, shown)?;
-        writes_bytes(&rt, alloc, file.as_bytes(), text.as_bytes())?;
+fn names(rt: HostRuntime) {
+    for (given, shown) in &NAMES {
+        writes_name(&rt, rt.alloc(), given, shown);
     }
-    Ok(())
 }
