@@ -1,12 +1,8 @@
 //! Traces that are refused, and calls of the shelf and the sinks that fail.
 
-use crate::runs::{Failing, NO_FAULT, NONE, is_run, prints_nothing, run_over};
+use crate::runs::{Failing, Host, NO_FAULT, NONE, assert_prints_nothing, assert_run, run_failing};
 use observe_core::ObserveStatus;
-use outside::OpenGate;
 use psi_base::Cause;
-use std::sync::Wait;
-use std::test::Fail;
-use std::thread::Threads;
 
 /// A task waits for IO, and the second tick comes without a change.
 const TWO_TICKS: &str = "psitrace 1 cpus=1\n2500000000 group /a\n4000000000 end\n";
@@ -23,69 +19,62 @@ const READS: u64 = 54;
 /// How many bytes the output has.
 const WRITES: u64 = 107;
 
-#[test]
-fn traces_that_are_refused(rt: HostRuntime) -> Result<(), Fail> {
-    let fields = ObserveStatus::Trace {
-        line: 2,
-        cause: Cause::BadField(2),
-    };
-    let trace = "psitrace 1 cpus=1\n0 fork 1 nope 0\n0 end\n";
-    assert!(rt; prints_nothing(&rt, "t 1 /", trace, fields, "trace line 2: BadField 2\n")?);
-    // A million ticks are the most.
-    let late = ObserveStatus::Trace {
-        line: 2,
-        cause: Cause::TimeTooLate,
-    };
-    let trace = "psitrace 1 cpus=1\n2000000000000001 end\n";
-    assert!(rt; prints_nothing(&rt, "t 8 /", trace, late, "trace line 2: TimeTooLate\n")?);
-    Ok(())
+/// A command line over a trace is refused at the second line for this cause, which the note names.
+fn assert_refused(rt: &impl Host, line: &str, trace: &str, cause: Cause, note: &str) {
+    let status = ObserveStatus::Trace { line: 2, cause };
+    assert_prints_nothing(rt, line, trace, status, note);
 }
 
-/// Whether words over the trace end with this status and note, where some calls fail and one byte
-/// moves at each, and print a front of the output: the whole, where they are done.
-fn is_front<R: Threads + Wait + AllocGlobal + Sync>(
-    rt: &R,
-    failing: Failing,
-    status: ObserveStatus,
-    length: u64,
-    note: &str,
-) -> Result<bool, Fail> {
-    let ran = run_over(rt, "t 2 /a/b", TWO_TICKS, 1, failing, &OpenGate)?;
+#[test]
+fn traces_that_are_refused(rt: HostRuntime) {
+    let trace = "psitrace 1 cpus=1\n0 fork 1 nope 0\n0 end\n";
+    let cause = Cause::BadField(2);
+    assert_refused(&rt, "t 1 /", trace, cause, "trace line 2: BadField 2\n");
+    // A million ticks are the most.
+    let trace = "psitrace 1 cpus=1\n2000000000000001 end\n";
+    let cause = Cause::TimeTooLate;
+    assert_refused(&rt, "t 8 /", trace, cause, "trace line 2: TimeTooLate\n");
+}
+
+/// Words over the trace end with this status and note, where some calls fail and one byte moves at
+/// each, and print a front of the output: the whole, where they are done.
+fn assert_front(rt: &impl Host, failing: Failing, status: ObserveStatus, length: u64, note: &str) {
+    let ran = run_failing(rt, "t 2 /a/b", TWO_TICKS, 1, failing);
     let front = PRINTED
         .as_bytes()
         .get(..length as usize)
         .unwrap_or(b"".as_slice());
     let is_told = ran.note.as_slice() == note.as_bytes();
-    Ok(ran.status == status && ran.output.as_slice() == front && is_told)
+    let is_right = ran.status == status && ran.output.as_slice() == front && is_told;
+    assert!(rt;
+        is_right,
+        "{failing:?}: {ran} in place of {status:?}, {length} bytes, {note:?}"
+    );
 }
 
 #[test]
-fn each_call_fails_in_turn(rt: HostRuntime) -> Result<(), Fail> {
-    assert!(rt; is_front(&rt, NO_FAULT, ObserveStatus::Done, WRITES, "")?);
+fn each_call_fails_in_turn(rt: HostRuntime) {
+    assert_front(&rt, NO_FAULT, ObserveStatus::Done, WRITES, "");
     let fault = ObserveStatus::ReadFault;
     for read in 0..READS {
         let failing = Failing { read, ..NO_FAULT };
-        let is_told = is_front(&rt, failing, fault, 0, "read fault\n")?;
-        assert!(rt; is_told, "at read {read}");
+        assert_front(&rt, failing, fault, 0, "read fault\n");
     }
     let fault = ObserveStatus::WriteFault;
     for write in 0..WRITES {
         let failing = Failing { write, ..NO_FAULT };
-        let is_told = is_front(&rt, failing, fault, write, "write fault\n")?;
-        assert!(rt; is_told, "at write {write}");
+        assert_front(&rt, failing, fault, write, "write fault\n");
     }
-    Ok(())
 }
 
 // A note that fails changes no status.
 #[test]
-fn a_note_that_fails(rt: HostRuntime) -> Result<(), Fail> {
+fn a_note_that_fails(rt: HostRuntime) {
     let failing = Failing {
         read: 0,
         write: NONE,
         note: 1,
     };
-    let ran = run_over(&rt, "t 2 /", TWO_TICKS, 7, failing, &OpenGate)?;
-    assert!(rt; is_run(&ran, ObserveStatus::ReadFault, "", "read fa"));
-    Ok(())
+    let ran = run_failing(&rt, "t 2 /", TWO_TICKS, 7, failing);
+    assert_run(&rt, "t 2 /", &ran, ObserveStatus::ReadFault, "", "read fa");
 }

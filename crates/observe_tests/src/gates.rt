@@ -1,13 +1,12 @@
 //! Observers and the threads of the replay at a gate that holds each of them until it has met
 //! another.
 
-use crate::runs::{is_run, line_of, run_gated};
+use crate::runs::{Host, assert_ends, assert_run, line_of, run_gated};
 use observe_core::ObserveStatus;
 use outside::Gate;
 use psi_base::Cpu;
 use std::sync::atomic::Ordering::SeqCst;
 use std::sync::atomic::{AtomicBool, AtomicU64};
-use std::test::Fail;
 
 /// How often a thread looks for another one before it gives up.
 const TURNS: u32 = 200_000_000;
@@ -100,22 +99,22 @@ impl Gate for AfterThird {
     }
 }
 
-#[test]
-fn samples_while_the_replay_goes_on(rt: HostRuntime) -> Result<(), Fail> {
+/// A command line over a trace prints this, where a sample is taken after the third change.
+fn assert_after_third(rt: &impl Host, line: &str, trace: &str, output: &str) {
     let gate = AfterThird::new();
-    let ran = run_gated(&rt, "t 1 /", ONE_PROCESSOR, &gate)?;
-    assert!(rt; is_run(&ran, ObserveStatus::Done, AFTER_THREE, ""));
-    assert!(rt; gate.is_met(), "a thread waited in vain");
-    Ok(())
+    let ran = run_gated(rt, line, trace, &gate);
+    assert_run(rt, line, &ran, ObserveStatus::Done, output, "");
+    assert!(rt; gate.is_met(), "{line}: a thread waited in vain");
 }
 
 #[test]
-fn a_group_goes_and_comes_again(rt: HostRuntime) -> Result<(), Fail> {
-    let gate = AfterThird::new();
-    let ran = run_gated(&rt, "t 1 /a", COMES_AGAIN, &gate)?;
-    assert!(rt; is_run(&ran, ObserveStatus::Done, BOTH_LIVES, ""));
-    assert!(rt; gate.is_met(), "a thread waited in vain");
-    Ok(())
+fn samples_while_the_replay_goes_on(rt: HostRuntime) {
+    assert_after_third(&rt, "t 1 /", ONE_PROCESSOR, AFTER_THREE);
+}
+
+#[test]
+fn a_group_goes_and_comes_again(rt: HostRuntime) {
+    assert_after_third(&rt, "t 1 /a", COMES_AGAIN, BOTH_LIVES);
 }
 
 /// A gate at which observer 0 waits until another one has added its sample to the journal.
@@ -142,21 +141,20 @@ impl Gate for OtherFirst {
 // The samples stand in the order of the journal, and the states of the board in that of the
 // observers.
 #[test]
-fn observers_in_the_order_of_the_journal(rt: HostRuntime) -> Result<(), Fail> {
+fn observers_in_the_order_of_the_journal(rt: HostRuntime) {
     let gate = OtherFirst {
         is_sampled: AtomicBool::new(false),
         is_missed: AtomicBool::new(false),
     };
-    let ran = run_gated(&rt, "t 2 /", ONE_PROCESSOR, &gate)?;
-    assert!(rt; ran.status == ObserveStatus::Done);
+    let ran = run_gated(&rt, "t 2 /", ONE_PROCESSOR, &gate);
     assert!(rt; !gate.is_missed.load(SeqCst), "observer 0 waited in vain");
-    assert!(rt; line_of(&ran.output, 0).starts_with(b"sample observer=1 cpu=0 "));
-    assert!(rt; line_of(&ran.output, 1).starts_with(b"sample observer=0 cpu=0 "));
-    let end = b"\nboard observer=0 tick=1 events=0 kills=0\n\
+    let is_in_order = line_of(&ran.output, 0).starts_with(b"sample observer=1 cpu=0 ")
+        && line_of(&ran.output, 1).starts_with(b"sample observer=0 cpu=0 ");
+    assert!(rt; is_in_order, "{ran}");
+    let end = "\nboard observer=0 tick=1 events=0 kills=0\n\
         board observer=1 tick=1 events=0 kills=0\n\
         end 2000000000 samples=2\n";
-    assert!(rt; ran.output.ends_with(end));
-    Ok(())
+    assert_ends(&rt, "t 2 /", &ran, end);
 }
 
 /// The most observers that there may be.
@@ -184,16 +182,14 @@ impl Gate for AllMeet {
 }
 
 #[test]
-fn observers_in_threads_of_their_own(rt: HostRuntime) -> Result<(), Fail> {
+fn observers_in_threads_of_their_own(rt: HostRuntime) {
     let gate = AllMeet {
         come: AtomicU64::new(0),
         are_all: AtomicBool::new(false),
         is_missed: AtomicBool::new(false),
     };
-    let ran = run_gated(&rt, "t 8 /", ONE_PROCESSOR, &gate)?;
-    assert!(rt; ran.status == ObserveStatus::Done);
+    let ran = run_gated(&rt, "t 8 /", ONE_PROCESSOR, &gate);
     assert!(rt; !gate.is_missed.load(SeqCst), "an observer waited in vain");
     assert_eq!(rt; gate.come.load(SeqCst), OBSERVERS);
-    assert!(rt; ran.output.ends_with(b"\nend 2000000000 samples=8\n"));
-    Ok(())
+    assert_ends(&rt, "t 8 /", &ran, "\nend 2000000000 samples=8\n");
 }

@@ -1,8 +1,7 @@
 //! How many samples there may be.
 
-use crate::runs::{prints_nothing, run_open};
+use crate::runs::{Host, assert_ends, assert_prints_nothing, run_open};
 use observe_core::ObserveStatus;
-use std::test::Fail;
 
 /// As many ticks as eight observers of 50 processors may have, and one more.
 const MOST_TICKS: &str = "psitrace 1 cpus=50\n5000000000000 end\n";
@@ -16,36 +15,32 @@ const TWO_SAMPLES_MORE: &str = "psitrace 1 cpus=1\n1000002000000000 end\n";
 const SOME_TICKS: &str = "psitrace 1 cpus=50\n50000000000 end\n";
 
 #[test]
-fn as_many_as_may_be(rt: HostRuntime) -> Result<(), Fail> {
-    let ran = run_open(&rt, "t 8 /nope", MOST_TICKS)?;
-    assert!(rt; ran.status == ObserveStatus::Done);
-    assert!(rt;
-        ran.output
-            .starts_with(b"board observer=0 tick=2500 events=0 kills=0\n")
-    );
-    assert!(rt; ran.output.ends_with(b"\nend 5000000000000 samples=0\n"));
-    Ok(())
+fn as_many_as_may_be(rt: HostRuntime) {
+    let ran = run_open(&rt, "t 8 /nope", MOST_TICKS);
+    let first = b"board observer=0 tick=2500 events=0 kills=0\n";
+    assert!(rt; ran.output.starts_with(first), "{ran}");
+    assert_ends(&rt, "t 8 /nope", &ran, "\nend 5000000000000 samples=0\n");
+}
+
+/// A command line over a trace is told to have so many samples, which are too many.
+fn assert_too_many(rt: &impl Host, line: &str, trace: &str, samples: u64) {
+    let status = ObserveStatus::TooManySamples { samples };
+    assert_prints_nothing(rt, line, trace, status, "too many samples\n");
 }
 
 // Whether the group is ever live doesn't matter.
 #[test]
-fn too_many(rt: HostRuntime) -> Result<(), Fail> {
-    let told = "too many samples\n";
-    let eight = ObserveStatus::TooManySamples { samples: 1_000_400 };
-    assert!(rt; prints_nothing(&rt, "t 8 /", ONE_TICK_MORE, eight, told)?);
-    assert!(rt; prints_nothing(&rt, "t 8 /nope", ONE_TICK_MORE, eight, told)?);
-    let two = ObserveStatus::TooManySamples { samples: 1_000_002 };
-    assert!(rt; prints_nothing(&rt, "t 2 /", TWO_SAMPLES_MORE, two, told)?);
-    Ok(())
+fn too_many(rt: HostRuntime) {
+    assert_too_many(&rt, "t 8 /", ONE_TICK_MORE, 1_000_400);
+    assert_too_many(&rt, "t 8 /nope", ONE_TICK_MORE, 1_000_400);
+    assert_too_many(&rt, "t 2 /", TWO_SAMPLES_MORE, 1_000_002);
 }
 
 #[test]
-fn ten_thousand(rt: HostRuntime) -> Result<(), Fail> {
-    let ran = run_open(&rt, "t 8 /", SOME_TICKS)?;
-    assert!(rt; ran.status == ObserveStatus::Done);
-    assert!(rt; ran.output.ends_with(b"\nend 50000000000 samples=10000\n"));
+fn ten_thousand(rt: HostRuntime) {
+    let ran = run_open(&rt, "t 8 /", SOME_TICKS);
+    assert_ends(&rt, "t 8 /", &ran, "\nend 50000000000 samples=10000\n");
     // A newline ends each of the samples, the eight states and the end.
     let ends = ran.output.iter().filter(|byte| **byte == b'\n').count();
-    assert!(rt; ends == 10_009);
-    Ok(())
+    assert_eq!(rt; ends, 10_009);
 }

@@ -1,7 +1,6 @@
 //! Groups that are live at no tick, and traces with none.
 
-use crate::runs::prints;
-use std::test::Fail;
+use crate::runs::assert_prints;
 
 const NO_TICK: &str = "psitrace 1 cpus=1\n0 end\n";
 
@@ -26,31 +25,28 @@ const SIGNALS: &str = "psitrace 1 cpus=1\n\
     5000000000 end\n";
 
 #[test]
-fn no_tick(rt: HostRuntime) -> Result<(), Fail> {
+fn no_tick(rt: HostRuntime) {
     let one = "board observer=0 tick=0 events=0 kills=0\nend 0 samples=0\n";
-    assert!(rt; prints(&rt, "t 1 /", NO_TICK, one)?);
+    assert_prints(&rt, "t 1 /", NO_TICK, one);
     let three = "board observer=0 tick=0 events=0 kills=0\n\
         board observer=1 tick=0 events=0 kills=0\n\
         board observer=2 tick=0 events=0 kills=0\n\
         end 0 samples=0\n";
-    assert!(rt; prints(&rt, "t 3 /a/b", NO_TICK, three)?);
-    Ok(())
+    assert_prints(&rt, "t 3 /a/b", NO_TICK, three);
 }
 
 #[test]
-fn live_at_no_tick(rt: HostRuntime) -> Result<(), Fail> {
+fn live_at_no_tick(rt: HostRuntime) {
     let none = "board observer=0 tick=2 events=0 kills=0\n\
         board observer=1 tick=2 events=0 kills=0\n\
         end 4100000000 samples=0\n";
-    assert!(rt; prints(&rt, "t 2 /a", BETWEEN_TICKS, none)?);
-    assert!(rt; prints(&rt, "t 2 /nope", BETWEEN_TICKS, none)?);
-    Ok(())
+    assert_prints(&rt, "t 2 /a", BETWEEN_TICKS, none);
+    assert_prints(&rt, "t 2 /nope", BETWEEN_TICKS, none);
 }
 
 // The states of the board tell of the signals of all groups.
 #[test]
-fn signals_up_to_the_last_tick(rt: HostRuntime) -> Result<(), Fail> {
+fn signals_up_to_the_last_tick(rt: HostRuntime) {
     let both = "board observer=0 tick=2 events=2 kills=0\nend 5000000000 samples=0\n";
-    assert!(rt; prints(&rt, "t 1 /web/log", SIGNALS, both)?);
-    Ok(())
+    assert_prints(&rt, "t 1 /web/log", SIGNALS, both);
 }

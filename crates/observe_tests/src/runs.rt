@@ -1,12 +1,19 @@
-//! Running words over one trace in memory.
+//! Running words over one trace in memory, and what is asserted of a run. Want of memory ends a
+//! test.
 
 use observe_core::{ObserveStatus, observe};
 use outside::{Gate, OpenGate};
 use outside_fakes::{MemShelf, MemSink};
 use psi_base::Text;
+use std::fmt;
+use std::process::Abort;
 use std::sync::Wait;
-use std::test::Fail;
 use std::thread::Threads;
+
+/// What a test is given: threads that may wait, memory, and a way to end it.
+pub trait Host: Threads + Wait + AllocGlobal + Sync + Abort {}
+
+impl<R: Threads + Wait + AllocGlobal + Sync + Abort> Host for R {}
 
 /// What a run gave: its status, its output and its note.
 #[derive(Drop)]
@@ -16,8 +23,20 @@ pub struct Ran {
     pub note: Vec<u8>,
 }
 
+/// Bytes as a message shows them.
+fn shown(bytes: &[u8]) -> &str {
+    str::from_utf8(bytes).unwrap_or("no text")
+}
+
+impl fmt::Display for Ran {
+    fn fmt<W: fmt::Write>(&self, f: &mut fmt::Formatter<W>) -> fmt::Result {
+        let (output, note) = (shown(&self.output), shown(&self.note));
+        write!(f, "{:?} {output:?} {note:?}", self.status)
+    }
+}
+
 /// Which call of the shelf, the output and the note fails, counted from 0. One far off fails none.
-#[derive(Clone, Copy)]
+#[derive(Clone, Copy, Debug)]
 pub struct Failing {
     pub read: u64,
     pub write: u64,
@@ -38,92 +57,122 @@ pub const NO_FAULT: Failing = Failing {
 const ROOM: usize = 1 << 20;
 
 /// The words of a command line, parted at spaces.
-fn words_of<R: AllocGlobal>(rt: &R, line: &str) -> Result<Vec<String>, Fail> {
-    let alloc = rt.alloc();
-    let mut words = Vec::new(alloc);
+fn words_of(rt: &impl Host, line: &str) -> Vec<String> {
+    let mut words = Vec::new(rt.alloc());
     for word in line.split(' ') {
-        words.push(String::from_str(alloc, word)?)?;
+        let word = String::from_str(rt.alloc(), word).expect(rt, "memory");
+        words.push(word).expect(rt, "memory");
     }
-    Ok(words)
+    words
+}
+
+/// A text of these bytes.
+fn text_of(rt: &impl Host, text: &str) -> Text {
+    Text::make(rt.alloc(), text.as_bytes()).expect(rt, "memory")
+}
+
+/// The number of the one call that fails.
+fn call_of(rt: &impl Host, call: u64) -> Vec<u64> {
+    vec![in rt.alloc(); call].expect(rt, "memory")
+}
+
+/// A shelf that gives at most so many bytes a call, one of which fails.
+fn shelf_of(rt: &impl Host, trace: &str, most: usize, call: u64) -> MemShelf {
+    let files = vec![in rt.alloc(); (text_of(rt, "t"), text_of(rt, trace))];
+    MemShelf::new(files.expect(rt, "memory"), most.max(1), call_of(rt, call))
+}
+
+/// A sink that takes at most so many bytes a call, one of which fails.
+fn sink_of(rt: &impl Host, most: usize, call: u64) -> MemSink {
+    let sink = MemSink::new(rt.alloc(), ROOM, most.max(1), call_of(rt, call));
+    sink.expect(rt, "memory")
 }
 
 /// Runs a command line over a shelf that holds this trace by the name `t`, where some calls fail,
 /// and threads are held by a gate. The shelf and both sinks move at most so many bytes a call.
-pub fn run_over<R: Threads + Wait + AllocGlobal + Sync, G: Gate>(
-    rt: &R,
+fn run_over(
+    rt: &impl Host,
     line: &str,
     trace: &str,
     most: usize,
     failing: Failing,
-    gate: &G,
-) -> Result<Ran, Fail> {
-    let alloc = rt.alloc();
-    let words = words_of(rt, line)?;
-    let files = vec![in alloc;
-        (
-            Text::make(alloc, b"t")?,
-            Text::make(alloc, trace.as_bytes())?
-        ),
-    ]?;
-    let most = most.max(1);
-    let mut shelf = MemShelf::new(files, most, vec![in alloc; failing.read]?);
-    let mut out = MemSink::new(alloc, ROOM, most, vec![in alloc; failing.write]?)?;
-    let mut note = MemSink::new(alloc, ROOM, most, vec![in alloc; failing.note]?)?;
-    let status = observe(rt, alloc, &words, &mut shelf, &mut out, &mut note, gate);
-    Ok(Ran {
+    gate: &impl Gate,
+) -> Ran {
+    let words = words_of(rt, line);
+    let mut shelf = shelf_of(rt, trace, most, failing.read);
+    let mut out = sink_of(rt, most, failing.write);
+    let mut note = sink_of(rt, most, failing.note);
+    let status = observe(
+        rt,
+        rt.alloc(),
+        &words,
+        &mut shelf,
+        &mut out,
+        &mut note,
+        gate,
+    );
+    Ran {
         status,
         output: out.bytes,
         note: note.bytes,
-    })
+    }
 }
 
 /// Runs a command line over this trace, where threads are held by a gate.
-pub fn run_gated<R: Threads + Wait + AllocGlobal + Sync, G: Gate>(
-    rt: &R,
-    line: &str,
-    trace: &str,
-    gate: &G,
-) -> Result<Ran, Fail> {
+pub fn run_gated(rt: &impl Host, line: &str, trace: &str, gate: &impl Gate) -> Ran {
     run_over(rt, line, trace, 65536, NO_FAULT, gate)
 }
 
-/// Runs a command line over this trace.
-pub fn run_open<R: Threads + Wait + AllocGlobal + Sync>(
-    rt: &R,
-    line: &str,
-    trace: &str,
-) -> Result<Ran, Fail> {
-    run_gated(rt, line, trace, &OpenGate)
+/// Runs a command line over this trace, where some calls fail.
+pub fn run_failing(rt: &impl Host, line: &str, trace: &str, most: usize, failing: Failing) -> Ran {
+    run_over(rt, line, trace, most, failing, &OpenGate)
 }
 
-/// Whether a run ended with this status, output and note.
-pub fn is_run(ran: &Ran, status: ObserveStatus, output: &str, note: &str) -> bool {
-    ran.status == status
+/// Runs a command line over this trace.
+pub fn run_open(rt: &impl Host, line: &str, trace: &str) -> Ran {
+    run_failing(rt, line, trace, 65536, NO_FAULT)
+}
+
+/// A run ended with this status, output and note.
+pub fn assert_run(
+    rt: &impl Abort,
+    line: &str,
+    ran: &Ran,
+    status: ObserveStatus,
+    output: &str,
+    note: &str,
+) {
+    let is_run = ran.status == status
         && ran.output.as_slice() == output.as_bytes()
-        && ran.note.as_slice() == note.as_bytes()
+        && ran.note.as_slice() == note.as_bytes();
+    assert!(rt;
+        is_run,
+        "{line}, {ran} in place of {status:?} {output:?} {note:?}"
+    );
+}
+
+/// A run was done, and its output ends with this.
+pub fn assert_ends(rt: &impl Abort, line: &str, ran: &Ran, end: &str) {
+    let is_right = ran.status == ObserveStatus::Done && ran.output.ends_with(end.as_bytes());
+    assert!(rt; is_right, "{line}, {ran} in place of the end {end:?}");
 }
 
 /// A command line over this trace prints this output.
-pub fn prints<R: Threads + Wait + AllocGlobal + Sync>(
-    rt: &R,
-    line: &str,
-    trace: &str,
-    output: &str,
-) -> Result<bool, Fail> {
-    let ran = run_open(rt, line, trace)?;
-    Ok(is_run(&ran, ObserveStatus::Done, output, ""))
+pub fn assert_prints(rt: &impl Host, line: &str, trace: &str, output: &str) {
+    let ran = run_open(rt, line, trace);
+    assert_run(rt, line, &ran, ObserveStatus::Done, output, "");
 }
 
 /// A command line over this trace ends with this status and note, and prints nothing.
-pub fn prints_nothing<R: Threads + Wait + AllocGlobal + Sync>(
-    rt: &R,
+pub fn assert_prints_nothing(
+    rt: &impl Host,
     line: &str,
     trace: &str,
     status: ObserveStatus,
     note: &str,
-) -> Result<bool, Fail> {
-    let ran = run_open(rt, line, trace)?;
-    Ok(is_run(&ran, status, "", note))
+) {
+    let ran = run_open(rt, line, trace);
+    assert_run(rt, line, &ran, status, "", note);
 }
 
 /// The line with a number from 0, without its newline.

@@ -1,9 +1,7 @@
 //! Each observer takes a sample of each processor at each tick.
 
 use crate::gates::ONE_PROCESSOR;
-use crate::runs::{Ran, line_of, run_open};
-use observe_core::ObserveStatus;
-use std::test::Fail;
+use crate::runs::{Ran, assert_ends, line_of, run_open};
 
 /// What a line says, behind its observer's number, of the one processor after so many changes.
 const LOOKS: [&str; 5] = [
@@ -53,18 +51,15 @@ fn looks_among(output: &[u8], observer: u8, looks: &[&str]) -> usize {
 
 /// Each observer has one line of one processor, after any number of its changes.
 fn is_shared(ran: &Ran) -> bool {
-    let end = b"\nend 2000000000 samples=8\n".as_slice();
-    ran.status == ObserveStatus::Done
-        && (0..8u8).all(|observer| looks_among(&ran.output, observer, &LOOKS) == 1)
-        && ran.output.ends_with(end)
+    (0..8u8).all(|observer| looks_among(&ran.output, observer, &LOOKS) == 1)
         && line_of(&ran.output, OBSERVERS) == b"board observer=0 tick=1 events=0 kills=0".as_slice()
 }
 
 #[test]
-fn a_sample_of_each_observer(rt: HostRuntime) -> Result<(), Fail> {
-    let ran = run_open(&rt, "t 8 /", ONE_PROCESSOR)?;
-    assert!(rt; is_shared(&ran));
-    Ok(())
+fn a_sample_of_each_observer(rt: HostRuntime) {
+    let ran = run_open(&rt, "t 8 /", ONE_PROCESSOR);
+    assert_ends(&rt, "t 8 /", &ran, "\nend 2000000000 samples=8\n");
+    assert!(rt; is_shared(&ran), "{ran}");
 }
 
 /// Whether an observer has a line of each processor at each of three ticks, by tick, of which the
@@ -81,12 +76,10 @@ fn is_settled(output: &[u8], observer: u8) -> bool {
 }
 
 #[test]
-fn processors_tick_by_tick(rt: HostRuntime) -> Result<(), Fail> {
-    let ran = run_open(&rt, "t 8 /", THREE_TICKS)?;
-    assert!(rt; ran.status == ObserveStatus::Done);
-    assert!(rt; ran.output.ends_with(b"\nend 6000000000 samples=48\n"));
+fn processors_tick_by_tick(rt: HostRuntime) {
+    let ran = run_open(&rt, "t 8 /", THREE_TICKS);
+    assert_ends(&rt, "t 8 /", &ran, "\nend 6000000000 samples=48\n");
     for observer in 0..8u8 {
-        assert!(rt; is_settled(&ran.output, observer), "{observer}");
+        assert!(rt; is_settled(&ran.output, observer), "{observer}: {ran}");
     }
-    Ok(())
 }

@@ -1,13 +1,10 @@
 //! What a gate is told: each change once with its number, and two calls for each sample.
 
-use crate::runs::{Ran, run_gated};
-use observe_core::ObserveStatus;
+use crate::runs::{Host, Ran, assert_ends, run_gated};
 use outside::Gate;
 use psi_base::{Cpu, read_number};
-use std::alloc::Global;
 use std::sync::atomic::Ordering::SeqCst;
 use std::sync::atomic::{AtomicBool, AtomicU64};
-use std::test::Fail;
 
 /// Three ticks of two processors, at each of which the root is live. In the second interval nothing
 /// changes.
@@ -36,12 +33,12 @@ const ROOM: u64 = 8;
 const OBSERVERS: u64 = 3;
 
 /// So many counters that stand at 0.
-fn counters(alloc: Global, many: u64) -> Result<Vec<AtomicU64>, Fail> {
-    let mut counters = Vec::new(alloc);
+fn counters(rt: &impl Host, many: u64) -> Vec<AtomicU64> {
+    let mut counters = Vec::new(rt.alloc());
     for _ in 0..many {
-        counters.push(AtomicU64::new(0))?;
+        counters.push(AtomicU64::new(0)).expect(rt, "memory");
     }
-    Ok(counters)
+    counters
 }
 
 /// What a gate was told of a processor.
@@ -54,11 +51,11 @@ struct Told {
 }
 
 impl Told {
-    fn new(alloc: Global) -> Result<Told, Fail> {
-        Ok(Told {
+    fn new(rt: &impl Host) -> Told {
+        Told {
             moved: AtomicU64::new(0),
-            after: counters(alloc, ROOM)?,
-        })
+            after: counters(rt, ROOM),
+        }
     }
 }
 
@@ -73,16 +70,13 @@ struct Counting {
 }
 
 impl Counting {
-    fn new(alloc: Global) -> Result<Counting, Fail> {
-        let mut told = Vec::new(alloc);
-        for _ in CHANGES {
-            told.push(Told::new(alloc)?)?;
-        }
-        Ok(Counting {
-            told,
-            asked: counters(alloc, OBSERVERS)?,
+    fn new(rt: &impl Host) -> Counting {
+        let told = vec![in rt.alloc(); Told::new(rt), Told::new(rt)];
+        Counting {
+            told: told.expect(rt, "memory"),
+            asked: counters(rt, OBSERVERS),
             is_wrong: AtomicBool::new(false),
-        })
+        }
     }
 
     /// Notes whether a call was as it must be.
@@ -148,22 +142,21 @@ fn are_lines(ran: &Ran, cpu: u64, told: &Told) -> bool {
     })
 }
 
+/// Whether a run told its gate of each change of a processor, and of the samples that it printed.
+fn is_told(ran: &Ran, cpu: usize, told: &Told) -> bool {
+    CHANGES.get(cpu) == Some(&told.moved.load(SeqCst)) && are_lines(ran, cpu as u64, told)
+}
+
 #[test]
-fn each_change_and_each_sample(rt: HostRuntime) -> Result<(), Fail> {
-    let gate = Counting::new(rt.alloc())?;
-    let ran = run_gated(&rt, "t 3 /", THREE_TICKS, &gate)?;
-    assert!(rt; ran.status == ObserveStatus::Done);
+fn each_change_and_each_sample(rt: HostRuntime) {
+    let gate = Counting::new(&rt);
+    let ran = run_gated(&rt, "t 3 /", THREE_TICKS, &gate);
+    assert_ends(&rt, "t 3 /", &ran, "\nend 6000000000 samples=18\n");
     assert!(rt; !gate.is_wrong.load(SeqCst), "a call has another number");
     for asked in &gate.asked {
         assert_eq!(rt; asked.load(SeqCst), TICKS * CPUS);
     }
     for (cpu, told) in gate.told.iter().enumerate() {
-        assert!(rt;
-            CHANGES.get(cpu) == Some(&told.moved.load(SeqCst)),
-            "cpu {cpu}"
-        );
-        assert!(rt; are_lines(&ran, cpu as u64, told), "cpu {cpu}");
+        assert!(rt; is_told(&ran, cpu, told), "cpu {cpu}: {ran}");
     }
-    assert!(rt; ran.output.ends_with(b"\nend 6000000000 samples=18\n"));
-    Ok(())
 }

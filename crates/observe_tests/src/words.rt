@@ -1,12 +1,11 @@
 //! Words that ask for nothing, and the codes of statuses.
 
 use crate::gates::ONE_PROCESSOR;
-use crate::runs::prints_nothing;
+use crate::runs::{Host, assert_prints_nothing};
 use observe_core::ObserveStatus;
 use psi_base::{Cause, NoMemory};
 use std::alloc::Global;
 use std::process::Abort;
-use std::test::Fail;
 
 /// Command lines that aren't a name, a number from 1 to 8 and a path.
 const NOTHING_ASKED: [&str; 14] = [
@@ -26,23 +25,24 @@ const NOTHING_ASKED: [&str; 14] = [
     "",
 ];
 
+/// A command line prints nothing, and ends with this status and note.
+fn assert_told(rt: &impl Host, line: &str, status: ObserveStatus, note: &str) {
+    assert_prints_nothing(rt, line, ONE_PROCESSOR, status, note);
+}
+
 #[test]
-fn words_that_ask_for_nothing(rt: HostRuntime) -> Result<(), Fail> {
+fn words_that_ask_for_nothing(rt: HostRuntime) {
     let usage = "usage: psi_observe TRACE OBSERVERS PATH\n";
-    for line in NOTHING_ASKED {
-        let is_told = prints_nothing(&rt, line, ONE_PROCESSOR, ObserveStatus::Usage, usage)?;
-        assert!(rt; is_told, "{line}");
+    for line in &NOTHING_ASKED {
+        assert_told(&rt, line, ObserveStatus::Usage, usage);
     }
-    Ok(())
 }
 
 // The shelf holds the name `t` alone.
 #[test]
-fn names_that_are_not_held(rt: HostRuntime) -> Result<(), Fail> {
-    let missing = ObserveStatus::NoFile;
-    assert!(rt; prints_nothing(&rt, "u 1 /", ONE_PROCESSOR, missing, "no file: u\n")?);
-    assert!(rt; prints_nothing(&rt, "- 8 /a", ONE_PROCESSOR, missing, "no file: -\n")?);
-    Ok(())
+fn names_that_are_not_held(rt: HostRuntime) {
+    assert_told(&rt, "u 1 /", ObserveStatus::NoFile, "no file: u\n");
+    assert_told(&rt, "- 8 /a", ObserveStatus::NoFile, "no file: -\n");
 }
 
 // Want of memory, as a growth that is always refused gives it.
