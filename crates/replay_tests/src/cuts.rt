@@ -1,8 +1,7 @@
 //! A trace that ends behind any of its bytes.
 
-use crate::runs::{is_refused, prints_by};
+use crate::runs::{Host, assert_prints, assert_refused};
 use psi_base::Cause;
-use std::test::Fail;
 
 /// A group is removed and made again, and a task that waits moves into the new one.
 const TRACE: &str = "psitrace 1 cpus=1\n\
@@ -17,30 +16,28 @@ const TRACE: &str = "psitrace 1 cpus=1\n\
 
 const COMMANDS: [&str; 3] = ["check t", "stall t", "replay t --report-s 2"];
 
-/// The whole trace is accepted; its fronts are refused at the first line that they haven't whole.
+/// Each command refuses a front of the trace at this line, the first one that isn't whole.
+fn assert_front_refused(rt: &impl Host, front: &[u8], line: u32) {
+    let (cause, name) = if line == 1 {
+        (Cause::BadHeader, "BadHeader")
+    } else {
+        (Cause::NoEnd, "NoEnd")
+    };
+    for command in &COMMANDS {
+        assert_refused(rt, command, front, line, cause, name);
+    }
+}
+
 #[test]
-fn traces_cut_anywhere(rt: HostRuntime) -> Result<(), Fail> {
+fn traces_cut_anywhere(rt: HostRuntime) {
     let told = "ok lines=9 events=8 end=6000000000\n";
-    assert!(rt; prints_by(&rt, "check t", TRACE, 65536, told)?);
-    let mut front = Vec::new(rt.alloc());
+    assert_prints(&rt, "check t", TRACE, 65536, told);
+    let trace = TRACE.as_bytes();
     let mut line = 1u32;
-    for byte in TRACE.bytes() {
-        let (cause, name) = if line == 1 {
-            (Cause::BadHeader, "BadHeader")
-        } else {
-            (Cause::NoEnd, "NoEnd")
-        };
-        for command in COMMANDS {
-            assert!(rt;
-                is_refused(&rt, command, &front, line, cause, name)?,
-                "{command} of {} bytes",
-                front.len()
-            );
-        }
-        front.push(byte)?;
-        if byte == b'\n' {
+    for length in 0..trace.len() {
+        assert_front_refused(&rt, &trace[..length], line);
+        if trace[length] == b'\n' {
             line = line.saturating_add(1);
         }
     }
-    Ok(())
 }

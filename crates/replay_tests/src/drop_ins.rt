@@ -1,8 +1,8 @@
 //! Drop-in files over rules: what they change, and what is told where they are refused.
 
-use crate::runs::{Failing, Files, NO_FAULT, NONE, Ran, run_files};
-use std::test::Fail;
-use std::thread::Threads;
+use crate::runs::{Failing, Files, Host, NO_FAULT, Ran, assert_run, run_files};
+use replay_core::Status;
+use std::process::Abort;
 
 /// The one task of a group that is killed at each evaluation, as long as it rests for no longer
 /// than the ruleset does.
@@ -33,21 +33,24 @@ const NEITHER: &str = r#"{"name":"r","post_action_delay":"1"}"#;
 
 const REPLAY: &str = "replay t --rules r --drop-in d --tick-ms 1000 --report-s 0";
 
+/// What the rules say as one line.
+const PRINTED: &str =
+    "{\"rulesets\":[{\"actions\":[{\"args\":{\"always_continue\":\"false\",\"cgroup\":\"s/*\",\"growing_size_percentile\":\"80\",\"min_growth_ratio\":\"1.250\",\"post_action_delay\":\"15\",\"recursive\":\"false\",\"size_threshold\":\"50\"},\"name\":\"kill_by_memory_size_or_growth\"}],\"detectors\":[[\"g\",{\"args\":{\"cgroup\":\"s/*\",\"negate\":\"false\"},\"name\":\"exists\"}]],\"name\":\"r\"}]}\n";
+
+/// How a run that kills three times, or never, ends.
+const THREE: &str = "end 36000000000 ticks=36 events=0 kills=3\n";
+
+const NONE_KILLED: &str = "end 36000000000 ticks=36 events=0 kills=0\n";
+
+/// A drop-in file of these parts.
+fn drop_in_of(rt: &impl Host, parts: &[&str]) -> String {
+    let parts = parts.join(rt.alloc(), ",").expect(rt, "memory");
+    format!(in rt.alloc(); "{{\"rulesets\":[{parts}]}}").expect(rt, "memory")
+}
+
 /// Runs a command line over the trace and rules with a drop-in file of these parts over them.
-fn run_over<R: Threads + AllocGlobal + Sync>(
-    rt: &R,
-    line: &str,
-    rules: &str,
-    parts: &[&str],
-) -> Result<Ran, Fail> {
-    let mut drop_in = String::from_str(rt.alloc(), "{\"rulesets\":[")?;
-    for (number, part) in parts.iter().enumerate() {
-        if number > 0 {
-            drop_in.push_str(",")?;
-        }
-        drop_in.push_str(part)?;
-    }
-    drop_in.push_str("]}")?;
+fn run_over(rt: &impl Host, line: &str, rules: &str, parts: &[&str]) -> Ran {
+    let drop_in = drop_in_of(rt, parts);
     let files = Files {
         trace: LIVING.as_bytes(),
         rules,
@@ -56,109 +59,119 @@ fn run_over<R: Threads + AllocGlobal + Sync>(
     run_files(rt, line, files, 65536, NO_FAULT)
 }
 
-/// Whether a run was done, and its output ends with this line.
-fn ends_with(ran: &Ran, line: &str) -> bool {
-    ran.status.code() == 0 && ran.output.ends_with(line.as_bytes()) && ran.note.is_empty()
+/// A run was done, and its output begins and ends so.
+fn assert_done(rt: &impl Abort, ran: &Ran, first: &str, last: &str) {
+    let is_done = ran.status.code() == 0
+        && ran.output.starts_with(first.as_bytes())
+        && ran.output.ends_with(last.as_bytes())
+        && ran.note.is_empty();
+    assert!(rt; is_done, "{ran} in place of {first:?} to {last:?}");
 }
 
-/// Whether a run ended with this exit status and note, and printed nothing.
-fn is_told(ran: &Ran, code: u8, note: &str) -> bool {
-    ran.status.code() == code && ran.output.is_empty() && ran.note.as_slice() == note.as_bytes()
+/// A run ended with this exit status and note, and printed nothing.
+fn assert_told(rt: &impl Abort, line: &str, ran: &Ran, code: u8, note: &str) {
+    let is_told = ran.status.code() == code
+        && ran.output.is_empty()
+        && ran.note.as_slice() == note.as_bytes();
+    assert!(rt; is_told, "{line}, {ran} in place of {code} {note:?}");
+}
+
+/// A replay over these rules, with these parts over them, ends so.
+fn assert_replays(rt: &impl Host, parts: &[&str], last: &str) {
+    assert_done(rt, &run_over(rt, REPLAY, KILLS, parts), "", last);
 }
 
 #[test]
-fn parts_replace(rt: HostRuntime) -> Result<(), Fail> {
-    let three = "end 36000000000 ticks=36 events=0 kills=3\n";
-    let none = "end 36000000000 ticks=36 events=0 kills=0\n";
+fn parts_replace(rt: HostRuntime) {
     // A file with no part changes nothing.
-    assert!(rt; ends_with(&run_over(&rt, REPLAY, KILLS, &[])?, three));
-    assert!(rt; ends_with(&run_over(&rt, REPLAY, KILLS, &[NEVER])?, none));
+    assert_replays(&rt, &[], THREE);
+    assert_replays(&rt, &[NEVER], NONE_KILLED);
     // Of two parts for one ruleset each comes in its turn.
-    assert!(rt; ends_with(&run_over(&rt, REPLAY, KILLS, &[ALWAYS, NEVER])?, none));
-    assert!(rt; ends_with(&run_over(&rt, REPLAY, KILLS, &[NEVER, ALWAYS])?, three));
+    assert_replays(&rt, &[ALWAYS, NEVER], NONE_KILLED);
+    assert_replays(&rt, &[NEVER, ALWAYS], THREE);
     // Of two rulesets of one name the first is met: the second one's kills are left.
-    let ran = run_over(&rt, REPLAY, TWICE, &[NEVER])?;
-    assert!(rt; ends_with(&ran, three));
-    assert!(rt;
-        ran.output
-            .starts_with(b"kill 5000000000 ruleset=1 action=0 /s/a\n")
-    );
-    Ok(())
+    let ran = run_over(&rt, REPLAY, TWICE, &[NEVER]);
+    let first = "kill 5000000000 ruleset=1 action=0 /s/a\n";
+    assert_done(&rt, &ran, first, THREE);
+}
+
+/// A replay, and the command that prints rules, refuse these parts over rules with this exit status
+/// and note.
+fn assert_refused(rt: &impl Host, rules: &str, parts: &[&str], code: u8, note: &str) {
+    for line in &[REPLAY, "rules r --drop-in d"] {
+        assert_told(rt, line, &run_over(rt, line, rules, parts), code, note);
+    }
+}
+
+/// They refuse these parts, and name the part and the fault so.
+fn assert_parts_refused(rt: &impl Host, parts: &[&str], note: &str) {
+    assert_refused(rt, KILLS, parts, 9, note);
 }
 
 #[test]
-fn refused_parts(rt: HostRuntime) -> Result<(), Fail> {
-    for line in [REPLAY, "rules r --drop-in d"] {
-        let ran = run_over(&rt, line, KILLS, &[NEVER_FOR_Q])?;
-        assert!(rt; is_told(&ran, 9, "drop-in ruleset 0: UnknownRule\n"));
-        let ran = run_over(&rt, line, KILLS, &[NEVER, NEITHER])?;
-        assert!(rt; is_told(&ran, 9, "drop-in ruleset 1: NoParts\n"));
-        // The first part is asked for all before the second one.
-        let ran = run_over(&rt, line, KILLS, &[NEVER_FOR_Q, NEITHER])?;
-        assert!(rt; is_told(&ran, 9, "drop-in ruleset 0: UnknownRule\n"));
-        // A fault of its form stands before both.
-        let ran = run_over(&rt, line, KILLS, &[NEITHER, "1"])?;
-        assert!(rt; is_told(&ran, 9, "drop-in ruleset 1: WrongKind\n"));
-        let ran = run_over(&rt, line, KILLS, &["{"])?;
-        assert!(rt; is_told(&ran, 9, "drop-in: BadJson\n"));
-        // One of the rules file stands before any of the drop-in file.
-        let ran = run_over(&rt, line, "[]", &["{"])?;
-        assert!(rt; is_told(&ran, 3, "rules: WrongKind\n"));
-    }
-    Ok(())
+fn refused_parts(rt: HostRuntime) {
+    let unknown = "drop-in ruleset 0: UnknownRule\n";
+    assert_parts_refused(&rt, &[NEVER_FOR_Q], unknown);
+    assert_parts_refused(&rt, &[NEVER, NEITHER], "drop-in ruleset 1: NoParts\n");
+    // The first part is asked for all before the second one.
+    assert_parts_refused(&rt, &[NEVER_FOR_Q, NEITHER], unknown);
+    // A fault of its form stands before both.
+    assert_parts_refused(&rt, &[NEITHER, "1"], "drop-in ruleset 1: WrongKind\n");
+    assert_parts_refused(&rt, &["{"], "drop-in: BadJson\n");
+    // One of the rules file stands before any of the drop-in file.
+    assert_refused(&rt, "[]", &["{"], 3, "rules: WrongKind\n");
 }
 
+/// Command lines, and the exit status and the note of each where the drop-in file is refused.
+const ORDER: [(&str, u8, &str); 6] = [
+    (
+        "replay u --rules r --drop-in d",
+        9,
+        "drop-in ruleset 0: UnknownRule\n",
+    ),
+    ("replay u --rules r --drop-in v", 4, "no file: v\n"),
+    ("replay u --rules w --drop-in v", 4, "no file: w\n"),
+    ("replay u --rules r", 4, "no file: u\n"),
+    ("rules r --drop-in v", 4, "no file: v\n"),
+    ("rules w --drop-in v", 4, "no file: w\n"),
+];
+
 #[test]
-fn order_of_files(rt: HostRuntime) -> Result<(), Fail> {
-    let rows = [
-        (
-            "replay u --rules r --drop-in d",
-            9,
-            "drop-in ruleset 0: UnknownRule\n",
-        ),
-        ("replay u --rules r --drop-in v", 4, "no file: v\n"),
-        ("replay u --rules w --drop-in v", 4, "no file: w\n"),
-        ("replay u --rules r", 4, "no file: u\n"),
-        ("rules r --drop-in v", 4, "no file: v\n"),
-        ("rules w --drop-in v", 4, "no file: w\n"),
-    ];
-    for (line, code, note) in rows {
-        let ran = run_over(&rt, line, KILLS, &[NEVER_FOR_Q])?;
-        assert!(rt; is_told(&ran, code, note), "{line}");
+fn order_of_files(rt: HostRuntime) {
+    for (line, code, note) in &ORDER {
+        let ran = run_over(&rt, line, KILLS, &[NEVER_FOR_Q]);
+        assert_told(&rt, line, &ran, *code, note);
     }
-    Ok(())
+}
+
+/// The rules with nothing over them.
+const RULES_ALONE: Files = Files {
+    trace: b"",
+    rules: KILLS,
+    drop_in: r#"{"rulesets":[]}"#,
+};
+
+/// Printing the rules ends with this exit status and note where a call fails.
+fn assert_fault(rt: &impl Host, line: &str, failing: Failing, code: u8, note: &str) {
+    let ran = run_files(rt, line, RULES_ALONE, 65536, failing);
+    assert_told(rt, line, &ran, code, note);
 }
 
 /// The rules as one line, each call of which fails in turn.
 #[test]
-fn printed_rules(rt: HostRuntime) -> Result<(), Fail> {
-    let line =
-        "{\"rulesets\":[{\"actions\":[{\"args\":{\"always_continue\":\"false\",\"cgroup\":\"s/*\",\"growing_size_percentile\":\"80\",\"min_growth_ratio\":\"1.250\",\"post_action_delay\":\"15\",\"recursive\":\"false\",\"size_threshold\":\"50\"},\"name\":\"kill_by_memory_size_or_growth\"}],\"detectors\":[[\"g\",{\"args\":{\"cgroup\":\"s/*\",\"negate\":\"false\"},\"name\":\"exists\"}]],\"name\":\"r\"}]}\n";
-    let files = Files {
-        trace: b"",
-        rules: KILLS,
-        drop_in: r#"{"rulesets":[]}"#,
-    };
-    for words in ["rules r", "rules r --drop-in d"] {
-        let ran = run_files(&rt, words, files, 65536, NO_FAULT)?;
-        assert!(rt; ends_with(&ran, line) && ran.output.len() == line.len());
+fn printed_rules(rt: HostRuntime) {
+    for line in &["rules r", "rules r --drop-in d"] {
+        let ran = run_files(&rt, line, RULES_ALONE, 65536, NO_FAULT);
+        assert_run(&rt, line, &ran, Status::Done, PRINTED, "");
     }
     // One read of each file tells of its bytes, and one of its end.
     for read in 0..4 {
-        let failing = Failing {
-            read,
-            write: NONE,
-            note: NONE,
-        };
-        let ran = run_files(&rt, "rules r --drop-in d", files, 65536, failing)?;
-        assert!(rt; is_told(&ran, 5, "read fault\n"), "at read {read}");
+        let failing = Failing { read, ..NO_FAULT };
+        assert_fault(&rt, "rules r --drop-in d", failing, 5, "read fault\n");
     }
     let failing = Failing {
-        read: NONE,
         write: 0,
-        note: NONE,
+        ..NO_FAULT
     };
-    let ran = run_files(&rt, "rules r", files, 65536, failing)?;
-    assert!(rt; is_told(&ran, 6, "write fault\n"));
-    Ok(())
+    assert_fault(&rt, "rules r", failing, 6, "write fault\n");
 }

@@ -2,11 +2,8 @@
 
 use crate::gates::{LIVE_LINES, ONE_PROCESSOR};
 use crate::replays::REPLAYED;
-use crate::runs::{Failing, Files, NO_FAULT, NONE, ONE_WAIT, Ran, run_files};
+use crate::runs::{Failing, Files, Host, NO_FAULT, NONE, ONE_WAIT, Ran, run_files, trace_alone};
 use replay_core::Status;
-use std::alloc::Global;
-use std::test::Fail;
-use std::thread::Threads;
 
 /// How many bytes a call moves.
 const MOST: usize = 7;
@@ -25,29 +22,14 @@ const RULES: &str = "{\"rulesets\":[{\"name\":\"r\",\"detectors\":[[\"g\",\
     \"actions\":[{\"name\":\"kill_by_memory_size_or_growth\",\"args\":{\"cgroup\":\"s/*\"}}]}]}";
 
 /// A replay, and the outputs that it may print where no call fails.
-#[derive(Drop)]
+#[derive(Clone, Copy)]
 struct Replay<'a> {
     line: &'a str,
     files: Files<'a>,
-    outputs: Vec<Vec<u8>>,
+    outputs: &'a [Vec<u8>],
 }
 
 impl Replay<'_> {
-    /// What a run gave where this call of the shelf, or this one of the sink, failed.
-    fn run<R: Threads + AllocGlobal + Sync>(
-        &self,
-        rt: &R,
-        read: u64,
-        write: u64,
-    ) -> Result<Ran, Fail> {
-        let failing = Failing {
-            read,
-            write,
-            note: NONE,
-        };
-        run_files(rt, self.line, self.files, MOST, failing)
-    }
-
     /// Whether a run was one without a fault.
     fn is_whole(&self, ran: &Ran) -> bool {
         ran.status == Status::Done && ran.note.is_empty() && self.outputs.contains(&ran.output)
@@ -68,123 +50,114 @@ fn is_unread(ran: &Ran) -> bool {
     ran.status == Status::ReadFault && is_told && ran.output.is_empty()
 }
 
-/// How many reads there are, each of which fails the run where it fails. None where a run ends in
-/// another way.
-fn reads_of<R: Threads + AllocGlobal + Sync>(rt: &R, replay: &Replay) -> Result<Option<u64>, Fail> {
+/// Whether a replay, one read of which fails, is whole all the same. Else the read fails it.
+fn is_read(rt: &impl Host, replay: &Replay, read: u64) -> bool {
+    let failing = Failing { read, ..NO_FAULT };
+    let ran = run_files(rt, replay.line, replay.files, MOST, failing);
+    let is_whole = replay.is_whole(&ran);
+    assert!(rt; is_whole || is_unread(&ran), "{}, {ran}", replay.line);
+    is_whole
+}
+
+/// The same of one write.
+fn is_written(rt: &impl Host, replay: &Replay, write: u64) -> bool {
+    let failing = Failing { write, ..NO_FAULT };
+    let ran = run_files(rt, replay.line, replay.files, MOST, failing);
+    let is_whole = replay.is_whole(&ran);
+    assert!(rt; is_whole || replay.is_front(&ran), "{}, {ran}", replay.line);
+    is_whole
+}
+
+/// How many reads there are, each of which fails the run where it fails.
+fn reads_of(rt: &impl Host, replay: &Replay) -> u64 {
     for read in 0..NONE {
-        let ran = replay.run(rt, read, NONE)?;
-        if replay.is_whole(&ran) {
-            return Ok(Some(read));
-        }
-        if !is_unread(&ran) {
-            return Ok(None);
+        if is_read(rt, replay, read) {
+            return read;
         }
     }
-    Ok(None)
+    panic!(rt; "{}: each read fails", replay.line)
 }
 
 /// The same of its writes.
-fn writes_of<R: Threads + AllocGlobal + Sync>(
-    rt: &R,
-    replay: &Replay,
-) -> Result<Option<u64>, Fail> {
+fn writes_of(rt: &impl Host, replay: &Replay) -> u64 {
     for write in 0..NONE {
-        let ran = replay.run(rt, NONE, write)?;
-        if replay.is_whole(&ran) {
-            return Ok(Some(write));
-        }
-        if !replay.is_front(&ran) {
-            return Ok(None);
+        if is_written(rt, replay, write) {
+            return write;
         }
     }
-    Ok(None)
+    panic!(rt; "{}: each write fails", replay.line)
 }
 
-/// Whether so many calls are enough for these bytes.
-fn are_enough(calls: Option<u64>, bytes: usize) -> bool {
-    match calls {
-        Some(calls) => (bytes / MOST) as u64 <= calls,
-        None => false,
-    }
+/// So many calls are enough for these bytes.
+fn assert_enough(rt: &impl Host, line: &str, calls: u64, bytes: usize) {
+    assert!(rt;
+        (bytes / MOST) as u64 <= calls,
+        "{line}: {bytes} bytes by {calls} calls"
+    );
 }
 
 /// Each read and each write of a replay fails in turn, and then none does.
-fn each_call_fails<R: Threads + AllocGlobal + Sync>(rt: &R, replay: &Replay) -> Result<bool, Fail> {
-    let printed = replay.outputs.first().map_or(0, |output| output.len());
-    let reads = reads_of(rt, replay)?;
-    let writes = writes_of(rt, replay)?;
-    Ok(are_enough(reads, replay.files.trace.len()) && are_enough(writes, printed))
+fn assert_each_call_fails(rt: &impl Host, line: &str, files: Files, outputs: &[Vec<u8>]) {
+    let replay = Replay {
+        line,
+        files,
+        outputs,
+    };
+    let printed = outputs.first().map_or(0, |output| output.len());
+    assert_enough(rt, line, reads_of(rt, &replay), files.trace.len());
+    assert_enough(rt, line, writes_of(rt, &replay), printed);
+}
+
+/// What a command line prints where no call fails.
+fn printed(rt: &impl Host, line: &str, files: Files) -> Vec<u8> {
+    run_files(rt, line, files, 65536, NO_FAULT).output
+}
+
+/// A list of one output.
+fn one_output(rt: &impl Host, output: Vec<u8>) -> Vec<Vec<u8>> {
+    vec![in rt.alloc(); output].expect(rt, "memory")
 }
 
 /// An output with each of the live lines in front.
-fn with_live_lines(alloc: Global, plain: &[u8]) -> Result<Vec<Vec<u8>>, Fail> {
-    let mut outputs = Vec::new(alloc);
-    for live in LIVE_LINES {
-        let mut output = Vec::from_slice(alloc, live.as_bytes())?;
-        output.push(b'\n')?;
-        output.extend_from_slice(plain)?;
-        outputs.push(output)?;
+fn with_live_lines(rt: &impl Host, plain: &[u8]) -> Vec<Vec<u8>> {
+    let mut outputs = Vec::new(rt.alloc());
+    for live in &LIVE_LINES {
+        let output = [live.as_bytes(), b"\n", plain].concat(rt.alloc());
+        let output = output.expect(rt, "memory");
+        outputs.push(output).expect(rt, "memory");
     }
-    Ok(outputs)
+    outputs
 }
 
 #[test]
-fn one_wait(rt: HostRuntime) -> Result<(), Fail> {
-    let alloc = rt.alloc();
-    let replay = Replay {
-        line: "replay t",
-        files: Files {
-            trace: ONE_WAIT.as_bytes(),
-            rules: "",
-            drop_in: "",
-        },
-        outputs: vec![in alloc; Vec::from_slice(alloc, REPLAYED.as_bytes())?]?,
-    };
-    assert!(rt; each_call_fails(&rt, &replay)?);
-    Ok(())
+fn one_wait(rt: HostRuntime) {
+    let output = Vec::from_slice(rt.alloc(), REPLAYED.as_bytes());
+    let outputs = one_output(&rt, output.expect(&rt, "memory"));
+    assert_each_call_fails(&rt, "replay t", trace_alone(ONE_WAIT.as_bytes()), &outputs);
 }
 
 /// The rules are read before the trace, by calls of the same shelf.
 #[test]
-fn one_kill(rt: HostRuntime) -> Result<(), Fail> {
-    let alloc = rt.alloc();
+fn one_kill(rt: HostRuntime) {
     let line = "replay t --rules r --tick-ms 1000 --report-s 0";
     let files = Files {
-        trace: LOADED.as_bytes(),
         rules: RULES,
-        drop_in: "",
+        ..trace_alone(LOADED.as_bytes())
     };
-    let whole = run_files(&rt, line, files, 65536, NO_FAULT)?.output;
-    assert!(rt;
-        whole.starts_with(b"kill 20000000000 ruleset=0 action=0 /s/a\nreport 22000000000 / io\n")
-    );
+    let whole = printed(&rt, line, files);
+    let first = b"kill 20000000000 ruleset=0 action=0 /s/a\nreport 22000000000 / io\n";
+    assert!(rt; whole.starts_with(first));
     assert!(rt; whole.ends_with(b"\nend 22000000000 ticks=22 events=0 kills=1\n"));
-    let replay = Replay {
-        line,
-        files,
-        outputs: vec![in alloc; whole]?,
-    };
-    assert!(rt; each_call_fails(&rt, &replay)?);
-    Ok(())
+    assert_each_call_fails(&rt, line, files, &one_output(&rt, whole));
 }
 
 /// The live line may be of the tick before, or of any of the changes since then, another one in
 /// each run.
 #[test]
-fn one_live_line(rt: HostRuntime) -> Result<(), Fail> {
-    let alloc = rt.alloc();
-    let files = Files {
-        trace: ONE_PROCESSOR.as_bytes(),
-        rules: "",
-        drop_in: "",
-    };
-    let plain = run_files(&rt, "replay t", files, 65536, NO_FAULT)?.output;
+fn one_live_line(rt: HostRuntime) {
+    let files = trace_alone(ONE_PROCESSOR.as_bytes());
+    let plain = printed(&rt, "replay t", files);
     assert!(rt; plain.ends_with(b"\nend 2000000000 ticks=1 events=0 kills=0\n"));
-    let replay = Replay {
-        line: "replay t --live /",
-        files,
-        outputs: with_live_lines(alloc, &plain)?,
-    };
-    assert!(rt; each_call_fails(&rt, &replay)?);
-    Ok(())
+    let outputs = with_live_lines(&rt, &plain);
+    assert_each_call_fails(&rt, "replay t --live /", files, &outputs);
 }

@@ -1,13 +1,11 @@
 //! Threads that run at one time: a gate holds each of them until it has met another.
 
-use crate::runs::{NO_FAULT, is_run, run_failing, run_gated};
+use crate::runs::{Host, assert_run, run_gated, run_open};
 use outside::Gate;
 use psi_base::Cpu;
 use replay_core::Status;
 use std::sync::atomic::AtomicBool;
 use std::sync::atomic::Ordering::SeqCst;
-use std::test::Fail;
-use std::thread::Threads;
 
 /// How often a thread looks for another one before it gives up.
 const TURNS: u32 = 200_000_000;
@@ -89,17 +87,16 @@ impl Gate for Meeting {
 }
 
 #[test]
-fn workers_meet(rt: HostRuntime) -> Result<(), Fail> {
+fn workers_meet(rt: HostRuntime) {
     let gate = Meeting {
         first: AtomicBool::new(false),
         second: AtomicBool::new(false),
         is_missed: AtomicBool::new(false),
     };
-    let ran = run_gated(&rt, "replay t", TWO_PROCESSORS, 65536, NO_FAULT, &gate)?;
-    assert!(rt; is_run(&ran, Status::Done, REPORTED, ""));
+    let ran = run_gated(&rt, "replay t", TWO_PROCESSORS, &gate);
+    assert_run(&rt, "replay t", &ran, Status::Done, REPORTED, "");
     assert!(rt; gate.first.load(SeqCst) && gate.second.load(SeqCst));
     assert!(rt; !gate.is_missed.load(SeqCst), "a worker waited in vain");
-    Ok(())
 }
 
 /// A gate at which a change of a processor and the first sample there wait for one another: the
@@ -155,36 +152,39 @@ fn line_of(text: &[u8], number: usize) -> &[u8] {
 
 /// A command line over a trace prints this line at this place, where the first sample of a
 /// processor is taken behind so many of its changes.
-fn samples_between<R: Threads + AllocGlobal + Sync>(
-    rt: &R,
+fn assert_samples_between(
+    rt: &impl Host,
     line: &str,
     trace: &str,
     gate: &Between,
     number: usize,
     live: &str,
-) -> Result<bool, Fail> {
-    let ran = run_gated(rt, line, trace, 65536, NO_FAULT, gate)?;
+) {
+    let ran = run_gated(rt, line, trace, gate);
     let is_met = gate.is_sampled.load(SeqCst) && !gate.is_missed.load(SeqCst);
-    Ok(is_met && ran.status == Status::Done && line_of(&ran.output, number) == live.as_bytes())
+    let is_line = line_of(&ran.output, number) == live.as_bytes();
+    let is_right = is_met && ran.status == Status::Done && is_line;
+    assert!(rt; is_right, "{line}, {ran} in place of {live:?}");
 }
 
 #[test]
-fn samples_while_workers_run(rt: HostRuntime) -> Result<(), Fail> {
-    let third = Between::new(0, 3);
+fn samples_while_workers_run(rt: HostRuntime) {
     let line = "replay t --live /";
-    assert!(rt; samples_between(&rt, line, ONE_PROCESSOR, &third, 0, LIVE_LINES[3])?);
+    assert_samples_between(
+        &rt,
+        line,
+        ONE_PROCESSOR,
+        &Between::new(0, 3),
+        0,
+        LIVE_LINES[3],
+    );
     let other = "live 2000000000 cpu=1 count=2 0 0 0 0 0 0 2000000000";
-    for line in [
+    for line in &[
         "replay t --live / --workers 1",
         "replay t --live / --workers 64",
     ] {
-        let second = Between::new(1, 2);
-        assert!(rt;
-            samples_between(&rt, line, TWO_PROCESSORS, &second, 1, other)?,
-            "{line}"
-        );
+        assert_samples_between(&rt, line, TWO_PROCESSORS, &Between::new(1, 2), 1, other);
     }
-    Ok(())
 }
 
 /// The place of a line among those that a live line may be, from one on.
@@ -206,15 +206,17 @@ fn begins_live(output: &[u8], count: usize, end: &[u8]) -> bool {
     output.ends_with(end) && line_of(output, count) == line_of(end, 0)
 }
 
+/// A command line prints so many live lines in front of what is printed without them.
+fn assert_begins_live(rt: &impl Host, line: &str, count: usize, plain: &[u8]) {
+    let ran = run_open(rt, line, ONE_PROCESSOR);
+    assert!(rt; begins_live(&ran.output, count, plain), "{line}, {ran}");
+}
+
 #[test]
-fn samples_any_change(rt: HostRuntime) -> Result<(), Fail> {
-    let plain = run_failing(&rt, "replay t", ONE_PROCESSOR, 65536, NO_FAULT)?;
-    let one = run_failing(&rt, "replay t --live /", ONE_PROCESSOR, 65536, NO_FAULT)?;
-    assert!(rt; begins_live(&one.output, 1, &plain.output));
-    let line = "replay t --live / --live-count 16";
-    let many = run_failing(&rt, line, ONE_PROCESSOR, 65536, NO_FAULT)?;
-    assert!(rt; begins_live(&many.output, 16, &plain.output));
-    let nope = run_failing(&rt, "replay t --live /nope", ONE_PROCESSOR, 65536, NO_FAULT)?;
-    assert!(rt; nope.output == plain.output);
-    Ok(())
+fn samples_any_change(rt: HostRuntime) {
+    let plain = run_open(&rt, "replay t", ONE_PROCESSOR);
+    assert_begins_live(&rt, "replay t --live /", 1, &plain.output);
+    assert_begins_live(&rt, "replay t --live / --live-count 16", 16, &plain.output);
+    let nope = run_open(&rt, "replay t --live /nope", ONE_PROCESSOR);
+    assert!(rt; nope.output == plain.output, "{nope} in place of {plain}");
 }

@@ -1,8 +1,7 @@
 //! Accepted traces, which come and whose output goes in pieces.
 
-use crate::runs::prints_by;
-use std::test::Fail;
-use std::thread::Threads;
+use crate::runs::{Host, assert_prints};
+use std::process::Abort;
 
 /// Traces, and behind each what `stall` and `check` print of it. No task; a wait for IO without
 /// end; one that ends early; two tasks, of which one waits. Then:
@@ -121,24 +120,25 @@ const TRACES: &str = "psitrace 1 cpus=1\n\
     stall cpu=0 /b 0 0 0 0 0 0 0\n|\
     ok lines=12 events=11 end=7\n";
 
+/// A part of a row, and the row behind it.
+fn part_of<'a>(rt: &impl Abort, row: &'a str) -> (&'a str, &'a str) {
+    row.split_once('|').expect(rt, "a trace and two outputs")
+}
+
 /// Both commands print what stands behind the trace, where the shelf and the sinks move so many
 /// bytes a call.
-fn prints<R: Threads + AllocGlobal + Sync>(rt: &R, row: &str, most: usize) -> Result<bool, Fail> {
-    let Some((trace, outputs)) = row.split_once('|') else {
-        return Ok(false);
-    };
-    let Some((sums, line)) = outputs.split_once('|') else {
-        return Ok(false);
-    };
-    Ok(prints_by(rt, "stall t", trace, most, sums)? && prints_by(rt, "check t", trace, most, line)?)
+fn assert_row(rt: &impl Host, row: &str, most: usize) {
+    let (trace, outputs) = part_of(rt, row);
+    let (sums, line) = part_of(rt, outputs);
+    assert_prints(rt, "stall t", trace, most, sums);
+    assert_prints(rt, "check t", trace, most, line);
 }
 
 #[test]
-fn traces_in_pieces(rt: HostRuntime) -> Result<(), Fail> {
+fn traces_in_pieces(rt: HostRuntime) {
     for row in TRACES.split('~') {
-        for most in [1, 7, 65536] {
-            assert!(rt; prints(&rt, row, most)?, "{most} bytes a call: {row}");
+        for most in &[1, 7, 65536] {
+            assert_row(&rt, row, *most);
         }
     }
-    Ok(())
 }

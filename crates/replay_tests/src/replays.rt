@@ -1,9 +1,8 @@
 //! A replay whose trace comes, and whose output goes, byte by byte, and each of whose calls fails
 //! in turn.
 
-use crate::runs::{ONE_WAIT, prints_by, prints_front, prints_nothing};
+use crate::runs::{ONE_WAIT, assert_prints, assert_prints_front, assert_prints_nothing};
 use replay_core::Status;
-use std::test::Fail;
 
 /// The one tick of the trace, which ends with it.
 pub const REPLAYED: &str = "report 2000000000 / io\n\
@@ -24,22 +23,16 @@ const READS: u64 = 85;
 const WRITES: u64 = 410;
 
 #[test]
-fn replays_byte_by_byte(rt: HostRuntime) -> Result<(), Fail> {
+fn replays_byte_by_byte(rt: HostRuntime) {
     let line = "replay t";
-    for most in [1, 7, 65536] {
-        assert!(rt;
-            prints_by(&rt, line, ONE_WAIT, most, REPLAYED)?,
-            "{most} bytes a call"
-        );
+    for most in &[1, 7, 65536] {
+        assert_prints(&rt, line, ONE_WAIT, *most, REPLAYED);
     }
     let fault = Status::ReadFault;
     for read in 0..READS {
-        let is_told = prints_nothing(&rt, line, ONE_WAIT, 1, read, fault, "read fault\n")?;
-        assert!(rt; is_told, "at read {read}");
+        assert_prints_nothing(&rt, line, ONE_WAIT, 1, read, fault, "read fault\n");
     }
     for write in 0..WRITES {
-        let is_told = prints_front(&rt, line, ONE_WAIT, 1, write, REPLAYED)?;
-        assert!(rt; is_told, "at write {write}");
+        assert_prints_front(&rt, line, ONE_WAIT, 1, write, REPLAYED);
     }
-    Ok(())
 }

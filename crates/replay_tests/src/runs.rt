@@ -1,32 +1,16 @@
-//! Running words over one trace, and at most one rules file and one drop-in file, in memory.
+//! Running words over one trace, and at most one rules file and one drop-in file, in memory, and
+//! what is asserted of a run. Want of memory ends a test.
 
 use outside::{Gate, OpenGate};
 use outside_fakes::{MemShelf, MemSink};
 use psi_base::{Cause, Text};
 use replay_core::{Status, run};
-use std::test::Fail;
+use std::fmt;
+use std::process::Abort;
 use std::thread::Threads;
 
-/// What a run gave: its status, its output and its note.
-#[derive(Drop)]
-pub struct Ran {
-    pub status: Status,
-    pub output: Vec<u8>,
-    pub note: Vec<u8>,
-}
-
-/// The words of a command line, parted at spaces.
-pub fn words_of<R: AllocGlobal>(rt: &R, line: &str) -> Result<Vec<String>, Fail> {
-    let alloc = rt.alloc();
-    let mut words = Vec::new(alloc);
-    for word in line.split(' ') {
-        words.push(String::from_str(alloc, word)?)?;
-    }
-    Ok(words)
-}
-
 /// Which call of the shelf, the output and the note fails, counted from 0. One far off fails none.
-#[derive(Clone, Copy)]
+#[derive(Clone, Copy, Debug)]
 pub struct Failing {
     pub read: u64,
     pub write: u64,
@@ -43,12 +27,49 @@ pub const NO_FAULT: Failing = Failing {
     note: NONE,
 };
 
+/// How many bytes there is room for in each sink.
+const ROOM: usize = 4096;
+
 /// A trace of one task that waits for IO to the end.
 pub const ONE_WAIT: &str = "psitrace 1 cpus=1\n\
     0 fork 1 / 0\n\
     0 switch 0 1 idle\n\
     0 switch 0 0 iowait\n\
     2000000000 end\n";
+
+/// What a test is given: threads, memory, and a way to end it.
+pub trait Host: Threads + AllocGlobal + Sync + Abort {}
+
+impl<R: Threads + AllocGlobal + Sync + Abort> Host for R {}
+
+/// What a run gave: its status, its output and its note. And how it was made, for messages: how
+/// long the trace is, and how many bytes a call moves at most.
+#[derive(Drop)]
+pub struct Ran {
+    pub status: Status,
+    pub output: Vec<u8>,
+    pub note: Vec<u8>,
+    length: usize,
+    most: usize,
+    failing: Failing,
+}
+
+/// Bytes as a message shows them.
+fn shown(bytes: &[u8]) -> &str {
+    str::from_utf8(bytes).unwrap_or("no text")
+}
+
+impl fmt::Display for Ran {
+    fn fmt<W: fmt::Write>(&self, f: &mut fmt::Formatter<W>) -> fmt::Result {
+        let (output, note) = (shown(&self.output), shown(&self.note));
+        write!(
+            f,
+            "{} bytes by {}, {:?}: ",
+            self.length, self.most, self.failing
+        )?;
+        write!(f, "{:?} {output:?} {note:?}", self.status)
+    }
+}
 
 /// What the shelf holds: a trace by the name `t`, rules by the name `r`, and a drop-in file over
 /// them by the name `d`.
@@ -59,159 +80,185 @@ pub struct Files<'a> {
     pub drop_in: &'a str,
 }
 
+/// A trace, with no rules and nothing over them.
+pub fn trace_alone(trace: &[u8]) -> Files<'_> {
+    Files {
+        trace,
+        rules: "",
+        drop_in: "",
+    }
+}
+
+/// The words of a command line, parted at spaces.
+fn words_of(rt: &impl Host, line: &str) -> Vec<String> {
+    let mut words = Vec::new(rt.alloc());
+    for word in line.split(' ') {
+        let word = String::from_str(rt.alloc(), word).expect(rt, "memory");
+        words.push(word).expect(rt, "memory");
+    }
+    words
+}
+
+/// A file of the shelf.
+fn file_of(rt: &impl Host, name: &str, bytes: &[u8]) -> (Text, Text) {
+    let name = Text::make(rt.alloc(), name.as_bytes()).expect(rt, "memory");
+    let bytes = Text::make(rt.alloc(), bytes).expect(rt, "memory");
+    (name, bytes)
+}
+
+/// The number of the one call that fails.
+fn call_of(rt: &impl Host, call: u64) -> Vec<u64> {
+    vec![in rt.alloc(); call].expect(rt, "memory")
+}
+
+/// A shelf that gives at most so many bytes a call.
+fn shelf_of(rt: &impl Host, files: Files, most: usize, failing: Failing) -> MemShelf {
+    let held = vec![in rt.alloc();
+        file_of(rt, "t", files.trace),
+        file_of(rt, "r", files.rules.as_bytes()),
+        file_of(rt, "d", files.drop_in.as_bytes()),
+    ];
+    let held = held.expect(rt, "memory");
+    MemShelf::new(held, most.max(1), call_of(rt, failing.read))
+}
+
+/// A sink that takes at most so many bytes a call, one of which fails.
+fn sink_of(rt: &impl Host, most: usize, call: u64) -> MemSink {
+    let sink = MemSink::new(rt.alloc(), ROOM, most.max(1), call_of(rt, call));
+    sink.expect(rt, "memory")
+}
+
 /// Runs a command line over a shelf, where some calls fail, and threads are held by a gate. The
 /// shelf and both sinks move at most so many bytes a call.
-fn run_over<R: Threads + AllocGlobal + Sync, G: Gate>(
-    rt: &R,
+fn run_over(
+    rt: &impl Host,
     line: &str,
     files: Files,
     most: usize,
     failing: Failing,
-    gate: &G,
-) -> Result<Ran, Fail> {
-    let alloc = rt.alloc();
-    let words = words_of(rt, line)?;
-    let files = vec![in alloc;
-        (Text::make(alloc, b"t")?, Text::make(alloc, files.trace)?),
-        (
-            Text::make(alloc, b"r")?,
-            Text::make(alloc, files.rules.as_bytes())?
-        ),
-        (
-            Text::make(alloc, b"d")?,
-            Text::make(alloc, files.drop_in.as_bytes())?
-        ),
-    ]?;
-    let most = most.max(1);
-    let mut shelf = MemShelf::new(files, most, vec![in alloc; failing.read]?);
-    let mut out = MemSink::new(alloc, 4096, most, vec![in alloc; failing.write]?)?;
-    let mut note = MemSink::new(alloc, 4096, most, vec![in alloc; failing.note]?)?;
-    let status = run(rt, alloc, &words, &mut shelf, &mut out, &mut note, gate);
-    Ok(Ran {
+    gate: &impl Gate,
+) -> Ran {
+    let words = words_of(rt, line);
+    let mut shelf = shelf_of(rt, files, most, failing);
+    let mut out = sink_of(rt, most, failing.write);
+    let mut note = sink_of(rt, most, failing.note);
+    let status = run(
+        rt,
+        rt.alloc(),
+        &words,
+        &mut shelf,
+        &mut out,
+        &mut note,
+        gate,
+    );
+    Ran {
         status,
         output: out.bytes,
         note: note.bytes,
-    })
+        length: files.trace.len(),
+        most,
+        failing,
+    }
 }
 
 /// Runs a command line over these files, where some calls fail.
-pub fn run_files<R: Threads + AllocGlobal + Sync>(
-    rt: &R,
-    line: &str,
-    files: Files,
-    most: usize,
-    failing: Failing,
-) -> Result<Ran, Fail> {
+pub fn run_files(rt: &impl Host, line: &str, files: Files, most: usize, failing: Failing) -> Ran {
     run_over(rt, line, files, most, failing, &OpenGate)
 }
 
-/// Runs a command line over this trace and no rules, where some calls fail, and threads are held by
-/// a gate.
-pub fn run_gated<R: Threads + AllocGlobal + Sync, G: Gate>(
-    rt: &R,
-    line: &str,
-    trace: &str,
-    most: usize,
-    failing: Failing,
-    gate: &G,
-) -> Result<Ran, Fail> {
-    let files = Files {
-        trace: trace.as_bytes(),
-        rules: "",
-        drop_in: "",
-    };
-    run_over(rt, line, files, most, failing, gate)
+/// Runs a command line over this trace and no rules, where no call fails, and threads are held by a
+/// gate.
+pub fn run_gated(rt: &impl Host, line: &str, trace: &str, gate: &impl Gate) -> Ran {
+    run_over(
+        rt,
+        line,
+        trace_alone(trace.as_bytes()),
+        65536,
+        NO_FAULT,
+        gate,
+    )
+}
+
+/// Runs a command line over this trace and no rules, where no call fails.
+pub fn run_open(rt: &impl Host, line: &str, trace: &str) -> Ran {
+    run_gated(rt, line, trace, &OpenGate)
 }
 
 /// Runs a command line over this trace and no rules, where some calls fail.
-pub fn run_failing<R: Threads + AllocGlobal + Sync>(
-    rt: &R,
-    line: &str,
-    trace: &str,
-    most: usize,
-    failing: Failing,
-) -> Result<Ran, Fail> {
-    run_gated(rt, line, trace, most, failing, &OpenGate)
+pub fn run_trace(rt: &impl Host, line: &str, trace: &str, most: usize, failing: Failing) -> Ran {
+    run_files(rt, line, trace_alone(trace.as_bytes()), most, failing)
 }
 
-/// Whether a run ended with this status, output and note.
-pub fn is_run(ran: &Ran, status: Status, output: &str, note: &str) -> bool {
-    ran.status == status
+/// A run ended with this status, output and note.
+pub fn assert_run(
+    rt: &impl Abort,
+    line: &str,
+    ran: &Ran,
+    status: Status,
+    output: &str,
+    note: &str,
+) {
+    let is_run = ran.status == status
         && ran.output.as_slice() == output.as_bytes()
-        && ran.note.as_slice() == note.as_bytes()
+        && ran.note.as_slice() == note.as_bytes();
+    assert!(rt;
+        is_run,
+        "{line}, {ran} in place of {status:?} {output:?} {note:?}"
+    );
 }
 
 /// A command line over this trace prints this output, where no call fails.
-pub fn prints_by<R: Threads + AllocGlobal + Sync>(
-    rt: &R,
-    line: &str,
-    trace: &str,
-    most: usize,
-    output: &str,
-) -> Result<bool, Fail> {
-    let ran = run_failing(rt, line, trace, most, NO_FAULT)?;
-    Ok(is_run(&ran, Status::Done, output, ""))
+pub fn assert_prints(rt: &impl Host, line: &str, trace: &str, most: usize, output: &str) {
+    let ran = run_trace(rt, line, trace, most, NO_FAULT);
+    assert_run(rt, line, &ran, Status::Done, output, "");
 }
 
 /// A command line over this trace ends with this status and note, and prints nothing, where this
 /// call of the shelf fails.
-pub fn prints_nothing<R: Threads + AllocGlobal + Sync>(
-    rt: &R,
+pub fn assert_prints_nothing(
+    rt: &impl Host,
     line: &str,
     trace: &str,
     most: usize,
     read: u64,
     status: Status,
     note: &str,
-) -> Result<bool, Fail> {
-    let failing = Failing {
-        read,
-        write: NONE,
-        note: NONE,
-    };
-    let ran = run_failing(rt, line, trace, most, failing)?;
-    Ok(is_run(&ran, status, "", note))
+) {
+    let ran = run_trace(rt, line, trace, most, Failing { read, ..NO_FAULT });
+    assert_run(rt, line, &ran, status, "", note);
 }
 
 /// A command line over this trace prints a front of this output, where this call of the sink fails.
-pub fn prints_front<R: Threads + AllocGlobal + Sync>(
-    rt: &R,
+pub fn assert_prints_front(
+    rt: &impl Host,
     line: &str,
     trace: &str,
     most: usize,
     write: u64,
     output: &str,
-) -> Result<bool, Fail> {
-    let failing = Failing {
-        read: NONE,
-        write,
-        note: NONE,
-    };
-    let ran = run_failing(rt, line, trace, most, failing)?;
+) {
+    let ran = run_trace(rt, line, trace, most, Failing { write, ..NO_FAULT });
     let is_front = ran.output.len() < output.len() && output.as_bytes().starts_with(&ran.output);
     let is_told = ran.note.as_slice() == b"write fault\n".as_slice();
-    Ok(ran.status == Status::WriteFault && is_front && is_told)
+    let is_right = ran.status == Status::WriteFault && is_front && is_told;
+    assert!(rt; is_right, "{line}, {ran} in place of a front of {output:?}");
 }
 
 /// A command line over this trace is refused at this line for this cause, which the note names so.
-pub fn is_refused<R: Threads + AllocGlobal + Sync>(
-    rt: &R,
+pub fn assert_refused(
+    rt: &impl Host,
     line: &str,
     trace: &[u8],
     number: u32,
     cause: Cause,
     name: &str,
-) -> Result<bool, Fail> {
-    let files = Files {
-        trace,
-        rules: "",
-        drop_in: "",
-    };
-    let ran = run_files(rt, line, files, 65536, NO_FAULT)?;
+) {
+    let ran = run_files(rt, line, trace_alone(trace), 65536, NO_FAULT);
     let status = Status::Trace {
         line: number,
         cause,
     };
-    let note = format!(in rt.alloc(); "trace line {number}: {name}\n")?;
-    Ok(is_run(&ran, status, "", &note))
+    let note = format!(in rt.alloc(); "trace line {number}: {name}\n");
+    let note = note.expect(rt, "memory");
+    assert_run(rt, line, &ran, status, "", &note);
 }

@@ -1,13 +1,11 @@
 //! What a gate is told: each change once with its number, and two calls for each sample.
 
-use crate::runs::{NO_FAULT, Ran, run_gated};
+use crate::runs::{Host, Ran, run_gated};
 use outside::Gate;
 use psi_base::{Cpu, read_number};
 use replay_core::Status;
-use std::alloc::Global;
 use std::sync::atomic::Ordering::SeqCst;
 use std::sync::atomic::{AtomicBool, AtomicU64};
-use std::test::Fail;
 
 /// Three ticks of two processors, at each of which the root is live. In the second interval nothing
 /// changes.
@@ -42,17 +40,17 @@ struct Told {
 }
 
 impl Told {
-    fn new(alloc: Global) -> Result<Told, Fail> {
-        let mut counts = Vec::new(alloc);
+    fn new(rt: &impl Host) -> Told {
+        let mut counts = Vec::new(rt.alloc());
         for _ in 0..ROOM {
-            counts.push(AtomicU64::new(0))?;
+            counts.push(AtomicU64::new(0)).expect(rt, "memory");
         }
-        Ok(Told {
+        Told {
             moved: AtomicU64::new(0),
             asked: AtomicU64::new(0),
             sampled: AtomicU64::new(0),
             counts,
-        })
+        }
     }
 
     /// After how many changes the sample with this number was.
@@ -71,12 +69,13 @@ struct Counting {
 }
 
 impl Counting {
-    fn new(alloc: Global, each: u64) -> Result<Counting, Fail> {
-        Ok(Counting {
-            told: vec![in alloc; Told::new(alloc)?, Told::new(alloc)?]?,
+    fn new(rt: &impl Host, each: u64) -> Counting {
+        let told = vec![in rt.alloc(); Told::new(rt), Told::new(rt)];
+        Counting {
+            told: told.expect(rt, "memory"),
             each,
             is_wrong: AtomicBool::new(false),
-        })
+        }
     }
 
     /// Notes whether a call was as it must be.
@@ -162,32 +161,26 @@ fn is_told(ran: &Ran, gate: &Counting, samples: usize) -> bool {
         })
 }
 
+/// A command line tells its gate of each change, and of so many samples of each processor, of which
+/// an interval has these.
+fn assert_told(rt: &impl Host, line: &str, each: u64, samples: usize) {
+    let gate = Counting::new(rt, each);
+    let ran = run_gated(rt, line, THREE_TICKS, &gate);
+    assert!(rt; is_told(&ran, &gate, samples), "{line}, {ran}");
+}
+
 // Whatever the number of workers is.
 #[test]
-fn each_change_once(rt: HostRuntime) -> Result<(), Fail> {
-    for line in [
-        "replay t",
-        "replay t --workers 1",
-        "replay t --tick-ms 1",
-        "replay t --live /nope",
-    ] {
-        let gate = Counting::new(rt.alloc(), 1)?;
-        let ran = run_gated(&rt, line, THREE_TICKS, 65536, NO_FAULT, &gate)?;
-        assert!(rt; is_told(&ran, &gate, 0), "{line}");
-    }
-    Ok(())
+fn each_change_once(rt: HostRuntime) {
+    assert_told(&rt, "replay t", 1, 0);
+    assert_told(&rt, "replay t --workers 1", 1, 0);
+    assert_told(&rt, "replay t --tick-ms 1", 1, 0);
+    assert_told(&rt, "replay t --live /nope", 1, 0);
 }
 
 #[test]
-fn each_sample_by_two_calls(rt: HostRuntime) -> Result<(), Fail> {
-    for (line, each, samples) in [
-        ("replay t --live /", 1, 3),
-        ("replay t --live / --workers 1", 1, 3),
-        ("replay t --live / --live-count 4", 4, 12),
-    ] {
-        let gate = Counting::new(rt.alloc(), each)?;
-        let ran = run_gated(&rt, line, THREE_TICKS, 65536, NO_FAULT, &gate)?;
-        assert!(rt; is_told(&ran, &gate, samples), "{line}");
-    }
-    Ok(())
+fn each_sample_by_two_calls(rt: HostRuntime) {
+    assert_told(&rt, "replay t --live /", 1, 3);
+    assert_told(&rt, "replay t --live / --workers 1", 1, 3);
+    assert_told(&rt, "replay t --live / --live-count 4", 4, 12);
 }

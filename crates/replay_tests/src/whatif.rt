@@ -1,9 +1,7 @@
 //! Traces without the victims of kills.
 
-use crate::runs::{Failing, Files, NO_FAULT, NONE, Ran, is_run, run_files};
+use crate::runs::{Failing, Files, Host, NO_FAULT, Ran, assert_run, run_files};
 use replay_core::Status;
-use std::test::Fail;
-use std::thread::Threads;
 
 const WHATIF: &str = "whatif t --rules r --tick-ms 1000 --report-s 0";
 
@@ -50,13 +48,7 @@ const AT_END: &str = "psitrace 1 cpus=1\n\
     5000000000 end\n";
 
 /// Runs a command line over a trace with rules, where some calls fail.
-fn run_over<R: Threads + AllocGlobal + Sync>(
-    rt: &R,
-    line: &str,
-    trace: &str,
-    rules: &str,
-    failing: Failing,
-) -> Result<Ran, Fail> {
+fn run_over(rt: &impl Host, line: &str, trace: &str, rules: &str, failing: Failing) -> Ran {
     let files = Files {
         trace: trace.as_bytes(),
         rules,
@@ -65,93 +57,90 @@ fn run_over<R: Threads + AllocGlobal + Sync>(
     run_files(rt, line, files, 65536, failing)
 }
 
-/// `whatif` prints these lines of kills and the last line, and else the report of the last tick.
-fn tells<R: Threads + AllocGlobal + Sync>(
-    rt: &R,
-    trace: &str,
-    rules: &str,
-    kills: &str,
-    end: &str,
-) -> Result<bool, Fail> {
-    let ran = run_over(rt, WHATIF, trace, rules, NO_FAULT)?;
-    let output = ran.output.as_slice();
-    let is_front = output.starts_with(kills.as_bytes()) && output.ends_with(end.as_bytes());
-    let others = str::from_utf8(&output[kills.len().min(output.len())..]).unwrap_or("kill ");
+/// Whether an output begins with these lines of kills, has no more of them, and ends with this
+/// line.
+fn has_kills(output: &[u8], kills: &str, end: &str) -> bool {
+    let others = output.strip_prefix(kills.as_bytes());
+    let others = others.and_then(|others| str::from_utf8(others).ok());
+    let others = others.unwrap_or("kill ");
     let no_more = others.lines().all(|line| !line.starts_with("kill "));
-    Ok(ran.status == Status::Done && ran.note.is_empty() && is_front && no_more)
+    no_more && output.ends_with(end.as_bytes())
+}
+
+/// `whatif` prints these lines of kills and the last line, and else the report of the last tick.
+fn assert_tells(rt: &impl Host, trace: &str, rules: &str, kills: &str, end: &str) {
+    let ran = run_over(rt, WHATIF, trace, rules, NO_FAULT);
+    let is_done = ran.status == Status::Done && ran.note.is_empty();
+    let is_told = has_kills(&ran.output, kills, end);
+    assert!(rt;
+        is_done && is_told,
+        "{ran} in place of {kills:?} to {end:?}"
+    );
 }
 
 #[test]
-fn one_group(rt: HostRuntime) -> Result<(), Fail> {
+fn one_group(rt: HostRuntime) {
     let kills = "kill 5000000000 ruleset=0 action=0 /s/a\n";
     let end = "end 36000000000 ticks=36 events=0 kills=1\n";
-    assert!(rt; tells(&rt, ONE, KILLS, kills, end)?);
-    Ok(())
+    assert_tells(&rt, ONE, KILLS, kills, end);
 }
 
 #[test]
-fn one_after_the_other(rt: HostRuntime) -> Result<(), Fail> {
+fn one_after_the_other(rt: HostRuntime) {
     let kills = "kill 5000000000 ruleset=0 action=0 /s/a\n\
         kill 20000000000 ruleset=0 action=0 /s/b\n";
     let end = "end 36000000000 ticks=36 events=0 kills=2\n";
-    assert!(rt; tells(&rt, TWO, KILLS, kills, end)?);
-    Ok(())
+    assert_tells(&rt, TWO, KILLS, kills, end);
 }
 
 #[test]
-fn two_in_one_tick(rt: HostRuntime) -> Result<(), Fail> {
+fn two_in_one_tick(rt: HostRuntime) {
     let kills = "kill 5000000000 ruleset=0 action=0 /s/a\n\
         kill 5000000000 ruleset=0 action=1 /s/b\n";
     let end = "end 36000000000 ticks=36 events=0 kills=2\n";
-    assert!(rt; tells(&rt, TWO, BOTH, kills, end)?);
-    Ok(())
+    assert_tells(&rt, TWO, BOTH, kills, end);
 }
 
 #[test]
-fn forked_later(rt: HostRuntime) -> Result<(), Fail> {
+fn forked_later(rt: HostRuntime) {
     let kills = "kill 5000000000 ruleset=0 action=0 /s/a\n\
         kill 20000000000 ruleset=0 action=0 /s/a\n";
     let end = "end 36000000000 ticks=36 events=0 kills=2\n";
-    assert!(rt; tells(&rt, LATER, KILLS, kills, end)?);
-    Ok(())
+    assert_tells(&rt, LATER, KILLS, kills, end);
 }
 
 #[test]
-fn at_the_last_tick(rt: HostRuntime) -> Result<(), Fail> {
+fn at_the_last_tick(rt: HostRuntime) {
     let kills = "kill 5000000000 ruleset=0 action=0 /s/a\n";
     let end = "end 5000000000 ticks=5 events=0 kills=1\n";
-    assert!(rt; tells(&rt, AT_END, KILLS, kills, end)?);
-    Ok(())
+    assert_tells(&rt, AT_END, KILLS, kills, end);
 }
 
 #[test]
-fn as_replay_without_kills(rt: HostRuntime) -> Result<(), Fail> {
+fn as_replay_without_kills(rt: HostRuntime) {
     let replay = "replay t --rules r --tick-ms 1000 --report-s 0 --interval-s 3600";
     let whatif = "whatif t --rules r --tick-ms 1000 --report-s 0 --interval-s 3600 --drop-in d";
-    let wanted = run_over(&rt, replay, TWO, KILLS, NO_FAULT)?;
-    let ran = run_over(&rt, whatif, TWO, KILLS, NO_FAULT)?;
-    assert!(rt; ran.status == Status::Done);
+    let wanted = run_over(&rt, replay, TWO, KILLS, NO_FAULT);
+    let ran = run_over(&rt, whatif, TWO, KILLS, NO_FAULT);
+    assert_eq!(rt; ran.status, Status::Done);
     assert!(rt; !ran.output.is_empty() && ran.output.as_slice() == wanted.output.as_slice());
-    Ok(())
+}
+
+/// `whatif` prints nothing where a call fails, and ends with this status and note.
+fn assert_fault(rt: &impl Host, failing: Failing, status: Status, note: &str) {
+    let ran = run_over(rt, WHATIF, ONE, KILLS, failing);
+    assert_run(rt, WHATIF, &ran, status, "", note);
 }
 
 #[test]
-fn faults(rt: HostRuntime) -> Result<(), Fail> {
+fn faults(rt: HostRuntime) {
     for read in 0..2 {
-        let failing = Failing {
-            read,
-            write: NONE,
-            note: NONE,
-        };
-        let ran = run_over(&rt, WHATIF, ONE, KILLS, failing)?;
-        assert!(rt; is_run(&ran, Status::ReadFault, "", "read fault\n"));
+        let failing = Failing { read, ..NO_FAULT };
+        assert_fault(&rt, failing, Status::ReadFault, "read fault\n");
     }
     let failing = Failing {
-        read: NONE,
         write: 0,
-        note: NONE,
+        ..NO_FAULT
     };
-    let ran = run_over(&rt, WHATIF, ONE, KILLS, failing)?;
-    assert!(rt; is_run(&ran, Status::WriteFault, "", "write fault\n"));
-    Ok(())
+    assert_fault(&rt, failing, Status::WriteFault, "write fault\n");
 }

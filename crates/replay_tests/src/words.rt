@@ -1,6 +1,6 @@
 //! Words that are no command, names that aren't held, and statuses.
 
-use crate::runs::{NONE, ONE_WAIT, prints_nothing};
+use crate::runs::{Host, NONE, ONE_WAIT, assert_prints_nothing};
 use dropin_rules::{DropCause, DropFault};
 use import_spec::ImportCause;
 use psi_base::{Cause, NoMemory};
@@ -8,22 +8,25 @@ use replay_core::{Status, Which};
 use ruleset_json::Place;
 use std::alloc::Global;
 use std::process::Abort;
-use std::test::Fail;
 
 const NO_FILE: Status = Status::NoFile {
     which: Which::TraceFile,
 };
 
+/// A command line prints nothing, and ends with this status and note.
+fn assert_told(rt: &impl Host, line: &str, status: Status, note: &str) {
+    assert_prints_nothing(rt, line, ONE_WAIT, 7, NONE, status, note);
+}
+
 // The shelf in memory holds nothing by the names `u` and `-`.
 #[test]
-fn words_and_names(rt: HostRuntime) -> Result<(), Fail> {
+fn words_and_names(rt: HostRuntime) {
     let usage =
         "usage: psi_oomd stall or check or replay or gen or stress or import or rules or whatif\n";
-    assert!(rt; prints_nothing(&rt, "stall", ONE_WAIT, 7, NONE, Status::Usage, usage)?);
-    assert!(rt; prints_nothing(&rt, "stall u", ONE_WAIT, 7, NONE, NO_FILE, "no file: u\n")?);
-    assert!(rt; prints_nothing(&rt, "check u", ONE_WAIT, 7, NONE, NO_FILE, "no file: u\n")?);
-    assert!(rt; prints_nothing(&rt, "stall -", ONE_WAIT, 7, NONE, NO_FILE, "no file: -\n")?);
-    Ok(())
+    assert_told(&rt, "stall", Status::Usage, usage);
+    assert_told(&rt, "stall u", NO_FILE, "no file: u\n");
+    assert_told(&rt, "check u", NO_FILE, "no file: u\n");
+    assert_told(&rt, "stall -", NO_FILE, "no file: -\n");
 }
 
 // Want of memory, as a growth that is always refused gives it.
